@@ -21,15 +21,15 @@ use volume_tools::verify::verify;
 
 /// A script that is played on the volume in an image; what is written of it where no memory is refused, and the image that it leaves then.
 #[derive(Drop)]
-struct Played<R: Copy> {
-    rt: R,
+struct Played {
+    rt: HostRuntime,
     image: Vec<u8>,
     script: &'static str,
     whole: Vec<u8>,
     left: Vec<u8>,
 }
 
-impl<R: Threads + Wait + Clock + Copy + Send + Sync + 'static> Played<R> {
+impl Played {
     /// What is said of the script, and the image that is left; an error where there was no memory for a list.
     fn said(&self, alloc: Global) -> Result<(Said, Option<Vec<u8>>), AllocError> {
         let mut out = Vec::with_capacity(alloc, 8192)?;
@@ -80,7 +80,7 @@ pub(crate) fn play_script<
     Ok((played.status.number(), played.image))
 }
 
-impl<R: Threads + Wait + Clock + Copy + Send + Sync + 'static> Trial for Played<R> {
+impl Trial for Played {
     type Came = Option<(Said, Option<Vec<u8>>)>;
 
     fn run(&self, alloc: Global) -> Option<(Said, Option<Vec<u8>>)> {
@@ -216,12 +216,8 @@ static SCRIPTS: [&str; 9] = [
 ];
 
 /// A script comes out right on a new volume, whichever of its requests is refused.
-fn is_played<R: Threads + Wait + Clock + Copy + Send + Sync + 'static>(
-    alloc: Global,
-    rt: R,
-    number: u16,
-    script: &'static str,
-) -> Result<(), Fail> {
+fn is_played(rt: HostRuntime, number: u16, script: &'static str) -> Result<(), Fail> {
+    let alloc = rt.alloc();
     let mut trial = Played {
         rt,
         image: new_volume(alloc, 1024)?,
@@ -245,7 +241,7 @@ fn is_played<R: Threads + Wait + Clock + Copy + Send + Sync + 'static>(
 fn scripts(rt: HostRuntime) -> Result<(), Fail> {
     let mut number = 10u16;
     for script in &SCRIPTS {
-        is_played(rt.alloc(), rt, number, *script)?;
+        is_played(rt, number, *script)?;
         number = number.saturating_add(1);
     }
     Ok(())

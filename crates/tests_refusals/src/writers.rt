@@ -4,10 +4,7 @@ use crate::plays::{CLEAN, MADE, WANTED, play_script, run_schedule};
 use fixtures::new_volume;
 use std::alloc::{AllocError, Global};
 use std::io::{self, ErrorKind, Write};
-use std::sync::Wait;
 use std::test::Fail;
-use std::thread::Threads;
-use std::time::Clock;
 use volume_tools::make::make;
 use volume_tools::verify::verify;
 
@@ -65,7 +62,7 @@ impl Text for Verifying {
 
 /// A script is played on it.
 #[derive(Drop)]
-struct Playing<R: Copy>(R, Vec<u8>, &'static str);
+struct Playing(HostRuntime, Vec<u8>, &'static str);
 
 /// The script, and what is written of it.
 const SCRIPT: &str = "user 0 0\n100 stat /\n100 open / r 0\n100 readdir 0\n";
@@ -78,7 +75,7 @@ const SYNC: &str = "user 0 0\n100 sync\n";
 
 const OK: &[u8] = b"session 0\nok\n";
 
-impl<R: Threads + Wait + Clock + Copy + Send + Sync + 'static> Text for Playing<R> {
+impl Text for Playing {
     fn write(&self, alloc: Global, out: &mut Failing, err: &mut Vec<u8>) -> Result<u8, AllocError> {
         let (status, _) = play_script(alloc, self.0, &self.1, self.2, out, err)?;
         Ok(status)
