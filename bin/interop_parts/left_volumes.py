@@ -6,6 +6,20 @@ from .random_calls import Calls
 from .trees import Tree, differences, joined, look_lines, script_of, shown, tree_told, walk
 
 
+CLOSES = [b"close %d" % at for at in range(64)]  # more than a session opens
+
+
+def play_in_turn(ours, image, scripts, minor):
+    """Plays scripts one after the other, each on the image that the one before it left: the answers of each, or why there are none."""
+    answers = []
+    for script in scripts:
+        sessions, why = ours.play(image, [script], minor, image)
+        if sessions is None:
+            return None, why
+        answers += sessions
+    return answers, ""
+
+
 def random_calls(tally, ours, folder, name, image, chance, calls, minor=0):
     """Plays so many random calls on a volume. Tells the tree as the same play tells it after them, and the image that it leaves."""
     what = f"{name}, {calls} calls"
@@ -18,20 +32,27 @@ def random_calls(tally, ours, folder, name, image, chance, calls, minor=0):
     for at, text in enumerate(made.sessions(calls)):
         scripts.append(folder / f"{name}.{at}.txt")
         scripts[-1].write_bytes(text)
-    answers, why = ours.play(image, scripts, minor, left)
-    if answers is None:
+    last = folder / f"{name}.last.img"
+    last.write_bytes(image.read_bytes())
+    answers, why = play_in_turn(ours, last, scripts[:-1], minor)
+    ended, why = (None, why) if answers is None else ours.play(last, scripts[-1:], minor, left)
+    if ended is None:
         tally.judge(what, f"mfs: {why}")
         return None
     seen, why = walk(ours, folder, left, minor, made.all())
     asked = look_lines(seen or Tree(), block)
     look, again = folder / "look.txt", folder / f"{name}.again.img"
-    look.write_bytes(script_of(asked))
-    sessions, _ = ours.play(image, [*scripts, look], minor, again)
-    tree, faults = tree_told(sessions[-1], asked)
+    look.write_bytes(scripts[-1].read_bytes() + script_of([*CLOSES, *asked]).split(b"\n", 1)[1])
+    sessions, refusal = ours.play(last, [look], minor, again)
+    if sessions is None:
+        tally.judge(what, f"mfs: {refusal}")
+        return None
+    tree, faults = tree_told(sessions[0][-len(asked):], asked)
     later, more = from_image(ours, folder, left, minor, seen)
     same = left.read_bytes() == again.read_bytes()
     again.unlink()
-    done = sum(it != it.upper() for session in answers for it in session)
+    last.unlink()
+    done = sum(it != it.upper() for session in answers + ended for it in session)
     fault = "; ".join((faults + more)[:3]) or why or differences(tree, later, ("the play", "a later one"))
     tally.judge(f"{what} ({done} not refused): a later play tells of the image what this one tells in the end",
                 fault or ("" if same else "the image isn't the same after the look"))

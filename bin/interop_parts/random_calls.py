@@ -22,7 +22,8 @@ class Calls:
         scripts = []
         while calls > 0:
             count = min(calls, self.chance.randint(30, 70))
-            self.user = self.chance.choice([(0, 0), (0, 0), (0, 0), (5, 7), (65535, 65535)]) if scripts else (0, 0)
+            others = scripts and calls > count  # the first and the last are those of user 0
+            self.user = self.chance.choice([(0, 0), (0, 0), (0, 0), (5, 7), (65535, 65535)]) if others else (0, 0)
             self.own, self.open = set(), []
             self.lines = [] if scripts else [b"100 mkdir /pub 755", b"100 chmod /pub 777"]
             while len(self.lines) < count:

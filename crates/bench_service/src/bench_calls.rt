@@ -1,20 +1,120 @@
 //! Measures client calls in a session of a service, on a volume of 4096 blocks of 4096 bytes (16 MiB) with 64 frames, over a driver in
 //! memory.
 
+ghost use Rattle.std.specs.Prelude.{◌≡◌, ◌≤◌, ◌^◌, [], true, map};
+ghost use Rattle.std.specs.Arc.{arc_value};
+ghost use Rattle.records.specs.Opening.{contents_at};
+ghost use Rattle.records.specs.Mount.{is_frame_count};
+ghost use Rattle.mounting.specs.Laws.{sizes_in};
+ghost use Rattle.mounting.specs.Starting.{opening_of, IsPrepared};
+ghost use Rattle.true_replies.specs.Events.{opening_media};
+ghost use Rattle.board.specs.View.{IsKeeper, opener};
+
 mod measures;
 mod work;
 
+use bdev::BlockDriver;
 use bench_layers::timing::say;
+use board::{Board, Seat};
+use counting_link::recorder::Recorder;
+use counting_link::room::Room;
+use driver_threads::running::Running;
+use gate::Gate;
 use gate::paced_gate::Paced;
-use launch::start::serve;
-use measures::Measures;
+use launch::start::counted_drivers;
+use measures::measure_all;
 use modeldisk::supply::{drivers_for, setup_for, table_in};
+use mounting::mounted::mount;
+use mounting::{Prepared, prepare};
 use new_volume::mkfs;
+use reincarnate::policy::Setup;
+use serve::service::Service;
 use std::io;
+use std::marker::Brand;
 use std::sync::{Arc, Wait};
 use std::thread::Threads;
 
-/// Starts the service, whose sessions wait by a handle, and measures calls in one of them.
+/// Mounts the volume over this link, and measures calls on the service of it.
+fn mount_and_measure<
+    N: Room + Send + Sync + 'static,
+    R: Threads + Wait + Copy + Send + Sync + 'static,
+    L: Recorder<N> + Send + 'static,
+    G: Gate + 'static,
+>(
+    rt: &HostRuntime,
+    waits: R,
+    board: Arc<Board>,
+    link: L,
+    minor: u8,
+    frames: u32,
+    running: Running<N>,
+    gate: Arc<G>,
+) -> io::Result<()>
+    requires board { arc_value board ≡ N.table }
+    requires marks { L.marks link ≡ [] }
+    requires told { L.Link.history link ≡ [] }
+    requires geometry { N.geometry ≡ sizes_in (contents_at N.opening) }
+    requires minor { minor ≡ N.opening.minor }
+    requires frames { is_frame_count frames ≡ true }
+    requires budget { L.Link.budget_left link ≤ 2 ^ 57 }
+    requires truth { L.Link.truth link N.opening [] }
+    requires drivers { L.runs_on link N.policy N.supply }
+{
+    let alloc = rt.alloc();
+    match mount(alloc, link, minor, frames) {
+        Ok(server) => {
+            let service = Service::over(alloc, waits, board, server, running, gate)?;
+            measure_all(rt, &waits, &service)
+        }
+        Err(refusal) => {
+            let _ = running.stop(&waits);
+            eprintln!(*rt; "{refusal}")
+        }
+    }
+}
+
+// The caller picks `N` from what it hands over.
+fn start_and_measure<
+    N: Room + Send + Sync + 'static,
+    R: Threads + Wait + Copy + Send + Sync + 'static,
+    D: BlockDriver + 'static,
+    G: Gate + 'static,
+>(
+    rt: &HostRuntime,
+    waits: R,
+    board: Board,
+    seat: Seat,
+    prepared: Prepared,
+    image: &[u8],
+    setup: &Setup,
+    supply: Vec<D>,
+    gate: Arc<G>,
+) -> io::Result<()>
+    requires board { board ≡ N.table }
+    requires seat { IsKeeper N.table seat × (seat.view ≡ opener) }
+    requires opening { N.opening ≡ opening_of image.now setup.now.minor prepared.range }
+    requires geometry { N.geometry ≡ sizes_in (contents_at N.opening) }
+    requires prepared { IsPrepared image.now setup.now (map D.state supply.items) prepared.range }
+    requires contents { prepared.media ≡ opening_media N.opening }
+{
+    let Prepared { media, range } = prepared;
+    let asked = Arc::try_clone(&gate)?;
+    let (board, link, running) = counted_drivers::<N, R, D, G>(
+        rt.alloc(),
+        waits,
+        board,
+        seat,
+        media,
+        range,
+        setup.policy,
+        supply,
+        asked,
+    )?;
+    let frames = setup.frames as u32;
+    mount_and_measure(rt, waits, board, link, setup.minor, frames, running, gate)
+}
+
+/// Starts the service, whose sessions wait by a handle, and measures calls in one of them, and in eight at one time.
 pub fn run<R: Threads + Wait + Copy + Send + Sync + 'static>(
     rt: &HostRuntime,
     waits: R,
@@ -23,19 +123,16 @@ pub fn run<R: Threads + Wait + Copy + Send + Sync + 'static>(
     let Ok(image) = mkfs(alloc, 4096, 4096, 4096, 50) else {
         return say(rt, "no volume");
     };
-    let supply = drivers_for(alloc, 0, false, table_in(image.as_slice()))?;
+    let image = image.as_slice();
+    let supply = drivers_for(alloc, 0, false, table_in(image))?;
     let setup = setup_for(0);
     let gate = Arc::new(alloc, Paced::new(*rt))?;
-    match serve(
-        alloc,
-        waits,
-        image.as_slice(),
-        &setup,
-        supply,
-        gate,
-        Measures { rt: *rt, waits },
-    ) {
-        Ok(measured) => measured,
-        Err(refusal) => eprintln!(*rt; "{refusal}"),
-    }
+    let prepared = match prepare(alloc, image, &setup, &supply) {
+        Ok(prepared) => prepared,
+        Err(refusal) => return eprintln!(*rt; "{refusal}"),
+    };
+    let (board, seat) = Board::new(alloc)?;
+    start_and_measure::<Brand, R, _, _>(
+        rt, waits, board, seat, prepared, image, &setup, supply, gate,
+    )
 }

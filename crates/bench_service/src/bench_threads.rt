@@ -33,6 +33,7 @@ fn answer_all<R: Wait>(rt: &R, mut asked: Receiver<BlockRequest>, mut answers: S
         let Some(request) = asked.receive(rt) else {
             return;
         };
+        let bytes = request.bytes;
         let reply = BlockReply {
             from: Endpoint {
                 slot: DISK_DRIVER,
@@ -40,7 +41,7 @@ fn answer_all<R: Wait>(rt: &R, mut asked: Receiver<BlockRequest>, mut answers: S
             },
             id: request.id,
             outcome: Ok(request.count),
-            bytes: request.bytes,
+            bytes,
         };
         if !answers.send(rt, reply) {
             return;

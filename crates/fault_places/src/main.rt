@@ -4,7 +4,7 @@
 
 use fixtures_faults::drawn::threes;
 use fixtures_faults::draws::Draws;
-use fixtures_faults::places::{pairs, singles};
+use fixtures_faults::places::all_places;
 use fixtures_faults::settings::{PLAIN, SETTINGS, Setting};
 use fixtures_faults::trial::{Tried, events_in, try_all};
 use host::command_line::line_of;
@@ -21,18 +21,35 @@ enum Wanted {
     Each(u32),
 }
 
-/// What the words ask for, if they are `--seed S --count N`, `--each` or `--each --most M`.
-fn read_words(words: &[String]) -> Option<Wanted> {
+/// What the words behind `--each` ask for: nothing more, or `--most M`.
+fn read_each(words: &[String]) -> Option<Wanted> {
     match words {
-        [_, seed, s, count, n] if seed.as_str() == "--seed" && count.as_str() == "--count" => {
+        [] => Some(Wanted::Each(u32::MAX)),
+        [most, m] if most.as_str() == "--most" => Some(Wanted::Each(m.parse().ok()?)),
+        _ => None,
+    }
+}
+
+/// What the words behind `--seed` ask for: `S --count N`.
+fn read_drawn(words: &[String]) -> Option<Wanted> {
+    match words {
+        [s, count, n] if count.as_str() == "--count" => {
             Some(Wanted::Drawn(s.parse().ok()?, n.parse().ok()?))
-        }
-        [_, each] if each.as_str() == "--each" => Some(Wanted::Each(u32::MAX)),
-        [_, each, most, m] if each.as_str() == "--each" && most.as_str() == "--most" => {
-            Some(Wanted::Each(m.parse().ok()?))
         }
         _ => None,
     }
+}
+
+/// What the words ask for, if they are `--seed S --count N`, `--each` or `--each --most M`.
+fn read_words(words: &[String]) -> Option<Wanted> {
+    let (first, rest) = words.get(1..)?.split_first()?;
+    if first.as_str() == "--each" {
+        return read_each(rest);
+    }
+    if first.as_str() == "--seed" {
+        return read_drawn(rest);
+    }
+    None
 }
 
 /// How many of all schedules are tried in the setting of this number: each has as many as another, or one more.
@@ -74,9 +91,7 @@ fn try_drawn(
 
 /// Tries the base schedule with each fault and each two, until so many came out wrong.
 fn try_each(alloc: Global, most: u32) -> Result<Tried, AllocError> {
-    let events = events_in(alloc, &PLAIN)?;
-    let mut plans = singles(alloc, events)?;
-    plans.append(&mut pairs(alloc, events, 0, events.saturating_add(1))?)?;
+    let plans = all_places(alloc, events_in(alloc, &PLAIN)?)?;
     try_all(alloc, &PLAIN, plans.as_slice(), most)
 }
 

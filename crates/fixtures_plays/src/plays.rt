@@ -21,7 +21,7 @@ use tools::play::{Status, play};
 pub type Faults<'f> = &'f [Option<(u32, FaultKind)>];
 
 /// How long a short tick is, in milliseconds.
-const PACE: u64 = 10;
+const PACE: u64 = 40;
 
 /// One driver without a fault.
 pub const HONEST: Faults<'static> = &[None];

@@ -3,5 +3,6 @@
 
 pub mod command_line;
 pub mod play_words;
+pub mod sparse;
 pub mod volume_words;
 pub mod whole_file;

@@ -1,15 +1,13 @@
 //! Reading a file at once, and writing one so that its name never leads to a part of it.
 
+use crate::sparse::{Places, put_all};
 use std::fs::{self, File, OpenFile, OpenOptions};
-use std::io::{self, ErrorKind, Read, Seek, SeekFrom, Write};
+use std::io::{self, ErrorKind, Read};
 use std::path::PathBuf;
 use std::rt::Files;
 
 /// How many names beside a file are tried for the new one (own).
 const MOST_TRIES: u32 = 100;
-
-/// How many bytes are looked at together, whether they are all zero (own).
-const PIECE: usize = 16384;
 
 /// What is to be in a file: these bytes, and zeros up to a length.
 #[derive(Clone, Copy)]
@@ -112,8 +110,8 @@ fn put<R: Files>(
     put
 }
 
-/// Writes the bytes to the new file, and waits until the disk has them. A piece of zeros isn't written: the file has its length first,
-/// and reads as zeros where nothing was written.
+/// Writes the bytes to the new file, and waits until the disk has them. Pieces of zeros aren't written: the file has its length first, and
+/// reads as zeros where nothing was written.
 fn fill<R: Files>(
     mut file: R::File,
     old: Option<fs::Permissions>,
@@ -123,19 +121,6 @@ fn fill<R: Files>(
         file.set_permissions(permissions)?;
     }
     file.set_len(contents.length)?;
-    let mut at: u64 = 0;
-    for piece in contents.bytes.chunks(PIECE) {
-        if !is_zero(piece) {
-            file.seek(SeekFrom::Start(at))?;
-            file.write_all(piece)?;
-        }
-        at = at.saturating_add(piece.len() as u64);
-    }
+    put_all(&mut Places::new(&mut file), contents.bytes)?;
     file.sync_all()
-}
-
-/// Whether all of these bytes are zero.
-pub fn is_zero(bytes: &[u8]) -> bool {
-    let (words, rest) = bytes.as_chunks::<16>();
-    words.iter().all(|word| u128::from_le_bytes(*word) == 0) && rest.iter().all(|byte| *byte == 0)
 }

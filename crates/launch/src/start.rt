@@ -1,6 +1,6 @@
 //! Starting a service on the volume of an image, whose drivers, flusher and reincarnation server run in threads of their own.
 
-ghost use Rattle.std.specs.Prelude.{◌≡◌, ◌≢◌, [], IfErr, IfOk, OnOk, map};
+ghost use Rattle.std.specs.Prelude.{◌≡◌, ◌≢◌, [], IfErr, IfOk, map};
 ghost use Rattle.std.specs.Arc.{arc_value};
 ghost use Rattle.records.specs.Opening.{Opening, contents_at};
 ghost use Rattle.mounting.specs.Laws.{sizes_in};
@@ -9,10 +9,10 @@ ghost use Rattle.reincarnate.specs.Supply.{new_state};
 ghost use Rattle.true_replies.specs.Events.{opening_media};
 ghost use Rattle.board.specs.View.{IsKeeper, opener};
 ghost use Rattle.mounting.specs.Starting.{opening_of, IsPrepared};
-ghost use Rattle.launch.specs.Stopped.{IsMountedTruly, IsStopped};
+ghost use Rattle.launch.specs.Stopped.{IsStopped};
 ghost use Rattle.launch.specs.Ran.{HasRun, IsNotStarted};
 
-use crate::opened::mounted;
+use crate::program::run_over;
 use bdev::BlockDriver;
 use board::{Board, Seat};
 use channel_link::link::ChannelLink;
@@ -22,16 +22,14 @@ use counting_link::room::Room;
 use driver_threads::running::{Running, start_drivers};
 use gate::Gate;
 use media::Media;
-use mounting::{Prepared, Server, StartRefusal, prepare};
+use mounting::{Prepared, StartRefusal, prepare};
 use reincarnate::policy::{Policy, Setup};
 use reincarnate::{Reincarnation, SupplyRefusal};
 use reissue::link::Link;
-use serve::service::Service;
 use std::alloc::{AllocError, Global};
 use std::marker::Brand;
 use std::sync::{Arc, Wait};
 use std::thread::Threads;
-use stored::Stored;
 
 // passed on: what is done with a service
 use crate::program::Program;
@@ -109,61 +107,6 @@ pub fn counted_drivers<
     }
 }
 
-/// A service, started on the volume that `prepare` found in an image: it is mounted through the drivers, which run in threads of their own,
-/// as the flusher and the reincarnation server do; each asks this gate before it goes on. Where its replies were true, the volume then holds
-/// a tree. The caller picks `N` from what it hands over.
-///
-/// It is refused as a mount is; and where no memory or no thread was found. All threads are ended then.
-pub fn started<
-    N: Room + Send + Sync + 'static,
-    R: Threads + Wait + Copy + Send + Sync + 'static,
-    D: BlockDriver + 'static,
-    G: Gate + 'static,
->(
-    alloc: Global,
-    rt: R,
-    board: Board,
-    seat: Seat,
-    prepared: Prepared,
-    image: &[u8],
-    setup: &Setup,
-    supply: Vec<D>,
-    gate: Arc<G>,
-) -> Result<Service<N, R, Noting<N, ChannelLink<R>>, Server<Stored<Noting<N, ChannelLink<R>>>>>, StartRefusal>
-    requires board { board ≡ N.table }
-    requires seat { IsKeeper N.table seat × (seat.view ≡ opener) }
-    requires opening { N.opening ≡ opening_of image.now setup.now.minor prepared.range }
-    requires geometry { N.geometry ≡ sizes_in (contents_at N.opening) }
-    requires prepared { IsPrepared image.now setup.now (map D.state supply.items) prepared.range }
-    requires contents { prepared.media ≡ opening_media N.opening }
-    ensures holds { OnOk result (IsMountedTruly ⟦<Noting<N, ChannelLink<R>> as Link>⟧.truth N.geometry N.opening) }
-    ensures refused { IfErr result (IsStopped (opening_of image.now setup.now.minor prepared.range) setup.now.frames) }
-{
-    let Prepared { media, range } = prepared;
-    let asked = Arc::try_clone(&gate)?;
-    let (board, link, running) = counted_drivers::<N, R, D, G>(
-        alloc,
-        rt,
-        board,
-        seat,
-        media,
-        range,
-        setup.policy,
-        supply,
-        asked,
-    )?;
-    mounted(
-        alloc,
-        rt,
-        board,
-        link,
-        setup.minor,
-        setup.frames as u32,
-        running,
-        gate,
-    )
-}
-
 // The caller picks `N` from what it hands over.
 fn start_and_run<
     N: Room + Send + Sync + 'static,
@@ -182,19 +125,41 @@ fn start_and_run<
     supply: Vec<D>,
     gate: Arc<G>,
     program: P,
-) -> Result<P::Output, StartRefusal>
+) -> Result<Result<P::Output, StartRefusal>, AllocError>
     requires board { board ≡ N.table }
     requires seat { IsKeeper N.table seat × (seat.view ≡ opener) }
     requires opening { N.opening ≡ opening_of image.now setup.now.minor prepared.range }
     requires geometry { N.geometry ≡ sizes_in (contents_at N.opening) }
     requires prepared { IsPrepared image.now setup.now (map D.state supply.items) prepared.range }
     requires contents { prepared.media ≡ opening_media N.opening }
-    ensures ran { IfOk result (λ o. HasRun image.now setup.now (map D.state supply.items) (λ g opening. P.gives program g opening o)) }
-    ensures refused { IfErr result (IsStopped (opening_of image.now setup.now.minor prepared.range) setup.now.frames) }
+    ensures ran { IfOk result (λ came. IfOk came (λ o.
+        HasRun image.now setup.now (map D.state supply.items) (λ g opening. P.gives program g opening o))) }
+    ensures refused { IfOk result (λ came. IfErr came (IsStopped (opening_of image.now setup.now.minor prepared.range) setup.now.frames)) }
 {
-    let service =
-        started::<N, R, D, G>(alloc, rt, board, seat, prepared, image, setup, supply, gate)?;
-    Ok(program.run(service))
+    let Prepared { media, range } = prepared;
+    let asked = Arc::try_clone(&gate)?;
+    let (board, link, running) = counted_drivers::<N, R, D, G>(
+        alloc,
+        rt,
+        board,
+        seat,
+        media,
+        range,
+        setup.policy,
+        supply,
+        asked,
+    )?;
+    Ok(run_over(
+        alloc,
+        rt,
+        board,
+        link,
+        setup.minor,
+        setup.frames as u32,
+        running,
+        gate,
+        program,
+    ))
 }
 
 /// Starts a service on the volume in an image and runs a program over it: the volume is mounted through the drivers, which run in threads
@@ -225,5 +190,5 @@ pub fn serve<
     let (board, seat) = Board::new(alloc)?;
     start_and_run::<Brand, R, D, G, P>(
         alloc, rt, board, seat, prepared, image, setup, supply, gate, program,
-    )
+    )?
 }

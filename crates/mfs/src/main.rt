@@ -3,16 +3,16 @@
 
 use gate::paced_gate::Paced;
 use host::command_line::{line_of, status_for};
-use host::play_words::mfs::{Words, read};
-use host::whole_file::replace;
+use host::play_words::mfs::{Words, read as read_words};
+use host::whole_file::{read, replace};
 use modeldisk::supply::{drivers_for, setup_for, table_in};
 use script_text::script_files::File;
 use std::alloc::{AllocError, Global};
+use std::io;
 use std::process::ExitCode;
 use std::rt::Files;
 use std::sync::{Arc, Wait};
 use std::thread::Threads;
-use std::{fs, io};
 use tools::play::{finish, play};
 
 /// A file of this name, with its bytes if it could be read.
@@ -30,7 +30,7 @@ fn read_all<R: Files + AllocGlobal>(
 ) -> Result<Vec<Option<Vec<u8>>>, AllocError> {
     let mut texts = Vec::new(rt.alloc());
     for name in names {
-        texts.push(fs::read(rt, name).ok())?;
+        texts.push(read(rt, name).ok())?;
     }
     Ok(texts)
 }
@@ -56,7 +56,7 @@ fn play_files<W: Threads + Wait + Copy + Send + Sync + 'static>(
     words: &Words<'_>,
 ) -> io::Result<ExitCode> {
     let alloc = rt.alloc();
-    let image = fs::read(&rt, words.image).ok();
+    let image = read(&rt, words.image).ok();
     let texts = read_all(&rt, &words.scripts)?;
     let scripts = files(alloc, &words.scripts, &texts)?;
     let table = table_in(image.as_deref().unwrap_or(&[]));
@@ -89,7 +89,7 @@ fn main(rt: HostRuntime) -> io::Result<ExitCode> {
     let Some(line) = line_of(&rt)? else {
         return Ok(ExitCode::from(2));
     };
-    match read(rt.alloc(), line.as_slice()) {
+    match read_words(rt.alloc(), line.as_slice()) {
         Ok(words) => play_files(rt, rt, &words),
         Err(error) => {
             error.print(&rt)?;

@@ -3,18 +3,18 @@
 
 use gate::paced_gate::Paced;
 use host::command_line::{line_of, status_for};
-use host::play_words::mfs9p::{Words, read};
-use host::whole_file::replace;
+use host::play_words::mfs9p::{Words, read as read_words};
+use host::whole_file::{read, replace};
 use modeldisk::supply::table_in;
 use mount_service::mortal::{Mortality, mortal_drivers, mortal_setup};
 use mount_service::mount::{finish, mount};
 use mount_service::program::Streams;
 use mount_service::telling_gate::Telling;
+use std::io;
 use std::io::BufReader;
 use std::process::ExitCode;
 use std::sync::{Arc, Wait};
 use std::thread::Threads;
-use std::{fs, io};
 
 /// How many bytes of messages are read together.
 const ROOM: usize = 65536;
@@ -35,7 +35,7 @@ fn mount_file<W: Threads + Wait + Copy + Send + Sync + 'static>(
     words: &Words<'_>,
 ) -> io::Result<ExitCode> {
     let alloc = rt.alloc();
-    let image = fs::read(&rt, words.image).ok();
+    let image = read(&rt, words.image).ok();
     let mortality = mortality(words.die_every);
     let table = table_in(image.as_deref().unwrap_or(&[]));
     let supply = mortal_drivers(alloc, words.spares, words.model, mortality, table)?;
@@ -72,7 +72,7 @@ fn main(rt: HostRuntime) -> io::Result<ExitCode> {
     let Some(line) = line_of(&rt)? else {
         return Ok(ExitCode::from(2));
     };
-    match read(rt.alloc(), line.as_slice()) {
+    match read_words(rt.alloc(), line.as_slice()) {
         Ok(words) => mount_file(rt, rt, &words),
         Err(error) => {
             error.print(&rt)?;

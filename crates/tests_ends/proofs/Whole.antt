@@ -1,5 +1,5 @@
 -- An image that was found clean, as the volume of a service.
-use Rattle.std.proofs.Common.{◌≡◌, ℕ, ◌<◌, ◌*◌, ◌/◌, ◌%◌, List, length, take, sym, ◌∙◌, subst, arith}
+use Rattle.std.proofs.Common.{◌≡◌, ℕ, ◌*◌, ◌/◌, ◌%◌, List, length, take, sym, ◌∙◌, subst, arith}
 use Rattle.std.specs.Prelude.{Ok, slice_index}
 use Rattle.std.proofs.lemmas.List.{take_all}
 use Rattle.lemmas.proofs.Options.{ok_same}

@@ -4,6 +4,7 @@ ghost use Rattle.layout.specs.Places.{IsGeometry};
 ghost use Rattle.tree.specs.Tree.{Tree};
 ghost use Rattle.records.specs.Opening.{contents_at};
 ghost use Rattle.records.specs.Legal.{IsAtFirst};
+ghost use Rattle.mounting.specs.Starting.{opening_of};
 ghost use Rattle.board.specs.View.{IsKeeper, opener};
 ghost use Rattle.true_replies.specs.Events.{opening_media};
 
@@ -29,13 +30,14 @@ use std::test::Fail;
 use std::thread::Threads;
 use tests_texts::is_told;
 
-/// A session calls, another one is asked for, and the service is stopped. The image.
+/// On the volume in an image a session calls, another one is asked for, and the service is stopped. The image.
 fn ask_and_stop<N: Room + Send + Sync + 'static, R: Threads + Wait + Copy + Send + Sync + 'static>(
     alloc: Global,
     rt: R,
     board: Board,
     seat: Seat,
     prepared: Prepared,
+    image: &[u8],
     geometry: Geometry,
     reincarnation: Reincarnation<ScriptedDriver>,
     lines: &mut String,
@@ -44,8 +46,7 @@ fn ask_and_stop<N: Room + Send + Sync + 'static, R: Threads + Wait + Copy + Send
     requires seat { IsKeeper N.table seat × (seat.view ≡ opener) }
     requires geometry { IsGeometry geometry × (geometry ≡ N.geometry) }
     requires tree { (tree : Tree) × IsAtFirst N.geometry (contents_at N.opening) tree }
-    requires minor { 0 ≡ N.opening.minor }
-    requires range { (prepared.range.0 ≡ N.opening.first) × (prepared.range.1 ≡ N.opening.count) }
+    requires opening { N.opening ≡ opening_of image.now 0 prepared.range }
     requires media { prepared.media ≡ opening_media N.opening }
 {
     let Prepared { media, range } = prepared;
@@ -100,6 +101,7 @@ fn asked_of<R: Threads + Wait + Copy + Send + Sync + 'static>(
         board,
         seat,
         prepared,
+        image,
         clean.geometry(),
         reincarnation,
         lines,

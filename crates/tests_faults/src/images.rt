@@ -7,6 +7,8 @@ use fsck::{Verdict, check};
 use std::alloc::{AllocError, Global};
 use std::sync::Wait;
 use std::test::Fail;
+use std::thread::Threads;
+use std::time::Clock;
 use volume::Finding;
 
 /// With which values of a byte the small volume is clean.
@@ -327,7 +329,11 @@ user 0 0
 ";
 
 /// Whether each call of the script has a reply on an image.
-fn is_played<R: Wait + Copy>(alloc: Global, rt: R, image: &[u8]) -> Result<bool, AllocError> {
+fn is_played<R: Threads + Wait + Clock + Copy + Send + Sync + 'static>(
+    alloc: Global,
+    rt: R,
+    image: &[u8],
+) -> Result<bool, AllocError> {
     let scripts = [Some(SCRIPT.as_bytes())];
     let played = Play::new(image, &scripts).played(alloc, rt)?;
     let out = str::from_utf8(played.out.as_slice()).unwrap_or("");
@@ -346,7 +352,7 @@ fn is_played_on(values: Clean, place: usize, value: u8) -> bool {
 }
 
 /// Plays on the small volume with some clean values of the byte at a place; how many were played on.
-fn plays_at<R: Wait + Copy>(
+fn plays_at<R: Threads + Wait + Clock + Copy + Send + Sync + 'static>(
     alloc: Global,
     rt: R,
     image: &mut [u8],
@@ -368,7 +374,12 @@ fn plays_at<R: Wait + Copy>(
 }
 
 /// Plays on the small volume with some clean values of each of these bytes; how many were played on.
-fn plays<R: Wait + Copy>(alloc: Global, rt: R, from: usize, to: usize) -> Result<u32, Fail> {
+fn plays<R: Threads + Wait + Clock + Copy + Send + Sync + 'static>(
+    alloc: Global,
+    rt: R,
+    from: usize,
+    to: usize,
+) -> Result<u32, Fail> {
     let mut image = new_volume(alloc, 1024)?;
     let mut count = 0u32;
     for place in from..to {

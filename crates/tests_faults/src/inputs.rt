@@ -12,6 +12,7 @@ use std::alloc::{AllocError, Global};
 use std::sync::Wait;
 use std::test::Fail;
 use std::thread::Threads;
+use std::time::Clock;
 
 /// How many of each are tried.
 const COUNT: u32 = 1000;
@@ -241,7 +242,7 @@ fn became_of_play(script: &[u8], status: u8, out: &[u8], err: &[u8]) -> Became {
 }
 
 /// What becomes of a script that is played on a new volume.
-fn play_of<R: Threads + Wait + Copy + Send + Sync + 'static>(
+fn play_of<R: Threads + Wait + Clock + Copy + Send + Sync + 'static>(
     alloc: Global,
     rt: R,
     script: &[u8],

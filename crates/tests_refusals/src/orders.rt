@@ -13,7 +13,7 @@ const TRIAL: usize = 0x1_0000_0000;
 const ASK: usize = 1_000_003;
 
 /// How many requests a run has, at most.
-const MOST: u32 = 100_000;
+pub(crate) const MOST: u32 = 100_000;
 
 /// From now on each request is refused, or this one alone, counted from 1, where the allocator takes orders.
 pub(crate) fn refuse(alloc: Global, trial: u16, request: u32) {
@@ -42,16 +42,31 @@ pub(crate) trait Trial {
     fn is_right(&self, alloc: Global, came: &Self::Came, refused: bool) -> Result<bool, AllocError>;
 }
 
+/// Whether this was the last run of a trial, whose request so many was to be refused; it is an error where what came wasn't right.
+pub(crate) fn is_last(
+    number: u16,
+    request: u32,
+    refused: bool,
+    is_right: bool,
+) -> Result<bool, Fail> {
+    if is_right {
+        return Ok(!refused);
+    }
+    Err(Fail::new(format_args!("request {request} of trial {number}")))
+}
+
 /// Does a trial of this number, with its first request refused, then with its second, until none is refused. It comes out right each time.
 pub(crate) fn each_refused<T: Trial>(alloc: Global, number: u16, trial: &T) -> Result<(), Fail> {
     for request in 1..=MOST {
         refuse(alloc, number, request);
         let came = trial.run(alloc);
         let refused = was_refused(alloc);
-        if !trial.is_right(alloc, &came, refused)? {
-            return Err(Fail::new(format_args!("request {request} of trial {number}")));
-        }
-        if !refused {
+        if is_last(
+            number,
+            request,
+            refused,
+            trial.is_right(alloc, &came, refused)?,
+        )? {
             return Ok(());
         }
     }

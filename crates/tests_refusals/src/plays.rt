@@ -1,6 +1,6 @@
 //! Plays, runs of schedules, makings and checks, from the bytes of files to texts.
 
-use crate::orders::{Trial, each_refused};
+use crate::orders::{MOST, Trial, each_refused, is_last, refuse, was_refused};
 use crate::told::Said;
 use fixtures::gates::Ticking;
 use fixtures::{new_volume, patient, whole};
@@ -21,22 +21,39 @@ use volume_tools::verify::verify;
 
 /// A script that is played on the volume in an image; what is written of it where no memory is refused, and the image that it leaves then.
 #[derive(Drop)]
-struct Played<R: Copy> {
-    rt: R,
+struct Played {
     image: Vec<u8>,
     script: &'static str,
     whole: Vec<u8>,
     left: Vec<u8>,
 }
 
-impl<R: Threads + Wait + Clock + Copy + Send + Sync + 'static> Played<R> {
+impl Played {
     /// What is said of the script, and the image that is left; an error where there was no memory for a list.
-    fn said(&self, alloc: Global) -> Result<(Said, Option<Vec<u8>>), AllocError> {
+    fn said<R: Threads + Wait + Clock + Copy + Send + Sync + 'static>(
+        &self,
+        alloc: Global,
+        rt: R,
+    ) -> Result<(Said, Option<Vec<u8>>), AllocError> {
         let mut out = Vec::with_capacity(alloc, 8192)?;
         let mut err = Vec::with_capacity(alloc, 64)?;
         let (image, script) = (self.image.as_slice(), self.script);
-        let (status, left) = play_script(alloc, self.rt, image, script, &mut out, &mut err)?;
+        let (status, left) = play_script(alloc, rt, image, script, &mut out, &mut err)?;
         Ok((Said { status, out, err }, left))
+    }
+
+    /// Whether what came is right, where a request was refused or none was.
+    fn is_right(&self, came: &Option<(Said, Option<Vec<u8>>)>, refused: bool) -> bool {
+        match came {
+            None => refused,
+            Some((said, image)) => {
+                let is_left = match image {
+                    Some(image) => image.as_slice() == self.left.as_slice(),
+                    None => said.status == 1,
+                };
+                is_left && said.is_right(&self.whole, refused)
+            }
+        }
     }
 }
 
@@ -80,30 +97,24 @@ pub(crate) fn play_script<
     Ok((played.status.number(), played.image))
 }
 
-impl<R: Threads + Wait + Clock + Copy + Send + Sync + 'static> Trial for Played<R> {
-    type Came = Option<(Said, Option<Vec<u8>>)>;
-
-    fn run(&self, alloc: Global) -> Option<(Said, Option<Vec<u8>>)> {
-        self.said(alloc).ok()
+/// Plays it with its first request refused, then with its second, until none is refused. It comes out right each time.
+///
+/// `each_refused` can't: of a trial nothing is known in other threads than its own.
+fn plays_each_refused<R: Threads + Wait + Clock + Copy + Send + Sync + 'static>(
+    alloc: Global,
+    rt: R,
+    number: u16,
+    played: &Played,
+) -> Result<(), Fail> {
+    for request in 1..=MOST {
+        refuse(alloc, number, request);
+        let came = played.said(alloc, rt).ok();
+        let refused = was_refused(alloc);
+        if is_last(number, request, refused, played.is_right(&came, refused))? {
+            return Ok(());
+        }
     }
-
-    fn is_right(
-        &self,
-        _alloc: Global,
-        came: &Option<(Said, Option<Vec<u8>>)>,
-        refused: bool,
-    ) -> Result<bool, AllocError> {
-        Ok(match came {
-            None => refused,
-            Some((said, image)) => {
-                let is_left = match image {
-                    Some(image) => image.as_slice() == self.left.as_slice(),
-                    None => said.status == 1,
-                };
-                is_left && said.is_right(&self.whole, refused)
-            }
-        })
-    }
+    Err(Fail::from("no end"))
 }
 
 /// Scripts of which each read is made again, from the same place on, so that one that had no memory changes no later reply.
@@ -222,23 +233,22 @@ fn is_played<R: Threads + Wait + Clock + Copy + Send + Sync + 'static>(
     number: u16,
     script: &'static str,
 ) -> Result<(), Fail> {
-    let mut trial = Played {
-        rt,
+    let mut played = Played {
         image: new_volume(alloc, 1024)?,
         script,
         whole: Vec::new(alloc),
         left: Vec::new(alloc),
     };
-    let (said, image) = trial.said(alloc)?;
+    let (said, image) = played.said(alloc, rt)?;
     let Some(image) = image else {
         return Err(Fail::from("no image"));
     };
     if said.status != 0 {
         return Err(Fail::from("not played"));
     }
-    trial.whole = said.out;
-    trial.left = image;
-    each_refused(alloc, number, &trial)
+    played.whole = said.out;
+    played.left = image;
+    plays_each_refused(alloc, rt, number, &played)
 }
 
 #[test]

@@ -29,10 +29,7 @@ impl<R: Threads + Wait + Copy + Send + Sync + 'static> Program<R> for Asks {
 
     ghost gives = { λ program geometry opening output. Unit {0} };
 
-    fn run<N: Room, L: Recorder<N>, S: FileServer<L>>(
-        self,
-        service: Service<N, R, L, S>,
-    ) -> bool
+    fn run<N: Room, L: Recorder<N>, S: FileServer<L>>(self, service: Service<N, R, L, S>) -> bool
         ensures { Unit {0} }
     {
         for request in 1..=MOST {

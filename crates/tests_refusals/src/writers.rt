@@ -36,38 +36,7 @@ impl Write for Failing {
     }
 }
 
-/// What a function of a program writes.
-trait Text {
-    /// Writes it: the status of the process.
-    fn write(&self, alloc: Global, out: &mut Failing, err: &mut Vec<u8>) -> Result<u8, AllocError>;
-}
-
-/// A new volume is made.
-#[derive(Clone, Copy)]
-struct Making;
-
-impl Text for Making {
-    fn write(&self, alloc: Global, out: &mut Failing, err: &mut Vec<u8>) -> Result<u8, AllocError> {
-        Ok(make(alloc, &WANTED, out, err).status.number())
-    }
-}
-
-/// The volume in an image is checked.
-#[derive(Drop)]
-struct Verifying(Vec<u8>);
-
-impl Text for Verifying {
-    fn write(&self, alloc: Global, out: &mut Failing, err: &mut Vec<u8>) -> Result<u8, AllocError> {
-        let image = Some(self.0.as_slice());
-        Ok(verify(alloc, "v.img", image, 0, out, err).number())
-    }
-}
-
-/// A script is played on it.
-#[derive(Drop)]
-struct Playing<R: Copy>(R, Vec<u8>, &'static str);
-
-/// The script, and what is written of it.
+/// A script, and what is written of it.
 const SCRIPT: &str = "user 0 0\n100 stat /\n100 open / r 0\n100 readdir 0\n";
 
 const ANSWERS: &[u8] =
@@ -78,43 +47,49 @@ const SYNC: &str = "user 0 0\n100 sync\n";
 
 const OK: &[u8] = b"session 0\nok\n";
 
-impl<R: Threads + Wait + Clock + Copy + Send + Sync + 'static> Text for Playing<R> {
-    fn write(&self, alloc: Global, out: &mut Failing, err: &mut Vec<u8>) -> Result<u8, AllocError> {
-        let (status, _) = play_script(alloc, self.0, &self.1, self.2, out, err)?;
-        Ok(status)
-    }
-}
-
-/// A schedule is run on it.
-#[derive(Drop)]
-struct Running(Vec<u8>);
-
-/// The schedule, and its transcript.
+/// A schedule, and its transcript.
 const SCHEDULE: &str = "call 0 0 0 100 stat /\n";
 
 const TRANSCRIPT: &[u8] = b"started 1.1\nissue 1 read 4096 1024 to 1.1\nunanswered 1\n";
 
-impl Text for Running {
-    fn write(&self, alloc: Global, out: &mut Failing, err: &mut Vec<u8>) -> Result<u8, AllocError> {
-        run_schedule(alloc, &self.0, SCHEDULE, out, err)
+/// What a function of a program writes.
+#[derive(Clone, Copy)]
+enum Text {
+    /// A new volume is made.
+    Made,
+    /// The volume in an image is checked.
+    Verified,
+    /// A script is played on it.
+    Played(&'static str),
+    /// The schedule is run on it.
+    Run,
+}
+
+/// Writes it, of the volume in this image: the status of the process.
+fn write<R: Threads + Wait + Clock + Copy + Send + Sync + 'static>(
+    alloc: Global,
+    rt: R,
+    text: Text,
+    image: &[u8],
+    out: &mut Failing,
+    err: &mut Vec<u8>,
+) -> Result<u8, AllocError> {
+    match text {
+        Text::Made => Ok(make(alloc, &WANTED, out, err).status.number()),
+        Text::Verified => Ok(verify(alloc, "v.img", Some(image), 0, out, err).number()),
+        Text::Played(script) => Ok(play_script(alloc, rt, image, script, out, err)?.0),
+        Text::Run => run_schedule(alloc, image, SCHEDULE, out, err),
     }
 }
 
 /// How many calls a writer takes, at most.
 const MOST: u32 = 1000;
 
-/// Whether a text goes out, up to where its writer is refused, which it says. Whether it was refused.
-fn goes_out<T: Text>(
-    alloc: Global,
-    text: &T,
-    whole: &[u8],
-    mut out: Failing,
-) -> Result<bool, Fail> {
-    let mut err = Vec::new(alloc);
-    let status = text.write(alloc, &mut out, &mut err)?;
+/// Whether a text went out, up to where its writer was refused, which it says. Whether it was refused.
+fn is_cut(status: u8, whole: &[u8], out: &Failing, err: &[u8]) -> Result<bool, Fail> {
     let is_whole = status == 0 && err.is_empty() && out.taken.as_slice() == whole;
     let is_cut = status == 1
-        && err.as_slice() == b"cannot write standard output\n".as_slice()
+        && err == b"cannot write standard output\n".as_slice()
         && out.calls == 0
         && whole.starts_with(out.taken.as_slice());
     if is_whole || is_cut {
@@ -124,21 +99,25 @@ fn goes_out<T: Text>(
 }
 
 /// A text goes out up to its writer's first call, its second and so on, which takes so many bytes, until none is refused.
-fn at_each_call<T: Text>(
+fn at_each_call<R: Threads + Wait + Clock + Copy + Send + Sync + 'static>(
     alloc: Global,
-    text: &T,
+    rt: R,
+    text: Text,
     whole: &[u8],
     most: usize,
     kind: ErrorKind,
 ) -> Result<(), Fail> {
+    let image = new_volume(alloc, 1024)?;
     for calls in 0..MOST {
-        let out = Failing {
+        let mut out = Failing {
             calls,
             most,
             kind,
             taken: Vec::new(alloc),
         };
-        if !goes_out(alloc, text, whole, out)? {
+        let mut err = Vec::new(alloc);
+        let status = write(alloc, rt, text, &image, &mut out, &mut err)?;
+        if !is_cut(status, whole, &out, &err)? {
             return Ok(());
         }
     }
@@ -146,25 +125,34 @@ fn at_each_call<T: Text>(
 }
 
 /// The same for writers that take as many bytes, and are refused or interrupted.
-fn over_both<T: Text>(alloc: Global, text: &T, whole: &[u8], most: usize) -> Result<(), Fail> {
-    at_each_call(alloc, text, whole, most, ErrorKind::WriteZero)?;
-    at_each_call(alloc, text, whole, most, ErrorKind::Interrupted)
+fn over_both<R: Threads + Wait + Clock + Copy + Send + Sync + 'static>(
+    alloc: Global,
+    rt: R,
+    text: Text,
+    whole: &[u8],
+    most: usize,
+) -> Result<(), Fail> {
+    at_each_call(alloc, rt, text, whole, most, ErrorKind::WriteZero)?;
+    at_each_call(alloc, rt, text, whole, most, ErrorKind::Interrupted)
 }
 
 /// The same for writers that take all that they are handed, or one byte.
-fn over_each<T: Text>(alloc: Global, text: &T, whole: &[u8]) -> Result<(), Fail> {
-    over_both(alloc, text, whole, usize::MAX)?;
-    over_both(alloc, text, whole, 1)
+fn over_each<R: Threads + Wait + Clock + Copy + Send + Sync + 'static>(
+    alloc: Global,
+    rt: R,
+    text: Text,
+    whole: &[u8],
+) -> Result<(), Fail> {
+    over_both(alloc, rt, text, whole, usize::MAX)?;
+    over_both(alloc, rt, text, whole, 1)
 }
 
 #[test]
 fn output_at_each_call(rt: HostRuntime) -> Result<(), Fail> {
     let alloc = rt.alloc();
-    over_each(alloc, &Making, MADE)?;
-    over_each(alloc, &Verifying(new_volume(alloc, 1024)?), CLEAN)?;
-    let image = new_volume(alloc, 1024)?;
-    over_both(alloc, &Playing(rt, image, SCRIPT), ANSWERS, usize::MAX)?;
-    let image = new_volume(alloc, 1024)?;
-    over_both(alloc, &Playing(rt, image, SYNC), OK, 1)?;
-    over_each(alloc, &Running(new_volume(alloc, 1024)?), TRANSCRIPT)
+    over_each(alloc, rt, Text::Made, MADE)?;
+    over_each(alloc, rt, Text::Verified, CLEAN)?;
+    over_both(alloc, rt, Text::Played(SCRIPT), ANSWERS, usize::MAX)?;
+    over_both(alloc, rt, Text::Played(SYNC), OK, 1)?;
+    over_each(alloc, rt, Text::Run, TRANSCRIPT)
 }

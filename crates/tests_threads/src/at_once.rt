@@ -2,14 +2,17 @@
 //!
 //! It isn't a `Program` of `launch`, whose `run` knows in one thread alone what its types keep; so the service is started here.
 
-ghost use Rattle.std.specs.Prelude.{◌≡◌, map};
+ghost use Rattle.std.specs.Prelude.{◌≡◌, ◌≤◌, ◌^◌, [], true, map};
+ghost use Rattle.std.specs.Arc.{arc_value};
 ghost use Rattle.records.specs.Opening.{contents_at};
+ghost use Rattle.records.specs.Mount.{is_frame_count};
 ghost use Rattle.mounting.specs.Laws.{sizes_in};
 ghost use Rattle.mounting.specs.Starting.{opening_of, IsPrepared};
 ghost use Rattle.true_replies.specs.Events.{opening_media};
 ghost use Rattle.board.specs.View.{IsKeeper, opener};
 
-use crate::drivers::Noting;
+use crate::drivers::{Notes, Noting};
+use crate::endings::{Ending, end};
 use crate::many::{has_all, write_all};
 use crate::no_wait::{Looked, look_meanwhile};
 use crate::setting::patient;
@@ -18,9 +21,11 @@ use bdev::BlockDriver;
 use board::{Board, Seat};
 use counting_link::recorder::Recorder;
 use counting_link::room::Room;
+use driver_threads::running::Running;
 use file_server::FileServer;
 use fixtures_sessions::services::two_in_threads;
-use launch::start::started;
+use launch::opened::mounted;
+use launch::start::counted_drivers;
 use mounting::{Prepared, prepare};
 use reincarnate::policy::Setup;
 use serve::service::Service;
@@ -43,6 +48,8 @@ pub(crate) enum What {
     Write,
     /// One reads all these files.
     Read,
+    /// One changes the root, and the service ends so.
+    End(Ending),
 }
 
 /// What came of it.
@@ -54,37 +61,83 @@ pub(crate) enum Came {
     Looked(String, Option<Looked>),
     /// Whether all was answered as it should be.
     Files(bool),
+    /// The lines of the one.
+    Ended(String),
 }
 
-/// It is done. None where a session or memory was wanting.
+/// It is done, and the service ends: what came of it, and the image, or no bytes where the service was let go. None where a session, memory
+/// or an image was wanting.
 fn done<
     N: Room + Send + Sync,
-    R: Threads + Wait + Abort + Clock + Copy + Send + Sync,
+    R: Threads + Wait + Abort + Clock + Copy + Send + Sync + 'static,
     L: Recorder<N> + Send,
     S: FileServer<L> + Send,
 >(
     alloc: Global,
     rt: &R,
     what: What,
-    watch: Arc<Watch<R>>,
-    service: &Service<N, R, L, S>,
-) -> Option<Came> {
-    match what {
+    watch: &Arc<Watch<R>>,
+    notes: &Arc<Notes<R>>,
+    service: Service<N, R, L, S>,
+) -> Option<(Came, Vec<u8>)> {
+    let came = match what {
         What::Ask => {
-            let (one, two) = two_in_threads(alloc, rt, service)?;
-            Some(Came::Asked(one, two))
+            let (one, two) = two_in_threads(alloc, rt, &service)?;
+            Came::Asked(one, two)
         }
         What::Look => {
-            let (lines, looked) = look_meanwhile(alloc, rt, watch, service)?;
-            Some(Came::Looked(lines, looked))
+            let (lines, looked) = look_meanwhile(alloc, rt, watch, &service)?;
+            Came::Looked(lines, looked)
         }
-        What::Write => Some(Came::Files(write_all(alloc, rt, service)?)),
-        What::Read => Some(Came::Files(has_all(service)?)),
+        What::Write => Came::Files(write_all(alloc, rt, &service)?),
+        What::Read => Came::Files(has_all(&service)?),
+        What::End(ending) => {
+            let (lines, left) = end(alloc, rt, ending, watch, notes, service)?;
+            return Some((Came::Ended(lines), left));
+        }
+    };
+    let left = service.stop(alloc).ok()?;
+    Some((came, left))
+}
+
+/// Mounts the volume over this link, does it on the service of it, and stops the service: what came of it, and the image that is left.
+fn mount_and_do<
+    N: Room + Send + Sync + 'static,
+    R: Threads + Wait + Abort + Clock + Copy + Send + Sync + 'static,
+    L: Recorder<N> + Send + 'static,
+>(
+    alloc: Global,
+    rt: R,
+    board: Arc<Board>,
+    link: L,
+    setup: &Setup,
+    running: Running<N>,
+    watch: &Arc<Watch<R>>,
+    notes: &Arc<Notes<R>>,
+    what: What,
+) -> Result<(Came, Vec<u8>), Fail>
+    requires board { arc_value board ≡ N.table }
+    requires marks { L.marks link ≡ [] }
+    requires told { L.Link.history link ≡ [] }
+    requires geometry { N.geometry ≡ sizes_in (contents_at N.opening) }
+    requires minor { setup.now.minor ≡ N.opening.minor }
+    requires frames { is_frame_count setup.now.frames ≡ true }
+    requires budget { L.Link.budget_left link ≤ 2 ^ 57 }
+    requires truth { L.Link.truth link N.opening [] }
+    requires drivers { L.runs_on link N.policy N.supply }
+{
+    let gate = Arc::try_clone(watch)?;
+    let frames = setup.frames as u32;
+    let Ok(service) = mounted(alloc, rt, board, link, setup.minor, frames, running, gate) else {
+        return Err(Fail::from("not mounted"));
+    };
+    match done(alloc, &rt, what, watch, notes, service) {
+        Some(came) => Ok(came),
+        None => Err(Fail::from("not done")),
     }
 }
 
-// Starts the service, does it, and stops the service: what came of it, and the image that is left. The caller picks `N` from what it
-// hands over.
+// The caller picks `N` from what it hands over.
 fn start_and_do<
     N: Room + Send + Sync + 'static,
     R: Threads + Wait + Abort + Clock + Copy + Send + Sync + 'static,
@@ -98,6 +151,7 @@ fn start_and_do<
     setup: &Setup,
     supply: Vec<Noting<R>>,
     watch: &Arc<Watch<R>>,
+    notes: &Arc<Notes<R>>,
     what: What,
 ) -> Result<(Came, Vec<u8>), Fail>
     requires board { board ≡ N.table }
@@ -107,18 +161,20 @@ fn start_and_do<
     requires prepared { IsPrepared image.now setup.now (map ⟦<Noting<R> as BlockDriver>⟧.state supply.items) prepared.range }
     requires contents { prepared.media ≡ opening_media N.opening }
 {
-    let (gate, watch) = (Arc::try_clone(watch)?, Arc::try_clone(watch)?);
-    let service = started::<N, R, Noting<R>, Watch<R>>(
-        alloc, rt, board, seat, prepared, image, setup, supply, gate,
-    );
-    let Ok(service) = service else {
-        return Err(Fail::from("not started"));
-    };
-    let came = done(alloc, &rt, what, watch, &service).ok_or("not done")?;
-    match service.stop(alloc) {
-        Ok(left) => Ok((came, left)),
-        Err(_) => Err(Fail::from("not stopped")),
-    }
+    let Prepared { media, range } = prepared;
+    let asked = Arc::try_clone(watch)?;
+    let (board, link, running) = counted_drivers::<N, R, Noting<R>, Watch<R>>(
+        alloc,
+        rt,
+        board,
+        seat,
+        media,
+        range,
+        setup.policy,
+        supply,
+        asked,
+    )?;
+    mount_and_do(alloc, rt, board, link, setup, running, watch, notes, what)
 }
 
 /// What comes of it over the volume in an image, and the image that is left.
@@ -128,6 +184,7 @@ pub(crate) fn at_once<R: Threads + Wait + Abort + Clock + Copy + Send + Sync + '
     image: &[u8],
     supply: Vec<Noting<R>>,
     watch: &Arc<Watch<R>>,
+    notes: &Arc<Notes<R>>,
     what: What,
 ) -> Result<(Came, Vec<u8>), Fail> {
     let setup = patient();
@@ -136,7 +193,7 @@ pub(crate) fn at_once<R: Threads + Wait + Abort + Clock + Copy + Send + Sync + '
     };
     let (board, seat) = Board::new(alloc)?;
     let came = start_and_do::<Brand, R>(
-        alloc, rt, board, seat, prepared, image, &setup, supply, watch, what,
+        alloc, rt, board, seat, prepared, image, &setup, supply, watch, notes, what,
     )?;
     if watch.is_in_time() {
         return Ok(came);

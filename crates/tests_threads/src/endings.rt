@@ -1,7 +1,7 @@
 //! The ends of services: the threads behind one end, whatever their drivers do, and what was written is left.
 
+use crate::at_once::{Came, What, at_once};
 use crate::drivers::{Notes, drivers};
-use crate::setting::served;
 use crate::watch::{Holds, Watch, is_alone, is_reached};
 use counting_link::recorder::Recorder;
 use counting_link::room::Room;
@@ -9,7 +9,6 @@ use file_server::FileServer;
 use fixtures::{ROOT, new_volume};
 use fixtures_sessions::callers::{Caller, told};
 use fsck::{Verdict, check};
-use launch::program::Program;
 use modeldisk::{Fault, FaultKind};
 use serve::service::Service;
 use std::alloc::Global;
@@ -24,23 +23,13 @@ use tree::Call;
 
 /// How a service ends.
 #[derive(Clone, Copy, PartialEq, Eq)]
-enum Ending {
+pub(crate) enum Ending {
     /// It is stopped.
     Stopped,
     /// It is stopped while its first driver hangs, which goes on once drivers are dropped.
     StoppedAtHang,
     /// It is let go while its first driver hangs, which goes on then.
     LetGo,
-}
-
-/// A service ends in which a session has changed the root.
-#[derive(Drop)]
-struct Ends<R: Threads + Wait + Abort + Clock + Copy> {
-    alloc: Global,
-    rt: R,
-    ending: Ending,
-    gate: Arc<Watch<R>>,
-    notes: Arc<Notes<R>>,
 }
 
 /// Asks for the root, and then changes its permissions.
@@ -69,37 +58,38 @@ fn lets_go_later<R: Threads + Wait + Abort + Clock + Copy + Send + Sync + 'stati
     Some(())
 }
 
-impl<R: Threads + Wait + Abort + Clock + Copy + Send + Sync + 'static> Program<R> for Ends<R> {
-    /// A line for each answer, and the image, or no bytes where the service was let go.
-    type Output = Option<(String, Vec<u8>)>;
-
-    ghost gives = { λ program geometry opening output. Unit {0} };
-
-    fn run<N: Room, L: Recorder<N>, S: FileServer<L>>(
-        self,
-        service: Service<N, R, L, S>,
-    ) -> Option<(String, Vec<u8>)>
-        ensures { Unit {0} }
-    {
-        let mut lines = String::new(self.alloc);
-        let mut session = service.session(0, 0).ok()?;
-        change(&mut session, &mut lines);
-        if self.ending != Ending::Stopped {
-            self.gate.hold();
-        }
-        if self.ending == Ending::StoppedAtHang {
-            lets_go_later(&self.rt, &self.gate, &self.notes)?;
-        }
-        session.end();
-        if self.ending == Ending::LetGo {
-            let _ = self.gate.awaits_held();
-            drop(service);
-            self.gate.let_go();
-            return Some((lines, Vec::new(self.alloc)));
-        }
-        let image = service.stop(self.alloc).ok()?;
-        Some((lines, image))
+/// A session changes the root, and the service ends so. A line for each answer, and the image, or no bytes where the service was let go.
+pub(crate) fn end<
+    N: Room,
+    R: Threads + Wait + Abort + Clock + Copy + Send + Sync + 'static,
+    L: Recorder<N>,
+    S: FileServer<L>,
+>(
+    alloc: Global,
+    rt: &R,
+    ending: Ending,
+    gate: &Arc<Watch<R>>,
+    notes: &Arc<Notes<R>>,
+    service: Service<N, R, L, S>,
+) -> Option<(String, Vec<u8>)> {
+    let mut lines = String::new(alloc);
+    let mut session = service.session(0, 0).ok()?;
+    change(&mut session, &mut lines);
+    if ending != Ending::Stopped {
+        gate.hold();
     }
+    if ending == Ending::StoppedAtHang {
+        lets_go_later(rt, gate, notes)?;
+    }
+    session.end();
+    if ending == Ending::LetGo {
+        let _ = gate.awaits_held();
+        drop(service);
+        gate.let_go();
+        return Some((lines, Vec::new(alloc)));
+    }
+    let image = service.stop(alloc).ok()?;
+    Some((lines, image))
 }
 
 /// What comes of a service of a volume with blocks of this size that ends so, over these drivers' faults, and what its drivers did. By then
@@ -115,15 +105,11 @@ fn ended<R: Threads + Wait + Abort + Clock + Copy + Send + Sync + 'static>(
     let notes = Arc::new(alloc, Notes::new(alloc, rt))?;
     let sectors = u32::try_from(image.len() / 512).unwrap_or(0);
     let supply = drivers(alloc, sectors, faults, &notes)?;
-    let ends = Ends {
-        alloc,
-        rt,
-        ending,
-        gate: Arc::try_clone(&gate)?,
-        notes: Arc::try_clone(&notes)?,
+    let (came, left) = at_once(alloc, rt, image, supply, &gate, &notes, What::End(ending))?;
+    let lines = match came {
+        Came::Ended(lines) => lines,
+        _other => return Err(Fail::from("not ended")),
     };
-    let came = served(alloc, rt, image, supply, &gate, ends)?;
-    let (lines, left) = came.ok_or("not ended")?;
     let mut wanted = String::new(alloc);
     write!(wanted, "{ROOT}ok\n")?;
     is_told(lines.as_str(), wanted.as_str())?;

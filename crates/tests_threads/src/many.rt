@@ -172,9 +172,8 @@ fn done<R: Threads + Wait + Abort + Clock + Copy + Send + Sync + 'static>(
     let gate = Arc::new(alloc, Watch::new(rt, Holds::Flusher))?;
     let notes = Arc::new(alloc, Notes::new(alloc, rt))?;
     let supply = drivers(alloc, SECTORS, faults(alloc)?.as_slice(), &notes)?;
-    let (Came::Files(is_right), left) = at_once(alloc, rt, image, supply, &gate, what)? else {
-        return Err(Fail::from("no files"));
-    };
+    let (came, left) = at_once(alloc, rt, image, supply, &gate, &notes, what)?;
+    let is_right = matches!(came, Came::Files(true));
     let changed = notes.changed(alloc, image)?.ok_or("no memory for notes")?;
     if is_right && gate.later() > 0 && left.as_slice() == changed.as_slice() {
         return Ok(left);

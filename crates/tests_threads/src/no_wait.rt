@@ -79,17 +79,18 @@ pub(crate) fn look_meanwhile<
 >(
     alloc: Global,
     rt: &R,
-    watch: Arc<Watch<R>>,
+    watch: &Arc<Watch<R>>,
     service: &Service<N, R, L, S>,
 ) -> Option<(String, Option<Looked>)> {
     let one = service.session(0, 0).ok()?;
     let two = service.session(0, 0).ok()?;
     let three = service.session(0, 0).ok()?;
+    let gate = Arc::try_clone(watch).ok()?;
     watch.hold();
     Some(join(
         rt,
         move || calls(alloc, one),
-        move || look(&*watch, two, three),
+        move || look(&*gate, two, three),
     ))
 }
 
@@ -103,9 +104,10 @@ fn no_wait(rt: HostRuntime) -> Result<(), Fail> {
     let gate = Arc::new(alloc, Watch::new(rt, Holds::Drivers))?;
     let notes = Arc::new(alloc, Notes::new(alloc, rt))?;
     let supply = drivers(alloc, 128, &[], &notes)?;
-    let (Came::Looked(lines, seen), _) = at_once(alloc, rt, &image, supply, &gate, What::Look)?
-    else {
-        return Err(Fail::from("not looked"));
+    let (came, _) = at_once(alloc, rt, &image, supply, &gate, &notes, What::Look)?;
+    let (lines, seen) = match came {
+        Came::Looked(lines, seen) => (lines, seen),
+        _other => return Err(Fail::from("not looked")),
     };
     is_told(lines.as_str(), ROOT)?;
     let (one, two, device) = seen.ok_or("no driver was held")?;

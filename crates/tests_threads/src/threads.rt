@@ -21,9 +21,10 @@ fn two_threads_call(rt: HostRuntime) -> Result<(), Fail> {
     let watch = Arc::new(alloc, Watch::new(rt, Holds::Flusher))?;
     let notes = Arc::new(alloc, Notes::new(alloc, rt))?;
     let supply = drivers(alloc, 128, &[], &notes)?;
-    let (Came::Asked(one, two), left) = at_once(alloc, rt, &image, supply, &watch, What::Ask)?
-    else {
-        return Err(Fail::from("not asked"));
+    let (came, left) = at_once(alloc, rt, &image, supply, &watch, &notes, What::Ask)?;
+    let (one, two) = match came {
+        Came::Asked(one, two) => (one, two),
+        _other => return Err(Fail::from("not asked")),
     };
     is_told(one.as_str(), LINES)?;
     is_told(two.as_str(), LINES)?;

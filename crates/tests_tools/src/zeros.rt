@@ -1,6 +1,8 @@
-//! Whether bytes that a file gets are all zero.
+//! Which bytes a file gets, and whether some are all zero.
 
-use host::whole_file::is_zero;
+use host::sparse::{Sink, is_zero, put_all};
+use std::alloc::{AllocError, Global};
+use std::io;
 use std::test::Fail;
 
 /// How many bytes are looked at.
@@ -19,6 +21,65 @@ fn zeros_are_told() -> Result<(), Fail> {
                 return Err(Fail::new(format_args!("byte {at} of {length}")));
             }
             bytes[at] = 0;
+        }
+    }
+    Ok(())
+}
+
+/// Bytes in memory, and how many were put.
+#[derive(Drop)]
+struct Held {
+    bytes: Vec<u8>,
+    put: usize,
+}
+
+impl Sink for Held {
+    fn put(&mut self, at: u64, bytes: &[u8]) -> io::Result<()> {
+        let mut place = at as usize;
+        for byte in bytes {
+            if let Some(held) = self.bytes.get_mut(place) {
+                *held = *byte;
+            }
+            place = place.saturating_add(1);
+        }
+        self.put = self.put.saturating_add(bytes.len());
+        Ok(())
+    }
+}
+
+/// So many bytes, of which those at these places are 1, and how many of them are put: those of each piece of 4096 that has a 1.
+static PUT: [(usize, &[usize], usize); 7] = [
+    (0, &[], 0),
+    (1, &[0], 1),
+    (10000, &[], 0),
+    (10000, &[9999], 1808),
+    (10000, &[4096], 4096),
+    (10000, &[4095, 8192], 5904),
+    (300000, &[0, 262143, 262144, 299999], 13280),
+];
+
+/// Zeros, so many, with ones at these places.
+fn with_ones(alloc: Global, length: usize, places: &[usize]) -> Result<Vec<u8>, AllocError> {
+    let mut bytes = Vec::from_elem(alloc, 0, length)?;
+    for place in places {
+        if let Some(byte) = bytes.get_mut(*place) {
+            *byte = 1;
+        }
+    }
+    Ok(bytes)
+}
+
+#[test]
+fn zeros_are_not_put(rt: HostRuntime) -> Result<(), Fail> {
+    for (length, places, put) in &PUT {
+        let bytes = with_ones(rt.alloc(), *length, places)?;
+        let mut held = Held {
+            bytes: Vec::from_elem(rt.alloc(), 0, 300005)?,
+            put: 0,
+        };
+        put_all(&mut held, &bytes)?;
+        if held.bytes != with_ones(rt.alloc(), 300005, places)? || held.put != *put {
+            return Err(Fail::new(format_args!("{length} bytes, {} put", held.put)));
         }
     }
     Ok(())

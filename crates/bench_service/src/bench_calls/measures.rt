@@ -5,7 +5,6 @@ use bench_layers::timing::{say, tell};
 use counting_link::recorder::Recorder;
 use counting_link::room::Room;
 use file_server::FileServer;
-use launch::program::Program;
 use serve::service::{Service, Shared};
 use serve::session::Session;
 use std::alloc::Global;
@@ -16,34 +15,22 @@ use std::{io, thread};
 use tree::{Call, OpenFlags};
 
 /// Measures calls in a session of user 0, and in eight.
-#[derive(Drop)]
-pub(crate) struct Measures<R: Threads + Copy> {
-    pub(crate) rt: HostRuntime,
-    pub(crate) waits: R,
-}
-
-impl<R: Threads + Wait + Copy + Send + Sync + 'static> Program<R> for Measures<R> {
-    type Output = io::Result<()>;
-
-    ghost gives = { λ program geometry opening output. Unit {0} };
-
-    fn run<N: Room, L: Recorder<N>, S: FileServer<L>>(
-        self,
-        service: Service<N, R, L, S>,
-    ) -> io::Result<()>
-        ensures { Unit {0} }
-    {
-        let Ok(mut session) = service.session(0, 0) else {
-            return say(&self.rt, "no session");
-        };
-        let measured = all(&self.rt, &mut session);
-        session.end();
-        measured?;
-        for sessions in [1, SESSIONS] {
-            in_threads(&self.rt, &self.waits, &service, sessions)?;
-        }
-        Ok(())
+pub(crate) fn measure_all<
+    N: Room + Send + Sync,
+    R: Threads + Wait + Copy + Send + Sync,
+    L: Recorder<N> + Send,
+    S: FileServer<L> + Send,
+>(rt: &HostRuntime, waits: &R, service: &Service<N, R, L, S>) -> io::Result<()> {
+    let Ok(mut session) = service.session(0, 0) else {
+        return say(rt, "no session");
+    };
+    let measured = all(rt, &mut session);
+    session.end();
+    measured?;
+    for sessions in [1, SESSIONS] {
+        in_threads(rt, waits, service, sessions)?;
     }
+    Ok(())
 }
 
 /// How many sessions call at one time.

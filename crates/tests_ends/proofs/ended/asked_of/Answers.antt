@@ -7,10 +7,17 @@ use Rattle.tests_ends.proofs.Whole.{at_first}
 use Rattle.tests_ends.proofs.ended.asked_of.Goals as goal
 
 pub ask_and_stop-requires-clause-geometry : goal.ask_and_stop-requires-clause-geometry
-ask_and_stop-requires-clause-geometry g c =
+ask_and_stop-requires-clause-geometry g c κs lives =
     let clean = subst (λ v. HasItsGeometry c.args.image.now v) c.in-Ok-Clean.field-0-is c.in-Ok-Clean.ensures.geometry in
     let parsed = clean ∙ ap (λ (x : Geometry). Ok x) (sym c.geometry.ensures) in
     ((geometry_fits c.args.image.now c.geometry.result parsed).0, refl)
 
 pub ask_and_stop-requires-clause-tree : goal.ask_and_stop-requires-clause-tree
-ask_and_stop-requires-clause-tree g c = ?
+ask_and_stop-requires-clause-tree g c κs lives =
+    let clean = subst (λ v. HasItsGeometry c.args.image.now v) c.in-Ok-Clean.field-0-is c.in-Ok-Clean.ensures.geometry in
+    let parsed = clean ∙ ap (λ (x : Geometry). Ok x) (sym c.geometry.ensures) in
+    let held = subst (λ v. TellsWhetherTree c.args.image.now v) c.in-Ok-Clean.field-0-is c.in-Ok-Clean.ensures.tree in (
+      held.0,
+      at_first c.args.image.now c.in-Ok.prepared.range c.geometry.result held.0 c.in-Ok.ensures.ok.place.1
+          c.in-Ok.ensures.on_media.whole parsed held.1,
+    )

@@ -1,15 +1,15 @@
-use Rattle.std.specs.Prelude.{map}
+use Rattle.std.specs.Prelude.{[]}
 use Rattle.records.specs.Opening.{contents_at}
 use Rattle.mounting.specs.Laws.{sizes_in}
 use Rattle.mounting.specs.Starting.{opening_of}
 use Rattle.tests_threads.proofs.at_once.at_once.Given as goal
 
--- the service's board, its volume and the sizes that its superblock gives, the policy and the drivers, from what is handed over
+-- the board, the volume, its sizes and the policy, from what is handed over; nothing is asked of drivers
 abbrev pub ghosts-start_and_do : goal.ghosts-start_and_do
 ghosts-start_and_do g a = record {
   table = a.board;
   opening = opening_of a.image.now a.setup.now.minor a.prepared.range;
   geometry = sizes_in (contents_at (opening_of a.image.now a.setup.now.minor a.prepared.range));
   policy = a.setup.now.policy;
-  supply = map g.Noting.BlockDriver.state a.supply.items;
+  supply = [];
 }

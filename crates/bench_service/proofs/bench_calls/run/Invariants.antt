@@ -1,0 +1,15 @@
+use Rattle.std.specs.Prelude.{[]}
+use Rattle.records.specs.Opening.{contents_at}
+use Rattle.mounting.specs.Laws.{sizes_in}
+use Rattle.mounting.specs.Starting.{opening_of}
+use Rattle.bench_service.proofs.bench_calls.run.Given as goal
+
+-- the board, the volume, its sizes and the policy, from what is handed over; nothing is asked of drivers
+abbrev pub ghosts-start_and_measure : goal.ghosts-start_and_measure
+ghosts-start_and_measure g a = record {
+  table = a.board;
+  opening = opening_of a.image.now a.setup.now.minor a.prepared.range;
+  geometry = sizes_in (contents_at (opening_of a.image.now a.setup.now.minor a.prepared.range));
+  policy = a.setup.now.policy;
+  supply = [];
+}
