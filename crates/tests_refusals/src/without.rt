@@ -43,14 +43,35 @@ fn is_granted(alloc: Global) -> bool {
     asked.is_ok()
 }
 
+/// How often in a row a request is refused where there is no memory. Each thread may have a part of memory of its own, and an allocator that
+/// finds none in one may look into another one the next time.
+const ASKS: u32 = 256;
+
+/// Whether one of so many small requests is granted.
+fn is_left(alloc: Global) -> bool {
+    for _ in 0..ASKS {
+        if is_granted(alloc) {
+            return true;
+        }
+    }
+    false
+}
+
 /// Takes blocks of this size while there are any.
 fn take_all(alloc: Global, size: usize, blocks: &mut Vec<Vec<u8>>) {
+    let mut refused = 0u32;
     for _ in blocks.len()..BLOCKS {
         let asked: Result<Vec<u8>, AllocError> = Vec::with_capacity(alloc, size);
-        let Ok(block) = asked else {
+        match asked {
+            Ok(block) => {
+                let _ = blocks.push(block);
+                refused = 0;
+            }
+            Err(_) => refused = refused.saturating_add(1),
+        }
+        if refused >= ASKS {
             return;
-        };
-        let _ = blocks.push(block);
+        }
     }
 }
 
@@ -69,7 +90,7 @@ impl Hoard {
                 take_all(alloc, size, &mut blocks);
             }
         }
-        if is_granted(alloc) {
+        if is_left(alloc) {
             None
         } else {
             Some(Hoard(blocks))
