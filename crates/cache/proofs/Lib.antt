@@ -7,6 +7,8 @@ pub mod Issuing
 mod Order
 mod Choosing
 mod Making
+mod Settled
+pub mod Begun
 pub mod Sizes
 pub mod Tied
 pub mod Agreeing

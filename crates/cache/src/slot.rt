@@ -47,16 +47,12 @@ impl Slot {
         }
     }
 
-    /// Whether it holds a block whose write has this ticket.
+    /// Whether its write that is under way has this ticket.
     pub(crate) fn is_under(&self, ticket: Ticket) -> bool
         ensures { result ≡ is_under ticket self.now }
     {
-        let known = self.state.ticket();
-        match self.block {
-            Some(_) => match known {
-                Some(known) => known == ticket,
-                None => false,
-            },
+        match self.state.ticket() {
+            Some(known) => known == ticket,
             None => false,
         }
     }

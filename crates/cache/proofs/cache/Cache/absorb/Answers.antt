@@ -24,7 +24,7 @@ returns g c =
     record {
       hands_over = absorbs_one c.args.message c.absorb-settled.result old new s.slots.items.items items x.absorbs e.slots refl refl
           c.requires.ready c.requires.spare
-          (omega (arith, s.shape.least)) refl refl refl x.budget
+          refl refl refl x.budget
           (λ alive. room_after c.args.message (HasRoom (table_of c.absorb-settled.new.self) (r (link_of c.absorb-settled.new.self))) x.room
           (λ end. subst (λ (u : Transfers _). HasRoom (table_of u) (r (link_of u))) (sym (x.ended end)) (c.requires.ready.room alive))) x.closed
           (λ end. ap (λ (u : Transfers _). h (link_of u)) (x.ended end));
