@@ -1,5 +1,5 @@
 -- What each call of a cache does at its link, to the disk, and to what would be read back.
-use Rattle.std.specs.Prelude.{◌≡◌, ◌⊎◌, IsTrue, ℕ, ◌*◌, ◌/◌, ◌+◌, ◌^◌, min, ◌<◌, ◌≤◌, List, [], ◌∷◌, ◌++◌, length, Bool, true, false, ◌||◌, zero, suc, Option, Some, None, Result, Ok, Err, if◌then◌else◌}
+use Rattle.std.specs.Prelude.{◌≡◌, ◌⊎◌, IsTrue, ℕ, ◌*◌, ◌+◌, ◌^◌, ◌<◌, ◌≤◌, List, [], ◌∷◌, ◌++◌, length, Bool, true, false, ◌||◌, zero, suc, Option, Some, None, Result, Ok, Err, if◌then◌else◌}
 use Rattle.std.specs.List.{list_any}
 use Rattle.message.specs.declared.Incoming.{Incoming}
 use Rattle.message.specs.declared.Incoming.TheVariants.{End}
@@ -11,7 +11,7 @@ use Rattle.records.specs.Acts.{Act, Absorbed, told_of, has_absorbed}
 use Rattle.records.specs.Opening.{Opening}
 use Rattle.reissue.specs.declared.link.Link.{Ghosts as LinkWords}
 use Rattle.reissue.specs.declared.table.Table.{Table}
-use Rattle.reissue.specs.Moves.{DiskState, Begun, state_after, put, IsBusy}
+use Rattle.reissue.specs.Moves.{DiskState, state_after, put, IsBusy}
 use Rattle.reissue.specs.Entries.{pending_of, meets, AllOfMinor}
 use Rattle.reissue.specs.Agrees.{Agrees}
 use Rattle.reissue.specs.Posts.{HasRoom, OnlyPosts}
@@ -27,7 +27,7 @@ use Rattle.cache.specs.declared.cache.Cache.{Cache}
 use Rattle.cache.specs.declared.refusals.Cut.{Cut}
 use Rattle.cache.specs.declared.refusals.Cut.TheVariants.{Eio, LinkEnded}
 use Rattle.cache.specs.Slots.{held, is_clean}
-use Rattle.cache.specs.Edits.{IsAt, NoneDirty, AreBegun, IsRunEnd}
+use Rattle.cache.specs.Edits.{IsAt, NoneDirty}
 use Rattle.cache.specs.Frames.{Tied, CacheAgrees, view}
 
 -- What is said of a cache.
@@ -208,29 +208,6 @@ pub record PostsAlone (old new : Caching) : Type 0 where
 abbrev pub IsRefusing : Caching → Type 0
 IsRefusing c = (length c.table.pending ≡ 16)
     ⊎ ((b : ℕ) × (s : Slot) × (c.held b ≡ Some s) × (s.state ≡ Dirty) × IsTrue (list_any (meets (b * c.size) c.size) c.table.pending))
-
--- the writes of so many neighbouring frames from this block on are begun in one request, which takes just their bytes
-pub record IsRunBegun (block count : ℕ) (old new : Caching) : Type 0 where
-  pub ticket : ℕ
-  pub request : Begun
-  pub begun : AreBegun block count ticket old.held new.held
-  pub pending : pending_of new.table.pending ≡ put (pending_of old.table.pending) ticket (Some request)
-  pub start : request.start ≡ block * old.size
-  pub size : request.size ≡ count * old.size
-
--- The writes of so many neighbouring dirty frames are begun in one request, from the lowest block on: as many as are dirty side by side, but
--- no more than `most`, and than one request takes.
-pub record IssuesRun (most count : ℕ) (old new : Caching) : Type 0 where
-  pub block : ℕ
-  pub run : IsRunBegun block count old new
-  pub lowest : (b : ℕ) (s : Slot) → old.held b ≡ Some s → s.state ≡ Dirty → block ≤ b
-  pub few : count ≤ min most (4096 / old.size)
-  pub whole : (count ≡ min most (4096 / old.size)) ⊎ IsRunEnd old.held (block + count)
-
--- so many frames' writes are begun, none or a run
-abbrev pub BeginsRun : ℕ → ℕ → Caching → Caching → Type 0
-BeginsRun most zero old new = new.held ≡ old.held
-BeginsRun most (suc n) old new = IssuesRun most (suc n) old new
 
 -- no further write can be begun before a message is taken: no frame is dirty, or the write is refused
 pub record IsStuck (c : Caching) : Type 0 where

@@ -49,9 +49,10 @@ impl<L: Link> Cache<L> {
     ghost use Rattle.cache.specs.Edits.{AllStay, StayBut, IsChangedAt, AreDirty};
     ghost use Rattle.cache.specs.Frames.{frames_of, view, with_bytes};
     ghost use Rattle.cache.specs.Calls.{caching, held_by, frame_count, IsReady, IsIdle, IsLive, IsWhyCut, IsFrame, IsMade, IsStuck};
-    ghost use Rattle.cache.specs.Calls.{IsRefusing, IsRunBegun, BeginsRun, PostsAlone, messages_left, Does, Keeps, HandsOver, Blanks, Rewrites, LinkGoesOn};
+    ghost use Rattle.cache.specs.Calls.{IsRefusing, PostsAlone, messages_left, Does, Keeps, HandsOver, Blanks, Rewrites, LinkGoesOn};
     ghost use Rattle.cache.specs.Calls.{WantsFlush, forgotten, with_cache_link, without_flush};
     ghost use Rattle.cache.specs.Settling.{IsWantedFor};
+    ghost use Rattle.cache.specs.Runs.{IsRunBegun, BeginsRun};
     ghost use Rattle.cache.specs.contracts.cache.Cache.{the_row};
     ghost use Rattle.cache.specs.declared.frame.Frame.{Frame as FrameValue};
     ghost use Rattle.cache.specs.declared.slot.Slot.{Slot};
@@ -211,7 +212,8 @@ impl<L: Link> Cache<L> {
         ensures left { messages_left (caching L.Link self.new) ≤ messages_left (caching L.Link self.old) }
         ensures leaves { Leaves self.old.slots.items.items self.new.slots.items.items }
         ensures uses { self.new.slots.uses ≡ self.old.slots.uses }
-        ensures begun { OnTrue result (IsRunBegun block count (caching L.Link self.old) (caching L.Link self.new)) }
+        ensures begun { OnTrue result (IsRunBegun self.old.shape.block_size block count (held_by self.old) (held_by self.new)
+            (begun_in self.old.transfers) (begun_in self.new.transfers)) }
         ensures posts { PostsAlone (caching L.Link self.old) (caching L.Link self.new) }
         ensures flush { self.new.flush ≡ self.old.flush }
         ensures refused { OnFalse result (self.new ≡ self.old) }
@@ -559,7 +561,8 @@ impl<L: Link> Cache<L> {
         ensures count { frame_count self.new ≡ frame_count self.old }
         ensures posts { PostsAlone (caching L.Link self.old) (caching L.Link self.new) }
         ensures left { messages_left (caching L.Link self.new) ≤ messages_left (caching L.Link self.old) }
-        ensures issued { BeginsRun most result (caching L.Link self.old) (caching L.Link self.new) }
+        ensures issued { BeginsRun most self.old.shape.block_size result (held_by self.old) (held_by self.new)
+            (begun_in self.old.transfers) (begun_in self.new.transfers) }
         ensures few { result ≤ most }
         ensures busy { 0 < result → IsBusy (begun_in self.new.transfers) }
         ensures stuck { result ≡ 0 → IsLive (caching L.Link self.new) → IsStuck (caching L.Link self.new) }
@@ -604,6 +607,7 @@ impl<L: Link> Cache<L> {
         ensures silent { IsIdle (caching L.Link self.old) → (caching L.Link self.new).told ≡ (caching L.Link self.old).told }
         ensures goes { LinkGoesOn L.Link self.old self.new }
         ensures wanted { IsWantedFor (message ≡ Incoming.Flush) self.old.flush self.new.flush }
+        ensures asked { message ≡ Incoming.Flush → held_by self.new ≡ held_by self.old }
         ensures stay { AllStay self.old.slots self.new.slots }
         ensures leaves { Leaves self.old.slots.items.items self.new.slots.items.items }
         ensures end { message ≡ Incoming.End → self.new ≡ self.old }

@@ -18,7 +18,7 @@ use Rattle.reissue.specs.declared.table.Table.{Table}
 use Rattle.records.specs.Opening.{Opening}
 use Rattle.reissue.specs.Room.{room_needed}
 use Rattle.reissue.specs.Moves.{Closes, Spares, state_after}
-use Rattle.reissue.specs.Entries.{pending_of, begun_of, request_of, AllOfMinor}
+use Rattle.reissue.specs.Entries.{pending_of, begun_of, request_of, AllOfMinor, IsAmong}
 use Rattle.reissue.specs.Agrees.{Agrees, unposted}
 use Rattle.reissue.specs.Posts.{OnlyPosts, PostsInOrder, PostsAfter, is_message}
 use Rattle.reissue.specs.Calls.{Truth, Leads, TakesIn, Absorbs, Steps, Begins, PostsNew, IsAnswerTo, more_may_come}

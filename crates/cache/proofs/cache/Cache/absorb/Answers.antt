@@ -8,7 +8,10 @@ use Rattle.cache.proofs.Silent.{silent}
 use Rattle.cache.proofs.Taking.{absorbs_one, room_after, leaves_settled, none_begun}
 use Rattle.message.specs.declared.Incoming.{Incoming}
 use Rattle.reissue.specs.Calls.{IsAnswerTo}
+use Rattle.reissue.specs.declared.ask.Settled.{Settled}
 use Rattle.reissue.specs.declared.ask.Settled.TheVariants as settled
+use Rattle.cache.specs.Slots.{held}
+use Rattle.cache.specs.Settling.{Settles}
 use Rattle.cache.proofs.cache.Cache.absorb.Goals as goal
 
 pub returns : goal.returns
@@ -39,5 +42,8 @@ returns g c =
           let slots = e.end ends in
           let flush = e.wanted.1 none in
           λ i. record s { transfers = x.ended is i; slots = slots i; flush = flush i };
+      asked = λ is.
+          let flushes : c.absorb-settled.result ≡ settled.Flush = subst (λ (m : Incoming). IsAnswerTo m c.absorb-settled.result) is x.answer in
+          ap held (subst (λ (r : Settled). Settles r s.slots.items.items items) flushes e.slots);
       wanted = wanted_for c.args.message c.absorb-settled.result _ _ x.answer e.wanted;
     }
