@@ -1,14 +1,20 @@
 -- Slots of a run whose writes are begun.
-use Rattle.std.proofs.Common.{◌≡◌, ◌≢◌, ℕ, ◌+◌, ◌<◌, ◌≤◌, refl, sym, ap, subst, ◌∙◌, arith, true, Option, Some, None}
+use Rattle.std.proofs.Common.{◌≡◌, ◌≢◌, ℕ, ◌+◌, ◌-◌, ◌*◌, ◌<◌, ◌≤◌, List, set, refl, sym, ap, subst, ◌∙◌, arith, true, false, Option, Some, None}
 use mathlib.Core.Logic.{inl, inr}
-use Rattle.std.proofs.lemmas.Bool.{cases_eq, cases_lt}
+use Rattle.std.specs.Prelude.{◌&&◌, nat_le, nat_lt, slice_index}
+use Rattle.std.proofs.lemmas.Bool.{cond-true, cond-false, cases_eq, cases_lt, lt-ltb}
+use Rattle.std.proofs.lemmas.Bool.Decides.{nat_tests}
 use Rattle.reissue.specs.Moves.{put}
 use Rattle.reissue.proofs.Maps.{put-same, put-other}
 use Rattle.cache.specs.declared.slot.Slot.{Slot}
 use Rattle.cache.specs.declared.state.State.{State}
 use Rattle.cache.specs.declared.state.State.TheVariants.{Clean, Dirty, Writing, Changed}
-use Rattle.cache.specs.Slots.{is_dirty, is_dirty_held}
-use Rattle.cache.specs.Edits.{IsOutside, AreBegun, AreDirty}
+use Rattle.cache.specs.Slots.{held, is_dirty, is_dirty_held, IsDistinct}
+use Rattle.cache.specs.Edits.{IsSetAt, IsAt, IsOutside, AreBegun, AreDirty, Leaves}
+use Rattle.cache.specs.Runs.{IsCopied, AreGathered}
+use Rattle.cache.proofs.Held.{held_at, held_set}
+use Rattle.cache.proofs.Issuing.{write_leaves}
+use Rattle.cache.proofs.Tied.{fits_past}
 
 -- a dirty block has a slot in this state
 pub dirty_held : (o : Option Slot) → is_dirty_held o ≡ true → (s : Slot) × (o ≡ Some s) × (s.state ≡ Dirty)
@@ -78,3 +84,83 @@ pub dirty_one : (held : ℕ → Option Slot) (b : ℕ) (s : Slot) → held b ≡
 dirty_one held b s is st = λ i lt.
     let at : b + i ≡ b = omega (arith, lt) in
     is_dirty_slot_held (held (b + i)) s (ap held at ∙ is) st
+
+-- one more dirty block
+pub dirty_more : (held : ℕ → Option Slot) (b n : ℕ) → AreDirty held b n → is_dirty_held (held (b + n)) ≡ true → AreDirty held b (n + 1)
+dirty_more held b n all one = λ i lt. elim (cases_eq i n) [
+  | inl same ↦ ap (λ (k : ℕ). is_dirty_held (held (b + k))) same ∙ one
+  | inr ne ↦ all i (elim (cases_lt i n) [
+    | inl less ↦ less
+    | inr le ↦ absurd (ne (omega (arith, lt, le)))
+  ])
+]
+
+-- the first
+pub dirty_first : (held : ℕ → Option Slot) (b : ℕ) → is_dirty_held (held b) ≡ true → AreDirty held b 1
+dirty_first held b one = λ i lt. let at : b + i ≡ b = omega (arith, lt) in ap (λ (k : ℕ). is_dirty_held (held k)) at ∙ one
+
+-- the next one of those whose writes aren't begun yet is dirty
+pub still_dirty : (held mid : ℕ → Option Slot) (b i n : ℕ) → AreBegun b i n held mid → is_dirty_held (held (b + i)) ≡ true
+    → is_dirty_held (mid (b + i)) ≡ true
+still_dirty held mid b i n h one = ap is_dirty_held (h.others (b + i) (inr (omega arith))) ∙ one
+
+-- the slot of the next one is set
+pub begun_set : (held' : ℕ → Option Slot) (items items' : List Slot) (b i n at : ℕ) → IsDistinct items → AreBegun b i n held' (held items)
+    → is_dirty_held (held' (b + i)) ≡ true → IsAt items at (b + i) → IsSetAt items items' at (λ t. record t { state = Writing n })
+    → AreBegun b (i + 1) n held' (held items')
+begun_set held' items items' b i n at d h one x e =
+    let s = x.slot in
+    let here : held items (b + i) ≡ Some s = held_at items at (b + i) s d x.is x.block_is in
+    let its = dirty_held (held items (b + i)) (still_dirty held' (held items) b i n h one) in
+    let z : Some its.0 ≡ Some s = sym its.1 ∙ here in
+    let same : its.0 ≡ s = cc in
+    let dirty : s.state ≡ Dirty = ap (λ (y : Slot). y.state) (sym same) ∙ its.2 in
+    let y : Some e.slot ≡ Some s = sym e.is ∙ x.is in
+    let it : e.slot ≡ s = cc in
+    let all : items' ≡ set items at (record s { state = Writing n }) = e.all ∙ ap (λ (v : Slot). set items at (record v { state = Writing n })) it in
+    let after : held items' ≡ put (held items) (b + i) (Some (record s { state = Writing n })) =
+    ap held all ∙ held_set items at (b + i) s (record s { state = Writing n }) d x.is x.block_is refl in
+    subst (λ (f : ℕ → Option Slot). AreBegun b (i + 1) n held' f) (sym after) (begun_more held' (held items) b i n s h here dirty)
+
+-- what the slots leave
+pub set_leaves : (items items' : List Slot) (b n at : ℕ) → IsDistinct items → IsAt items at b
+    → IsSetAt items items' at (λ t. record t { state = Writing n }) → Leaves items items'
+set_leaves items items' b n at d x e = write_leaves items items' b at x.slot (Writing n) d x.is x.block_is e
+
+-- ---- bytes
+
+-- none yet
+pub gathered_none : (held : ℕ → Option Slot) (b size : ℕ) (bytes : List ℕ) → AreGathered held b 0 size bytes
+gathered_none held b size bytes = record { each = λ i o s lt lo is. absurd (omega (arith, lt)) }
+
+-- one more block's
+pub gathered_more : (held : ℕ → Option Slot) (b i size from : ℕ) (old new : List ℕ) → AreGathered held b i size old → from ≡ i * size
+    → IsCopied (held (b + i)) size from old new → from + size ≤ 4096 → AreGathered held b (i + 1) size new
+gathered_more held b i size from old new h at c fits = record {
+  each = λ j o s lt lo is. elim (cases_eq j i) [
+    | inl same ↦
+        let here : j * size ≡ from = ap (λ k. k * size) same ∙ sym at in
+        let z : Some c.slot ≡ Some s = sym c.is ∙ ap (λ k. held (b + k)) (sym same) ∙ is in
+        let one : c.slot ≡ s = cc in
+        let place : j * size + o ≡ from + o = omega (arith, here) in
+        let f : nat_le from (from + o) ≡ true = grind (arith, nat_tests) in
+        let g : nat_lt (from + o) (from + size) ≡ true = lt-ltb (from + o) (from + size) (omega (arith, lo)) in
+        let back : from + o - from ≡ o = omega arith in
+        ap (slice_index new) place ∙ c.each (from + o) (omega (arith, lo, fits))
+        ∙ cond-true (nat_le from (from + o) && nat_lt (from + o) (from + size)) (slice_index c.slot.bytes.value (from + o - from)) (slice_index old (from + o)) (rw (f, g) refl)
+        ∙ ap (slice_index c.slot.bytes.value) back ∙ ap (λ (y : Slot). slice_index y.bytes.value o) one
+    | inr ne ↦
+        let less : j < i = below j ne lt in
+        let before = fits_past j i size less in
+        let f : nat_le from (j * size + o) ≡ false = let lower : j * size + o < from = omega (arith, at, before, lo) in grind (arith, nat_tests) in
+        c.each (j * size + o) (omega (arith, at, before, lo, fits))
+        ∙ cond-false (nat_le from (j * size + o) && nat_lt (j * size + o) (from + size)) (slice_index c.slot.bytes.value (j * size + o - from)) (slice_index old (j * size + o)) (rw f refl)
+        ∙ h.each j o s less lo is
+  ];
+}
+  where
+    below : (j : ℕ) → j ≢ i → j < i + 1 → j < i
+    below j ne lt = elim (cases_lt j i) [
+      | inl less ↦ less
+      | inr le ↦ absurd (ne (omega (arith, lt, le)))
+    ]

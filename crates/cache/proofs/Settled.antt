@@ -3,7 +3,7 @@ use Rattle.std.proofs.Common.{◌≡◌, ◌≢◌, ℕ, zero, suc, ◌+◌, ◌
 use Rattle.std.proofs.lemmas.List.{length-set}
 use mathlib.Core.Logic.{inl, inr, ◌⊎◌}
 use Rattle.std.specs.Prelude.{cond, slice_get, slice_set}
-use Rattle.std.proofs.lemmas.Bool.{cases_eq, cases_lt}
+use Rattle.std.proofs.lemmas.Bool.{cond-true, cond-false, cases_eq, cases_lt}
 use Rattle.cache.specs.declared.slot.Slot.{Slot}
 use Rattle.cache.specs.declared.table.Slots.{Slots}
 use Rattle.cache.specs.declared.state.State.{State}
@@ -127,4 +127,33 @@ settled_stays ticket old new uses h = record {
     is = all_done ticket old.items.items new.items.items h i s is;
     kept = kept ticket s;
   };
+}
+
+-- a slot under the ticket is written
+pub set_under : (ticket : ℕ) (old new : List Slot) (at : ℕ) (x : State) (s : Slot) → slice_get old at ≡ Some s → is_under ticket s ≡ true
+    → x ≡ written s.state → IsSetAt old new at (λ t. record t { state = x }) → IsSetAt old new at (after_write ticket)
+set_under ticket old new at x s is under st e =
+    let z : Some e.slot ≡ Some s = sym e.is ∙ is in
+    let one : e.slot ≡ s = cc in
+    record {
+      slot = s;
+      is = is;
+      all = e.all ∙ ap (λ (y : Slot). slice_set old at (record y { state = x })) one
+          ∙ ap (λ (y : State). slice_set old at (record s { state = y })) st
+          ∙ ap (slice_set old at) (sym (cond-true (is_under ticket s) (record s { state = written s.state }) s under));
+    }
+
+-- what stands there, put there again
+set_same : (items : List Slot) (i : ℕ) (s : Slot) → slice_get items i ≡ Some s → slice_set items i s ≡ items
+set_same [] i s h = refl
+set_same (x ∷ xs) zero s h = let same : x ≡ s = cc in ap (λ (y : Slot). y ∷ xs) (sym same)
+set_same (x ∷ xs) (suc i) s h = ap (λ (l : List Slot). x ∷ l) (set_same xs i s h)
+
+-- another slot stays
+pub set_not : (ticket : ℕ) (items : List Slot) (at : ℕ) (s : Slot) → slice_get items at ≡ Some s → is_under ticket s ≡ false
+    → IsSetAt items items at (after_write ticket)
+set_not ticket items at s is under = record {
+  slot = s;
+  is = is;
+  all = sym (ap (slice_set items at) (cond-false (is_under ticket s) (record s { state = written s.state }) s under) ∙ set_same items at s is);
 }

@@ -5,10 +5,12 @@ use Rattle.cache.specs.declared.slot.Slot.{Slot}
 use Rattle.cache.specs.declared.state.State.TheVariants.{Dirty}
 use Rattle.cache.specs.Edits.{AreBegun, IsRunEnd}
 
--- a slot's bytes stand from this place on, and the others stay
+-- the bytes of a block's slot stand from this place on, and the others stay
 pub record IsCopied (held : Option Slot) (size from : ℕ) (old new : List ℕ) : Type 0 where
-  pub each : (s : Slot) (k : ℕ) → held ≡ Some s → k < 4096
-      → slice_index new k ≡ (if nat_le from k && nat_lt k (from + size) then slice_index s.bytes.value (k - from) else slice_index old k)
+  pub slot : Slot
+  pub is : held ≡ Some slot
+  pub each : (k : ℕ) → k < 4096
+      → slice_index new k ≡ (if nat_le from k && nat_lt k (from + size) then slice_index slot.bytes.value (k - from) else slice_index old k)
 
 -- the bytes of so many neighbouring blocks' slots from this one on, one block after the other
 pub record AreGathered (held : ℕ → Option Slot) (block count size : ℕ) (bytes : List ℕ) : Type 0 where
