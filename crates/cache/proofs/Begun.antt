@@ -1,17 +1,18 @@
 -- Slots of a run whose writes are begun.
-use Rattle.std.proofs.Common.{◌≡◌, ◌≢◌, ℕ, ◌+◌, ◌-◌, ◌*◌, ◌<◌, ◌≤◌, List, set, refl, sym, ap, subst, ◌∙◌, arith, true, false, Option, Some, None}
+use Rattle.std.proofs.Common.{◌≡◌, ◌≢◌, ℕ, zero, suc, ◌+◌, ◌-◌, ◌*◌, ◌/◌, ◌%◌, ◌<◌, ◌≤◌, List, set, refl, sym, ap, subst, ◌∙◌, arith, true, false, Option, Some, None}
 use mathlib.Core.Logic.{inl, inr}
 use Rattle.std.specs.Prelude.{◌&&◌, nat_le, nat_lt, slice_index}
 use Rattle.std.proofs.lemmas.Bool.{cond-true, cond-false, cases_eq, cases_lt, lt-ltb}
 use Rattle.std.proofs.lemmas.Bool.Decides.{nat_tests}
-use Rattle.reissue.specs.Moves.{put}
+use Rattle.std.proofs.Math.Nat.{mul-le-mul_right, add-mul, mul_comm, div-add-mod, mod-lt}
+use Rattle.reissue.specs.Moves.{Begun, put}
 use Rattle.reissue.proofs.Maps.{put-same, put-other}
 use Rattle.cache.specs.declared.slot.Slot.{Slot}
 use Rattle.cache.specs.declared.state.State.{State}
 use Rattle.cache.specs.declared.state.State.TheVariants.{Clean, Dirty, Writing, Changed}
 use Rattle.cache.specs.Slots.{held, is_dirty, is_dirty_held, IsDistinct}
 use Rattle.cache.specs.Edits.{IsSetAt, IsAt, IsOutside, AreBegun, AreDirty, Leaves}
-use Rattle.cache.specs.Runs.{IsCopied, AreGathered}
+use Rattle.cache.specs.Runs.{IsCopied, AreGathered, IssuesRun, BeginsRun}
 use Rattle.cache.proofs.Held.{held_at, held_set}
 use Rattle.cache.proofs.Issuing.{write_leaves}
 use Rattle.cache.proofs.Tied.{fits_past}
@@ -164,3 +165,35 @@ gathered_more held b i size from old new h at c fits = record {
       | inl less ↦ less
       | inr le ↦ absurd (ne (omega (arith, lt, le)))
     ]
+
+-- ---- how many blocks one request takes
+
+-- at least one
+pub some_fit : (size : ℕ) → 0 < size → size ≤ 4096 → 0 < 4096 / size
+some_fit size some most = elim (cases_lt 0 (4096 / size)) [
+  | inl lt ↦ lt
+  | inr none ↦
+      let split = div-add-mod 4096 size in
+      let rest = mod-lt 4096 some in
+      let zero_is : 4096 / size ≡ 0 = omega (arith, none) in
+      let nothing : size * (4096 / size) ≡ 0 = ap (λ n. size * n) zero_is ∙ (let e : size * 0 ≡ 0 = omega arith in e) in
+      absurd (omega (arith, split, rest, nothing, most))
+]
+
+-- and just as many as are no more bytes than it may have
+pub fits_in : (n size : ℕ) → n ≤ 4096 / size → n * size ≤ 4096
+fits_in n size le =
+    let more : n * size ≤ 4096 / size * size = mul-le-mul_right size le in
+    let split = div-add-mod 4096 size in
+    let order : 4096 / size * size ≡ size * (4096 / size) = mul_comm (4096 / size) size in
+    omega (arith, more, split, order)
+
+-- where some were begun
+pub begins_run : (most size n : ℕ) (old new : ℕ → Option Slot) (pending pending' : ℕ → Option Begun) → 0 < n
+    → IssuesRun most size n old new pending pending' → BeginsRun most size n old new pending pending'
+begins_run most size zero old new pending pending' some x = absurd (omega (arith, some))
+begins_run most size (suc n) old new pending pending' some x = x
+
+-- where the next block's bytes begin
+pub next_from : (i size from : ℕ) → from ≡ i * size → from + size ≡ (i + 1) * size
+next_from i size from at = let e = add-mul i 1 size in omega (arith, e, at)

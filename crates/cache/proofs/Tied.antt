@@ -92,7 +92,9 @@ run_like size held held' n r bytes h each = record {
 
 -- a slot under another ticket isn't written
 pub stays_other : (n m : ℕ) (s : Slot) → ticket_of s.state ≡ Some m → m ≢ n → after_write n s ≡ s
-stays_other n m s t ne = rw (rw t (ne_eqb m n ne) : is_under n s ≡ false) refl
+stays_other n m s t ne =
+    let e : is_under n s ≡ false = ap (λ (o : Option ℕ). is_number o n) t ∙ ne_eqb m n ne in
+    cond-false (is_under n s) (record s { state = written s.state }) s e
 
 -- a slot with a write under way after one was written wasn't that one
 pub not_under : (n m : ℕ) (s : Slot) → ticket_of (after_write n s).state ≡ Some m → (after_write n s ≡ s) × (m ≢ n)
