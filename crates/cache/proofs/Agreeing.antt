@@ -148,15 +148,15 @@ agrees_begun size held held' w b count n begun k = record {
   clean = λ c u h e o lt. elim (within_or b count c) [
     | inl x ↦
         let y = begun.each x.index x.below in
-        let z : Some (record (y.slot) { state = Writing n }) ≡ Some u = sym y.after ∙ ap held' (sym x.is) ∙ h in
-        let same : record (y.slot) { state = Writing n } ≡ u = cc in
+        let z : Some (record y.slot { state = Writing n }) ≡ Some u = sym y.after ∙ ap held' (sym x.is) ∙ h in
+        let same : record y.slot { state = Writing n } ≡ u = cc in
         absurd (let f : Writing n ≡ Clean = ap (λ (v : Slot). v.state) same ∙ e in cc)
     | inr out ↦ k.clean c u (sym (begun.others c out) ∙ h) e o lt
   ];
   covered = λ c h o lt. elim (within_or b count c) [
     | inl x ↦
         let y = begun.each x.index x.below in
-        absurd (let z : None ≡ Some (record (y.slot) { state = Writing n }) = sym h ∙ ap held' x.is ∙ y.after in cc)
+        absurd (let z : None ≡ Some (record y.slot { state = Writing n }) = sym h ∙ ap held' x.is ∙ y.after in cc)
     | inr out ↦ k.covered c (sym (begun.others c out) ∙ h) o lt
   ];
 }
@@ -168,7 +168,7 @@ view_begun size held held' w b count n begun = same_view size held held' w w (λ
   | inl x ↦
       let y = begun.each x.index x.below in
       let is : held c ≡ Some y.slot = ap held x.is ∙ y.is in
-      let after : held' c ≡ Some (record (y.slot) { state = Writing n }) = ap held' x.is ∙ y.after in
+      let after : held' c ≡ Some (record y.slot { state = Writing n }) = ap held' x.is ∙ y.after in
       rw (is, after) refl
   | inr out ↦ rw (begun.others c out) refl
 ])

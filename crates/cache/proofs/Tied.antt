@@ -280,7 +280,7 @@ tied_run size held held' pending b count n r bytes some begun from free start wh
     new_slot m i at lt =
         let x = begun.each i lt in
         record {
-          slot = record (x.slot) { state = Writing n };
+          slot = record x.slot { state = Writing n };
           holds = x.after;
           way = record { state = inr (ap Writing (sym at), λ o lo. sym (from.each i o x.slot lt lo x.is)) };
         }
@@ -312,7 +312,7 @@ tied_run size held held' pending b count n r bytes some begun from free start wh
     new_write : (c m : ℕ) (u : Slot) → held' c ≡ Some u → ticket_of u.state ≡ Some m → Within b count c → HasWrite size (put pending n (Some r)) c m
     new_write c m u h e w =
         let y = begun.each w.index w.below in
-        let same : u ≡ record (y.slot) { state = Writing n } = same_slot (held' c) u (record (y.slot) { state = Writing n }) h (ap held' w.is ∙ y.after) in
+        let same : u ≡ record y.slot { state = Writing n } = same_slot (held' c) u (record y.slot { state = Writing n }) h (ap held' w.is ∙ y.after) in
         let its : Some n ≡ Some m = sym (ap (λ (x : Slot). ticket_of x.state) same) ∙ e in
         let at : m ≡ n = cc in
         let place : c * size ≡ b * size + w.index * size = ap (λ z. z * size) w.is ∙ place_past b w.index size in

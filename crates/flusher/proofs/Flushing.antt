@@ -133,7 +133,7 @@ run_chain (suc n) b t old new begun lowest = (mid, first, run_chain n (b + 1) t 
     at = omega arith
 
     after : Slot
-    after = record (x.slot) { state = Writing t }
+    after = record x.slot { state = Writing t }
 
     mid : ℕ → Option Slot
     mid = put old b (Some after)
