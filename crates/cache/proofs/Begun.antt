@@ -1,7 +1,8 @@
 -- Slots of a run whose writes are begun.
-use Rattle.std.proofs.Common.{◌≡◌, ◌≢◌, ℕ, zero, suc, ◌+◌, ◌-◌, ◌*◌, ◌/◌, ◌%◌, ◌<◌, ◌≤◌, List, set, refl, sym, ap, subst, ◌∙◌, arith, true, false, Option, Some, None}
+use Rattle.std.proofs.Common.{◌≡◌, ◌≢◌, ℕ, zero, suc, ◌+◌, ◌-◌, ◌*◌, ◌/◌, ◌%◌, ◌<◌, ◌≤◌, List, set, refl, sym, ap, subst, ◌∙◌, arith, Bool, true, false, Option, Some, None}
 use mathlib.Core.Logic.{inl, inr}
-use Rattle.std.specs.Prelude.{◌&&◌, nat_le, nat_lt, slice_index}
+use Rattle.std.specs.Prelude.{◌&&◌, nat_le, nat_lt, slice_get, slice_index}
+use Rattle.std.specs.Bool.{OnTrue, OnFalse}
 use Rattle.std.proofs.lemmas.Bool.{cond-true, cond-false, cases_eq, cases_lt, lt-ltb}
 use Rattle.std.proofs.lemmas.Bool.Decides.{nat_tests}
 use Rattle.std.proofs.Math.Nat.{mul-le-mul_right, add-mul, mul_comm, div-add-mod, mod-lt}
@@ -11,7 +12,8 @@ use Rattle.cache.specs.declared.slot.Slot.{Slot}
 use Rattle.cache.specs.declared.state.State.{State}
 use Rattle.cache.specs.declared.state.State.TheVariants.{Clean, Dirty, Writing, Changed}
 use Rattle.cache.specs.Slots.{held, is_dirty, is_dirty_held, IsDistinct}
-use Rattle.cache.specs.Edits.{IsSetAt, IsAt, IsOutside, AreBegun, AreDirty, Leaves}
+use Rattle.cache.specs.Edits.{IsSetAt, IsAt, IsLowestDirty, IsLowestBlock, IsOutside, IsRunEnd, AreBegun, AreDirty, Leaves}
+use Rattle.cache.proofs.Edits.{one_slot}
 use Rattle.cache.specs.Runs.{IsCopied, AreGathered, IssuesRun, BeginsRun}
 use Rattle.cache.proofs.Held.{held_at, held_set}
 use Rattle.cache.proofs.Issuing.{write_leaves}
@@ -197,3 +199,30 @@ begins_run most size (suc n) old new pending pending' some x = x
 -- where the next block's bytes begin
 pub next_from : (i size from : ℕ) → from ≡ i * size → from + size ≡ (i + 1) * size
 next_from i size from at = let e = add-mul i 1 size in omega (arith, e, at)
+
+-- ---- where blocks stand
+
+-- the slot there is the block's
+pub at_held : (items : List Slot) (at b : ℕ) (s : Slot) → IsDistinct items → IsAt items at b → slice_get items at ≡ Some s → held items b ≡ Some s
+at_held items at b s d x is =
+    let same : x.slot ≡ s = one_slot items at x.slot s x.is is in
+    held_at items at b s d is (ap (λ (y : Slot). y.block) (sym same) ∙ x.block_is)
+
+-- whether it is dirty
+pub dirty_if : (o : Option Slot) (s : Slot) (r : Bool) → o ≡ Some s → r ≡ is_dirty s.state → OnTrue r (is_dirty_held o ≡ true)
+dirty_if o s true is e = ap is_dirty_held is ∙ sym e
+dirty_if o s false is e = tt
+
+pub end_if : (held : ℕ → Option Slot) (b : ℕ) (s : Slot) (r : Bool) → held b ≡ Some s → r ≡ is_dirty s.state → OnFalse r (IsRunEnd held b)
+end_if held b s true is e = tt
+end_if held b s false is e = inr (ap is_dirty_held is ∙ sym e)
+
+-- the lowest dirty one, by its block
+pub lowest_block_is : (items : List Slot) (at : ℕ) (s : Slot) → IsDistinct items → IsLowestDirty items at → slice_get items at ≡ Some s
+    → IsLowestBlock s.block (held items)
+lowest_block_is items at s d h is =
+    let same : h.slot ≡ s = one_slot items at h.slot s h.is is in
+    let block : s.block ≡ Some h.block = ap (λ (y : Slot). y.block) (sym same) ∙ h.block_is in
+    let here : held items h.block ≡ Some s = held_at items at h.block s d is block in
+    let dirty : is_dirty_held (held items h.block) ≡ true = is_dirty_slot_held (held items h.block) s here (ap (λ (y : Slot). y.state) (sym same) ∙ h.dirty) in
+    subst (λ (o : Option ℕ). IsLowestBlock o (held items)) (sym block) (dirty, h.lowest)

@@ -199,7 +199,7 @@ impl Slots {
         ensures { IsLowestBlock result (held self.now.items.items) }
     {
         match self.lowest_dirty() {
-            Some(at) => self.items[at].block,
+            Some(at) => self.get(at).block,
             None => None,
         }
     }
@@ -214,7 +214,7 @@ impl Slots {
             return false;
         };
         match self.find(next) {
-            Some(at) => self.items[at].state.is_dirty(),
+            Some(at) => self.get(at).state.is_dirty(),
             None => false,
         }
     }
