@@ -104,7 +104,7 @@ record MetAny (ps : List Pending) (size b count : ℕ) : Type 0 where
 
 meets_any : (ps : List Pending) (size b count : ℕ) → 0 < size → 0 < count → list_any (meets (b * size) (count * size)) ps ≡ true → MetAny ps size b count
 meets_any [] size b count some more h = cc
-meets_any (p ∷ ps) size b count some more h = by (meets (b * size) (count * size) p) refl
+meets_any (p ∷ ps) size b count some more h = by (meets (b * size) (count * size) p) refl (λ k. meets_any ps size b count some more k)
   where
     first : (x : Bool) (y : Bool) → x ≡ true → (x || y) ≡ true
     first x y e = rw e refl
@@ -113,13 +113,14 @@ meets_any (p ∷ ps) size b count some more h = by (meets (b * size) (count * si
     second true y e = refl
     second false y e = e
 
-    by : (v : Bool) → meets (b * size) (count * size) p ≡ v → MetAny (p ∷ ps) size b count
-    by true e =
+    by : (v : Bool) → meets (b * size) (count * size) p ≡ v → (list_any (meets (b * size) (count * size)) ps ≡ true → MetAny ps size b count)
+        → MetAny (p ∷ ps) size b count
+    by true e later =
         let x = meets_block p size b count some more e in
         record { index = x.index; below = x.below; is = first (meets ((b + x.index) * size) size p) (list_any (meets ((b + x.index) * size) size) ps) x.is }
-    by false e =
+    by false e later =
         let rest : list_any (meets (b * size) (count * size)) ps ≡ true = ap (λ (v : Bool). v || list_any (meets (b * size) (count * size)) ps) (sym e) ∙ h in
-        let x = meets_any ps size b count some more rest in
+        let x = later rest in
         record { index = x.index; below = x.below; is = second (meets ((b + x.index) * size) size p) (list_any (meets ((b + x.index) * size) size) ps) x.is }
 
 -- where the write of dirty blocks is refused
@@ -224,7 +225,7 @@ write_one ask old new items items' b n at s d is block st e here there x adds op
     from = record {
       each = λ i o u lt lo is'.
           let at_b : b + i ≡ b = omega (arith, lt) in
-          let none : i * old.size + o ≡ o = ap (λ k. k * old.size + o) (let z : i ≡ 0 = omega (arith, lt) in z) in
+          let none : i * old.size + o ≡ o = ap (λ k. k * old.size + o) (let z : i ≡ 0 = omega (arith, lt) in z) ∙ (let y : 0 * old.size + o ≡ o = omega arith in y) in
           let same_one : Some s ≡ Some u = sym slot ∙ ap old.held (sym at_b) ∙ is' in
           let it : s ≡ u = cc in
           ap (slice_index ask.bytes) none ∙ ap (λ (l : List ℕ). slice_index l o) bytes ∙ ap (λ (y : Slot). slice_index y.bytes.value o) it;
