@@ -8,6 +8,7 @@ mod Order
 mod Choosing
 mod Making
 mod Settled
+mod Copying
 pub mod Begun
 pub mod Sizes
 pub mod Tied

@@ -5,7 +5,7 @@ ghost use Rattle.std.specs.Bool.{OnTrue, OnFalse};
 ghost use Rattle.cache.specs.Slots.{is_number, held, is_dirty_held, is_unclean_slot, IsDistinct};
 
 use crate::hints::Hints;
-use crate::slot::{Slot, zeros};
+use crate::slot::{Slot, put, zeros};
 use crate::state::State;
 use crate::uses::Uses;
 use reissue::Ticket;
@@ -255,8 +255,8 @@ impl Slots {
         requires within { from + size ≤ 4096 }
         ensures copied { IsCopied (held self.now.items.items block) size from to.old to.new }
     {
-        let at = self.dirty_at(block);
-        to[from..from + size].copy_from_slice(&self.items[at].bytes[..size]);
+        let slot = self.get(self.dirty_at(block));
+        put(to, from, &slot.bytes[..size]);
     }
 
     /// The bytes of so many neighbouring blocks from this one on, which have dirty slots, one block after the other.

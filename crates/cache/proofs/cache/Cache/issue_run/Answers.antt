@@ -1,4 +1,6 @@
-use Rattle.std.proofs.Common.{◌≡◌, refl, sym, subst, ap, ◌∙◌, arith, Err}
+use Rattle.std.proofs.Common.{◌≡◌, ℕ, List, refl, sym, subst, ap, ◌∙◌, arith, Err}
+use Rattle.cache.specs.Slots.{held}
+use Rattle.cache.specs.Runs.{AreGathered}
 use Rattle.cache.specs.Calls.{Caching, caching, caching_of, Keeps}
 use Rattle.cache.proofs.Edits.{leaves_none}
 use Rattle.cache.proofs.Beginning.{refusing, write_many, busy_begun}
@@ -10,8 +12,10 @@ returns-in-Ok-clause-keeps g c =
     let s = c.args.self.now in
     let x = c.in-Ok.ensures in
     let a = c.write_run-ask.ensures in
+    let from : AreGathered (held s.slots.items.items) c.args.block c.args.count s.shape.block_size c.write_run-ask.result.bytes =
+    subst (λ (l : List ℕ). AreGathered (held s.slots.items.items) c.args.block c.args.count s.shape.block_size l) (sym a.bytes) c.gather-bytes.ensures in
     write_many c.write_run-ask.result (caching g.L.Link s) (caching_of g.L.Link c.begin_run.new.self s.shape c.set_writing.new.self.items.items s.ended)
-    c.args.block c.args.count c.in-Ok.ticket c.requires.some c.set_writing.ensures.begun _
+    c.args.block c.args.count c.in-Ok.ticket c.requires.some c.set_writing.ensures.begun from
     x.begins x.adds x.opens a.kind a.minor a.position a.count c.requires.ready refl refl refl x.budget x.room
 
 pub returns-in-Ok-clause-busy : goal.returns-in-Ok-clause-busy

@@ -1,7 +1,9 @@
-use Rattle.std.proofs.Common.{◌≡◌, ◌+◌, ◌*◌, ◌/◌, [], refl, sym, ap, ◌∙◌, subst, arith}
+use Rattle.std.proofs.Common.{◌≡◌, ◌+◌, ◌*◌, ◌/◌, ◌≤◌, [], refl, sym, ap, ◌∙◌, subst, arith}
 use mathlib.Core.Logic.{inl, inr}
 use Rattle.cache.specs.Calls.{caching, IsRefusing}
+use Rattle.cache.specs.Slots.{held}
 use Rattle.cache.proofs.Begun.{fits_in, some_fit, begins_run}
+use Rattle.cache.proofs.Beginning.{stuck_for}
 use Rattle.cache.proofs.Placing.{keeps_none}
 use Rattle.cache.proofs.cache.Cache.write_run.Goals as goal
 
