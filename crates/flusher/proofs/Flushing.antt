@@ -232,3 +232,31 @@ pub flushing_same : (most size left : ℕ) (old mid new : ℕ → Option Slot) (
 flushing_same most size left old mid new pending between pending' h same as =
     subst (λ (f : ℕ → Option Slot). Flushing most size left old f pending pending') (sym same)
     (subst (λ (f : ℕ → Option Begun). Flushing most size left old mid pending f) (sym as) h)
+
+-- a run that is begun, by the size of a block that stays
+pub begins_of : (most n size size' : ℕ) (mid new : ℕ → Option Slot) (between pending' : ℕ → Option Begun)
+    → size' ≡ size → BeginsRun most size' n mid new between pending' → BeginsRun most size n mid new between pending'
+begins_of most n size size' mid new between pending' same x = subst (λ (k : ℕ). BeginsRun most k n mid new between pending') same x
+
+-- none is begun
+pub begins_none : (most n size : ℕ) (mid new : ℕ → Option Slot) (between pending' : ℕ → Option Begun)
+    → n ≡ 0 → BeginsRun most size n mid new between pending' → (new ≡ mid) × (pending' ≡ between)
+begins_none most n size mid new between pending' none x = subst (λ (k : ℕ). BeginsRun most size k mid new between pending') none x
+
+-- then they stay
+pub flushing_end : (most size left : ℕ) (old mid new : ℕ → Option Slot) (pending between pending' : ℕ → Option Begun)
+    → Flushing most size left old mid pending between → (new ≡ mid) × (pending' ≡ between) → Flushing most size left old new pending pending'
+flushing_end most size left old mid new pending between pending' h x = flushing_same most size left old mid new pending between pending' h x.0 x.1
+
+-- those that were begun are so many at most
+pub lowest_of : (most size left : ℕ) (old new : ℕ → Option Slot) (pending pending' : ℕ → Option Begun)
+    → Flushing most size left old new pending pending' → WritesLowest most old new
+lowest_of most size left old new pending pending' h = let is = h.left_is in just_most (sum h.counts) most old new (omega (arith, is)) h.just
+
+-- and just so many where no further one may be
+pub all_of : (most size left : ℕ) (old new : ℕ → Option Slot) (pending pending' : ℕ → Option Begun)
+    → left ≤ 0 → Flushing most size left old new pending pending' → WritesJust most old new
+all_of most size left old new pending pending' none h =
+    let is = h.left_is in
+    let whole : sum h.counts ≡ most = omega (arith, is, none) in
+    subst (λ (k : ℕ). WritesJust k old new) whole h.just

@@ -1,12 +1,7 @@
-use Rattle.std.proofs.Common.{◌≡◌, ◌≢◌, ℕ, ◌≤◌, refl, sym, ap, subst, ◌∙◌, arith, Option}
+use Rattle.std.proofs.Common.{refl, ◌∙◌, arith}
 use mathlib.Core.Logic.{inl, inr}
-use Rattle.reissue.specs.Moves.{Begun}
-use Rattle.cache.specs.declared.slot.Slot.{Slot}
-use Rattle.cache.specs.Calls.{caching}
-use Rattle.cache.specs.Runs.{BeginsRun}
 use Rattle.cache.proofs.Placing.{keeps_none, keeps_then}
-use Rattle.flusher.specs.Flushing.{WritesJust}
-use Rattle.flusher.proofs.Flushing.{just_most, flushing_none, flushing_more, flushing_same, posts_none, posts_then}
+use Rattle.flusher.proofs.Flushing.{flushing_none, flushing_more, flushing_end, begins_of, begins_none, lowest_of, all_of, posts_none, posts_then}
 use Rattle.flusher.proofs.flush_some.Goals as goal
 
 pub runs-init : goal.runs-init
@@ -22,3 +17,80 @@ runs-init g c = record {
   flush = refl;
   uses = refl;
 }
+
+pub write_run-requires : goal.write_run-requires
+write_run-requires g c = record { ready = c.runs.invariant.keeps.ready; most = c.runs-test.true }
+
+pub runs-preserved : goal.runs-preserved
+runs-preserved g c =
+    let i = c.runs.invariant in
+    let e = c.write_run-begun.ensures in
+    record {
+      keeps = keeps_then _ _ _ i.keeps e.keeps;
+      posts = posts_then _ _ _ i.posts e.posts;
+      flushing = flushing_more 16 _ c.runs.left c.write_run-begun.result _ _ _ _ _ _ i.flushing c.if-begun-eq0.false e.few
+          (begins_of c.runs.left c.write_run-begun.result _ _ _ _ _ _ i.keeps.size e.issued);
+      messages = omega (arith, i.messages, e.left);
+      frames = λ f is. e.frames f (i.frames f is);
+      reads = λ t r is w. i.reads t r (e.reads t r is w) w;
+      count = e.count ∙ i.count;
+      goes = g.met.L.Link.joins _ _ _ i.goes e.goes;
+      flush = e.flush ∙ i.flush;
+      uses = e.uses ∙ i.uses;
+    }
+
+pub returns-then-begun-eq0-clause-keeps : goal.returns-then-begun-eq0-clause-keeps
+returns-then-begun-eq0-clause-keeps g c = keeps_then _ _ _ c.runs.invariant.keeps c.write_run-begun.ensures.keeps
+
+pub returns-then-begun-eq0-clause-goes : goal.returns-then-begun-eq0-clause-goes
+returns-then-begun-eq0-clause-goes g c = g.met.L.Link.joins _ _ _ c.runs.invariant.goes c.write_run-begun.ensures.goes
+
+pub returns-then-begun-eq0-clause-posts : goal.returns-then-begun-eq0-clause-posts
+returns-then-begun-eq0-clause-posts g c = posts_then _ _ _ c.runs.invariant.posts c.write_run-begun.ensures.posts
+
+pub returns-then-begun-eq0-clause-issued : goal.returns-then-begun-eq0-clause-issued
+returns-then-begun-eq0-clause-issued g c =
+    let i = c.runs.invariant in
+    let e = c.write_run-begun.ensures in
+    let h = flushing_end 16 _ c.runs.left _ _ _ _ _ _ i.flushing (begins_none c.runs.left c.write_run-begun.result _ _ _ _ _ c.if-begun-eq0.true e.issued) in
+    lowest_of 16 _ c.runs.left _ _ _ _ h
+
+pub returns-then-begun-eq0-clause-runs : goal.returns-then-begun-eq0-clause-runs
+returns-then-begun-eq0-clause-runs g c =
+    let i = c.runs.invariant in
+    let e = c.write_run-begun.ensures in
+    let h = flushing_end 16 _ c.runs.left _ _ _ _ _ _ i.flushing (begins_none c.runs.left c.write_run-begun.result _ _ _ _ _ c.if-begun-eq0.true e.issued) in
+    record { counts = h.counts; runs = h.runs }
+
+pub returns-then-begun-eq0-clause-left : goal.returns-then-begun-eq0-clause-left
+returns-then-begun-eq0-clause-left g c = omega (arith, c.runs.invariant.messages, c.write_run-begun.ensures.left)
+
+pub returns-then-begun-eq0-clause-stuck : goal.returns-then-begun-eq0-clause-stuck
+returns-then-begun-eq0-clause-stuck g c = λ live. inr (c.write_run-begun.ensures.stuck c.if-begun-eq0.true live)
+
+pub returns-then-begun-eq0-clause-frames : goal.returns-then-begun-eq0-clause-frames
+returns-then-begun-eq0-clause-frames g c = λ f is. c.write_run-begun.ensures.frames f (c.runs.invariant.frames f is)
+
+pub returns-then-begun-eq0-clause-reads : goal.returns-then-begun-eq0-clause-reads
+returns-then-begun-eq0-clause-reads g c = λ t r is w. c.runs.invariant.reads t r (c.write_run-begun.ensures.reads t r is w) w
+
+pub returns-clause-keeps : goal.returns-clause-keeps
+returns-clause-keeps g c = c.runs.invariant.keeps
+
+pub returns-clause-posts : goal.returns-clause-posts
+returns-clause-posts g c = c.runs.invariant.posts
+
+pub returns-clause-issued : goal.returns-clause-issued
+returns-clause-issued g c = lowest_of 16 _ c.runs.left _ _ _ _ c.runs.invariant.flushing
+
+pub returns-clause-runs : goal.returns-clause-runs
+returns-clause-runs g c = let h = c.runs.invariant.flushing in record { counts = h.counts; runs = h.runs }
+
+pub returns-clause-left : goal.returns-clause-left
+returns-clause-left g c = c.runs.invariant.messages
+
+pub returns-clause-stuck : goal.returns-clause-stuck
+returns-clause-stuck g c = λ live. inl (all_of 16 _ c.runs.left _ _ _ _ c.runs-test.false c.runs.invariant.flushing)
+
+pub returns-clause-frames : goal.returns-clause-frames
+returns-clause-frames g c = c.runs.invariant.frames

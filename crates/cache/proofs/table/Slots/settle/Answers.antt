@@ -22,11 +22,11 @@ returns-clause-written c =
     let i = c.loop-at.invariant in
     let items = c.args.self.now.items.items in
     let all : c.loop-at.at ≡ length items = omega (arith, i.within, c.loop-at-test.false, c.len-at-end.ensures) in
-    settled_written c.args.ticket items _ c.loop-at.self.distinct (subst (λ (n : ℕ). Settling c.args.ticket items _ n) all i.settling)
+    settled_written c.args.ticket items _ c.loop-at.self.distinct (subst (λ (n : ℕ). Settling c.args.ticket items c.loop-at.self.items.items n) all i.settling)
 
 pub returns-clause-stay : goal.returns-clause-stay
 returns-clause-stay c =
     let i = c.loop-at.invariant in
     let items = c.args.self.now.items.items in
     let all : c.loop-at.at ≡ length items = omega (arith, i.within, c.loop-at-test.false, c.len-at-end.ensures) in
-    settled_stays c.args.ticket c.args.self.now c.loop-at.self i.uses (subst (λ (n : ℕ). Settling c.args.ticket items _ n) all i.settling)
+    settled_stays c.args.ticket c.args.self.now c.loop-at.self i.uses (subst (λ (n : ℕ). Settling c.args.ticket items c.loop-at.self.items.items n) all i.settling)
