@@ -4,6 +4,7 @@ use Rattle.std.proofs.Math.Nat.{div-add-mod, mod-lt, mul_comm}
 use mathlib.Core.Logic.{inl, inr}
 use Rattle.std.specs.Prelude.{◌-◌, sum}
 use Rattle.std.proofs.lemmas.Bool.{cases_eq, cases_lt}
+use Rattle.std.proofs.lemmas.List.Sums.{sum_by-cons}
 use Rattle.reissue.specs.Moves.{DiskState, Begun, put, IsBusy}
 use Rattle.reissue.proofs.Maps.{put-same, put-other, put_cases}
 use Rattle.reissue.specs.Entries.{pending_of}
@@ -215,23 +216,24 @@ pub flushing_more : (most size left n : ℕ) (old mid new : ℕ → Option Slot)
 flushing_more most size left zero old mid new pending between pending' h some le x = absurd (some refl)
 flushing_more most size left (suc n) old mid new pending between pending' h some le x =
     let is = h.left_is in
+    let total : sum (suc n ∷ h.counts) ≡ suc n + sum h.counts = sum_by-cons (λ k. k) (suc n) h.counts in
     let left_over : left ≡ most - sum h.counts = omega (arith, is) in
     record {
       counts = suc n ∷ h.counts;
       runs = (mid, between, h.runs, subst (λ (k : ℕ). IssuesRun k size (suc n) mid new between pending') left_over x);
-      left_is = omega (arith, is, le);
+      left_is = omega (arith, is, le, total);
       just =
           let both = just_then (sum h.counts) (suc n) old mid new h.just (run_chain (suc n) x.block x.run.ticket mid new x.run.begun x.lowest) in
-          let order : sum h.counts + suc n ≡ suc n + sum h.counts = omega arith in
+          let order : sum h.counts + suc n ≡ sum (suc n ∷ h.counts) = omega (arith, total) in
           subst (λ (k : ℕ). WritesJust k old new) order both;
     }
 
 -- where none is begun they stay
 pub flushing_same : (most size left : ℕ) (old mid new : ℕ → Option Slot) (pending between pending' : ℕ → Option Begun)
     → Flushing most size left old mid pending between → new ≡ mid → pending' ≡ between → Flushing most size left old new pending pending'
-flushing_same most size left old mid new pending between pending' h same as =
+flushing_same most size left old mid new pending between pending' h same kept =
     subst (λ (f : ℕ → Option Slot). Flushing most size left old f pending pending') (sym same)
-    (subst (λ (f : ℕ → Option Begun). Flushing most size left old mid pending f) (sym as) h)
+    (subst (λ (f : ℕ → Option Begun). Flushing most size left old mid pending f) (sym kept) h)
 
 -- a run that is begun, by the size of a block that stays
 pub begins_of : (most n size size' : ℕ) (mid new : ℕ → Option Slot) (between pending' : ℕ → Option Begun)
