@@ -186,7 +186,9 @@ run_chain (suc n) b t old new begun lowest = (mid, first, run_chain n (b + 1) t 
 
 -- so many writes, and then so many
 pub just_then : (k n : ℕ) (old mid new : ℕ → Option Slot) → WritesJust k old mid → WritesJust n mid new → WritesJust (k + n) old new
-just_then zero n old mid new h x = subst (λ (m : ℕ → Option Slot). WritesJust n m new) h x
+just_then zero n old mid new h x =
+    let none : n ≡ zero + n = omega arith in
+    subst (λ (m : ℕ). WritesJust m old new) none (subst (λ (f : ℕ → Option Slot). WritesJust n f new) h x)
 just_then (suc k) n old mid new h x =
     let next : suc (k + n) ≡ suc k + n = omega arith in
     subst (λ (m : ℕ). WritesJust m old new) next (h.0, h.1, just_then k n h.0 mid new h.2 x)

@@ -18,8 +18,8 @@ runs-init g c = record {
   uses = refl;
 }
 
-pub write_run-requires : goal.write_run-requires
-write_run-requires g c = record { ready = c.runs.invariant.keeps.ready; most = c.runs-test.true }
+pub write_run-begun-requires : goal.write_run-begun-requires
+write_run-begun-requires g c = record { ready = c.runs.invariant.keeps.ready; most = c.runs-test.true }
 
 pub runs-preserved : goal.runs-preserved
 runs-preserved g c =
