@@ -1,5 +1,5 @@
 -- Slots of a run whose writes are begun.
-use Rattle.std.proofs.Common.{◌≡◌, ◌≢◌, ℕ, zero, suc, ◌+◌, ◌-◌, ◌*◌, ◌/◌, ◌%◌, ◌<◌, ◌≤◌, List, set, refl, sym, ap, subst, ◌∙◌, arith, Bool, true, false, Option, Some, None}
+use Rattle.std.proofs.Common.{◌≡◌, ◌≢◌, ℕ, zero, suc, ◌+◌, ◌-◌, ◌*◌, ◌/◌, ◌<◌, ◌≤◌, List, set, refl, sym, ap, subst, ◌∙◌, arith, Bool, true, false, Option, Some, None}
 use mathlib.Core.Logic.{inl, inr}
 use Rattle.std.specs.Prelude.{◌&&◌, nat_le, nat_lt, slice_get, slice_index}
 use Rattle.std.specs.Bool.{OnTrue, OnFalse}

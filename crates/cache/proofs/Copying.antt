@@ -1,8 +1,6 @@
 -- Bytes of a block that are copied.
-use Rattle.std.proofs.Common.{◌≡◌, ℕ, ◌+◌, ◌-◌, ◌<◌, ◌≤◌, List, length, take, get_or-take, refl, sym, ap, ◌∙◌, arith, Bool, true, false, Option, Some}
+use Rattle.std.proofs.Common.{◌≡◌, ℕ, ◌+◌, ◌-◌, ◌<◌, List, length, take, get_or-take, refl, ap, ◌∙◌, arith, Bool, true, false, Option, Some}
 use Rattle.std.specs.Prelude.{◌&&◌, nat_le, nat_lt, slice_index, if◌then◌else◌}
-use Rattle.std.proofs.lemmas.List.{length-take-le}
-use Rattle.std.proofs.lemmas.Bool.{cond-true, cond-false}
 use Rattle.std.proofs.lemmas.Bool.Decides.{nat_tests}
 use Rattle.lemmas.proofs.Bools.{and_left, and_right}
 use Rattle.cache.specs.declared.slot.Slot.{Slot}

@@ -1,14 +1,14 @@
 -- Slots whose write was answered good.
-use Rattle.std.proofs.Common.{◌≡◌, ◌≢◌, ℕ, zero, suc, ◌+◌, ◌<◌, ◌≤◌, List, [], ◌∷◌, length, refl, sym, ap, subst, ◌∙◌, arith, Bool, true, false, Option, Some, None}
+use Rattle.std.proofs.Common.{◌≡◌, ◌≢◌, ℕ, zero, suc, ◌+◌, ◌<◌, ◌≤◌, List, [], ◌∷◌, length, refl, sym, ap, subst, ◌∙◌, arith, Bool, true, false, Some, None}
 use Rattle.std.proofs.lemmas.List.{length-set}
-use mathlib.Core.Logic.{inl, inr, ◌⊎◌}
+use mathlib.Core.Logic.{inl, inr}
 use Rattle.std.specs.Prelude.{cond, slice_get, slice_set}
 use Rattle.std.proofs.lemmas.Bool.{cond-true, cond-false, cases_eq, cases_lt}
 use Rattle.cache.specs.declared.slot.Slot.{Slot}
 use Rattle.cache.specs.declared.table.Slots.{Slots}
 use Rattle.cache.specs.declared.state.State.{State}
 use Rattle.cache.specs.Slots.{held, is_under, written, IsDistinct}
-use Rattle.cache.specs.Edits.{IsSetAt, IsAt, IsFreeAt, IsKept, AllStay, Leaves, IsWritten, after_write, held_after_write}
+use Rattle.cache.specs.Edits.{IsSetAt, IsKept, AllStay, IsWritten, after_write, held_after_write}
 use Rattle.cache.proofs.Held.{option_cases, get_set_same, get_set_other, place_of, some_holds, held_at, in_range}
 
 -- the slots below this place are written, and the others stay

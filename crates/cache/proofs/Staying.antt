@@ -2,14 +2,13 @@
 use Rattle.std.proofs.Common.{◌≡◌, ◌≢◌, ℕ, List, refl, sym, ap, subst, ◌∙◌, Some}
 use mathlib.Core.Logic.{inl, inr}
 use Rattle.std.specs.Prelude.{slice_get, slice_set}
-use Rattle.std.proofs.lemmas.Bool.{cases_eq}
 use Rattle.cache.specs.declared.slot.Slot.{Slot}
 use Rattle.cache.specs.declared.table.Slots.{Slots}
 use Rattle.cache.specs.declared.state.State.{State}
 use Rattle.cache.specs.declared.state.State.TheVariants.{Clean, Dirty, Writing, Changed}
 use Rattle.cache.specs.Slots.{written}
 use Rattle.cache.specs.Edits.{IsSetAt, IsAt, IsKept, AllStay, OthersStay, StayBut}
-use Rattle.cache.proofs.Held.{get_set_same, get_set_other}
+use Rattle.cache.proofs.Held.{get_set_other}
 use Rattle.cache.proofs.Edits.{one_slot}
 
 -- a write is answered good once

@@ -1,7 +1,6 @@
 -- Slots and pending requests stay tied.
 use Rattle.std.proofs.Common.{◌≡◌, ◌≢◌, ℕ, suc, ◌<◌, ◌≤◌, ◌+◌, ◌-◌, ◌*◌, List, Bool, true, false, refl, sym, ap, subst, ◌∙◌, arith, Option, Some, None}
 use mathlib.Core.Logic.{inl, inr, ◌⊎◌}
-use Rattle.std.specs.Prelude.{slice_index}
 use Rattle.std.proofs.lemmas.Bool.{cond-true, cond-false, eq-eqb, ne_eqb, cases_lt}
 use Rattle.std.proofs.Math.Nat.{mul-le-mul_right, suc-mul, add-mul}
 use Rattle.reissue.specs.Moves.{Begun, put, IsQuiet}

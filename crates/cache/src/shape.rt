@@ -59,7 +59,12 @@ impl Shape {
         ensures count { result.count ≡ count * self.now.block_size }
         ensures bytes { result.bytes ≡ bytes.now }
     {
-        Ask::write(self.minor, self.place(block), count * self.block_size, bytes)
+        Ask::write(
+            self.minor,
+            self.place(block),
+            count * self.block_size,
+            bytes,
+        )
     }
 
     /// How many blocks one request takes at most.

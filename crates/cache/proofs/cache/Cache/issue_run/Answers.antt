@@ -1,4 +1,4 @@
-use Rattle.std.proofs.Common.{◌≡◌, ℕ, List, refl, sym, subst, ap, ◌∙◌, arith, Err}
+use Rattle.std.proofs.Common.{◌≡◌, ℕ, List, refl, sym, subst, arith, Err}
 use Rattle.cache.specs.Slots.{held}
 use Rattle.cache.specs.Runs.{AreGathered}
 use Rattle.cache.specs.Calls.{Caching, caching, caching_of, Keeps}

@@ -1,4 +1,4 @@
-use Rattle.std.proofs.Common.{◌≡◌, refl, sym, subst, arith, None, Ok}
+use Rattle.std.proofs.Common.{◌≡◌, refl, sym, subst, None, Ok}
 use Rattle.cache.specs.Calls.{Caching, caching, caching_of, Runs}
 use Rattle.cache.specs.Takes.{Takes}
 use Rattle.cache.specs.Settling.{took_of, is_ended_by}

@@ -1,5 +1,4 @@
-use Rattle.std.proofs.Common.{rules, ◌≡◌, ◌≤◌, List, ℕ, length, take, sym, ap, subst, ◌∙◌, arith}
-use Rattle.std.proofs.lemmas.List.{length-take-le}
+use Rattle.std.proofs.Common.{rules, ◌≡◌, length, take}
 use Rattle.cache.specs.Slots.{held}
 use Rattle.cache.proofs.Begun.{at_held}
 use Rattle.cache.proofs.Copying.{copied}

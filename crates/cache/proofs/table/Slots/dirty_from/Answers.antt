@@ -1,7 +1,5 @@
-use Rattle.std.proofs.Common.{◌≡◌, arith, subst}
-use mathlib.Core.Logic.{inl, inr}
+use Rattle.std.proofs.Common.{arith}
 use Rattle.cache.specs.Slots.{held}
-use Rattle.cache.specs.Edits.{AreDirty}
 use Rattle.cache.proofs.Begun.{dirty_first, dirty_more}
 use Rattle.cache.proofs.table.Slots.dirty_from.Goals as goal
 

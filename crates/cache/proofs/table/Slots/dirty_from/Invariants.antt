@@ -1,4 +1,4 @@
-use Rattle.std.proofs.Common.{◌≡◌, ◌+◌, ◌<◌, ◌≤◌, ◌^◌}
+use Rattle.std.proofs.Common.{◌+◌, ◌<◌, ◌≤◌, ◌^◌}
 use Rattle.cache.specs.Slots.{held}
 use Rattle.cache.specs.Edits.{AreDirty}
 use Rattle.cache.proofs.table.Slots.dirty_from.Given as goal
