@@ -1,15 +1,17 @@
 -- Slots and the disk go on agreeing, and what would be read back stays.
-use Rattle.std.proofs.Common.{◌≡◌, ℕ, zero, suc, ◌<◌, ◌≤◌, ◌+◌, ◌*◌, List, [], ◌∷◌, get_or, take, get_or-take, refl, sym, ap, subst, ◌∙◌, arith, false, Option, Some, None}
+use Rattle.std.proofs.Common.{◌≡◌, ℕ, zero, suc, ◌<◌, ◌≤◌, ◌+◌, ◌*◌, List, [], ◌∷◌, get_or, take, get_or-take, refl, sym, ap, subst, ◌∙◌, arith, Bool, true, false, Option, Some, None}
 use mathlib.Core.Logic.{inl, inr, ◌⊎◌}
-use Rattle.std.specs.Prelude.{slice_index, nat_lt}
+use Rattle.std.specs.Prelude.{slice_index, nat_lt, cond}
 use Rattle.std.proofs.lemmas.Bool.{cond-true, cases_lt, lt-ltb}
 use Rattle.std.proofs.lemmas.Bool.Decides.{nat_tests}
 use Rattle.records.specs.View.{frame_or}
 use Rattle.reissue.specs.Moves.{DiskState, Begun, put, Spares}
 use Rattle.reissue.proofs.Maps.{put-same, put-other, put_cases}
-use Rattle.cache.specs.Slots.{ticket_of, dirtied, written}
+use Rattle.cache.specs.Slots.{is_under, ticket_of, dirtied, written}
+use Rattle.cache.specs.Edits.{AreBegun, after_write, held_after_write}
 use Rattle.cache.specs.Frames.{HasSure, Tied, CacheAgrees, frame_of, disk_block, view}
-use Rattle.cache.proofs.Tied.{same_slot, same_start, quiet, no_ticket, its_start}
+use Rattle.cache.proofs.Held.{block_is}
+use Rattle.cache.proofs.Tied.{Within, same_slot, same_begun, quiet, no_ticket, within_or, in_run, place_past, fits_past}
 use Rattle.cache.specs.declared.slot.Slot.{Slot}
 use Rattle.cache.specs.declared.state.State.{State}
 use Rattle.cache.specs.declared.state.State.TheVariants.{Clean, Dirty, Writing, Changed}
@@ -139,39 +141,107 @@ view_given_up size held w b s is st k = view_put size held w b None (λ o lt.
     let here = (k.clean b s is st o lt).byte_is in
     rw is (sym here))
 
--- a write was settled: the slot is clean, or dirty if it was changed since
-pub agrees_written : (size : ℕ) (held : ℕ → Option Slot) (pending : ℕ → Option Begun) (v : DiskState) (b n : ℕ) (s t : Slot) (r : Begun) (bytes : List ℕ)
-    → 0 < size → held b ≡ Some s → ticket_of s.state ≡ Some n → t.state ≡ written s.state → t.bytes.value ≡ s.bytes.value
-    → pending n ≡ Some r → r.written ≡ Some bytes
-    → ((o : ℕ) → o < r.size → (v.disk (r.start + o) ≡ slice_index bytes o) × (v.unsure (r.start + o) ≡ false))
-    → Tied size held pending → CacheAgrees size held v → CacheAgrees size (put held b (Some t)) v
-agrees_written size held pending v b n s t r bytes some is ticket st same_bytes there wr tells k agrees =
-    agrees_put size held v b (Some t) (λ u h e o lt.
-    let same : t ≡ u = same_slot (Some t) t u refl h in
-    let clean_t : written s.state ≡ Clean = sym st ∙ ap (λ (x : Slot). x.state) same ∙ e in
-    subst (λ (x : Slot). HasSure v (b * size + o) (slice_index x.bytes.value o)) same (now_clean (was_writing s.state n ticket clean_t) o lt))
-    (λ e o lt. cc) agrees
+-- the writes of a run are begun: slots and the disk go on agreeing
+pub agrees_begun : (size : ℕ) (held held' : ℕ → Option Slot) (w : DiskState) (b count n : ℕ) → AreBegun b count n held held'
+    → CacheAgrees size held w → CacheAgrees size held' w
+agrees_begun size held held' w b count n begun k = record {
+  clean = λ c u h e o lt. elim (within_or b count c) [
+    | inl x ↦
+        let y = begun.each x.index x.below in
+        let z : Some (record y.slot { state = Writing n }) ≡ Some u = sym y.after ∙ ap held' (sym x.is) ∙ h in
+        let same : record y.slot { state = Writing n } ≡ u = cc in
+        absurd (let f : Writing n ≡ Clean = ap (λ (v : Slot). v.state) same ∙ e in cc)
+    | inr out ↦ k.clean c u (sym (begun.others c out) ∙ h) e o lt
+  ];
+  covered = λ c h o lt. elim (within_or b count c) [
+    | inl x ↦
+        let y = begun.each x.index x.below in
+        absurd (let z : None ≡ Some (record y.slot { state = Writing n }) = sym h ∙ ap held' x.is ∙ y.after in cc)
+    | inr out ↦ k.covered c (sym (begun.others c out) ∙ h) o lt
+  ];
+}
+
+-- and each block reads as before
+pub view_begun : (size : ℕ) (held held' : ℕ → Option Slot) (w : DiskState) (b count n : ℕ) → AreBegun b count n held held'
+    → view size held' w ≡ view size held w
+view_begun size held held' w b count n begun = same_view size held held' w w (λ c o lt. elim (within_or b count c) [
+  | inl x ↦
+      let y = begun.each x.index x.below in
+      let is : held c ≡ Some y.slot = ap held x.is ∙ y.is in
+      let after : held' c ≡ Some (record y.slot { state = Writing n }) = ap held' x.is ∙ y.after in
+      rw (is, after) refl
+  | inr out ↦ rw (begun.others c out) refl
+])
+
+-- a write was settled: each block reads as before
+pub view_written : (size : ℕ) (held held' : ℕ → Option Slot) (w : DiskState) (n : ℕ) → ((b : ℕ) → held' b ≡ held_after_write n (held b))
+    → view size held' w ≡ view size held w
+view_written size held held' w n after =
+    same_view size held held' w w (λ b o lt. ap (λ (x : Option Slot). byte_or x o (w.disk (b * size + o))) (after b) ∙ by (held b) o (w.disk (b * size + o)))
   where
+    bytes_of : (v : Bool) (s : Slot) (o : ℕ) → slice_index (cond v (record s { state = written s.state }) s).bytes.value o ≡ slice_index s.bytes.value o
+    bytes_of true s o = refl
+    bytes_of false s o = refl
+
+    by : (x : Option Slot) (o below : ℕ) → byte_or (held_after_write n x) o below ≡ byte_or x o below
+    by None o below = refl
+    by (Some s) o below = bytes_of (is_under n s) s o
+
+-- and a slot is clean then, or dirty if it was changed since the write was begun
+pub agrees_written : (size : ℕ) (held held' : ℕ → Option Slot) (pending : ℕ → Option Begun) (v : DiskState) (n : ℕ) (r : Begun) (bytes : List ℕ)
+    → ((b : ℕ) → held' b ≡ held_after_write n (held b)) → pending n ≡ Some r → r.written ≡ Some bytes
+    → ((k : ℕ) → k < r.size → (v.disk (r.start + k) ≡ slice_index bytes k) × (v.unsure (r.start + k) ≡ false))
+    → Tied size held pending → CacheAgrees size held v → CacheAgrees size held' v
+agrees_written size held held' pending v n r bytes after there wr tells k agrees = record {
+  clean = λ b u h e o lt. by_slot b o lt (held b) refl u (sym (after b) ∙ h) e;
+  covered = λ b h o lt. agrees.covered b (none (held b) (sym (after b) ∙ h)) o lt;
+}
+  where
+    none : (x : Option Slot) → held_after_write n x ≡ None → x ≡ None
+    none None h = refl
+    none (Some s) h = cc
+
     was_writing : (x : State) (m : ℕ) → ticket_of x ≡ Some m → written x ≡ Clean → x ≡ Writing m
     was_writing Clean m h e = cc
     was_writing Dirty m h e = cc
     was_writing (Writing y) m h e = cc
     was_writing (Changed y) m h e = cc
 
-    now_clean : s.state ≡ Writing n → (o : ℕ) → o < size → HasSure v (b * size + o) (slice_index t.bytes.value o)
-    now_clean writing o lt =
+    now_clean : (b o : ℕ) (s : Slot) → o < size → held b ≡ Some s → s.state ≡ Writing n → HasSure v (b * size + o) (slice_index s.bytes.value o)
+    now_clean b o s lt is writing =
         let x = k.writes n r bytes there wr in
-        let start = its_start size held pending b n s r k is ticket there in
-        let at : x.block ≡ b = same_start x.block b size some (sym x.start ∙ start) in
-        let same : x.slot ≡ s = same_slot (held x.block) x.slot s x.holds (ap held at ∙ is) in
+        let y = k.issued b n s is (ap ticket_of writing) in
+        let one : y.request ≡ r = same_begun (pending n) y.request r y.is there in
+        let from : r.start ≤ b * size = subst (λ (q : Begun). q.start ≤ b * size) one y.from in
+        let to : b * size + size ≤ r.start + r.size = subst (λ (q : Begun). b * size + size ≤ q.start + q.size) one y.to in
+        let start = x.start in
         let whole = x.whole in
-        let lt' : o < r.size = omega arith in
-        let told = tells o lt' in
-        let place : r.start + o ≡ b * size + o = ap (λ q. q + o) start in
-        elim x.way.state [
-          | inl e ↦ absurd (let z : Writing n ≡ Changed n = sym writing ∙ ap (λ (y : Slot). y.state) (sym same) ∙ e in cc)
+        let at : Within x.block x.count b = in_run b x.block x.count o size lt (omega (arith, start, from)) (omega (arith, start, whole, to, lt)) in
+        let z = x.each at.index at.below in
+        let same : z.slot ≡ s = same_slot (held b) z.slot s (ap held at.is ∙ z.holds) is in
+        let fits = fits_past at.index x.count size at.below in
+        let told = tells (at.index * size + o) (omega (arith, whole, fits, lt)) in
+        let past : b * size ≡ x.block * size + at.index * size = ap (λ q. q * size) at.is ∙ place_past x.block at.index size in
+        let place : r.start + (at.index * size + o) ≡ b * size + o = omega (arith, start, past) in
+        elim z.way.state [
+          | inl e ↦ absurd (let f : Writing n ≡ Changed n = sym writing ∙ ap (λ (q : Slot). q.state) (sym same) ∙ e in cc)
           | inr p ↦ record {
-            byte_is = ap (λ (y : List ℕ). slice_index y o) (same_bytes ∙ ap (λ (y : Slot). y.bytes.value) (sym same)) ∙ p.1 o lt ∙ sym told.0 ∙ ap v.disk place;
+            byte_is = ap (λ (q : Slot). slice_index q.bytes.value o) (sym same) ∙ p.1 o lt ∙ sym told.0 ∙ ap v.disk place;
             sure = ap v.unsure (sym place) ∙ told.1;
           }
         ]
+
+    by_state : (b o : ℕ) (s : Slot) (under : Bool) → o < size → held b ≡ Some s → is_under n s ≡ under
+        → (cond under (record s { state = written s.state }) s).state ≡ Clean
+        → HasSure v (b * size + o) (slice_index (cond under (record s { state = written s.state }) s).bytes.value o)
+    by_state b o s true lt is e clean = now_clean b o s lt is (was_writing s.state n (block_is (ticket_of s.state) n e) clean)
+    by_state b o s false lt is e clean = agrees.clean b s is clean o lt
+
+    by_slot : (b o : ℕ) → o < size → (x : Option Slot) → held b ≡ x → (u : Slot) → held_after_write n (held b) ≡ Some u → u.state ≡ Clean
+        → HasSure v (b * size + o) (slice_index u.bytes.value o)
+    by_slot b o lt None is u h e = let z : None ≡ Some u = ap (held_after_write n) (sym is) ∙ h in absurd (let y : ⊥ = cc in y)
+    by_slot b o lt (Some s) is u h e =
+        let z : Some (after_write n s) ≡ Some u = ap (held_after_write n) (sym is) ∙ h in
+        let same : after_write n s ≡ u = cc in
+        subst (λ (q : Slot). HasSure v (b * size + o) (slice_index q.bytes.value o)) same
+        (by_state b o s (is_under n s) lt is refl (ap (λ (q : Slot). q.state) same ∙ e))

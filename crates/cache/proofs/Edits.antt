@@ -1,17 +1,15 @@
 -- What one changed slot leaves.
-use Rattle.std.proofs.Common.{◌≡◌, ℕ, List, set, refl, sym, ap, subst, ◌∙◌, true, false, Option, Some, None}
+use Rattle.std.proofs.Common.{◌≡◌, ℕ, List, set, refl, sym, ap, subst, ◌∙◌, Option, Some, None}
 use Rattle.std.proofs.lemmas.List.{length-set}
 use mathlib.Core.Logic.{inl, inr}
-use Rattle.std.specs.Prelude.{◌&&◌, is_some, slice_get, position}
+use Rattle.std.specs.Prelude.{slice_get}
 use Rattle.std.proofs.lemmas.Bool.{cases_eq}
 use Rattle.reissue.specs.Moves.{put}
 use Rattle.reissue.proofs.Maps.{put_cases}
 use Rattle.cache.specs.declared.slot.Slot.{Slot}
-use Rattle.cache.specs.declared.state.State.{State}
-use Rattle.cache.specs.Slots.{held, is_number, ticket_of, written, is_under, IsDistinct}
-use Rattle.cache.specs.Edits.{IsSetAt, Leaves, IsWritten}
-use Rattle.cache.proofs.Held.{block_is, is_its_number, get_set_same, get_set_other, place_of, held_at, held_set}
-use Rattle.cache.proofs.Places.{none_at, some_at}
+use Rattle.cache.specs.Slots.{held, IsDistinct}
+use Rattle.cache.specs.Edits.{Leaves}
+use Rattle.cache.proofs.Held.{get_set_same, get_set_other, held_at, held_set}
 
 -- what stands there is one slot
 pub one_slot : (items : List Slot) (i : ℕ) (s t : Slot) → slice_get items i ≡ Some s → slice_get items i ≡ Some t → s ≡ t
@@ -62,41 +60,3 @@ leaves_set old new i b s t d is block same all = subst (λ (l : List Slot). Leav
   ];
   none = none_stays old (set old i t) b s t (held_at old i b s d is block) (held_set old i b s t d is block same);
 })
-
--- the parts of the test for a write under a ticket
-under_parts : (o : Option ℕ) (x : Option ℕ) (n : ℕ) → (is_some o && is_number x n) ≡ true → (b : ℕ) × (o ≡ Some b) × (x ≡ Some n)
-under_parts None x n h = cc
-under_parts (Some b) x n h = (b, refl, block_is x n h)
-
--- and the whole
-is_under_it : (s : Slot) (b n : ℕ) → s.block ≡ Some b → ticket_of s.state ≡ Some n → is_under n s ≡ true
-is_under_it s b n h k = rw (h, is_its_number (ticket_of s.state) n k) refl
-
--- the slot under the ticket is written
-pub written_some : (old new : List Slot) (at n : ℕ) (x : State) (s : Slot) → IsDistinct old
-    → position (is_under n) old ≡ Some at → slice_get old at ≡ Some s → x ≡ written s.state
-    → IsSetAt old new at (λ t. record t { state = x }) → IsWritten n old new
-written_some old new at n x s distinct found is st e =
-    let f = some_at (is_under n) old at found in
-    let same : f.slot ≡ s = one_slot old at f.slot s f.is is in
-    let same' : e.slot ≡ s = one_slot old at e.slot s e.is is in
-    let parts = under_parts s.block (ticket_of s.state) n (ap (is_under n) (sym same) ∙ f.passes) in
-    let t : Slot = record s { state = x } in
-    let set_is : new ≡ set old at t = e.all ∙ ap (λ (y : Slot). set old at (record y { state = x })) same' in
-    let all : held new ≡ put (held old) parts.0 (Some t) = ap held set_is ∙ held_set old at parts.0 s t distinct is parts.1 refl in
-    let here : held old parts.0 ≡ Some s = held_at old at parts.0 s distinct is parts.1 in
-    record {
-      slot = λ b u h k. record { slot = s; after = t; block = parts.0; is = here; ticket_is = parts.2; state = st; bytes_are = refl; all = all };
-      leaves = leaves_set old new at parts.0 s t distinct is parts.1 refl set_is;
-    }
-
--- no slot is under the ticket
-pub written_none : (items : List Slot) (n : ℕ) → position (is_under n) items ≡ None → IsWritten n items items
-written_none items n h = record {
-  slot = λ b s is ticket.
-      let p = place_of items b s is in
-      let z = none_at (is_under n) items h p.index s p.is in
-      let y = is_under_it s b n p.block ticket in
-      absurd (let q : true ≡ false = sym y ∙ z in cc);
-  leaves = leaves_none items;
-}

@@ -69,7 +69,7 @@ has_one items at b x none = absurd (some_holds items at b x.slot x.is x.block_is
 pub has_none : {X : Type 0} (items : List Slot) (b : ℕ) (s : Slot) → held items b ≡ None → held items b ≡ Some s → X
 has_none items b s none some = let e : None ≡ Some s = sym none ∙ some in absurd (let z : ⊥ = cc in z)
 
-option_cases : (o : Option Slot) → (o ≡ None) ⊎ ((s : Slot) × (o ≡ Some s))
+pub option_cases : (o : Option Slot) → (o ≡ None) ⊎ ((s : Slot) × (o ≡ Some s))
 option_cases None = inl refl
 option_cases (Some s) = inr (s, refl)
 

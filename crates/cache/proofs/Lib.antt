@@ -7,6 +7,9 @@ pub mod Issuing
 mod Order
 mod Choosing
 mod Making
+mod Settled
+mod Copying
+pub mod Begun
 pub mod Sizes
 pub mod Tied
 pub mod Agreeing

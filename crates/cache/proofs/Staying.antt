@@ -2,14 +2,13 @@
 use Rattle.std.proofs.Common.{◌≡◌, ◌≢◌, ℕ, List, refl, sym, ap, subst, ◌∙◌, Some}
 use mathlib.Core.Logic.{inl, inr}
 use Rattle.std.specs.Prelude.{slice_get, slice_set}
-use Rattle.std.proofs.lemmas.Bool.{cases_eq}
 use Rattle.cache.specs.declared.slot.Slot.{Slot}
 use Rattle.cache.specs.declared.table.Slots.{Slots}
 use Rattle.cache.specs.declared.state.State.{State}
 use Rattle.cache.specs.declared.state.State.TheVariants.{Clean, Dirty, Writing, Changed}
 use Rattle.cache.specs.Slots.{written}
 use Rattle.cache.specs.Edits.{IsSetAt, IsAt, IsKept, AllStay, OthersStay, StayBut}
-use Rattle.cache.proofs.Held.{get_set_same, get_set_other}
+use Rattle.cache.proofs.Held.{get_set_other}
 use Rattle.cache.proofs.Edits.{one_slot}
 
 -- a write is answered good once
@@ -20,7 +19,7 @@ written_once (Writing t) = refl
 written_once (Changed t) = refl
 
 -- a slot stays as it is
-kept_same : (s : Slot) → IsKept s s
+pub kept_same : (s : Slot) → IsKept s s
 kept_same s = record { block = refl; bytes = refl; state = inl refl }
 
 kept_then : (a b c : Slot) → IsKept a b → IsKept b c → IsKept a c
@@ -82,29 +81,6 @@ put_others old new at after all = λ i s ne h. record {
 
 pub set_others : (old new : List Slot) (at : ℕ) (change : Slot → Slot) → IsSetAt old new at change → OthersStay at old new
 set_others old new at change e = put_others old new at (change e.slot) e.all
-
--- the write of one slot was answered good
-pub written_stays : (old new : Slots) (at : ℕ) (x : State) (s : Slot) → slice_get old.items.items at ≡ Some s → x ≡ written s.state
-    → IsSetAt old.items.items new.items.items at (λ t. record t { state = x }) → new.uses ≡ old.uses → AllStay old new
-written_stays old new at x s is st e uses = record {
-  uses = uses;
-  each = λ i t h. elim (cases_eq i at) [
-    | inl same ↦
-        let one : t ≡ s = one_slot old.items.items at t s (sym (ap (slice_get old.items.items) same) ∙ h) is in
-        let two : e.slot ≡ t = one_slot old.items.items at e.slot t e.is (sym (ap (slice_get old.items.items) same) ∙ h) in
-        record {
-          slot = record e.slot { state = x };
-          is = ap (λ (l : List Slot). slice_get l i) e.all ∙ ap (slice_get (slice_set old.items.items at (record e.slot { state = x }))) same
-              ∙ get_set_same old.items.items at e.slot (record e.slot { state = x }) e.is;
-          kept = record {
-            block = ap (λ (y : Slot). y.block) two;
-            bytes = ap (λ (y : Slot). y.bytes.value) two;
-            state = inr (st ∙ ap (λ (y : Slot). written y.state) (sym one));
-          };
-        }
-    | inr ne ↦ set_others old.items.items new.items.items at (λ y. record y { state = x }) e i t ne h
-  ];
-}
 
 -- the frame of another block stays where one slot is changed
 pub frame_stays : (old new : List Slot) (at b i c : ℕ) (change : Slot → Slot) → IsAt old at b → c ≢ b → IsSetAt old new at change → IsAt old i c → IsAt new i c

@@ -1,7 +1,6 @@
 -- What a message taken does to the frames.
 use Rattle.std.proofs.Common.{◌≡◌, ◌≢◌, ℕ, ◌+◌, ◌^◌, ◌<◌, ◌≤◌, List, length, refl, sym, ap, subst, ◌∙◌, arith, true, false, Option, Some, None, Result, Ok, Err, IsErr}
 use mathlib.Core.Logic.{inl, inr}
-use Rattle.std.specs.Prelude.{slice_index}
 use Rattle.std.proofs.lemmas.Bool.{eq-eqb}
 use Rattle.reissue.specs.declared.ask.Settled.{Settled}
 use Rattle.reissue.specs.declared.ask.Settled.TheVariants as settled
@@ -16,7 +15,7 @@ use Rattle.cache.specs.declared.slot.Slot.{Slot}
 use Rattle.cache.specs.declared.settling.Took.{Took}
 use Rattle.cache.specs.declared.refusals.Cut.{Cut}
 use Rattle.cache.specs.Slots.{held}
-use Rattle.cache.specs.Edits.{IsWritten, IsWrittenSlot, Leaves}
+use Rattle.cache.specs.Edits.{Leaves}
 use Rattle.cache.specs.Frames.{Tied, CacheAgrees, view}
 use Rattle.cache.specs.Calls.{Caching, IsReady, Serves, Runs, HandsOver}
 use Rattle.records.specs.Told.{took_nothing}
@@ -24,17 +23,10 @@ use Rattle.records.specs.Acts.{Act, told_of}
 use Rattle.cache.proofs.Handing.{Done, done_on}
 use Rattle.cache.specs.Settling.{Settles, took_of, is_ended_by}
 use Rattle.cache.specs.Takes.{Takes, ReadTells, ReadsStay, NoReadBegun, IsHandedOut, is_read_of}
-use Rattle.cache.proofs.Tied.{way_ticket, tied_read_settled, tied_written, same_begun}
-use Rattle.cache.proofs.Agreeing.{agrees_moved, view_moved, agrees_written, view_put}
+use Rattle.cache.proofs.Tied.{tied_read_settled, tied_written, same_begun}
+use Rattle.cache.proofs.Agreeing.{agrees_moved, view_moved, agrees_written, view_written}
 use Rattle.cache.proofs.Edits.{leaves_none}
 use Rattle.cache.proofs.Runs.{step_runs, absorb_runs}
-
--- the slot of a settled write
-settled_slot : (size n : ℕ) (old new : List Slot) (pending : ℕ → Option Begun) (r : Begun) (bytes : List ℕ)
-    → pending n ≡ Some r → r.written ≡ Some bytes → IsWritten n old new → Tied size (held old) pending → IsWrittenSlot n old new
-settled_slot size n old new pending r bytes is wr ack k =
-    let x = k.writes n r bytes is wr in
-    ack.slot x.block x.slot x.holds (way_ticket size x.slot n bytes x.way)
 
 -- where nothing is settled
 tied_same : (size : ℕ) (old new : List Slot) (pending pending' : ℕ → Option Begun) → pending' ≡ pending → new ≡ old
@@ -43,30 +35,27 @@ tied_same size old new pending pending' e same k =
     subst (λ (l : List Slot). Tied size (held l) pending') (sym same) (subst (λ (o : ℕ → Option Begun). Tied size (held old) o) (sym e) k)
 
 -- slots and pending requests stay tied
-pub tied_settled : (size : ℕ) (res : Settled) (old new : List Slot) (pending pending' : ℕ → Option Begun) → 0 < size
+pub tied_settled : (size : ℕ) (res : Settled) (old new : List Slot) (pending pending' : ℕ → Option Begun)
     → Closes res pending pending' → Settles res old new → Tied size (held old) pending → Tied size (held new) pending'
-tied_settled size (settled.Read n bytes) old new pending pending' some closes same k =
+tied_settled size (settled.Read n bytes) old new pending pending' closes same k =
     subst (λ (l : List Slot). Tied size (held l) pending') (sym same)
     (subst (λ (o : ℕ → Option Begun). Tied size (held old) o) (sym closes.3) (tied_read_settled size (held old) pending n closes.0 closes.1 closes.2 k))
-tied_settled size (settled.Written n) old new pending pending' some closes ack k =
-    let a = settled_slot size n old new pending closes.0 closes.1 closes.2 closes.3 ack k in
-    subst (λ (h : ℕ → Option Slot). Tied size h pending') (sym a.all)
-    (subst (λ (o : ℕ → Option Begun). Tied size (put (held old) a.block (Some a.after)) o) (sym closes.4)
-    (tied_written size (held old) pending a.block n a.slot a.after closes.0 some a.is a.ticket_is a.state closes.2 k))
-tied_settled size settled.Nothing old new pending pending' some closes same k = tied_same size old new pending pending' closes same k
-tied_settled size settled.Flush old new pending pending' some closes same k = tied_same size old new pending pending' closes same k
-tied_settled size settled.GaveUp old new pending pending' some closes same k = tied_same size old new pending pending' closes same k
-tied_settled size settled.End old new pending pending' some closes same k = tied_same size old new pending pending' closes same k
+tied_settled size (settled.Written n) old new pending pending' closes ack k =
+    subst (λ (o : ℕ → Option Begun). Tied size (held new) o) (sym closes.4) (tied_written size (held old) (held new) pending n ack.slots k)
+tied_settled size settled.Nothing old new pending pending' closes same k = tied_same size old new pending pending' closes same k
+tied_settled size settled.Flush old new pending pending' closes same k = tied_same size old new pending pending' closes same k
+tied_settled size settled.GaveUp old new pending pending' closes same k = tied_same size old new pending pending' closes same k
+tied_settled size settled.End old new pending pending' closes same k = tied_same size old new pending pending' closes same k
 
 -- as said of a cache
-tied_after : (res : Settled) (old new : Caching) (items items' : List Slot) → 0 < old.size
+tied_after : (res : Settled) (old new : Caching) (items items' : List Slot)
     → Closes res (pending_of old.table.pending) (pending_of new.table.pending) → Settles res items items'
     → old.held ≡ held items → new.held ≡ held items' → new.size ≡ old.size
     → Tied old.size old.held (pending_of old.table.pending) → Tied new.size new.held (pending_of new.table.pending)
-tied_after res old new items items' some closes settles here there size k =
+tied_after res old new items items' closes settles here there size k =
     subst (λ (n : ℕ). Tied n new.held (pending_of new.table.pending)) (sym size)
     (subst (λ (h : ℕ → Option Slot). Tied old.size h (pending_of new.table.pending)) (sym there)
-    (tied_settled old.size res items items' (pending_of old.table.pending) (pending_of new.table.pending) some closes settles
+    (tied_settled old.size res items items' (pending_of old.table.pending) (pending_of new.table.pending) closes settles
     (subst (λ (h : ℕ → Option Slot). Tied old.size h (pending_of old.table.pending)) here k)))
 
 -- what holds of slots and the disk after a message
@@ -83,30 +72,27 @@ moved_same size old new pending res w v m same k = subst (λ (l : List Slot). Mo
 })
 
 -- and in each case
-moved_settled : (size : ℕ) (res : Settled) (old new : List Slot) (pending pending' : ℕ → Option Begun) (w v : DiskState) → 0 < size
+moved_settled : (size : ℕ) (res : Settled) (old new : List Slot) (pending pending' : ℕ → Option Begun) (w v : DiskState)
     → Closes res pending pending' → Settles res old new → Tied size (held old) pending → Moves res pending w v
     → Moved size (held old) (held new) w v
-moved_settled size (settled.Written n) old new pending pending' w v some closes ack k m =
-    let a = settled_slot size n old new pending closes.0 closes.1 closes.2 closes.3 ack k in
-    subst (λ (h : ℕ → Option Slot). Moved size (held old) h w v) (sym a.all) (record {
-      agrees = λ agrees. agrees_written size (held old) pending v a.block n a.slot a.after closes.0 closes.1 some a.is a.ticket_is a.state a.bytes_are
-          closes.2 closes.3 (m.tells closes.0 closes.1 closes.2 closes.3) k (agrees_moved size (held old) pending w v m.spares k agrees);
-      same = λ agrees. view_put size (held old) v a.block (Some a.after) (λ o lt. rw a.is (ap (λ (y : List ℕ). slice_index y o) a.bytes_are))
-          ∙ view_moved size (held old) pending w v m.spares k;
-    })
-moved_settled size (settled.Read n bytes) old new pending pending' w v some closes same k m = moved_same size old new pending (settled.Read n bytes) w v m same k
-moved_settled size settled.Nothing old new pending pending' w v some closes same k m = moved_same size old new pending settled.Nothing w v m same k
-moved_settled size settled.Flush old new pending pending' w v some closes same k m = moved_same size old new pending settled.Flush w v m same k
-moved_settled size settled.GaveUp old new pending pending' w v some closes same k m = moved_same size old new pending settled.GaveUp w v m same k
-moved_settled size settled.End old new pending pending' w v some closes same k m = moved_same size old new pending settled.End w v m same k
+moved_settled size (settled.Written n) old new pending pending' w v closes ack k m = record {
+  agrees = λ agrees. agrees_written size (held old) (held new) pending v n closes.0 closes.1 ack.slots closes.2 closes.3
+      (m.tells closes.0 closes.1 closes.2 closes.3) k (agrees_moved size (held old) pending w v m.spares k agrees);
+  same = λ agrees. view_written size (held old) (held new) v n ack.slots ∙ view_moved size (held old) pending w v m.spares k;
+}
+moved_settled size (settled.Read n bytes) old new pending pending' w v closes same k m = moved_same size old new pending (settled.Read n bytes) w v m same k
+moved_settled size settled.Nothing old new pending pending' w v closes same k m = moved_same size old new pending settled.Nothing w v m same k
+moved_settled size settled.Flush old new pending pending' w v closes same k m = moved_same size old new pending settled.Flush w v m same k
+moved_settled size settled.GaveUp old new pending pending' w v closes same k m = moved_same size old new pending settled.GaveUp w v m same k
+moved_settled size settled.End old new pending pending' w v closes same k m = moved_same size old new pending settled.End w v m same k
 
 -- as said of a cache
-pub serves_settled : (res : Settled) (old new : Caching) (items items' : List Slot) (w v : DiskState) → 0 < old.size
+pub serves_settled : (res : Settled) (old new : Caching) (items items' : List Slot) (w v : DiskState)
     → Closes res (pending_of old.table.pending) (pending_of new.table.pending) → Settles res items items'
     → old.held ≡ held items → new.held ≡ held items' → new.size ≡ old.size
     → Tied old.size old.held (pending_of old.table.pending) → Moves res (pending_of old.table.pending) w v → Serves old new w v
-serves_settled res old new items items' w v some closes settles here there size k m =
-    let x = moved_settled old.size res items items' (pending_of old.table.pending) (pending_of new.table.pending) w v some closes settles
+serves_settled res old new items items' w v closes settles here there size k m =
+    let x = moved_settled old.size res items items' (pending_of old.table.pending) (pending_of new.table.pending) w v closes settles
     (subst (λ (h : ℕ → Option Slot). Tied old.size h (pending_of old.table.pending)) here k) m in
     let y : Moved old.size old.held new.held w v = subst (λ (h : ℕ → Option Slot). Moved old.size h new.held w v) (sym here)
     (subst (λ (h : ℕ → Option Slot). Moved old.size (held items) h w v) (sym there) x) in
@@ -193,22 +179,22 @@ goes settled.End h = cc
 pub takes_one : (res : Settled) (old new : Caching) (items items' : List Slot)
     → Steps res old.table new.table old.told new.told old.truth new.truth
     → Settles res items items' → old.held ≡ held items → new.held ≡ held items'
-    → IsReady old → IsBusy (pending_of old.table.pending) → old.ended ≡ false → old.table.given_up ≡ false → 0 < old.size
+    → IsReady old → IsBusy (pending_of old.table.pending) → old.ended ≡ false → old.table.given_up ≡ false
     → new.minor ≡ old.minor → new.size ≡ old.size → new.ended ≡ is_ended_by res
     → (more_may_come res ≡ true → new.budget < old.budget) → (more_may_come res ≡ true → HasRoom new.table new.room)
     → new.table.ids + length old.table.pending ≤ old.table.ids + length new.table.pending + 1
     → Runs None old new (λ w v. Takes (Ok (took_of res)) old new w v)
-takes_one res old new items items' x settles here there ready busy alive going some minor size ended budget room ids =
+takes_one res old new items items' x settles here there ready busy alive going minor size ended budget room ids =
     step_runs res old new (λ w v. Takes (Ok (took_of res)) old new w v) x now ready.minors busy going minor size alive ended
     (λ e. budget (goes res e)) ids (λ w v m. record {
-      serves = serves_settled res old new items items' w v some x.closes settles here there size ready.tied m;
+      serves = serves_settled res old new items items' w v x.closes settles here there size ready.tied m;
       tells = read_tells res (pending_of old.table.pending) v m.tells;
     })
   where
     now : IsReady new
     now = record {
       minors = subst (λ (n : ℕ). AllOfMinor n new.table.pending) (sym minor) (x.minors old.minor ready.minors);
-      tied = tied_after res old new items items' some x.closes settles here there size ready.tied;
+      tied = tied_after res old new items items' x.closes settles here there size ready.tied;
       room = λ e. room (goes res (sym ended ∙ e));
       ids = λ e. let less = budget (goes res (sym ended ∙ e)) in let was = ready.ids alive in omega (arith, less, was, ids);
     }
@@ -222,12 +208,12 @@ takes_none (Ok t) c w h = cc
 pub absorbs_one : (m : Incoming) (res : Settled) (old new : Caching) (items items' : List Slot)
     → Absorbs m res old.table new.table old.told new.told old.truth new.truth
     → Settles res items items' → old.held ≡ held items → new.held ≡ held items'
-    → IsReady old → (old.ended ≡ false → old.table.ids + old.budget + 17 < 2 ^ 60 + length old.table.pending) → 0 < old.size
+    → IsReady old → (old.ended ≡ false → old.table.ids + old.budget + 17 < 2 ^ 60 + length old.table.pending)
     → new.minor ≡ old.minor → new.size ≡ old.size → new.ended ≡ old.ended → new.budget ≤ old.budget
     → (new.ended ≡ false → HasRoom new.table new.room)
     → new.table.ids + length old.table.pending ≤ old.table.ids + length new.table.pending + 1
     → (m ≡ incoming.End → new.told ≡ old.told) → HandsOver m old new
-absorbs_one m res old new items items' x settles here there ready spare some minor size ended budget room ids stays = record {
+absorbs_one m res old new items items' x settles here there ready spare minor size ended budget room ids stays = record {
   runs = both.0;
   none_taken = ap (λ (l : List Act). took_nothing (told_of l)) both.1 ∙ d.none_taken;
   no_effect = λ e. both.1 ∙ d.no_effect e;
@@ -239,14 +225,14 @@ absorbs_one m res old new items items' x settles here there ready spare some min
     now : IsReady new
     now = record {
       minors = subst (λ (n : ℕ). AllOfMinor n new.table.pending) (sym minor) (x.minors old.minor ready.minors);
-      tied = tied_after res old new items items' some x.closes settles here there size ready.tied;
+      tied = tied_after res old new items items' x.closes settles here there size ready.tied;
       room = room;
       ids = λ e. let was = spare (sym ended ∙ e) in omega (arith, was, ids, budget);
     }
 
     both : (r : Runs (Some m) old new (λ w v. Serves old new w v)) × (r.acts ≡ d.acts)
     both = absorb_runs m res old new (λ w v. Serves old new w v) x now ready.minors minor size ended budget ids d
-        (λ w v m. serves_settled res old new items items' w v some x.closes settles here there size ready.tied m)
+        (λ w v m. serves_settled res old new items items' w v x.closes settles here there size ready.tied m)
 
 -- after each message but End there is room for more; End changes nothing
 pub room_after : (m : Incoming) (P : Type 0) → (is_message m ≡ true → P) → (m ≡ incoming.End → P) → P

@@ -1,12 +1,14 @@
 -- Slots and pending requests stay tied.
-use Rattle.std.proofs.Common.{◌≡◌, ◌≢◌, ℕ, ◌<◌, ◌≤◌, ◌+◌, ◌-◌, ◌*◌, List, refl, sym, ap, subst, ◌∙◌, arith, Option, Some, None}
-use mathlib.Core.Logic.{inl, inr}
-use Rattle.std.specs.Prelude.{slice_index}
-use Rattle.std.proofs.lemmas.Nat.{same_from_place}
+use Rattle.std.proofs.Common.{◌≡◌, ◌≢◌, ℕ, suc, ◌<◌, ◌≤◌, ◌+◌, ◌-◌, ◌*◌, List, Bool, true, false, refl, sym, ap, subst, ◌∙◌, arith, Option, Some, None}
+use mathlib.Core.Logic.{inl, inr, ◌⊎◌}
+use Rattle.std.proofs.lemmas.Bool.{cond-true, cond-false, eq-eqb, ne_eqb, cases_lt}
+use Rattle.std.proofs.Math.Nat.{mul-le-mul_right, suc-mul, add-mul}
 use Rattle.reissue.specs.Moves.{Begun, put, IsQuiet}
 use Rattle.reissue.proofs.Maps.{put-same, put-other, put_cases}
-use Rattle.cache.specs.Slots.{ticket_of, dirtied, written}
-use Rattle.cache.specs.Frames.{IsUnderWay, HasSlot, IsOfBlock, Tied}
+use Rattle.cache.specs.Slots.{is_number, is_under, ticket_of, dirtied, written}
+use Rattle.cache.specs.Edits.{after_write, held_after_write, AreBegun, IsOutside}
+use Rattle.cache.specs.Frames.{IsUnderWay, HasSlot, IsRun, HasWrite, Tied}
+use Rattle.cache.specs.Runs.{AreGathered}
 use Rattle.cache.specs.declared.slot.Slot.{Slot}
 use Rattle.cache.specs.declared.state.State.{State}
 use Rattle.cache.specs.declared.state.State.TheVariants.{Clean, Dirty, Writing, Changed}
@@ -19,22 +21,53 @@ same_slot o s t h k = cc
 pub same_begun : (o : Option Begun) (s t : Begun) → o ≡ Some s → o ≡ Some t → s ≡ t
 same_begun o s t h k = cc
 
--- a place of one block lies in no other
-in_block : (b c o size place : ℕ) → o < size → place ≡ b * size + o → c * size ≤ place → place < c * size + size → b ≡ c
-in_block b c o size place lt e from to =
-    let split : b * size + o ≡ c * size + (place - c * size) = omega arith in
-    let within : place - c * size < size = omega arith in
-    (same_from_place b o c (place - c * size) size lt within split).0
+-- one of so many blocks from this one on
+pub record Within (block count b : ℕ) : Type 0 where
+  pub index : ℕ
+  pub below : index < count
+  pub is : b ≡ block + index
 
--- two blocks that begin at one place are the same
-pub same_start : (b c size : ℕ) → 0 < size → b * size ≡ c * size → b ≡ c
-same_start b c size some e =
-    let more : b * size + 0 ≡ c * size + 0 = omega (arith, e) in
-    (same_from_place b 0 c 0 size some some more).0
+-- a place in a run lies in one of its blocks
+pub in_run : (b c count o size : ℕ) → o < size → c * size ≤ b * size + o → b * size + o < c * size + count * size → Within c count b
+in_run b c count o size lt from to = elim (cases_lt b c) [
+  | inl lower ↦
+      let more : suc b * size ≤ c * size = mul-le-mul_right size lower in
+      let one : suc b * size ≡ b * size + size = suc-mul b size in
+      absurd (omega (arith, more, one, lt, from))
+  | inr le ↦ elim (cases_lt (b - c) count) [
+    | inl below ↦ record { index = b - c; below = below; is = omega (arith, le) }
+    | inr past ↦
+        let at : c + (b - c) ≡ b = omega (arith, le) in
+        let far : count * size ≤ (b - c) * size = mul-le-mul_right size past in
+        let whole : b * size ≡ c * size + (b - c) * size = ap (λ n. n * size) (sym at) ∙ add-mul c (b - c) size in
+        absurd (omega (arith, far, whole, to))
+  ]
+]
+
+-- each block is one of so many from this one on, or outside
+pub within_or : (block count b : ℕ) → Within block count b ⊎ IsOutside block count b
+within_or block count b = elim (cases_lt b block) [
+  | inl lower ↦ inr (inl lower)
+  | inr le ↦ elim (cases_lt (b - block) count) [
+    | inl below ↦ inl (record { index = b - block; below = below; is = omega (arith, le) })
+    | inr past ↦ inr (inr (omega (arith, le, past)))
+  ]
+]
+
+-- the block so many past the first begins so many blocks' bytes past it
+pub place_past : (block i size : ℕ) → (block + i) * size ≡ block * size + i * size
+place_past block i size = add-mul block i size
+
+-- and ends within the run
+pub fits_past : (i count size : ℕ) → i < count → i * size + size ≤ count * size
+fits_past i count size lt =
+    let more : suc i * size ≤ count * size = mul-le-mul_right size lt in
+    let one : suc i * size ≡ i * size + size = suc-mul i size in
+    omega (arith, more, one)
 
 -- a slot whose write is under way has its ticket
-pub way_ticket : (size : ℕ) (s : Slot) (t : ℕ) (bytes : List ℕ) → IsUnderWay size s t bytes → ticket_of s.state ≡ Some t
-way_ticket size s t bytes h = elim h.state [
+pub way_ticket : (size : ℕ) (s : Slot) (t from : ℕ) (bytes : List ℕ) → IsUnderWay size s t from bytes → ticket_of s.state ≡ Some t
+way_ticket size s t from bytes h = elim h.state [
   | inl e ↦ ap ticket_of e
   | inr p ↦ ap ticket_of p.0
 ]
@@ -42,6 +75,44 @@ way_ticket size s t bytes h = elim h.state [
 -- a clean slot has none
 pub no_ticket : (s : State) (t : ℕ) → s ≡ Clean → ticket_of s ≡ Some t → ⊥
 no_ticket s t e h = let k : None ≡ Some t = rw e at h in cc
+
+-- a run, by slots that go on being under way
+pub run_like : (size : ℕ) (held held' : ℕ → Option Slot) (n : ℕ) (r : Begun) (bytes : List ℕ) (h : IsRun size held n r bytes)
+    → ((i : ℕ) → i < h.count → HasSlot size held n (h.block + i) (i * size) bytes → HasSlot size held' n (h.block + i) (i * size) bytes)
+    → IsRun size held' n r bytes
+run_like size held held' n r bytes h each = record {
+  block = h.block;
+  count = h.count;
+  some = h.some;
+  start = h.start;
+  whole = h.whole;
+  each = λ i lt. each i lt (h.each i lt);
+}
+
+-- a slot under another ticket isn't written
+pub stays_other : (n m : ℕ) (s : Slot) → ticket_of s.state ≡ Some m → m ≢ n → after_write n s ≡ s
+stays_other n m s t ne =
+    let e : is_under n s ≡ false = ap (λ (o : Option ℕ). is_number o n) t ∙ ne_eqb m n ne in
+    cond-false (is_under n s) (record s { state = written s.state }) s e
+
+-- a slot with a write under way after one was written wasn't that one
+pub not_under : (n m : ℕ) (s : Slot) → ticket_of (after_write n s).state ≡ Some m → (after_write n s ≡ s) × (m ≢ n)
+not_under n m s h = by (is_under n s) refl
+  where
+    no_more : (x : State) → ticket_of (written x) ≡ Some m → ⊥
+    no_more Clean k = cc
+    no_more Dirty k = cc
+    no_more (Writing y) k = cc
+    no_more (Changed y) k = cc
+
+    by : (v : Bool) → is_under n s ≡ v → (after_write n s ≡ s) × (m ≢ n)
+    by true e =
+        let is : after_write n s ≡ record s { state = written s.state } = cond-true (is_under n s) (record s { state = written s.state }) s e in
+        absurd (no_more s.state (ap (λ (x : Slot). ticket_of x.state) (sym is) ∙ h))
+    by false e =
+        let is : after_write n s ≡ s = cond-false (is_under n s) (record s { state = written s.state }) s e in
+        let t : ticket_of s.state ≡ Some m = ap (λ (x : Slot). ticket_of x.state) (sym is) ∙ h in
+        (is, λ at. (let z : is_under n s ≡ true = ap (λ (o : Option ℕ). is_number o n) t ∙ eq-eqb m n at in let y : true ≡ false = sym z ∙ e in cc))
 
 -- a block that has no write under way is quiet
 pub quiet : (size : ℕ) (held : ℕ → Option Slot) (pending : ℕ → Option Begun) (b o : ℕ)
@@ -54,20 +125,20 @@ quiet size held pending b o k lt none = record {
       let whole = h.whole in
       let from = touches.from in
       let to = touches.to in
-      let same : b ≡ h.block = in_block b h.block o size (b * size + o) lt refl (omega arith) (omega arith) in
-      none t h.slot (ap held same ∙ h.holds) (way_ticket size h.slot t bytes h.way);
+      let at : Within h.block h.count b = in_run b h.block h.count o size lt (omega (arith, start, from)) (omega (arith, start, whole, to)) in
+      let x = h.each at.index at.below in
+      none t x.slot (ap held at.is ∙ x.holds) (way_ticket size x.slot t (at.index * size) bytes x.way);
 }
 
 -- ---- the slot of a block is changed
 
 -- what is under way stays so, and nothing more
 pub tied_slot : (size : ℕ) (held : ℕ → Option Slot) (pending : ℕ → Option Begun) (b : ℕ) (s t : Slot)
-    → held b ≡ Some s → ((n : ℕ) (bytes : List ℕ) → IsUnderWay size s n bytes → IsUnderWay size t n bytes)
+    → held b ≡ Some s → ((n from : ℕ) (bytes : List ℕ) → IsUnderWay size s n from bytes → IsUnderWay size t n from bytes)
     → ((n : ℕ) → ticket_of t.state ≡ Some n → ticket_of s.state ≡ Some n)
     → Tied size held pending → Tied size (put held b (Some t)) pending
 tied_slot size held pending b s t is way back k = record {
-  blocks = k.blocks;
-  writes = λ n r bytes h wr. with_slot n r bytes (k.writes n r bytes h wr);
+  writes = λ n r bytes h wr. with_slots n r bytes (k.writes n r bytes h wr);
   issued = λ c n u h e. elim (put_cases held b (Some t) c) [
     | inl p ↦
         let same : u ≡ t = same_slot (put held b (Some t) c) u t h p.1 in
@@ -76,20 +147,16 @@ tied_slot size held pending b s t is way back k = record {
   ];
 }
   where
-    with_slot : (n : ℕ) (r : Begun) (bytes : List ℕ) → HasSlot size held n r bytes → HasSlot size (put held b (Some t)) n r bytes
-    with_slot n r bytes h = elim (put_cases held b (Some t) h.block) [
+    with_slot : (n c from : ℕ) (bytes : List ℕ) → HasSlot size held n c from bytes → HasSlot size (put held b (Some t)) n c from bytes
+    with_slot n c from bytes h = elim (put_cases held b (Some t) c) [
       | inl p ↦
-          let same : h.slot ≡ s = same_slot (held h.block) h.slot s h.holds (ap held p.0 ∙ is) in
-          record {
-            block = h.block;
-            slot = t;
-            holds = p.1;
-            start = h.start;
-            whole = h.whole;
-            way = way n bytes (subst (λ (x : Slot). IsUnderWay size x n bytes) same h.way);
-          }
-      | inr p ↦ record { block = h.block; slot = h.slot; holds = p.1 ∙ h.holds; start = h.start; whole = h.whole; way = h.way }
+          let same : h.slot ≡ s = same_slot (held c) h.slot s h.holds (ap held p.0 ∙ is) in
+          record { slot = t; holds = p.1; way = way n from bytes (subst (λ (x : Slot). IsUnderWay size x n from bytes) same h.way) }
+      | inr p ↦ record { slot = h.slot; holds = p.1 ∙ h.holds; way = h.way }
     ]
+
+    with_slots : (n : ℕ) (r : Begun) (bytes : List ℕ) → IsRun size held n r bytes → IsRun size (put held b (Some t)) n r bytes
+    with_slots n r bytes h = run_like size held (put held b (Some t)) n r bytes h (λ i lt. with_slot n (h.block + i) (i * size) bytes)
 
 -- the bytes of a slot are changed
 pub tied_changed : (size : ℕ) (held : ℕ → Option Slot) (pending : ℕ → Option Begun) (b : ℕ) (s t : Slot)
@@ -105,8 +172,8 @@ tied_changed size held pending b s t is st k = tied_slot size held pending b s t
     back : (n : ℕ) → ticket_of t.state ≡ Some n → ticket_of s.state ≡ Some n
     back n e = state_of_ticket s.state n (ap ticket_of (sym st) ∙ e)
 
-    way : (n : ℕ) (bytes : List ℕ) → IsUnderWay size s n bytes → IsUnderWay size t n bytes
-    way n bytes h = record {
+    way : (n from : ℕ) (bytes : List ℕ) → IsUnderWay size s n from bytes → IsUnderWay size t n from bytes
+    way n from bytes h = record {
       state = elim h.state [
         | inl c ↦ inl (st ∙ ap dirtied c)
         | inr p ↦ inl (st ∙ ap dirtied p.0)
@@ -119,18 +186,18 @@ pub tied_idle : (size : ℕ) (held : ℕ → Option Slot) (pending : ℕ → Opt
     → ((n : ℕ) (t : Slot) → x ≡ Some t → ticket_of t.state ≡ Some n → ⊥)
     → Tied size held pending → Tied size (put held b x) pending
 tied_idle size held pending b x none none' k = record {
-  blocks = k.blocks;
-  writes = λ n r bs h wr.
-      let y = k.writes n r bs h wr in
-      elim (put_cases held b x y.block) [
-        | inl p ↦ absurd (none n y.slot (ap held (sym p.0) ∙ y.holds) (way_ticket size y.slot n bs y.way))
-        | inr p ↦ record { block = y.block; slot = y.slot; holds = p.1 ∙ y.holds; start = y.start; whole = y.whole; way = y.way }
-      ];
+  writes = λ n r bs h wr. let y = k.writes n r bs h wr in run_like size held (put held b x) n r bs y (λ i lt. other n (y.block + i) (i * size) bs);
   issued = λ c n u h e. elim (put_cases held b x c) [
     | inl p ↦ absurd (none' n u (sym p.1 ∙ h) e)
     | inr p ↦ k.issued c n u (sym p.1 ∙ h) e
   ];
 }
+  where
+    other : (n c from : ℕ) (bs : List ℕ) → HasSlot size held n c from bs → HasSlot size (put held b x) n c from bs
+    other n c from bs y = elim (put_cases held b x c) [
+      | inl p ↦ absurd (none n y.slot (ap held (sym p.0) ∙ y.holds) (way_ticket size y.slot n from bs y.way))
+      | inr p ↦ record { slot = y.slot; holds = p.1 ∙ y.holds; way = y.way }
+    ]
 
 -- ---- a request is begun or settled
 
@@ -141,40 +208,18 @@ pub record SameWrites (pending pending' : ℕ → Option Begun) : Type 0 where
 
 -- then what is tied stays so
 same_writes : (size : ℕ) (held : ℕ → Option Slot) (pending pending' : ℕ → Option Begun)
-    → SameWrites pending pending' → ((t : ℕ) (r : Begun) → pending' t ≡ Some r → IsOfBlock size r)
-    → Tied size held pending → Tied size held pending'
-same_writes size held pending pending' e blocks k = record {
-  blocks = blocks;
+    → SameWrites pending pending' → Tied size held pending → Tied size held pending'
+same_writes size held pending pending' e k = record {
   writes = λ t r bytes h wr. k.writes t r bytes (e.from t r bytes h wr) wr;
   issued = λ b t s h ts.
       let x = k.issued b t s h ts in
-      record { request = x.request; bytes = x.bytes; is = e.to t x.request x.bytes x.is x.write; write = x.write; start = x.start };
+      record { request = x.request; bytes = x.bytes; is = e.to t x.request x.bytes x.is x.write; write = x.write; from = x.from; to = x.to };
 }
 
--- requests of blocks with one more
-blocks_more : (size : ℕ) (pending : ℕ → Option Begun) (n : ℕ) (r : Begun) → IsOfBlock size r
-    → ((t : ℕ) (q : Begun) → pending t ≡ Some q → IsOfBlock size q)
-    → (t : ℕ) (q : Begun) → put pending n (Some r) t ≡ Some q → IsOfBlock size q
-blocks_more size pending n r whole all t q h = elim (put_cases pending n (Some r) t) [
-  | inl p ↦ subst (λ (x : Begun). IsOfBlock size x) (same_begun (put pending n (Some r) t) r q p.1 h) whole
-  | inr p ↦ all t q (sym p.1 ∙ h)
-]
-
--- requests of blocks with one less
-blocks_less : (size : ℕ) (pending : ℕ → Option Begun) (n : ℕ)
-    → ((t : ℕ) (q : Begun) → pending t ≡ Some q → IsOfBlock size q)
-    → (t : ℕ) (q : Begun) → put pending n None t ≡ Some q → IsOfBlock size q
-blocks_less size pending n all t q h = elim (put_cases pending n None t) [
-  | inl p ↦ let m = p.1 in cc
-  | inr p ↦ all t q (sym p.1 ∙ h)
-]
-
--- a read of a block is begun
+-- a read is begun
 pub tied_read : (size : ℕ) (held : ℕ → Option Slot) (pending : ℕ → Option Begun) (t : ℕ) (r : Begun)
-    → pending t ≡ None → r.written ≡ None → IsOfBlock size r
-    → Tied size held pending → Tied size held (put pending t (Some r))
-tied_read size held pending t r free read whole k =
-    same_writes size held pending (put pending t (Some r)) begun (blocks_more size pending t r whole k.blocks) k
+    → pending t ≡ None → r.written ≡ None → Tied size held pending → Tied size held (put pending t (Some r))
+tied_read size held pending t r free read k = same_writes size held pending (put pending t (Some r)) begun k
   where
     begun : SameWrites pending (put pending t (Some r))
     begun = record {
@@ -193,8 +238,7 @@ tied_read size held pending t r free read whole k =
 -- a read is settled
 pub tied_read_settled : (size : ℕ) (held : ℕ → Option Slot) (pending : ℕ → Option Begun) (t : ℕ) (r : Begun)
     → pending t ≡ Some r → r.written ≡ None → Tied size held pending → Tied size held (put pending t None)
-tied_read_settled size held pending t r is read k =
-    same_writes size held pending (put pending t None) settled (blocks_less size pending t k.blocks) k
+tied_read_settled size held pending t r is read k = same_writes size held pending (put pending t None) settled k
   where
     settled : SameWrites pending (put pending t None)
     settled = record {
@@ -210,98 +254,105 @@ tied_read_settled size held pending t r is read k =
       ];
     }
 
--- the write of a dirty slot is begun
-pub tied_write : (size : ℕ) (held : ℕ → Option Slot) (pending : ℕ → Option Begun) (b n : ℕ) (s t : Slot) (r : Begun) (bytes : List ℕ)
-    → held b ≡ Some s → s.state ≡ Dirty → t.state ≡ Writing n → ((o : ℕ) → o < size → slice_index t.bytes.value o ≡ slice_index bytes o)
-    → pending n ≡ None → r.start ≡ b * size → r.size ≡ size → r.written ≡ Some bytes
-    → Tied size held pending → Tied size (put held b (Some t)) (put pending n (Some r))
-tied_write size held pending b n s t r bytes is st state same_bytes free start whole wr k = record {
-  blocks = blocks_more size pending n r (record { block = b; start = start; whole = whole }) k.blocks;
+-- the writes of a run are begun in one request
+pub tied_run : (size : ℕ) (held held' : ℕ → Option Slot) (pending : ℕ → Option Begun) (b count n : ℕ) (r : Begun) (bytes : List ℕ)
+    → 0 < count → AreBegun b count n held held' → AreGathered held b count size bytes
+    → pending n ≡ None → r.start ≡ b * size → r.size ≡ count * size → r.written ≡ Some bytes
+    → Tied size held pending → Tied size held' (put pending n (Some r))
+tied_run size held held' pending b count n r bytes some begun from free start whole wr k = record {
   writes = λ m q bs h wq. elim (put_cases pending n (Some r) m) [
-    | inl p ↦
-        let same : q ≡ r = same_begun (put pending n (Some r) m) q r h p.1 in
-        new_slot m q bs p.0 same wq
-    | inr p ↦ old_slot m q bs (k.writes m q bs (sym p.1 ∙ h) wq)
-  ];
-  issued = λ c m u h e. elim (put_cases held b (Some t) c) [
-    | inl p ↦
-        let same : u ≡ t = same_slot (put held b (Some t) c) u t h p.1 in
-        let its : Some n ≡ Some m = sym (ap ticket_of (ap (λ (x : Slot). x.state) same ∙ state)) ∙ e in
-        let at : m ≡ n = cc in
-        record { request = r; bytes = bytes; is = ap (put pending n (Some r)) at ∙ put-same pending n (Some r); write = wr; start = start ∙ ap (λ x. x * size) (sym p.0) }
+    | inl p ↦ new_run m q bs p.0 (same_begun (put pending n (Some r) m) q r h p.1) wq
     | inr p ↦
-        let x = k.issued c m u (sym p.1 ∙ h) e in
+        let y = k.writes m q bs (sym p.1 ∙ h) wq in
+        run_like size held held' m q bs y (λ i lt. old_slot m (y.block + i) (i * size) bs)
+  ];
+  issued = λ c m u h e. elim (within_or b count c) [
+    | inl w ↦ new_write c m u h e w
+    | inr out ↦
+        let x = k.issued c m u (sym (begun.others c out) ∙ h) e in
         let ne : m ≢ n = λ at. let y = x.is in let z = ap pending at ∙ free in cc in
-        record { request = x.request; bytes = x.bytes; is = put-other pending n (Some r) m ne ∙ x.is; write = x.write; start = x.start }
+        record { request = x.request; bytes = x.bytes; is = put-other pending n (Some r) m ne ∙ x.is; write = x.write; from = x.from; to = x.to }
   ];
 }
   where
-    new_slot : (m : ℕ) (q : Begun) (bs : List ℕ) → m ≡ n → q ≡ r → q.written ≡ Some bs → HasSlot size (put held b (Some t)) m q bs
-    new_slot m q bs at same wq =
-        let one : Some bytes ≡ Some bs = sym wr ∙ ap (λ (x : Begun). x.written) (sym same) ∙ wq in
-        let these : bytes ≡ bs = cc in
+    new_slot : (m i : ℕ) → m ≡ n → i < count → HasSlot size held' m (b + i) (i * size) bytes
+    new_slot m i at lt =
+        let x = begun.each i lt in
         record {
-          block = b;
-          slot = t;
-          holds = put-same held b (Some t);
-          start = ap (λ (x : Begun). x.start) same ∙ start;
-          whole = ap (λ (x : Begun). x.size) same ∙ whole;
-          way = record { state = inr (state ∙ ap Writing (sym at), λ o lt. same_bytes o lt ∙ ap (λ (x : List ℕ). slice_index x o) these) };
+          slot = record x.slot { state = Writing n };
+          holds = x.after;
+          way = record { state = inr (ap Writing (sym at), λ o lo. sym (from.each i o x.slot lt lo x.is)) };
         }
 
-    old_slot : (m : ℕ) (q : Begun) (bs : List ℕ) → HasSlot size held m q bs → HasSlot size (put held b (Some t)) m q bs
-    old_slot m q bs x = elim (put_cases held b (Some t) x.block) [
-      | inl p ↦
-          let same : x.slot ≡ s = same_slot (held x.block) x.slot s x.holds (ap held p.0 ∙ is) in
-          let f : ticket_of x.slot.state ≡ Some m = way_ticket size x.slot m bs x.way in
-          let g : ticket_of x.slot.state ≡ None = ap ticket_of (ap (λ (y : Slot). y.state) same ∙ st) in
+    new_run : (m : ℕ) (q : Begun) (bs : List ℕ) → m ≡ n → q ≡ r → q.written ≡ Some bs → IsRun size held' m q bs
+    new_run m q bs at same wq =
+        let one : Some bytes ≡ Some bs = sym wr ∙ ap (λ (x : Begun). x.written) (sym same) ∙ wq in
+        let these : bytes ≡ bs = cc in
+        subst (λ (x : List ℕ). IsRun size held' m q x) these (record {
+          block = b;
+          count = count;
+          some = some;
+          start = ap (λ (x : Begun). x.start) same ∙ start;
+          whole = ap (λ (x : Begun). x.size) same ∙ whole;
+          each = λ i lt. new_slot m i at lt;
+        })
+
+    old_slot : (m c at : ℕ) (bs : List ℕ) → HasSlot size held m c at bs → HasSlot size held' m c at bs
+    old_slot m c at bs x = elim (within_or b count c) [
+      | inl w ↦
+          let y = begun.each w.index w.below in
+          let same : x.slot ≡ y.slot = same_slot (held c) x.slot y.slot x.holds (ap held w.is ∙ y.is) in
+          let f : ticket_of x.slot.state ≡ Some m = way_ticket size x.slot m at bs x.way in
+          let g : ticket_of x.slot.state ≡ None = ap ticket_of (ap (λ (z : Slot). z.state) same ∙ y.dirty) in
           absurd (let z : None ≡ Some m = sym g ∙ f in cc)
-      | inr p ↦ record { block = x.block; slot = x.slot; holds = p.1 ∙ x.holds; start = x.start; whole = x.whole; way = x.way }
+      | inr out ↦ record { slot = x.slot; holds = begun.others c out ∙ x.holds; way = x.way }
     ]
 
--- the settled write is the slot's
-pub its_start : (size : ℕ) (held : ℕ → Option Slot) (pending : ℕ → Option Begun) (b n : ℕ) (s : Slot) (r : Begun)
-    → Tied size held pending → held b ≡ Some s → ticket_of s.state ≡ Some n → pending n ≡ Some r → r.start ≡ b * size
-its_start size held pending b n s r k is ticket there =
-    let x = k.issued b n s is ticket in
-    let one : x.request ≡ r = same_begun (pending n) x.request r x.is there in
-    ap (λ (y : Begun). y.start) (sym one) ∙ x.start
+    new_write : (c m : ℕ) (u : Slot) → held' c ≡ Some u → ticket_of u.state ≡ Some m → Within b count c → HasWrite size (put pending n (Some r)) c m
+    new_write c m u h e w =
+        let y = begun.each w.index w.below in
+        let same : u ≡ record y.slot { state = Writing n } = same_slot (held' c) u (record y.slot { state = Writing n }) h (ap held' w.is ∙ y.after) in
+        let its : Some n ≡ Some m = sym (ap (λ (x : Slot). ticket_of x.state) same) ∙ e in
+        let at : m ≡ n = cc in
+        let place : c * size ≡ b * size + w.index * size = ap (λ z. z * size) w.is ∙ place_past b w.index size in
+        let fits = fits_past w.index count size w.below in
+        record {
+          request = r;
+          bytes = bytes;
+          is = ap (put pending n (Some r)) at ∙ put-same pending n (Some r);
+          write = wr;
+          from = omega (arith, start, place);
+          to = omega (arith, start, whole, place, fits);
+        }
 
--- the write of a slot is settled
-pub tied_written : (size : ℕ) (held : ℕ → Option Slot) (pending : ℕ → Option Begun) (b n : ℕ) (s t : Slot) (r : Begun)
-    → 0 < size → held b ≡ Some s → ticket_of s.state ≡ Some n → t.state ≡ written s.state → pending n ≡ Some r
-    → Tied size held pending → Tied size (put held b (Some t)) (put pending n None)
-tied_written size held pending b n s t r some is ticket st there k = record {
-  blocks = blocks_less size pending n k.blocks;
+-- the write of a run is settled
+pub tied_written : (size : ℕ) (held held' : ℕ → Option Slot) (pending : ℕ → Option Begun) (n : ℕ)
+    → ((b : ℕ) → held' b ≡ held_after_write n (held b)) → Tied size held pending → Tied size held' (put pending n None)
+tied_written size held held' pending n after k = record {
   writes = λ m q bs h wq. elim (put_cases pending n None m) [
     | inl p ↦ let z = p.1 in cc
-    | inr p ↦ other m q bs p.0 (k.writes m q bs (sym p.1 ∙ h) wq)
-  ];
-  issued = λ c m u h e. elim (put_cases held b (Some t) c) [
-    | inl p ↦
-        let same : u ≡ t = same_slot (put held b (Some t) c) u t h p.1 in
-        absurd (no_more s.state m (ap ticket_of (sym st ∙ ap (λ (x : Slot). x.state) (sym same)) ∙ e))
     | inr p ↦
-        let x = k.issued c m u (sym p.1 ∙ h) e in
-        let ne : m ≢ n = λ at.
-        let one : x.request ≡ r = same_begun (pending m) x.request r x.is (ap pending at ∙ there) in
-        p.0 (same_start c b size some (sym (ap (λ (y : Begun). y.start) (sym one) ∙ x.start) ∙ its_start size held pending b n s r k is ticket there)) in
-        record { request = x.request; bytes = x.bytes; is = put-other pending n None m ne ∙ x.is; write = x.write; start = x.start }
+        let y = k.writes m q bs (sym p.1 ∙ h) wq in
+        run_like size held held' m q bs y (λ i lt. other m (y.block + i) (i * size) bs p.0)
   ];
+  issued = λ c m u h e.
+      let w = was_under n c m u (held c) refl (sym (after c) ∙ h) e in
+      let x = k.issued c m u w.0 e in
+      record { request = x.request; bytes = x.bytes; is = put-other pending n None m w.1 ∙ x.is; write = x.write; from = x.from; to = x.to };
 }
   where
-    no_more : (x : State) (m : ℕ) → ticket_of (written x) ≡ Some m → ⊥
-    no_more Clean m h = cc
-    no_more Dirty m h = cc
-    no_more (Writing y) m h = cc
-    no_more (Changed y) m h = cc
+    other : (m c from : ℕ) (bs : List ℕ) → m ≢ n → HasSlot size held m c from bs → HasSlot size held' m c from bs
+    other m c from bs ne x = record {
+      slot = x.slot;
+      holds = after c ∙ ap (held_after_write n) x.holds ∙ ap Some (stays_other n m x.slot (way_ticket size x.slot m from bs x.way) ne);
+      way = x.way;
+    }
 
-    other : (m : ℕ) (q : Begun) (bs : List ℕ) → m ≢ n → HasSlot size held m q bs → HasSlot size (put held b (Some t)) m q bs
-    other m q bs ne x = elim (put_cases held b (Some t) x.block) [
-      | inl p ↦
-          let same : x.slot ≡ s = same_slot (held x.block) x.slot s x.holds (ap held p.0 ∙ is) in
-          let f : ticket_of x.slot.state ≡ Some m = way_ticket size x.slot m bs x.way in
-          let z : Some m ≡ Some n = sym f ∙ ap (λ (y : Slot). ticket_of y.state) same ∙ ticket in
-          absurd (ne (let y : m ≡ n = cc in y))
-      | inr p ↦ record { block = x.block; slot = x.slot; holds = p.1 ∙ x.holds; start = x.start; whole = x.whole; way = x.way }
-    ]
+    was_under : (n c m : ℕ) (u : Slot) (o : Option Slot) → held c ≡ o → held_after_write n (held c) ≡ Some u → ticket_of u.state ≡ Some m
+        → (held c ≡ Some u) × (m ≢ n)
+    was_under n c m u None e h t = let z : None ≡ Some u = ap (held_after_write n) (sym e) ∙ h in absurd (let y : ⊥ = cc in y)
+    was_under n c m u (Some s) e h t =
+        let z : Some (after_write n s) ≡ Some u = ap (held_after_write n) (sym e) ∙ h in
+        let same : after_write n s ≡ u = cc in
+        let g = not_under n m s (ap (λ (x : Slot). ticket_of x.state) same ∙ t) in
+        (e ∙ ap Some (sym g.0 ∙ same), g.1)

@@ -1,5 +1,5 @@
 -- What each call of a cache does at its link, to the disk, and to what would be read back.
-use Rattle.std.specs.Prelude.{◌≡◌, ◌⊎◌, ◌==◌, ◌&&◌, IsTrue, ℕ, ◌*◌, ◌+◌, ◌^◌, ◌<◌, ◌≤◌, List, [], ◌∷◌, ◌++◌, length, Bool, true, false, ◌||◌, zero, suc, Option, Some, None, Result, Ok, Err, if◌then◌else◌}
+use Rattle.std.specs.Prelude.{◌≡◌, ◌⊎◌, IsTrue, ℕ, ◌*◌, ◌+◌, ◌^◌, ◌<◌, ◌≤◌, List, [], ◌∷◌, ◌++◌, length, Bool, true, false, ◌||◌, zero, suc, Option, Some, None, Result, Ok, Err, if◌then◌else◌}
 use Rattle.std.specs.List.{list_any}
 use Rattle.message.specs.declared.Incoming.{Incoming}
 use Rattle.message.specs.declared.Incoming.TheVariants.{End}
@@ -12,7 +12,7 @@ use Rattle.records.specs.Opening.{Opening}
 use Rattle.reissue.specs.declared.link.Link.{Ghosts as LinkWords}
 use Rattle.reissue.specs.declared.table.Table.{Table}
 use Rattle.reissue.specs.Moves.{DiskState, state_after, put, IsBusy}
-use Rattle.reissue.specs.Entries.{pending_of, AllOfMinor}
+use Rattle.reissue.specs.Entries.{pending_of, meets, AllOfMinor}
 use Rattle.reissue.specs.Agrees.{Agrees}
 use Rattle.reissue.specs.Posts.{HasRoom, OnlyPosts}
 use Rattle.reissue.specs.Rules.{KeepsRulesBy}
@@ -79,7 +79,7 @@ frame_count cache = length cache.slots.items.items
 abbrev pub LinkGoesOn : {L : Type 0} → LinkWords L → Cache L → Cache L → Type 0
 LinkGoesOn words old new = words.goes_on (link_of old.transfers) (link_of new.transfers)
 
--- its requests are for its range and one block each, its slots are tied to them, and while the link hasn't ended it has room and ids are left
+-- its requests are for its range, its slots are tied to them, and while the link hasn't ended it has room and ids are left
 pub record IsReady (c : Caching) : Type 0 where
   pub minors : AllOfMinor c.minor c.table.pending
   pub tied : Tied c.size c.held (pending_of c.table.pending)
@@ -204,11 +204,10 @@ pub record PostsAlone (old new : Caching) : Type 0 where
   pub history : new.told ≡ posts ++ old.told
   pub only_posts : OnlyPosts posts
 
--- a dirty block's write is refused: sixteen requests are pending, or one of its range
+-- a dirty block's write is refused: sixteen requests are pending, or a byte of it is
 abbrev pub IsRefusing : Caching → Type 0
 IsRefusing c = (length c.table.pending ≡ 16)
-    ⊎ ((b : ℕ) × (s : Slot) × (c.held b ≡ Some s) × (s.state ≡ Dirty)
-    × IsTrue (list_any (λ p. (p.start == b * c.size) && (p.size == c.size)) c.table.pending))
+    ⊎ ((b : ℕ) × (s : Slot) × (c.held b ≡ Some s) × (s.state ≡ Dirty) × IsTrue (list_any (meets (b * c.size) c.size) c.table.pending))
 
 -- no further write can be begun before a message is taken: no frame is dirty, or the write is refused
 pub record IsStuck (c : Caching) : Type 0 where

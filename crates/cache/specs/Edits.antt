@@ -1,11 +1,11 @@
 -- One slot changed, and what such changes leave.
-use Rattle.std.specs.Prelude.{◌≡◌, ◌⊎◌, ℕ, ◌+◌, ◌-◌, List, Option, Some, None, Bool, true, false, ◌≤◌, ◌&&◌, slice_get, slice_set, slice_index, if◌then◌else◌, nat_le, nat_lt, length}
+use Rattle.std.specs.Prelude.{◌≡◌, ◌⊎◌, ℕ, ◌+◌, ◌-◌, ◌^◌, ◌<◌, List, Option, Some, None, Bool, true, false, ◌≤◌, ◌&&◌, slice_get, slice_set, slice_index, if◌then◌else◌, nat_le, nat_lt, length}
 use Rattle.reissue.specs.Moves.{put}
 use Rattle.cache.specs.declared.slot.Slot.{Slot}
 use Rattle.cache.specs.declared.table.Slots.{Slots}
 use Rattle.cache.specs.declared.state.State.{State}
 use Rattle.cache.specs.declared.state.State.TheVariants.{Clean, Dirty, Writing}
-use Rattle.cache.specs.Slots.{ticket_of, held, dirtied, written, is_clean, is_dirty}
+use Rattle.cache.specs.Slots.{held, dirtied, written, is_clean, is_dirty, is_under, is_dirty_held}
 
 -- the slot there is changed so, and no other
 pub record IsSetAt (old new : List Slot) (i : ℕ) (change : Slot → Slot) : Type 0 where
@@ -100,20 +100,18 @@ pub record StayBut (at : ℕ) (old new : Slots) : Type 0 where
   pub uses : new.uses ≡ old.uses
   pub each : OthersStay at old.items.items new.items.items
 
--- a slot whose write has this ticket has the state after it
-pub record IsWrittenSlot (ticket : ℕ) (old new : List Slot) : Type 0 where
-  pub slot : Slot
-  pub after : Slot
-  pub block : ℕ
-  pub is : held old block ≡ Some slot
-  pub ticket_is : ticket_of slot.state ≡ Some ticket
-  pub state : after.state ≡ written slot.state
-  pub bytes_are : after.bytes.value ≡ slot.bytes.value
-  pub all : held new ≡ put (held old) block (Some after)
+-- a slot after the write with this ticket was answered good
+abbrev pub after_write : ℕ → Slot → Slot
+after_write ticket s = if is_under ticket s then record s { state = written s.state } else s
 
--- the slot whose write has this ticket is written, where there is one
+-- a block's slot after it, if it has one
+abbrev pub held_after_write : ℕ → Option Slot → Option Slot
+held_after_write ticket None = None
+held_after_write ticket (Some s) = Some (after_write ticket s)
+
+-- each slot whose write has this ticket is written, and the others stay
 pub record IsWritten (ticket : ℕ) (old new : List Slot) : Type 0 where
-  pub slot : (b : ℕ) (s : Slot) → held old b ≡ Some s → ticket_of s.state ≡ Some ticket → IsWrittenSlot ticket old new
+  pub slots : (b : ℕ) → held new b ≡ held_after_write ticket (held old b)
   pub leaves : Leaves old new
 
 -- the bytes of each slot with a block are the disk's
@@ -164,3 +162,33 @@ pub record IssuesLowest (old new : ℕ → Option Slot) : Type 0 where
   pub dirty : slot.state ≡ Dirty
   pub lowest : (b : ℕ) (s : Slot) → old b ≡ Some s → s.state ≡ Dirty → block ≤ b
   pub all : new ≡ put old block (Some (record slot { state = Writing ticket }))
+
+-- so many neighbouring blocks from this one on have dirty slots
+abbrev pub AreDirty : (ℕ → Option Slot) → ℕ → ℕ → Type 0
+AreDirty held block count = (i : ℕ) → i < count → is_dirty_held (held (block + i)) ≡ true
+
+-- no run goes on at this block: it isn't dirty, or no block has its number
+abbrev pub IsRunEnd : (ℕ → Option Slot) → ℕ → Type 0
+IsRunEnd held block = (2 ^ 32 ≤ block) ⊎ (is_dirty_held (held block) ≡ false)
+
+-- the lowest block with a dirty slot, or that there is none
+abbrev pub IsLowestBlock : Option ℕ → (ℕ → Option Slot) → Type 0
+IsLowestBlock None held = NoneDirty held
+IsLowestBlock (Some block) held =
+    (is_dirty_held (held block) ≡ true) × ((b : ℕ) (s : Slot) → held b ≡ Some s → s.state ≡ Dirty → block ≤ b)
+
+-- the slot was dirty, and its write is begun under this ticket
+pub record IsBegun (ticket : ℕ) (old new : Option Slot) : Type 0 where
+  pub slot : Slot
+  pub is : old ≡ Some slot
+  pub dirty : slot.state ≡ Dirty
+  pub after : new ≡ Some (record slot { state = Writing ticket })
+
+-- the block isn't one of so many from this one on
+abbrev pub IsOutside : ℕ → ℕ → ℕ → Type 0
+IsOutside block count b = (b < block) ⊎ (block + count ≤ b)
+
+-- the writes of so many neighbouring blocks from this one on are begun under one ticket, and the slots of other blocks stay
+pub record AreBegun (block count ticket : ℕ) (old new : ℕ → Option Slot) : Type 0 where
+  pub each : (i : ℕ) → i < count → IsBegun ticket (old (block + i)) (new (block + i))
+  pub others : (b : ℕ) → IsOutside block count b → new b ≡ old b

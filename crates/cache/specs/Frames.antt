@@ -1,5 +1,5 @@
 -- What a cache keeps true of its slots, of the pending requests and of the disk, and what would be read back.
-use Rattle.std.specs.Prelude.{◌≡◌, ◌⊎◌, ℕ, ◌+◌, ◌*◌, ◌<◌, ◌-◌, ◌&&◌, nat_lt, nat_le, List, length, take, Option, Some, None, false, if◌then◌else◌, slice_index}
+use Rattle.std.specs.Prelude.{◌≡◌, ◌⊎◌, ℕ, ◌+◌, ◌*◌, ◌<◌, ◌≤◌, ◌-◌, ◌&&◌, nat_lt, nat_le, List, length, take, Option, Some, None, false, if◌then◌else◌, slice_index}
 use Rattle.volume.specs.Reading.{Disk}
 use Rattle.records.specs.View.{Frames, frame_or}
 use Rattle.reissue.specs.Moves.{DiskState, Begun}
@@ -7,38 +7,38 @@ use Rattle.cache.specs.declared.state.State.TheVariants.{Clean, Writing, Changed
 use Rattle.cache.specs.declared.slot.Slot.{Slot}
 use Rattle.cache.specs.Slots.{ticket_of}
 
--- the bytes of the write that is under way are the slot's, unless they were changed since it was issued
-pub record IsUnderWay (size : ℕ) (slot : Slot) (ticket : ℕ) (bytes : List ℕ) : Type 0 where
+-- the bytes of the write that is under way, from this one on, are the slot's, unless they were changed since it was issued
+pub record IsUnderWay (size : ℕ) (slot : Slot) (ticket from : ℕ) (bytes : List ℕ) : Type 0 where
   pub state : (slot.state ≡ Changed ticket)
-      ⊎ ((slot.state ≡ Writing ticket) × ((o : ℕ) → o < size → slice_index slot.bytes.value o ≡ slice_index bytes o))
+      ⊎ ((slot.state ≡ Writing ticket) × ((o : ℕ) → o < size → slice_index slot.bytes.value o ≡ slice_index bytes (from + o)))
 
--- a pending write is of a block that has a slot
-pub record HasSlot (size : ℕ) (held : ℕ → Option Slot) (ticket : ℕ) (r : Begun) (bytes : List ℕ) : Type 0 where
-  pub block : ℕ
+-- a block has a slot whose write is under way
+pub record HasSlot (size : ℕ) (held : ℕ → Option Slot) (ticket block from : ℕ) (bytes : List ℕ) : Type 0 where
   pub slot : Slot
   pub holds : held block ≡ Some slot
-  pub start : r.start ≡ block * size
-  pub whole : r.size ≡ size
-  pub way : IsUnderWay size slot ticket bytes
+  pub way : IsUnderWay size slot ticket from bytes
 
--- a slot whose write is under way has a pending write
+-- a pending write is of a run of neighbouring blocks, each of which has a slot
+pub record IsRun (size : ℕ) (held : ℕ → Option Slot) (ticket : ℕ) (r : Begun) (bytes : List ℕ) : Type 0 where
+  pub block : ℕ
+  pub count : ℕ
+  pub some : 0 < count
+  pub start : r.start ≡ block * size
+  pub whole : r.size ≡ count * size
+  pub each : (i : ℕ) → i < count → HasSlot size held ticket (block + i) (i * size) bytes
+
+-- a slot whose write is under way has a pending write, whose range covers its block
 pub record HasWrite (size : ℕ) (pending : ℕ → Option Begun) (block ticket : ℕ) : Type 0 where
   pub request : Begun
   pub bytes : List ℕ
   pub is : pending ticket ≡ Some request
   pub write : request.written ≡ Some bytes
-  pub start : request.start ≡ block * size
+  pub from : request.start ≤ block * size
+  pub to : block * size + size ≤ request.start + request.size
 
--- the request is for one block
-pub record IsOfBlock (size : ℕ) (r : Begun) : Type 0 where
-  pub block : ℕ
-  pub start : r.start ≡ block * size
-  pub whole : r.size ≡ size
-
--- slots and pending requests agree: each request is for one block; each write's block has a slot, and each write under way is pending
+-- slots and pending requests agree: each block of a pending write has a slot, and each write under way is pending
 pub record Tied (size : ℕ) (held : ℕ → Option Slot) (pending : ℕ → Option Begun) : Type 0 where
-  pub blocks : (t : ℕ) (r : Begun) → pending t ≡ Some r → IsOfBlock size r
-  pub writes : (t : ℕ) (r : Begun) (bytes : List ℕ) → pending t ≡ Some r → r.written ≡ Some bytes → HasSlot size held t r bytes
+  pub writes : (t : ℕ) (r : Begun) (bytes : List ℕ) → pending t ≡ Some r → r.written ≡ Some bytes → IsRun size held t r bytes
   pub issued : (b t : ℕ) (s : Slot) → held b ≡ Some s → ticket_of s.state ≡ Some t → HasWrite size pending b t
 
 -- the disk has this byte there, and is sure of it

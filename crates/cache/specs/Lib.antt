@@ -7,6 +7,7 @@ pub mod Uses
 pub mod Order
 pub mod Refusals
 pub mod Settling
+pub mod Runs
 pub mod Frames
 pub mod Calls
 pub mod Takes

@@ -49,13 +49,18 @@ written Dirty = Dirty
 written (Writing t) = Clean
 written (Changed t) = Dirty
 
--- the slot holds a block whose write has this ticket
+-- the write of the slot that is under way has this ticket
 abbrev pub is_under : ℕ → Slot → Bool
-is_under t s = is_some s.block && is_number (ticket_of s.state) t
+is_under t s = is_number (ticket_of s.state) t
 
 -- the slot holds a block, and its bytes were changed
 abbrev pub is_dirty_slot : Slot → Bool
 is_dirty_slot s = is_some s.block && is_dirty s.state
+
+-- a block's slot, if it has one, is dirty
+abbrev pub is_dirty_held : Option Slot → Bool
+is_dirty_held None = false
+is_dirty_held (Some s) = is_dirty s.state
 
 -- the slot holds a block, and its bytes may not be the disk's
 abbrev pub is_unclean_slot : Slot → Bool

@@ -46,12 +46,13 @@ pub struct Cache<L> {
 impl<L: Link> Cache<L> {
     ghost use Rattle.cache.specs.Slots.{held, is_dirty_slot, is_unclean_slot};
     ghost use Rattle.cache.specs.Edits.{AllClean, SomeUnclean, IsIssued, IssuesLowest, IsWritten, IsSlotAt, IsFreeAt, IsAt, Leaves};
-    ghost use Rattle.cache.specs.Edits.{AllStay, StayBut, IsChangedAt};
+    ghost use Rattle.cache.specs.Edits.{AllStay, StayBut, IsChangedAt, AreDirty};
     ghost use Rattle.cache.specs.Frames.{frames_of, view, with_bytes};
     ghost use Rattle.cache.specs.Calls.{caching, held_by, frame_count, IsReady, IsIdle, IsLive, IsWhyCut, IsFrame, IsMade, IsStuck};
     ghost use Rattle.cache.specs.Calls.{IsRefusing, PostsAlone, messages_left, Does, Keeps, HandsOver, Blanks, Rewrites, LinkGoesOn};
     ghost use Rattle.cache.specs.Calls.{WantsFlush, forgotten, with_cache_link, without_flush};
     ghost use Rattle.cache.specs.Settling.{IsWantedFor};
+    ghost use Rattle.cache.specs.Runs.{IsRunBegun, BeginsRun};
     ghost use Rattle.cache.specs.contracts.cache.Cache.{the_row};
     ghost use Rattle.cache.specs.declared.frame.Frame.{Frame as FrameValue};
     ghost use Rattle.cache.specs.declared.slot.Slot.{Slot};
@@ -191,6 +192,39 @@ impl<L: Link> Cache<L> {
         match self.transfers.begin(&ask) {
             Ok(ticket) => {
                 self.slots.set_state(at, State::Writing(ticket));
+                true
+            }
+            Err(_) => false,
+        }
+    }
+
+    /// Begins the write of so many neighbouring blocks from this one on, which have dirty slots, in one request; false where it was refused.
+    fn issue_run(&mut self, block: u32, count: u32) -> bool
+        requires ready { IsReady (caching L.Link self.old) }
+        requires open { self.old.ended ≡ false }
+        requires dirty { AreDirty (held_by self.old) block count }
+        requires bound { block + count ≤ 2 ^ 32 }
+        requires some { 0 < count }
+        requires fits { count * self.old.shape.block_size ≤ 4096 }
+        ensures keeps { Keeps (caching L.Link self.old) (caching L.Link self.new) }
+        ensures goes { LinkGoesOn L.Link self.old self.new }
+        ensures busy { IsBusy (begun_in self.new.transfers) }
+        ensures left { messages_left (caching L.Link self.new) ≤ messages_left (caching L.Link self.old) }
+        ensures leaves { Leaves self.old.slots.items.items self.new.slots.items.items }
+        ensures uses { self.new.slots.uses ≡ self.old.slots.uses }
+        ensures begun { OnTrue result (IsRunBegun self.old.shape.block_size block count (held_by self.old) (held_by self.new)
+            (begun_in self.old.transfers) (begun_in self.new.transfers)) }
+        ensures posts { PostsAlone (caching L.Link self.old) (caching L.Link self.new) }
+        ensures flush { self.new.flush ≡ self.old.flush }
+        ensures refused { OnFalse result (self.new ≡ self.old) }
+        ensures refusing { OnFalse result (IsRefusing (caching L.Link self.old)) }
+        ensures reads { NoReadBegun (begun_in self.old.transfers) (begun_in self.new.transfers) }
+    {
+        let bytes = self.slots.gather(block, count, self.shape.block_size);
+        let ask = self.shape.write_run(block, count, &bytes);
+        match self.transfers.begin_run(&ask) {
+            Ok(ticket) => {
+                self.slots.set_writing(block, count, ticket);
                 true
             }
             Err(_) => false,
@@ -488,7 +522,7 @@ impl<L: Link> Cache<L> {
     }
 
     /// Begins the write of the dirty frame with the lowest block. No message is taken. False where there is none, or the write was
-    /// refused since sixteen requests are pending or one of its block, or where no message comes any more; then nothing is changed.
+    /// refused since sixteen requests are pending or a byte of it is, or where no message comes any more; then nothing is changed.
     pub fn write_lowest(&mut self) -> bool
         requires ready { IsReady (caching L.Link self.old) }
         ensures keeps { Keeps (caching L.Link self.old) (caching L.Link self.new) }
@@ -516,6 +550,43 @@ impl<L: Link> Cache<L> {
         }
     }
 
+    /// Begins the writes of a run in one request: of the dirty frame with the lowest block, and of as many as are dirty side by side from it
+    /// on, `most` of them at most and no more than one request takes. How many: none where no frame is dirty, or the write was refused since
+    /// sixteen requests are pending or a byte of it is, or where no message comes any more; then nothing is changed. No message is taken.
+    pub fn write_run(&mut self, most: u32) -> u32
+        requires ready { IsReady (caching L.Link self.old) }
+        requires most { 0 < most }
+        ensures keeps { Keeps (caching L.Link self.old) (caching L.Link self.new) }
+        ensures goes { LinkGoesOn L.Link self.old self.new }
+        ensures count { frame_count self.new ≡ frame_count self.old }
+        ensures posts { PostsAlone (caching L.Link self.old) (caching L.Link self.new) }
+        ensures left { messages_left (caching L.Link self.new) ≤ messages_left (caching L.Link self.old) }
+        ensures issued { BeginsRun most self.old.shape.block_size result (held_by self.old) (held_by self.new)
+            (begun_in self.old.transfers) (begun_in self.new.transfers) }
+        ensures few { result ≤ most }
+        ensures busy { 0 < result → IsBusy (begun_in self.new.transfers) }
+        ensures stuck { result ≡ 0 → IsLive (caching L.Link self.new) → IsStuck (caching L.Link self.new) }
+        ensures frames { (f : FrameValue) → IsFrame self.old f → IsFrame self.new f }
+        ensures flush { self.new.flush ≡ self.old.flush }
+        ensures refused { result ≡ 0 → self.new ≡ self.old }
+        ensures live { 0 < result → IsLive (caching L.Link self.old) }
+        ensures uses { self.new.slots.uses ≡ self.old.slots.uses }
+        ensures reads { NoReadBegun (begun_in self.old.transfers) (begun_in self.new.transfers) }
+    {
+        if self.live().is_err() {
+            return 0;
+        }
+        let Some(block) = self.slots.lowest_block() else {
+            return 0;
+        };
+        let most = most.min(self.shape.most_blocks());
+        let count = self.slots.dirty_from(block, most);
+        if !self.issue_run(block, count) {
+            return 0;
+        }
+        count
+    }
+
     /// Whether the bytes of each frame are the disk's.
     pub fn is_clean(&self) -> bool
         ensures clean { OnTrue result (AllClean (held_by self.now)) }
@@ -536,6 +607,7 @@ impl<L: Link> Cache<L> {
         ensures silent { IsIdle (caching L.Link self.old) → (caching L.Link self.new).told ≡ (caching L.Link self.old).told }
         ensures goes { LinkGoesOn L.Link self.old self.new }
         ensures wanted { IsWantedFor (message ≡ Incoming.Flush) self.old.flush self.new.flush }
+        ensures asked { message ≡ Incoming.Flush → held_by self.new ≡ held_by self.old }
         ensures stay { AllStay self.old.slots self.new.slots }
         ensures leaves { Leaves self.old.slots.items.items self.new.slots.items.items }
         ensures end { message ≡ Incoming.End → self.new ≡ self.old }

@@ -1,6 +1,6 @@
 //! Where the blocks of a volume stand.
 
-ghost use Rattle.std.specs.Prelude.{◌≡◌, ◌+◌, ◌*◌, ◌≤◌, ◌%◌, IsTrue, [], List, ℕ};
+ghost use Rattle.std.specs.Prelude.{◌≡◌, ◌+◌, ◌*◌, ◌≤◌, ◌<◌, ◌/◌, ◌%◌, IsTrue, [], List, ℕ};
 ghost use Rattle.layout.specs.Places.{is_block_size};
 ghost use Rattle.message.specs.declared.Kind.TheVariants.{Read, Write};
 
@@ -47,6 +47,31 @@ impl Shape {
         ensures bytes { result.bytes ≡ bytes.now }
     {
         Ask::write(self.minor, self.place(block), self.block_size, bytes)
+    }
+
+    /// A request to write so many neighbouring blocks from this one on: their bytes, one block after the other.
+    pub fn write_run(&self, block: u32, count: u32, bytes: &[u8; 4096]) -> Ask
+        requires some { 0 < count }
+        requires fits { count * self.now.block_size ≤ 4096 }
+        ensures kind { result.kind ≡ Write }
+        ensures minor { result.minor ≡ self.now.minor }
+        ensures position { result.position ≡ block * self.now.block_size }
+        ensures count { result.count ≡ count * self.now.block_size }
+        ensures bytes { result.bytes ≡ bytes.now }
+    {
+        Ask::write(
+            self.minor,
+            self.place(block),
+            count * self.block_size,
+            bytes,
+        )
+    }
+
+    /// How many blocks one request takes at most.
+    pub fn most_blocks(&self) -> u32
+        ensures { result ≡ 4096 / self.now.block_size }
+    {
+        4096 / self.block_size
     }
 
     /// The place of a block's first byte.

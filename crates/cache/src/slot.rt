@@ -14,6 +14,15 @@ pub fn zeros() -> [u8; 4096]
     [0; 4096]
 }
 
+/// Changes bytes to these, from this place on.
+pub(crate) fn put(to: &mut [u8; 4096], from: usize, bytes: &[u8])
+    requires { from + length bytes.now ≤ 4096 }
+    ensures { (o : ℕ) → slice_index to.new o
+        ≡ (if nat_le from o && nat_lt o (from + length bytes.now) then slice_index bytes.now (o - from) else slice_index to.old o) }
+{
+    to[from..from + bytes.len()].copy_from_slice(bytes);
+}
+
 /// Room for a block.
 #[derive(Drop)]
 pub struct Slot {
@@ -47,16 +56,12 @@ impl Slot {
         }
     }
 
-    /// Whether it holds a block whose write has this ticket.
+    /// Whether its write that is under way has this ticket.
     pub(crate) fn is_under(&self, ticket: Ticket) -> bool
         ensures { result ≡ is_under ticket self.now }
     {
-        let known = self.state.ticket();
-        match self.block {
-            Some(_) => match known {
-                Some(known) => known == ticket,
-                None => false,
-            },
+        match self.state.ticket() {
+            Some(known) => known == ticket,
             None => false,
         }
     }
@@ -116,6 +121,6 @@ impl Slot {
             else slice_index self.old.bytes.value o) }
     {
         self.state = self.state.dirtied();
-        self.bytes[from..from + bytes.len()].copy_from_slice(bytes);
+        put(&mut self.bytes, from, bytes);
     }
 }

@@ -1,11 +1,11 @@
 //! All slots of a cache.
 
-ghost use Rattle.std.specs.Prelude.{◌≡◌, ◌<◌, ◌≤◌, ◌+◌, ℕ, IfOk, IfSome, Option, Some, None, slice_get, position, length, if◌then◌else◌};
+ghost use Rattle.std.specs.Prelude.{◌≡◌, ◌⊎◌, ◌<◌, ◌≤◌, ◌+◌, ◌*◌, ◌^◌, ℕ, true, IfOk, IfSome, Option, Some, None, slice_get, position, length, if◌then◌else◌};
 ghost use Rattle.std.specs.Bool.{OnTrue, OnFalse};
-ghost use Rattle.cache.specs.Slots.{is_number, held, is_under, is_unclean_slot, IsDistinct};
+ghost use Rattle.cache.specs.Slots.{is_number, held, is_dirty_held, is_unclean_slot, IsDistinct};
 
 use crate::hints::Hints;
-use crate::slot::Slot;
+use crate::slot::{Slot, put, zeros};
 use crate::state::State;
 use crate::uses::Uses;
 use reissue::Ticket;
@@ -47,7 +47,8 @@ impl Slots {
     ghost use Rattle.cache.specs.Uses.{IsUsedLast};
     ghost use Rattle.cache.specs.Order.{key_of, key_at, is_before, IsFirst, IsVictim};
     ghost use Rattle.cache.specs.Edits.{IsSetAt, IsFilledAt, IsBlankedAt, IsChangedAt, IsAt, IsPlaceOf, IsWritten, AllStay, AllClean};
-    ghost use Rattle.cache.specs.Edits.{SomeUnclean, IsLowestOf};
+    ghost use Rattle.cache.specs.Edits.{SomeUnclean, IsLowestOf, IsLowestBlock, IsRunEnd, AreDirty, AreBegun, Leaves, after_write};
+    ghost use Rattle.cache.specs.Runs.{IsCopied, AreGathered};
 
     /// So many slots, all free.
     pub fn new(alloc: Global, count: usize) -> Result<Slots, AllocError>
@@ -102,13 +103,6 @@ impl Slots {
             Some(at) => Some(at),
             None => self.search(block),
         }
-    }
-
-    /// Where the slot stands whose write has this ticket.
-    fn find_ticket(&self, ticket: Ticket) -> Option<usize>
-        ensures { result ≡ position (is_under ticket) self.now.items.items }
-    {
-        self.items.iter().position(|s| s.is_under(ticket))
     }
 
     /// The first slot whose bytes may not be the disk's.
@@ -200,6 +194,101 @@ impl Slots {
         self.first(Among::Dirty)
     }
 
+    /// The lowest block with a dirty slot.
+    pub fn lowest_block(&self) -> Option<u32>
+        ensures { IsLowestBlock result (held self.now.items.items) }
+    {
+        match self.lowest_dirty() {
+            Some(at) => self.get(at).block,
+            None => None,
+        }
+    }
+
+    /// Whether the block so many past this one has a dirty slot.
+    fn is_dirty_past(&self, block: u32, past: u32) -> bool
+        ensures dirty { OnTrue result (is_dirty_held (held self.now.items.items (block + past)) ≡ true) }
+        ensures bound { OnTrue result (block + past < 2 ^ 32) }
+        ensures end { OnFalse result (IsRunEnd (held self.now.items.items) (block + past)) }
+    {
+        let Some(next) = block.checked_add(past) else {
+            return false;
+        };
+        match self.find(next) {
+            Some(at) => self.get(at).state.is_dirty(),
+            None => false,
+        }
+    }
+
+    /// How many neighbouring blocks from this one on, whose slot is dirty, have dirty slots: `most` at most.
+    pub fn dirty_from(&self, block: u32, most: u32) -> u32
+        requires some { 0 < most }
+        requires first { is_dirty_held (held self.now.items.items block) ≡ true }
+        requires bound { block < 2 ^ 32 }
+        ensures some { 0 < result }
+        ensures few { result ≤ most }
+        ensures dirty { AreDirty (held self.now.items.items) block result }
+        ensures bound { block + result ≤ 2 ^ 32 }
+        ensures end { (result ≡ most) ⊎ IsRunEnd (held self.now.items.items) (block + result) }
+    {
+        for count in 1..most {
+            if !self.is_dirty_past(block, count) {
+                return count;
+            }
+        }
+        most
+    }
+
+    /// Where a block stands that has a dirty slot.
+    fn dirty_at(&self, block: u32) -> usize
+        requires { is_dirty_held (held self.now.items.items block) ≡ true }
+        ensures { IsAt self.now.items.items result block }
+    {
+        match self.find(block) {
+            Some(at) => at,
+            None => unreachable!(),
+        }
+    }
+
+    /// Copies the bytes of a block that has a dirty slot to this place.
+    fn copy(&self, block: u32, size: usize, to: &mut [u8; 4096], from: usize)
+        requires dirty { is_dirty_held (held self.now.items.items block) ≡ true }
+        requires within { from + size ≤ 4096 }
+        ensures copied { IsCopied (held self.now.items.items block) size from to.old to.new }
+    {
+        let slot = self.get(self.dirty_at(block));
+        put(to, from, &slot.bytes[..size]);
+    }
+
+    /// The bytes of so many neighbouring blocks from this one on, which have dirty slots, one block after the other.
+    pub fn gather(&self, block: u32, count: u32, size: u32) -> [u8; 4096]
+        requires dirty { AreDirty (held self.now.items.items) block count }
+        requires bound { block + count ≤ 2 ^ 32 }
+        requires fits { count * size ≤ 4096 }
+        ensures { AreGathered (held self.now.items.items) block count size result }
+    {
+        let mut bytes = zeros();
+        let mut from = 0;
+        for past in 0..count {
+            self.copy(block + past, size as usize, &mut bytes, from);
+            from += size as usize;
+        }
+        bytes
+    }
+
+    /// The writes of so many neighbouring blocks from this one on, which have dirty slots, are begun under this ticket.
+    pub fn set_writing(&mut self, block: u32, count: u32, ticket: Ticket)
+        requires dirty { AreDirty (held self.old.items.items) block count }
+        requires bound { block + count ≤ 2 ^ 32 }
+        ensures begun { AreBegun block count ticket (held self.old.items.items) (held self.new.items.items) }
+        ensures leaves { Leaves self.old.items.items self.new.items.items }
+        ensures uses { self.new.uses ≡ self.old.uses }
+    {
+        for past in 0..count {
+            let at = self.dirty_at(block + past);
+            self.set_state(at, State::Writing(ticket));
+        }
+    }
+
     /// The slot of a block is used now.
     #[inline]
     pub fn touch(&mut self, at: usize, block: u32)
@@ -235,8 +324,20 @@ impl Slots {
         ensures written { IsWritten ticket self.old.items.items self.new.items.items }
         ensures stay { AllStay self.old self.new }
     {
-        if let Some(at) = self.find_ticket(ticket) {
-            let state = self.get(at).state;
+        for at in 0..self.items.len() {
+            self.settle_at(at, ticket);
+        }
+    }
+
+    /// The write with this ticket was answered good: what becomes of the slot there.
+    fn settle_at(&mut self, at: usize, ticket: Ticket)
+        requires { at < length self.old.items.items }
+        ensures set { IsSetAt self.old.items.items self.new.items.items at (after_write ticket) }
+        ensures uses { self.new.uses ≡ self.old.uses }
+    {
+        let slot = self.get(at);
+        if slot.is_under(ticket) {
+            let state = slot.state;
             self.set_state(at, state.written());
         }
     }

@@ -1,15 +1,20 @@
 -- Flushes and syncs.
-use Rattle.std.proofs.Common.{◌≡◌, ℕ, zero, suc, ◌+◌, ◌*◌, ◌/◌, ◌%◌, ◌<◌, ◌≤◌, List, [], ◌∷◌, ◌++◌, append_assoc, refl, sym, ap, subst, ◌∙◌, arith, true, false, Option, Some, None, Result, Ok, Err, IsErr}
+use Rattle.std.proofs.Common.{◌≡◌, ◌≢◌, ℕ, zero, suc, ◌+◌, ◌*◌, ◌/◌, ◌%◌, ◌<◌, ◌≤◌, List, [], ◌∷◌, ◌++◌, append_assoc, refl, sym, ap, subst, ◌∙◌, arith, true, false, Option, Some, None, Result, Ok, Err, IsErr}
 use Rattle.std.proofs.Math.Nat.{div-add-mod, mod-lt, mul_comm}
 use mathlib.Core.Logic.{inl, inr}
-use Rattle.reissue.specs.Moves.{DiskState, IsBusy}
+use Rattle.std.specs.Prelude.{◌-◌, sum}
+use Rattle.std.proofs.lemmas.Bool.{cases_eq, cases_lt}
+use Rattle.std.proofs.lemmas.List.Sums.{sum_by-cons}
+use Rattle.reissue.specs.Moves.{DiskState, Begun, put, IsBusy}
+use Rattle.reissue.proofs.Maps.{put-same, put-other, put_cases}
 use Rattle.reissue.specs.Entries.{pending_of}
 use Rattle.cache.specs.declared.slot.Slot.{Slot}
 use Rattle.cache.specs.declared.state.State.{State}
 use Rattle.cache.specs.declared.state.State.TheVariants.{Clean, Dirty, Writing, Changed}
 use Rattle.cache.specs.declared.refusals.Cut.{Cut}
 use Rattle.cache.specs.Slots.{ticket_of, is_clean, is_dirty}
-use Rattle.cache.specs.Edits.{AllClean, SomeUnclean, IssuesLowest}
+use Rattle.cache.specs.Edits.{AllClean, SomeUnclean, IssuesLowest, IsBegun, IsOutside, AreBegun}
+use Rattle.cache.specs.Runs.{IssuesRun, BeginsRun}
 use Rattle.cache.specs.Frames.{CacheAgrees}
 use Rattle.cache.specs.Calls.{Caching, IsReady, IsStuck, PostsAlone, Runs, Keeps, Serves}
 use Rattle.records.specs.Told.{Told, Posted, Complained, Received}
@@ -17,7 +22,7 @@ use Rattle.reissue.specs.Posts.{OnlyPosts}
 use Rattle.cache.proofs.Tied.{way_ticket, no_ticket}
 use Rattle.cache.proofs.Agreeing.{same_view, byte_or}
 use Rattle.cache.proofs.Runs.{runs_as}
-use Rattle.flusher.specs.Flushing.{WritesLowest, IsIdle, IsSynced, Syncs}
+use Rattle.flusher.specs.Flushing.{WritesLowest, WritesJust, WritesRuns, IsIdle, IsSynced, Syncs}
 
 -- fewer are so many at most
 pub at_most : (k n : ℕ) (old new : ℕ → Option Slot) → k ≤ n → WritesLowest k old new → WritesLowest n old new
@@ -55,7 +60,8 @@ idle c ready clean = record {
   clean = clean;
   no_write = λ t r bytes is wr.
       let x = ready.tied.writes t r bytes is wr in
-      no_ticket x.slot.state t (clean x.block x.slot x.holds) (way_ticket c.size x.slot t bytes x.way);
+      let y = x.each 0 x.some in
+      no_ticket y.slot.state t (clean (x.block + 0) y.slot y.holds) (way_ticket c.size y.slot t (0 * c.size) bytes y.way);
 }
 
 -- and the disk is what would be read back
@@ -106,3 +112,155 @@ posts_then a b c x y = record {
 -- nothing was told
 pub posts_none : (c : Caching) → PostsAlone c c
 posts_none c = record { posts = []; history = refl; only_posts = tt }
+
+-- ---- runs
+
+-- the writes of a run are those of the lowest blocks, one after the other
+pub run_chain : (n b t : ℕ) (old new : ℕ → Option Slot) → AreBegun b n t old new
+    → ((c : ℕ) (s : Slot) → old c ≡ Some s → s.state ≡ Dirty → b ≤ c) → WritesJust n old new
+run_chain zero b t old new begun lowest = λ i c. begun.others c (all c) i
+  where
+    all : (c : ℕ) → IsOutside b zero c
+    all c = elim (cases_lt c b) [
+      | inl lt ↦ inl lt
+      | inr le ↦ inr (omega (arith, le))
+    ]
+run_chain (suc n) b t old new begun lowest = (mid, first, run_chain n (b + 1) t mid new rest above)
+  where
+    x : IsBegun t (old (b + 0)) (new (b + 0))
+    x = begun.each 0 (omega arith)
+
+    at : b + 0 ≡ b
+    at = omega arith
+
+    after : Slot
+    after = record x.slot { state = Writing t }
+
+    mid : ℕ → Option Slot
+    mid = put old b (Some after)
+
+    first : IssuesLowest old mid
+    first = record { slot = x.slot; block = b; ticket = t; is = sym (ap old at) ∙ x.is; dirty = x.dirty; lowest = lowest; all = refl }
+
+    other : (c : ℕ) → c ≢ b → mid c ≡ old c
+    other c ne = put-other old b (Some after) c ne
+
+    rest : AreBegun (b + 1) n t mid new
+    rest = record {
+      each = λ i lt.
+          let y = begun.each (suc i) (omega (arith, lt)) in
+          let here : b + suc i ≡ b + 1 + i = omega arith in
+          let ne : b + 1 + i ≢ b = λ e. absurd (omega (arith, e)) in
+          record {
+            slot = y.slot;
+            is = other (b + 1 + i) ne ∙ ap old (sym here) ∙ y.is;
+            dirty = y.dirty;
+            after = ap new (sym here) ∙ y.after;
+          };
+      others = λ c out. elim (cases_eq c b) [
+        | inl same ↦ ap new (same ∙ sym at) ∙ x.after ∙ sym (ap mid same ∙ put-same old b (Some after))
+        | inr ne ↦ begun.others c (outside c ne out) ∙ sym (other c ne)
+      ];
+    }
+      where
+        outside : (c : ℕ) → c ≢ b → IsOutside (b + 1) n c → IsOutside b (suc n) c
+        outside c ne (inl lower) = inl (elim (cases_lt c b) [
+          | inl lt ↦ lt
+          | inr le ↦ absurd (ne (omega (arith, lower, le)))
+        ])
+        outside c ne (inr past) = inr (omega (arith, past))
+
+    above : (c : ℕ) (s : Slot) → mid c ≡ Some s → s.state ≡ Dirty → b + 1 ≤ c
+    above c s is dirty = elim (put_cases old b (Some after) c) [
+      | inl p ↦
+          let z : Some after ≡ Some s = sym p.1 ∙ is in
+          let same : after ≡ s = cc in
+          absurd (let y : Writing t ≡ Dirty = ap (λ (v : Slot). v.state) same ∙ dirty in cc)
+      | inr p ↦
+          let le = lowest c s (sym p.1 ∙ is) dirty in
+          elim (cases_lt b c) [
+            | inl lt ↦ omega (arith, lt)
+            | inr more ↦ absurd (p.0 (omega (arith, le, more)))
+          ]
+    ]
+
+-- so many writes, and then so many
+pub just_then : (k n : ℕ) (old mid new : ℕ → Option Slot) → WritesJust k old mid → WritesJust n mid new → WritesJust (k + n) old new
+just_then zero n old mid new h x =
+    let none : n ≡ zero + n = omega arith in
+    subst (λ (m : ℕ). WritesJust m old new) none (subst (λ (f : ℕ → Option Slot). WritesJust n f new) h x)
+just_then (suc k) n old mid new h x =
+    let next : suc (k + n) ≡ suc k + n = omega arith in
+    subst (λ (m : ℕ). WritesJust m old new) next (h.0, h.1, just_then k n h.0 mid new h.2 x)
+
+-- they are so many at most
+pub just_most : (k n : ℕ) (old new : ℕ → Option Slot) → k ≤ n → WritesJust k old new → WritesLowest n old new
+just_most zero zero old new le h = h
+just_most zero (suc n) old new le h = inl h
+just_most (suc k) zero old new le h = absurd (omega (arith, le))
+just_most (suc k) (suc n) old new le h = inr (h.0, h.1, just_most k n h.0 new (omega (arith, le)) h.2)
+
+-- runs that were begun while so many more frames may be
+pub record Flushing (most size left : ℕ) (old new : ℕ → Option Slot) (pending pending' : ℕ → Option Begun) : Type 0 where
+  pub counts : List ℕ
+  pub runs : WritesRuns counts most size old new pending pending'
+  pub left_is : sum counts + left ≡ most
+  pub just : WritesJust (sum counts) old new
+
+-- none yet
+pub flushing_none : (most size : ℕ) (old : ℕ → Option Slot) (pending : ℕ → Option Begun) → Flushing most size most old old pending pending
+flushing_none most size old pending = record { counts = []; runs = (refl, refl); left_is = omega arith; just = refl }
+
+-- one more
+pub flushing_more : (most size left n : ℕ) (old mid new : ℕ → Option Slot) (pending between pending' : ℕ → Option Begun)
+    → Flushing most size left old mid pending between → n ≢ 0 → n ≤ left → BeginsRun left size n mid new between pending'
+    → Flushing most size (left - n) old new pending pending'
+flushing_more most size left zero old mid new pending between pending' h some le x = absurd (some refl)
+flushing_more most size left (suc n) old mid new pending between pending' h some le x =
+    let is = h.left_is in
+    let total : sum (suc n ∷ h.counts) ≡ suc n + sum h.counts = sum_by-cons (λ k. k) (suc n) h.counts in
+    let left_over : left ≡ most - sum h.counts = omega (arith, is) in
+    record {
+      counts = suc n ∷ h.counts;
+      runs = (mid, between, h.runs, subst (λ (k : ℕ). IssuesRun k size (suc n) mid new between pending') left_over x);
+      left_is = omega (arith, is, le, total);
+      just =
+          let both = just_then (sum h.counts) (suc n) old mid new h.just (run_chain (suc n) x.block x.run.ticket mid new x.run.begun x.lowest) in
+          let order : sum h.counts + suc n ≡ sum (suc n ∷ h.counts) = omega (arith, total) in
+          subst (λ (k : ℕ). WritesJust k old new) order both;
+    }
+
+-- where none is begun they stay
+pub flushing_same : (most size left : ℕ) (old mid new : ℕ → Option Slot) (pending between pending' : ℕ → Option Begun)
+    → Flushing most size left old mid pending between → new ≡ mid → pending' ≡ between → Flushing most size left old new pending pending'
+flushing_same most size left old mid new pending between pending' h same kept =
+    subst (λ (f : ℕ → Option Slot). Flushing most size left old f pending pending') (sym same)
+    (subst (λ (f : ℕ → Option Begun). Flushing most size left old mid pending f) (sym kept) h)
+
+-- a run that is begun, by the size of a block that stays
+pub begins_of : (most n size size' : ℕ) (mid new : ℕ → Option Slot) (between pending' : ℕ → Option Begun)
+    → size' ≡ size → BeginsRun most size' n mid new between pending' → BeginsRun most size n mid new between pending'
+begins_of most n size size' mid new between pending' same x = subst (λ (k : ℕ). BeginsRun most k n mid new between pending') same x
+
+-- none is begun
+pub begins_none : (most n size : ℕ) (mid new : ℕ → Option Slot) (between pending' : ℕ → Option Begun)
+    → n ≡ 0 → BeginsRun most size n mid new between pending' → (new ≡ mid) × (pending' ≡ between)
+begins_none most n size mid new between pending' none x = subst (λ (k : ℕ). BeginsRun most size k mid new between pending') none x
+
+-- then they stay
+pub flushing_end : (most size left : ℕ) (old mid new : ℕ → Option Slot) (pending between pending' : ℕ → Option Begun)
+    → Flushing most size left old mid pending between → (new ≡ mid) × (pending' ≡ between) → Flushing most size left old new pending pending'
+flushing_end most size left old mid new pending between pending' h x = flushing_same most size left old mid new pending between pending' h x.0 x.1
+
+-- those that were begun are so many at most
+pub lowest_of : (most size left : ℕ) (old new : ℕ → Option Slot) (pending pending' : ℕ → Option Begun)
+    → Flushing most size left old new pending pending' → WritesLowest most old new
+lowest_of most size left old new pending pending' h = let is = h.left_is in just_most (sum h.counts) most old new (omega (arith, is)) h.just
+
+-- and just so many where no further one may be
+pub all_of : (most size left : ℕ) (old new : ℕ → Option Slot) (pending pending' : ℕ → Option Begun)
+    → left ≤ 0 → Flushing most size left old new pending pending' → WritesJust most old new
+all_of most size left old new pending pending' none h =
+    let is = h.left_is in
+    let whole : sum h.counts ≡ most = omega (arith, is, none) in
+    subst (λ (k : ℕ). WritesJust k old new) whole h.just

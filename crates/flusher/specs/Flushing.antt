@@ -1,17 +1,40 @@
 -- What flushing and syncing do.
-use Rattle.std.specs.Prelude.{◌≡◌, ◌⊎◌, ℕ, zero, suc, List, Option, Some, None, Result, Ok, Err, false}
+use Rattle.std.specs.Prelude.{◌≡◌, ◌⊎◌, ℕ, zero, suc, ◌-◌, List, [], ◌∷◌, sum, Option, Some, None, Result, Ok, Err, false}
 use Rattle.reissue.specs.Moves.{DiskState, Begun}
 use Rattle.reissue.specs.Entries.{pending_of}
 use Rattle.cache.specs.declared.slot.Slot.{Slot}
 use Rattle.cache.specs.declared.refusals.Cut.{Cut}
 use Rattle.cache.specs.Edits.{AllClean, IssuesLowest}
 use Rattle.cache.specs.Frames.{CacheAgrees, view}
-use Rattle.cache.specs.Calls.{Caching, Serves}
+use Rattle.cache.specs.Calls.{Caching, IsStuck, Serves}
+use Rattle.cache.specs.Runs.{IssuesRun}
 
 -- so many writes at most are begun, each of the dirty frame that then has the lowest block
 abbrev pub WritesLowest : ℕ → (ℕ → Option Slot) → (ℕ → Option Slot) → Type 0
 WritesLowest zero old new = new ≡ old
 WritesLowest (suc n) old new = (new ≡ old) ⊎ ((mid : ℕ → Option Slot) × IssuesLowest old mid × WritesLowest n mid new)
+
+-- just so many writes are begun, each of the dirty frame that then has the lowest block
+abbrev pub WritesJust : ℕ → (ℕ → Option Slot) → (ℕ → Option Slot) → Type 0
+WritesJust zero old new = new ≡ old
+WritesJust (suc n) old new = (mid : ℕ → Option Slot) × IssuesLowest old mid × WritesJust n mid new
+
+-- Runs of so many frames are begun, the last one first: each of neighbouring dirty frames from the one on that then has the lowest block, by
+-- one request; all of them have so many frames at most.
+abbrev pub WritesRuns : List ℕ → ℕ → ℕ → (ℕ → Option Slot) → (ℕ → Option Slot) → (ℕ → Option Begun) → (ℕ → Option Begun) → Type 0
+WritesRuns [] most size old new pending pending' = (new ≡ old) × (pending' ≡ pending)
+WritesRuns (n ∷ ns) most size old new pending pending' =
+    (mid : ℕ → Option Slot) × (between : ℕ → Option Begun) × WritesRuns ns most size old mid pending between
+    × IssuesRun (most - sum ns) size n mid new between pending'
+
+-- writes of at most so many frames are begun in runs
+pub record WritesInRuns (most size : ℕ) (old new : ℕ → Option Slot) (pending pending' : ℕ → Option Begun) : Type 0 where
+  pub counts : List ℕ
+  pub runs : WritesRuns counts most size old new pending pending'
+
+-- as many writes are begun as may be, or no further one can be before a message is taken
+abbrev pub BeginsAll : ℕ → (ℕ → Option Slot) → Caching → Type 0
+BeginsAll most old new = WritesJust most old new.held ⊎ IsStuck new
 
 -- no frame is dirty, and no write is open
 pub record IsIdle (c : Caching) : Type 0 where

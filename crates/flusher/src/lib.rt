@@ -8,18 +8,49 @@ ghost use Rattle.reissue.specs.Transfers.{begun_in};
 ghost use Rattle.cache.specs.Takes.{NoReadBegun};
 ghost use Rattle.cache.specs.Edits.{AllClean, SomeUnclean};
 ghost use Rattle.cache.specs.declared.frame.Frame.{Frame};
-ghost use Rattle.flusher.specs.Flushing.{WritesLowest, IsIdle, Syncs};
+ghost use Rattle.flusher.specs.Flushing.{WritesLowest, WritesInRuns, BeginsAll, IsIdle, Syncs};
 
 use cache::{Cache, Cut};
 use reissue::Link;
 
-/// How many writes a flush begins at most.
+/// Of how many frames a flush begins the writes at most.
+const MOST_FRAMES: u32 = 16;
+/// How many writes a sync begins at most before it looks whether all is clean.
 const AT_ONCE: usize = 16;
 
-/// Begins the writes of dirty frames, sixteen at most, the lowest block first. It waits for none: no message is taken. It stops
-/// early where none is dirty, where the next write was refused since sixteen requests are pending or one of its block, or where no message
-/// comes any more. Whether a Flush is wanted stays as it is.
+/// Begins the writes of dirty frames, sixteen at most, the lowest block first, in runs: neighbouring dirty frames whose writes aren't under
+/// way go in one request, as many as it takes. It waits for none: no message is taken. It stops early where none is dirty, where the next run
+/// was refused since sixteen requests are pending or a byte of it is, or where no message comes any more. Whether a Flush is wanted stays
+/// as it is.
 pub fn flush_some<L: Link>(cache: &mut Cache<L>)
+    requires ready { IsReady (caching L.Link cache.old) }
+    ensures keeps { Keeps (caching L.Link cache.old) (caching L.Link cache.new) }
+    ensures goes { LinkGoesOn L.Link cache.old cache.new }
+    ensures count { frame_count cache.new ≡ frame_count cache.old }
+    ensures posts { PostsAlone (caching L.Link cache.old) (caching L.Link cache.new) }
+    ensures issued { WritesLowest 16 (held_by cache.old) (held_by cache.new) }
+    ensures runs { WritesInRuns 16 cache.old.shape.block_size (held_by cache.old) (held_by cache.new)
+        (begun_in cache.old.transfers) (begun_in cache.new.transfers) }
+    ensures left { messages_left (caching L.Link cache.new) ≤ messages_left (caching L.Link cache.old) }
+    ensures stuck { IsLive (caching L.Link cache.new) → BeginsAll 16 (held_by cache.old) (caching L.Link cache.new) }
+    ensures frames { (f : Frame) → IsFrame cache.old f → IsFrame cache.new f }
+    ensures flush { cache.new.flush ≡ cache.old.flush }
+    ensures uses { cache.new.slots.uses ≡ cache.old.slots.uses }
+    ensures reads { NoReadBegun (begun_in cache.old.transfers) (begun_in cache.new.transfers) }
+{
+    let mut left = MOST_FRAMES;
+    'runs: while left > 0 {
+        let begun = cache.write_run(left);
+        if begun == 0 {
+            return;
+        }
+        left -= begun;
+    }
+}
+
+/// Begins the writes of dirty frames, sixteen at most, the lowest block first, each by a request of its own. It waits for none: no message is
+/// taken. It stops early where none is dirty, where the next write was refused, or where no message comes any more.
+fn write_some<L: Link>(cache: &mut Cache<L>)
     requires ready { IsReady (caching L.Link cache.old) }
     ensures keeps { Keeps (caching L.Link cache.old) (caching L.Link cache.new) }
     ensures goes { LinkGoesOn L.Link cache.old cache.new }
@@ -73,7 +104,7 @@ fn write_all<L: Link>(cache: &mut Cache<L>) -> Result<(), Cut>
     ensures reads { NoReadBegun (begun_in cache.old.transfers) (begun_in cache.new.transfers) }
 {
     'messages: loop {
-        flush_some(cache);
+        write_some(cache);
         if cache.is_clean() {
             return Ok(());
         }

@@ -19,7 +19,7 @@ use Rattle.reissue.specs.declared.table.Table.{Table}
 use Rattle.reissue.specs.declared.transfers.Transfers.{Transfers}
 use Rattle.reissue.specs.Entries.{AllAsk, AllOfMinor, IsLeft, pending_of}
 use Rattle.reissue.specs.Agrees.{Agrees}
-use Rattle.reissue.specs.Moves.{Begun, IsBusy, IsFree, WasRead, begun_by, written_by, put}
+use Rattle.reissue.specs.Moves.{Begun, IsBusy, WasRead, begun_by, written_by, put}
 use Rattle.reissue.specs.Closing.{Closing}
 use Rattle.reissue.specs.Calls.{Truth, Begins, Steps}
 use Rattle.reissue.specs.Transfers.{table_of, link_of}
@@ -30,7 +30,7 @@ use Rattle.mounting.specs.declared.sought.Sought.{Sought}
 use Rattle.mounting.specs.declared.reading.Stop.TheVariants.{OutOfMemory, GaveUp, Ended}
 use Rattle.mounting.specs.Sought.{piece, piece_at, piece_size, pieces_of, place_of, without_ticket, AreBefore, AreDistinct as SoughtDistinct, PutsAt, PutsPiece}
 use Rattle.mounting.specs.Reading.{LeavesDisk, IsFilled, IsUntouched, IsUnread, IsCutShort, AreFilled, GoesUpTo, Midway, BeginsNext, ReadsRange}
-use Rattle.mounting.proofs.Searching.{before_at, before_gone, before_later, before_new, distinct_gone, distinct_new, no_piece, piece_there, pieces_gone, pieces_new, place_here, place_stays}
+use Rattle.mounting.proofs.Searching.{before_gone, before_later, before_new, distinct_gone, distinct_new, no_piece, piece_there, pieces_gone, pieces_new, place_here, place_stays}
 use Rattle.mounting.proofs.Going.{Further, began_reads, filled_on, goes_on, grows_on, leaves_both, leaves_quiet, left_within, no_write, nothing_left, posts_read, quiet_pieces, true_posted, true_step, went_none, went_on}
 
 -- what is begun, by its parts
@@ -414,18 +414,6 @@ pub midway_same : {L : Type 0} (link : LinkWords L) (minor start size next : ℕ
 midway_same {L} link minor start size next asked more bytes s old new before was same sought m =
     subst (λ (n : Transfers L). Midway minor start size next more bytes s (table_of n) before (link.history (link_of n)) was (link.truth (link_of n))) (sym same)
     (subst (λ (a : List Sought). Midway minor start size next a bytes s (table_of old) before (link.history (link_of old)) was (link.truth (link_of old))) (sym sought) m)
-
--- the next piece misses each pending one
-pub is_free : (minor start size next : ℕ) (asked : List Sought) (bytes : List ℕ) (s t : Table) (before between : List Told) (was mid : Truth)
-    → Midway minor start size next asked bytes s t before between was mid → IsFree (start + next) (piece_size size next) (pending_of t.pending)
-is_free minor start size next asked bytes s t before between was mid m = record {
-  each = λ n r is.
-      let there = piece_there start size n r asked (sym (ap (λ (f : ℕ → Option Begun). f n) m.pending) ∙ is) in
-      let b = before_at size next asked n there.0 m.within there.1 in
-      let from : start + there.0 ≡ r.start = ap (λ (x : Begun). x.start) there.2 in
-      let many : piece_size size there.0 ≡ r.size = ap (λ (x : Begun). x.size) there.2 in
-      inr (inr (omega (arith, from, many, b.1)));
-}
 
 -- putting bytes into their places keeps the length
 pub puts_length : (o : Option ℕ) (got before after : List ℕ) → PutsAt o got before after → length after ≡ length before

@@ -2,9 +2,8 @@
 
 ghost use Rattle.std.specs.Prelude.{◌≡◌, ◌+◌, ◌-◌, ◌*◌, ◌<◌, ◌≤◌, ◌^◌, ◌%◌, [], false, length, vec_capacity, IfSome, IfNone, OnOk};
 ghost use Rattle.records.specs.Told.{took_end};
-ghost use Rattle.reissue.specs.Moves.{IsFree};
 ghost use Rattle.reissue.specs.Posts.{HasRoom};
-ghost use Rattle.reissue.specs.Transfers.{link_of, table_of, begun_in};
+ghost use Rattle.reissue.specs.Transfers.{link_of, table_of};
 ghost use Rattle.mounting.specs.Sought.{piece_size};
 ghost use Rattle.mounting.specs.Reading.{BeginsNext, BeginsNothing, ReadsRange};
 
@@ -59,7 +58,6 @@ fn begin_next<L: Link>(
     requires capacity { 16 ≤ vec_capacity asked.old }
     requires ids { (table_of transfers.old).ids < 2 ^ 60 }
     requires room { HasRoom (table_of transfers.old) (L.room (link_of transfers.old)) }
-    requires free { next < size → IsFree (start + next) (piece_size size next) (begun_in transfers.old) }
     ensures begun { IfSome result (λ after. BeginsNext L.Link minor start size next after asked.old.items asked.new.items transfers.old
         transfers.new) }
     ensures none { IfNone result (BeginsNothing size next asked.old.items asked.new.items transfers.old transfers.new) }

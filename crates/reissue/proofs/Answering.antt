@@ -25,7 +25,7 @@ use Rattle.message.specs.Good.{is_write, moved}
 use Rattle.records.specs.Acts.{complaint_due, target}
 use Rattle.reissue.specs.Moves.{WasRead}
 use Rattle.reissue.specs.Agrees.{AreNumbered, IsJoined, Agrees, AllApart, AllReadDisk, Apart, ApartFromAll, Holds, ReadsDisk, Wrote}
-use Rattle.reissue.specs.Entries.{MissesOrSame, request_of}
+use Rattle.reissue.specs.Entries.{meets, request_of}
 
 -- an endpoint to post to is that of the last start
 pub started_at : (marks : List Mark) (o : Option Endpoint) (to : Endpoint) → o ≡ target marks → o ≡ Some to → last_started marks ≡ Some to
@@ -543,17 +543,12 @@ counted t marks a e at m h from place is good =
     let moves : moved_by a marks ≡ m = rw w good in
     record { grows = rw c refl; due = rw (c, moves) refl; moves = moves; counted = rw c moves }
 
--- a range that isn't pending misses those that are
-apart_new : (q : Pending) (ps : List Pending) → MissesOrSame q.start q.size ps
-    → list_any (λ (p : Pending). (p.start == q.start) && (p.size == q.size)) ps ≡ false
-    → ApartFromAll q ps
-apart_new q [] h e = tt
-apart_new q (p ∷ ps) h e = (
-  elim (h.0) [
-    | inl same ↦ absurd (same_any same)
-    | inr miss ↦ record { apart = miss }
-  ],
-  apart_new q ps h.1 (or_right ((p.start == q.start) && (p.size == q.size)) (list_any (λ (p : Pending). (p.start == q.start) && (p.size == q.size)) ps) e),
+-- where no byte of a range is pending, it is apart from those that are
+apart_new : (q : Pending) (ps : List Pending) → list_any (meets q.start q.size) ps ≡ false → ApartFromAll q ps
+apart_new q [] e = tt
+apart_new q (p ∷ ps) e = (
+  by (nat_lt q.start (p.start + p.size)) (nat_lt p.start (q.start + q.size)) refl refl,
+  apart_new q ps (or_right (meets q.start q.size p) (list_any (meets q.start q.size) ps) e),
 ) where
   or_right : (a b : Bool) → (a || b) ≡ false → b ≡ false
   or_right true b e = cc
@@ -563,13 +558,15 @@ apart_new q (p ∷ ps) h e = (
   or_left true b e = cc
   or_left false b e = refl
 
-  same_any : (p.start ≡ q.start) × (p.size ≡ q.size) → ⊥
-  same_any s =
-      let f = or_left ((p.start == q.start) && (p.size == q.size)) (list_any (λ (p : Pending). (p.start == q.start) && (p.size == q.size)) ps) e in
-      let a : (p.start == q.start) ≡ true = grind (arith, nat_tests) in
-      let b : (p.size == q.size) ≡ true = grind (arith, nat_tests) in
-      let x : ((p.start == q.start) && (p.size == q.size)) ≡ true = rw (a, b) refl in
-      let y : true ≡ false = sym x ∙ f in
+  none : meets q.start q.size p ≡ false
+  none = or_left (meets q.start q.size p) (list_any (meets q.start q.size) ps) e
+
+  by : (a b : Bool) → nat_lt q.start (p.start + p.size) ≡ a → nat_lt p.start (q.start + q.size) ≡ b → Apart q p
+  by false b f g = record { apart = inr (let le : p.start + p.size ≤ q.start = grind (arith, nat_tests) in le) }
+  by true false f g = record { apart = inl (let le : q.start + q.size ≤ p.start = grind (arith, nat_tests) in le) }
+  by true true f g =
+      let x : meets q.start q.size p ≡ true = rw (f, g) refl in
+      let y : true ≡ false = sym x ∙ none in
       cc
 
 -- a request that becomes pending
@@ -579,17 +576,16 @@ pub agrees_add : (t u : Table) (marks : List Mark) (q : Pending) → Agrees t ma
     → length t.pending < 16
     → q.request.position ≡ q.start
     → ((k : ℕ) → slice_index q.request.bytes k ≡ slice_index q.bytes k)
-    → MissesOrSame q.start q.size t.pending
-    → list_any (λ (p : Pending). (p.start == q.start) && (p.size == q.size)) t.pending ≡ false
+    → list_any (meets q.start q.size) t.pending ≡ false
     → Agrees u marks
-agrees_add t u marks q h items ids number posted issued current given_up few begins bytes free other =
+agrees_add t u marks q h items ids number posted issued current given_up few begins bytes free =
     let few' : length h.opened + length h.waiting < 16 =
     omega (arith, ap (λ (l : List Pending). length l) h.holds.items, length-append h.opened h.waiting) in
     record {
       opened = h.opened;
       waiting = h.waiting ++ q ∷ [];
       holds = holds_push t u marks h.opened h.waiting q h.holds items ids number posted issued current given_up few'
-          (rw (← h.holds.items) (apart_new q t.pending free other))
+          (rw (← h.holds.items) (apart_new q t.pending free))
           (λ read. record { each = λ k lt. absurd (omega arith) })
           (λ image tr read. record { each = λ k lt sure. absurd (omega arith) })
           (λ image w. record {

@@ -17,8 +17,8 @@ use Rattle.reissue.specs.declared.pending.Pending.{Pending}
 use Rattle.reissue.specs.declared.table.Table.{Table}
 use Rattle.records.specs.Opening.{Opening}
 use Rattle.reissue.specs.Room.{room_needed}
-use Rattle.reissue.specs.Moves.{Closes, IsFree, Spares, state_after}
-use Rattle.reissue.specs.Entries.{pending_of, begun_of, request_of, AllOfMinor, MissesOrSame, AreDistinct, IsAmong}
+use Rattle.reissue.specs.Moves.{Closes, Spares, state_after}
+use Rattle.reissue.specs.Entries.{pending_of, begun_of, request_of, AllOfMinor, IsAmong}
 use Rattle.reissue.specs.Agrees.{Agrees, unposted}
 use Rattle.reissue.specs.Posts.{OnlyPosts, PostsInOrder, PostsAfter, is_message}
 use Rattle.reissue.specs.Calls.{Truth, Leads, TakesIn, Absorbs, Steps, Begins, PostsNew, IsAnswerTo, more_may_come}
@@ -363,24 +363,6 @@ posts_new s t p r due before after e items posted current is h =
           subst (λ (o : Option Endpoint). PostsInOrder o (r ∷ []) before after) current
           (subst (λ (l : List BlockRequest). PostsInOrder t.current l before after) (unposted_is f) h)
       by false f h = h
-
--- each of them is one of all
-free_each : (start size : ℕ) (all ps : List Pending) → AreDistinct all → IsFree start size (pending_of all)
-    → ((q : Pending) → IsAmong q ps → IsAmong q all) → MissesOrSame start size ps
-free_each start size all [] d f among = tt
-free_each start size all (p ∷ ps) d f among = (
-  f.each p.ticket (begun_of p) (pending_among p all d (among p (here p ps))),
-  free_each start size all ps d f (λ q i. among q (there q p ps i)),
-) where
-  here : (p : Pending) (ps : List Pending) → IsAmong p (p ∷ ps)
-  here p ps = inl refl
-
-  there : (q p : Pending) (ps : List Pending) → IsAmong q ps → IsAmong q (p ∷ ps)
-  there q p ps i = inr i
-
--- what is said of the ranges by their tickets holds of each
-pub free_list : (start size : ℕ) (ps : List Pending) → AreDistinct ps → IsFree start size (pending_of ps) → MissesOrSame start size ps
-free_list start size ps d f = free_each start size ps ps d f (λ q i. i)
 
 -- a message needs room for 33
 pub room_of : (m : Incoming) → is_message m ≡ true → room_needed m ≡ 33

@@ -1,5 +1,5 @@
 -- Pending requests by their tickets and ids, and what holds of their bytes.
-use Rattle.std.specs.Prelude.{◌≡◌, ◌≢◌, ◌⊎◌, ℕ, ◌+◌, ◌<◌, ◌≤◌, ◌==◌, List, [], ◌∷◌, Option, Some, None, if◌then◌else◌}
+use Rattle.std.specs.Prelude.{◌≡◌, ◌≢◌, ◌⊎◌, ℕ, ◌+◌, ◌<◌, ◌≤◌, ◌==◌, ◌&&◌, nat_lt, Bool, List, [], ◌∷◌, Option, Some, None, if◌then◌else◌}
 use Rattle.std.proofs.Common.{refl}
 use Rattle.std.proofs.Math.Bridge.{le_prop}
 use Rattle.message.specs.declared.BlockRequest.{BlockRequest}
@@ -95,9 +95,6 @@ abbrev pub AllAsk : List Pending → Type 0
 AllAsk [] = Unit {0}
 AllAsk (p ∷ ps) = (0 < p.request.count) × AllAsk ps
 
--- each pending range misses this one or is the same
-abbrev pub MissesOrSame : ℕ → ℕ → List Pending → Type 0
-MissesOrSame start size [] = Unit {0}
-MissesOrSame start size (p ∷ ps) =
-    (((p.start ≡ start) × (p.size ≡ size)) ⊎ ((start + size ≤ p.start) ⊎ (p.start + p.size ≤ start)))
-    × MissesOrSame start size ps
+-- this range has a byte in common with the one that was asked for
+abbrev pub meets : ℕ → ℕ → Pending → Bool
+meets start size p = nat_lt start (p.start + p.size) && nat_lt p.start (start + size)

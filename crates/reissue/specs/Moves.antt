@@ -62,11 +62,6 @@ pub record IsBusy (pending : ℕ → Option Begun) : Type 0 where
   pub request : Begun
   pub is : pending ticket ≡ Some request
 
--- each pending range is this one or misses it
-pub record IsFree (start size : ℕ) (pending : ℕ → Option Begun) : Type 0 where
-  pub each : (t : ℕ) (r : Begun) → pending t ≡ Some r
-      → ((r.start ≡ start) × (r.size ≡ size)) ⊎ ((start + size ≤ r.start) ⊎ (r.start + r.size ≤ start))
-
 -- what beginning a request does to those that are pending: the ticket is new; a refusal changes nothing
 abbrev pub Opens : Result ℕ BeginRefusal → Begun → (ℕ → Option Begun) → (ℕ → Option Begun) → Type 0
 Opens (Ok t) r old new = (old t ≡ None) × (new ≡ put old t (Some r))

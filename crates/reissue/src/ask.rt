@@ -101,7 +101,7 @@ pub enum BeginRefusal {
     /// Sixteen requests are pending. Looked at first.
     #[error("TableFull")]
     TableFull,
-    /// A request of the same range is pending.
+    /// A byte of its range is pending.
     #[error("BlockPending")]
     BlockPending,
 }

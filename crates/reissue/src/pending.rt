@@ -19,6 +19,7 @@ pub struct Pending {
     pub bytes: [u8; 4096],
     /// The request for what is left, under its present id.
     pub request: BlockRequest,
+    pub ghost some: { 0 < size },
     pub ghost small: { size ≤ 4096 },
     pub ghost bound: { start + size < 2 ^ 63 },
     pub ghost from: { start ≤ request.position },
@@ -39,6 +40,17 @@ fn shifted(bytes: &[u8; 4096], n: usize) -> [u8; 4096]
 }
 
 impl Pending {
+    ghost use Rattle.reissue.specs.Entries.{meets};
+
+    /// Whether a byte of this range was asked for.
+    #[inline]
+    pub fn meets(&self, start: u64, size: u32) -> bool
+        requires { start + size < 2 ^ 63 }
+        ensures { result ≡ meets start size self.now }
+    {
+        start < self.start + self.size as u64 && self.start < start + size as u64
+    }
+
     /// What is pending of it after an answer that moved so many bytes, under a new id.
     pub fn with_answer(&self, moved: u32, bytes: &[u8; 4096], id: u64) -> Pending
         requires within { moved ≤ self.now.request.count }

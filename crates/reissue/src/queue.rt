@@ -1,8 +1,9 @@
 //! Up to sixteen pending requests in a fixed order.
 
 ghost use Rattle.std.specs.Prelude.{◌≡◌, ◌+◌, ◌<◌, ◌≤◌, ◌∷◌, ◌++◌, [], length, remove, IfOk, slice_get, slice_index_or, Some, position};
-ghost use Rattle.std.specs.Prelude.{take, ◌==◌, ◌&&◌};
+ghost use Rattle.std.specs.Prelude.{take, ◌==◌, ◌^◌};
 ghost use Rattle.std.specs.List.{list_any};
+ghost use Rattle.reissue.specs.Entries.{meets};
 
 use crate::pending::Pending;
 use slab::Slab;
@@ -75,13 +76,13 @@ impl Queue {
         None
     }
 
-    /// Whether one has this very range, as it was asked for.
-    pub fn has_range(&self, start: u64, size: u32) -> bool
-        ensures { result ≡ list_any (λ p. (p.start == start) && (p.size == size)) self.now }
+    /// Whether a byte of this range is in the range of one, as it was asked for.
+    pub fn meets(&self, start: u64, size: u32) -> bool
+        requires { start + size < 2 ^ 63 }
+        ensures { result ≡ list_any (meets start size) self.now }
     {
         for at in 0..self.len() {
-            let entry = self.get(at);
-            if entry.start == start && entry.size == size {
+            if self.get(at).meets(start, size) {
                 return true;
             }
         }

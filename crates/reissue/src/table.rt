@@ -6,7 +6,7 @@ ghost use Rattle.std.specs.Prelude.{if◌then◌else◌, nat_lt, ◌&&◌};
 ghost use Rattle.std.specs.List.{list_any};
 ghost use Rattle.message.specs.Good.{is_write};
 ghost use Rattle.records.specs.Marks.{is_endpoint};
-ghost use Rattle.reissue.specs.Entries.{HasNumbers, prop_numbers, IsFresh, pending_of};
+ghost use Rattle.reissue.specs.Entries.{HasNumbers, prop_numbers, IsFresh, pending_of, meets};
 
 use crate::ask::{Ask, Ticket};
 use crate::pending::Pending;
@@ -88,11 +88,12 @@ impl Table {
         self.posted == self.pending.len()
     }
 
-    /// Whether a request of this very range is pending.
-    pub fn has_range(&self, start: u64, size: u32) -> bool
-        ensures { result ≡ list_any (λ p. (p.start == start) && (p.size == size)) self.now.pending }
+    /// Whether a byte of this range is pending.
+    pub fn meets(&self, start: u64, size: u32) -> bool
+        requires { start + size < 2 ^ 63 }
+        ensures { result ≡ list_any (meets start size) self.now.pending }
     {
-        self.pending.has_range(start, size)
+        self.pending.meets(start, size)
     }
 
     /// Where the issued request with this id stands.
@@ -216,7 +217,7 @@ impl Table {
     ghost use Rattle.records.specs.Acts.{complaint_due};
     ghost use Rattle.reissue.specs.declared.pending.Pending.{Pending};
     ghost use Rattle.reissue.specs.Moves.{Closes, begun_by, put, request_for};
-    ghost use Rattle.reissue.specs.Entries.{AllOfMinor, MissesOrSame, begun_of};
+    ghost use Rattle.reissue.specs.Entries.{AllOfMinor, begun_of};
     ghost use Rattle.reissue.specs.Agrees.{Agrees};
     ghost use Rattle.reissue.specs.Answers.{complaints_about, is_bad, settled_of, complained};
     ghost use Rattle.reissue.specs.Hears.{IsAnswered, HearsAnswer, counted_move};
@@ -301,8 +302,7 @@ impl Table {
     pub fn add(&mut self, ask: &Ask) -> Ticket
         requires room { length self.old.pending < 16 }
         requires ids { self.old.ids < 2 ^ 60 }
-        requires free { MissesOrSame ask.now.position ask.now.count self.old.pending }
-        requires other { list_any (λ p. (p.start == ask.now.position) && (p.size == ask.now.count)) self.old.pending ≡ false }
+        requires free { list_any (meets ask.now.position ask.now.count) self.old.pending ≡ false }
         ensures agrees { (marks : List Mark) → Agrees self.old marks → Agrees self.new marks }
         ensures added { (p : Pending) × (self.new.pending ≡ self.old.pending ++ p ∷ [])
             × (begun_of p ≡ begun_by ask.now) × (p.request ≡ request_for ask.now (self.old.ids + 1)) }

@@ -6,8 +6,8 @@ ghost use Rattle.std.specs.Borrow.{Lends, sem};
 ghost use Rattle.std.specs.List.{list_any};
 ghost use Rattle.reissue.specs.Room.{room_needed};
 ghost use Rattle.reissue.specs.Posts.{is_message};
-ghost use Rattle.reissue.specs.Moves.{Opens, IsFree, begun_by};
-ghost use Rattle.reissue.specs.Entries.{pending_of};
+ghost use Rattle.reissue.specs.Moves.{Opens, begun_by};
+ghost use Rattle.reissue.specs.Entries.{pending_of, meets};
 
 use crate::ask::{Ask, BeginRefusal, Settled, Ticket};
 use crate::link::Link;
@@ -224,17 +224,16 @@ impl<L: Link> Transfers<L> {
         self.absorb(message)
     }
 
-    /// Takes a request up: 1 TableFull where sixteen are pending, 2 BlockPending where one of this very range is. Where there is
-    /// a driver to post to, and each earlier one was posted to it, it is posted at once; the link may refuse it. Its range is that of a
-    /// pending one, or has no byte in common with any.
-    pub fn begin(&mut self, ask: &Ask) -> Result<Ticket, BeginRefusal>
+    /// Takes a request up, for any range of whole sectors: 1 TableFull where sixteen are pending, 2 BlockPending where a byte of its range
+    /// is. Where there is a driver to post to, and each earlier one was posted to it, it is posted at once; the link may refuse it. It has
+    /// one place and one ticket, however many blocks its range takes.
+    pub fn begin_run(&mut self, ask: &Ask) -> Result<Ticket, BeginRefusal>
         requires ids { (table_of self.old).ids < 2 ^ 60 }
         requires room { HasRoom (table_of self.old) (L.room (link_of self.old)) }
-        requires free { IsFree ask.now.position ask.now.count (begun_in self.old) }
         ensures full { IsErrOf result BeginRefusal.TableFull ↔ (length (table_of self.old).pending ≡ 16) }
         ensures pending { IsErrOf result BeginRefusal.BlockPending
             ↔ ((length (table_of self.old).pending < 16)
-            × IsTrue (list_any (λ p. (p.start == ask.now.position) && (p.size == ask.now.count)) (table_of self.old).pending)) }
+            × IsTrue (list_any (meets ask.now.position ask.now.count) (table_of self.old).pending)) }
         ensures refused { OnErr result (self.new ≡ self.old) }
         ensures adds { OnOk result (Adds ask.now (table_of self.old) (table_of self.new)
             (L.history (link_of self.old)) (L.history (link_of self.new))) }
@@ -250,12 +249,36 @@ impl<L: Link> Transfers<L> {
         if self.table.is_full() {
             return Err(BeginRefusal::TableFull);
         }
-        if self.table.has_range(ask.position, ask.count) {
+        if self.table.meets(ask.position, ask.count) {
             return Err(BeginRefusal::BlockPending);
         }
         let due = self.table.is_posted();
         let ticket = self.table.add(ask);
         self.post_if(due);
         Ok(ticket)
+    }
+
+    /// Takes a request for one block up, as `begin_run` does: 1 TableFull where sixteen are pending, 2 BlockPending where a byte of its range
+    /// is.
+    pub fn begin(&mut self, ask: &Ask) -> Result<Ticket, BeginRefusal>
+        requires ids { (table_of self.old).ids < 2 ^ 60 }
+        requires room { HasRoom (table_of self.old) (L.room (link_of self.old)) }
+        ensures full { IsErrOf result BeginRefusal.TableFull ↔ (length (table_of self.old).pending ≡ 16) }
+        ensures pending { IsErrOf result BeginRefusal.BlockPending
+            ↔ ((length (table_of self.old).pending < 16)
+            × IsTrue (list_any (meets ask.now.position ask.now.count) (table_of self.old).pending)) }
+        ensures refused { OnErr result (self.new ≡ self.old) }
+        ensures adds { OnOk result (Adds ask.now (table_of self.old) (table_of self.new)
+            (L.history (link_of self.old)) (L.history (link_of self.new))) }
+        ensures ticket { IfOk result (λ t. t ≡ (table_of self.old).ids + 1) }
+        ensures opens { Opens result (begun_by ask.now) (begun_in self.old) (begun_in self.new) }
+        ensures begins { Between L.Link (Begins ask.now) self.old self.new }
+        ensures budget { L.budget_left (link_of self.new) ≤ L.budget_left (link_of self.old) }
+        ensures goes { L.goes_on (link_of self.old) (link_of self.new) }
+        ensures room { HasRoom (table_of self.new) (L.room (link_of self.new)) }
+        ensures tried { IsTried (table_of self.old) (L.history (link_of self.old))
+            → IsTried (table_of self.new) (L.history (link_of self.new)) }
+    {
+        self.begin_run(ask)
     }
 }

@@ -5,8 +5,8 @@ use Rattle.message.specs.declared.Incoming.{Incoming}
 use Rattle.volume.specs.Reading.{Disk}
 use Rattle.reissue.specs.Room.{room_needed}
 use Rattle.cache.specs.Edits.{AllClean}
-use Rattle.cache.specs.Calls.{Caching, IsReady, IsLive, IsWhyCut, IsStuck}
-use Rattle.flusher.specs.Flushing.{WritesLowest}
+use Rattle.cache.specs.Calls.{Caching, IsReady, IsLive, IsWhyCut}
+use Rattle.flusher.specs.Flushing.{WritesLowest, BeginsAll}
 use Rattle.store.specs.declared.Cut.{Cut}
 use Rattle.store.specs.World.{World}
 use Rattle.stored.specs.World.{Leads, Sees, reason, world_by}
@@ -44,4 +44,4 @@ pub record MayAbsorb (message : Incoming) (c : Caching) : Type 0 where
 -- the lowest dirty frames are begun to be written, until sixteen are, or no more can be
 pub record Flushes (old new : Caching) : Type 0 where
   pub issued : WritesLowest 16 old.held new.held
-  pub stuck : IsLive new → IsStuck new
+  pub stuck : IsLive new → BeginsAll 16 old.held new

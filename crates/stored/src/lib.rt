@@ -74,7 +74,8 @@ impl<L: Link> Stored<L> {
 /// Blocks in the frames of a cache, with what a server asks of it besides.
 pub trait Caches: Blocks {
     ghost use Rattle.std.specs.Prelude.{◌≡◌, ◌≢◌, ℕ, Bool, true, false};
-    ghost use Rattle.cache.specs.Calls.{Caching, IsReady, IsIdle, IsLive, IsStuck, Keeps, PostsAlone, HandsOver};
+    ghost use Rattle.cache.specs.Calls.{Caching, IsReady, IsIdle, IsLive, Keeps, PostsAlone, HandsOver};
+    ghost use Rattle.flusher.specs.Flushing.{BeginsAll};
     ghost use Rattle.cache.specs.Edits.{AllClean};
     ghost use Rattle.store.specs.World.{Turns};
     ghost use Rattle.stored.specs.Cached.{IsCached, MayAbsorb, Flushes};
@@ -114,7 +115,7 @@ pub trait Caches: Blocks {
         ensures silent { message ≢ Incoming.Flush → wanted self.old ≡ false → IsIdle (caching self.old)
             → (caching self.new).told ≡ (caching self.old).told }
         ensures goes { goes_on self.old self.new }
-        ensures flushed { message ≡ Incoming.Flush → IsLive (caching self.new) → IsStuck (caching self.new) }
+        ensures flushed { message ≡ Incoming.Flush → IsLive (caching self.new) → BeginsAll 16 (caching self.old).held (caching self.new) }
         ensures done { (message ≡ Incoming.End → ⊥) → wanted self.new ≡ false }
         ensures end { message ≡ Incoming.End → self.new ≡ self.old };
 

@@ -9,6 +9,8 @@ mod caches;
 #[cfg(test)]
 mod frames;
 #[cfg(test)]
+mod runs;
+#[cfg(test)]
 mod texts;
 #[cfg(test)]
 mod transfers;

@@ -1,9 +1,7 @@
 //! Requests that are begun, answered in parts, and issued again.
-ghost use Rattle.std.specs.Prelude.{◌≡◌, ◌<◌, ◌≤◌, ◌+◌, ◌^◌, ℕ, IfOk, [], Some};
-ghost use Rattle.reissue.specs.Transfers.{table_of, link_of, begun_in};
+ghost use Rattle.std.specs.Prelude.{◌≡◌, ◌<◌, ◌≤◌, ◌+◌, ◌^◌, IfOk, []};
+ghost use Rattle.reissue.specs.Transfers.{table_of, link_of};
 ghost use Rattle.reissue.specs.Posts.{HasRoom};
-ghost use Rattle.reissue.specs.Moves.{Begun};
-ghost use Rattle.cache.specs.Frames.{IsOfBlock};
 
 use fixtures::lists::{moved, started, told};
 use message::Incoming;
@@ -38,14 +36,12 @@ fn take<L: Link>(transfers: &mut Transfers<L>, count: u8) -> Settled
     settled
 }
 
-/// Begins the read of a block of 4096 bytes, where all that is pending is for such blocks; why not, where it is refused.
+/// Begins the read of a block of 4096 bytes; why not, where it is refused.
 fn begin<L: Link>(transfers: &mut Transfers<L>, block: u32) -> Option<BeginRefusal>
     requires ids { (table_of transfers.old).ids < 2 ^ 50 }
     requires room { HasRoom (table_of transfers.old) (L.room (link_of transfers.old)) }
-    requires blocks { (t : ℕ) (r : Begun) → begun_in transfers.old t ≡ Some r → IsOfBlock 4096 r }
     ensures ids { (table_of transfers.new).ids ≤ (table_of transfers.old).ids + 1 }
     ensures room { HasRoom (table_of transfers.new) (L.room (link_of transfers.new)) }
-    ensures blocks { (t : ℕ) (r : Begun) → begun_in transfers.new t ≡ Some r → IsOfBlock 4096 r }
 {
     match transfers.begin(&Ask::read(0, u64::from(block) * 4096, 4096)) {
         Ok(_) => None,
@@ -57,10 +53,8 @@ fn begin<L: Link>(transfers: &mut Transfers<L>, block: u32) -> Option<BeginRefus
 fn begin_first<L: Link>(transfers: &mut Transfers<L>, count: u8) -> u32
     requires ids { (table_of transfers.old).ids < 2 ^ 40 }
     requires room { HasRoom (table_of transfers.old) (L.room (link_of transfers.old)) }
-    requires blocks { (t : ℕ) (r : Begun) → begun_in transfers.old t ≡ Some r → IsOfBlock 4096 r }
     ensures ids { (table_of transfers.new).ids < 2 ^ 41 }
     ensures room { HasRoom (table_of transfers.new) (L.room (link_of transfers.new)) }
-    ensures blocks { (t : ℕ) (r : Begun) → begun_in transfers.new t ≡ Some r → IsOfBlock 4096 r }
 {
     let mut begun = 0u32;
     'reads: for block in 0..count {
@@ -69,6 +63,21 @@ fn begin_first<L: Link>(transfers: &mut Transfers<L>, count: u8) -> u32
         }
     }
     begun
+}
+
+/// Begins a write of so many sectors from this one on; why not, where it is refused.
+fn begin_write<L: Link>(transfers: &mut Transfers<L>, first: u8, sectors: u8) -> Option<BeginRefusal>
+    requires ids { (table_of transfers.old).ids < 2 ^ 50 }
+    requires room { HasRoom (table_of transfers.old) (L.room (link_of transfers.old)) }
+    requires some { 1 ≤ sectors }
+    requires most { sectors ≤ 8 }
+    ensures ids { (table_of transfers.new).ids ≤ (table_of transfers.old).ids + 1 }
+    ensures room { HasRoom (table_of transfers.new) (L.room (link_of transfers.new)) }
+{
+    let (place, count) = (u64::from(first) * 512, u32::from(sectors) * 512);
+    transfers
+        .begin_run(&Ask::write(0, place, count, &[7; 4096]))
+        .err()
 }
 
 /// Sixteen are pending at most, and one for each block.
@@ -82,6 +91,19 @@ fn sixteen_are_pending(alloc: Global) -> Result<(), Fail> {
     let given = format!(in alloc; "{begun} {again:?} {sixteen} {new:?} {old:?}")?;
     let wanted = "1 Some(BlockPending) 16 Some(TableFull) Some(TableFull)";
     row_is_told(0, given.as_str(), wanted)
+}
+
+/// A range is begun where no byte of it is pending.
+fn ranges_never_meet(alloc: Global) -> Result<(), Fail> {
+    let mut one = over(alloc, &[])?;
+    let begun = begin_write(&mut one, 4, 6);
+    let (same, inner) = (begin_write(&mut one, 4, 6), begin_write(&mut one, 6, 2));
+    let (lower, upper) = (begin_write(&mut one, 2, 3), begin_write(&mut one, 9, 8));
+    let (before, behind) = (begin_write(&mut one, 2, 2), begin_write(&mut one, 10, 1));
+    let first = format!(in alloc; "{begun:?} {same:?} {inner:?}")?;
+    row_is_told(3, first.as_str(), "None Some(BlockPending) Some(BlockPending)")?;
+    let sides = format!(in alloc; "{lower:?} {upper:?} {before:?} {behind:?}")?;
+    row_is_told(4, sides.as_str(), "Some(BlockPending) Some(BlockPending) None None")
 }
 
 /// A place of a block, and the byte that is read there.
@@ -161,6 +183,7 @@ fn a_whole_write_again(alloc: Global) -> Result<(), Fail> {
 #[test]
 fn requests_are_issued_again(rt: HostRuntime) -> Result<(), Fail> {
     sixteen_are_pending(rt.alloc())?;
+    ranges_never_meet(rt.alloc())?;
     a_rest_goes_on(rt.alloc())?;
     a_whole_write_again(rt.alloc())
 }

@@ -4,7 +4,7 @@ use Rattle.reissue.specs.declared.ask.Settled.TheVariants as settled
 use Rattle.reissue.specs.Transfers.{link_of, table_of}
 use Rattle.mounting.specs.Sought.{place_of}
 use Rattle.mounting.proofs.Searching.{before_later}
-use Rattle.mounting.proofs.Steps.{midway_first, midway_put, midway_unwritten, all_asked, live_same, unended_same, ids_same, none_is, some_is, midway_begins, midway_same, midway_step, range_done, range_given_up, range_ended, range_none, is_free, puts_length}
+use Rattle.mounting.proofs.Steps.{midway_first, midway_put, midway_unwritten, all_asked, live_same, unended_same, ids_same, none_is, some_is, midway_begins, midway_same, midway_step, range_done, range_given_up, range_ended, range_none, puts_length}
 use Rattle.mounting.proofs.reading.read_range.Goals as goal
 
 pub returns-in-Err-clause-reads : goal.returns-in-Err-clause-reads
@@ -26,11 +26,6 @@ messages-init g c = record {
   within = omega arith;
   numbers = omega arith;
 }
-
-pub begin_next-requires-clause-free : goal.begin_next-requires-clause-free
-begin_next-requires-clause-free g c = λ lt.
-    let m = c.messages.invariant.midway in
-    is_free c.args.minor c.args.start (length c.args.into.now) c.messages.next c.messages.asked.items c.messages.into _ _ _ _ _ _ m
 
 pub messages-preserved-in-Some : goal.messages-preserved-in-Some
 messages-preserved-in-Some g c =

@@ -1,4 +1,6 @@
-use Rattle.std.proofs.Common.{◌∙◌, ap}
+use Rattle.std.proofs.Common.{ℕ, Option, ◌∙◌, ap, subst}
+use Rattle.cache.specs.declared.slot.Slot.{Slot}
+use Rattle.flusher.specs.Flushing.{BeginsAll}
 use Rattle.stored.specs.World.{goes_joins, stored_caching}
 use Rattle.stored.proofs.Flushes.{hands_then}
 use Rattle.stored.proofs.StoredCaches.absorb.Goals as goal
@@ -20,3 +22,8 @@ returns-then-not-last-clause-silent g c = λ other unwanted idle.
 
 pub returns-else-not-last-clause-silent : goal.returns-else-not-last-clause-silent
 returns-else-not-last-clause-silent g c = λ other unwanted idle. c.absorb.ensures.silent idle
+
+pub returns-then-not-last-clause-flushed : goal.returns-then-not-last-clause-flushed
+returns-then-not-last-clause-flushed g c = λ is live.
+    subst (λ (h : ℕ → Option Slot). BeginsAll 16 h (stored_caching g.L.Link c.flush_wanted.new.self)) (c.absorb.ensures.asked is)
+    ((c.flush_wanted.ensures.flushed (c.absorb.ensures.wanted.0 is)).stuck live)

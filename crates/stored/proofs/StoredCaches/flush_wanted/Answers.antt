@@ -35,3 +35,9 @@ pub returns-else-take_flush-clause-turns : goal.returns-else-take_flush-clause-t
 returns-else-take_flush-clause-turns g c =
     turns_kept (stored_caching g.L.Link) (GoesOn g.L.Link) _ _ (rw c.take_flush.ensures.done (record { link = g.met.L.Link.stays _; frames = refl }))
     (rw c.take_flush.ensures.done (keeps_none _ c.requires.ready))
+
+pub returns-then-take_flush-clause-flushed : goal.returns-then-take_flush-clause-flushed
+returns-then-take_flush-clause-flushed g c = λ wanted. record {
+  issued = rw c.take_flush.ensures.done at c.flush_some.ensures.issued;
+  stuck = rw c.take_flush.ensures.done at c.flush_some.ensures.stuck;
+}

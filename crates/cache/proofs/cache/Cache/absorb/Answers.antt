@@ -1,4 +1,4 @@
-use Rattle.std.proofs.Common.{◌≡◌, refl, sym, subst, ap, arith}
+use Rattle.std.proofs.Common.{◌≡◌, refl, sym, subst, ap}
 use Rattle.reissue.specs.declared.transfers.Transfers.{Transfers}
 use Rattle.reissue.specs.Transfers.{table_of, link_of}
 use Rattle.reissue.specs.Posts.{HasRoom}
@@ -8,7 +8,10 @@ use Rattle.cache.proofs.Silent.{silent}
 use Rattle.cache.proofs.Taking.{absorbs_one, room_after, leaves_settled, none_begun}
 use Rattle.message.specs.declared.Incoming.{Incoming}
 use Rattle.reissue.specs.Calls.{IsAnswerTo}
+use Rattle.reissue.specs.declared.ask.Settled.{Settled}
 use Rattle.reissue.specs.declared.ask.Settled.TheVariants as settled
+use Rattle.cache.specs.Slots.{held}
+use Rattle.cache.specs.Settling.{Settles}
 use Rattle.cache.proofs.cache.Cache.absorb.Goals as goal
 
 pub returns : goal.returns
@@ -24,7 +27,7 @@ returns g c =
     record {
       hands_over = absorbs_one c.args.message c.absorb-settled.result old new s.slots.items.items items x.absorbs e.slots refl refl
           c.requires.ready c.requires.spare
-          (omega (arith, s.shape.least)) refl refl refl x.budget
+          refl refl refl x.budget
           (λ alive. room_after c.args.message (HasRoom (table_of c.absorb-settled.new.self) (r (link_of c.absorb-settled.new.self))) x.room
           (λ end. subst (λ (u : Transfers _). HasRoom (table_of u) (r (link_of u))) (sym (x.ended end)) (c.requires.ready.room alive))) x.closed
           (λ end. ap (λ (u : Transfers _). h (link_of u)) (x.ended end));
@@ -39,5 +42,8 @@ returns g c =
           let slots = e.end ends in
           let flush = e.wanted.1 none in
           λ i. record s { transfers = x.ended is i; slots = slots i; flush = flush i };
+      asked = λ is.
+          let flushes : c.absorb-settled.result ≡ settled.Flush = subst (λ (m : Incoming). IsAnswerTo m c.absorb-settled.result) is x.answer in
+          ap held (subst (λ (r : Settled). Settles r s.slots.items.items items) flushes e.slots);
       wanted = wanted_for c.args.message c.absorb-settled.result _ _ x.answer e.wanted;
     }

@@ -1,17 +1,15 @@
-use Rattle.std.proofs.Common.{◌≡◌, refl, sym, ap, subst, ◌∙◌, Err}
+use Rattle.std.proofs.Common.{◌≡◌, refl, sym, ap, subst, ◌∙◌, arith, Err}
 use Rattle.cache.specs.Calls.{Caching, caching, caching_of, Keeps}
 use Rattle.cache.specs.declared.slot.Slot.{Slot}
 use Rattle.cache.proofs.Issuing.{issued_at, write_leaves, dirty_parts}
-use Rattle.cache.proofs.Beginning.{longer, refusing, free_block, write_one, busy_begun}
+use Rattle.cache.proofs.Beginning.{longer, refusing, write_one, busy_begun}
 use Rattle.cache.proofs.Edits.{one_slot, leaves_none}
+use Rattle.cache.specs.Slots.{held}
+use Rattle.cache.proofs.Begun.{dirty_one}
 use Rattle.cache.proofs.Held.{in_range, held_at}
 use Rattle.cache.proofs.Placing.{keeps_none}
 use Rattle.cache.proofs.Staying.{but_none, set_others}
 use Rattle.cache.proofs.cache.Cache.issue.Goals as goal
-
-pub begin-requires-clause-free : goal.begin-requires-clause-free
-begin-requires-clause-free g c =
-    free_block c.args.self.now.shape.block_size c.in-Some.block _ _ _ c.requires.ready.tied.blocks c.write-ask.ensures.position c.write-ask.ensures.count
 
 pub set_state-requires : goal.set_state-requires
 set_state-requires g c = in_range c.args.self.now.slots.items.items c.args.at c.get-slot.result.now c.get-slot.ensures
@@ -84,9 +82,11 @@ returns-in-Err-clause-refusing g c =
     let d = c.requires.dirty in
     let x = c.in-Err.ensures in
     let same : d.slot ≡ c.get-slot.result.now = one_slot items c.args.at d.slot c.get-slot.result.now d.is c.get-slot.ensures in
-    refusing (caching g.L.Link s) (Err c.in-Err.field-0) _ _ c.in-Some.block c.get-slot.result.now refl x.full x.pending
-    a.position a.count (held_at items c.args.at c.in-Some.block c.get-slot.result.now s.slots.distinct c.get-slot.ensures c.in-Some.is)
-    (ap (λ (y : Slot). y.state) (sym same) ∙ (dirty_parts d.slot d.passes).2)
+    refusing (caching g.L.Link s) (Err c.in-Err.field-0) _ _ c.in-Some.block 1 refl x.full x.pending
+    a.position (omega (arith, a.count)) (omega (arith, s.shape.least)) (omega arith)
+    (dirty_one (held items) c.in-Some.block c.get-slot.result.now
+    (held_at items c.args.at c.in-Some.block c.get-slot.result.now s.slots.distinct c.get-slot.ensures c.in-Some.is)
+    (ap (λ (y : Slot). y.state) (sym same) ∙ (dirty_parts d.slot d.passes).2))
 
 pub returns-in-Ok-clause-goes : goal.returns-in-Ok-clause-goes
 returns-in-Ok-clause-goes g c = c.in-Ok.ensures.goes

@@ -1,4 +1,4 @@
-use Rattle.std.proofs.Common.{◌≡◌, refl, sym, subst, arith, None, Ok}
+use Rattle.std.proofs.Common.{◌≡◌, refl, sym, subst, None, Ok}
 use Rattle.cache.specs.Calls.{Caching, caching, caching_of, Runs}
 use Rattle.cache.specs.Takes.{Takes}
 use Rattle.cache.specs.Settling.{took_of, is_ended_by}
@@ -23,7 +23,7 @@ returns-clause-runs g c =
     let same : as_it_ends c.is_end-self.result ≡ mid = λ i. as_it_ends (c.is_end-self.ensures i) in
     let one : Runs None old mid (λ w v. Takes (Ok (took_of c.step-settled.result)) old mid w v) =
     takes_one c.step-settled.result old mid c.args.self.now.slots.items.items items s.steps e.slots refl refl c.requires.ready
-    (c.requires.busy l) l.not_ended l.not_given_up (omega (arith, c.args.self.now.shape.least)) refl refl refl s.falls s.room s.closed in
+    (c.requires.busy l) l.not_ended l.not_given_up refl refl refl s.falls s.room s.closed in
     let new = as_it_ends c.is_end-self.result in
     let both : Runs None old new (λ w v. Takes (Ok (took_of c.step-settled.result)) old new w v) =
     subst (λ (n : Caching). Runs None old n (λ w v. Takes (Ok (took_of c.step-settled.result)) old n w v)) (sym same) one in

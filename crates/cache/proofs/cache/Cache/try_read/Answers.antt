@@ -1,13 +1,9 @@
 use Rattle.std.proofs.Common.{◌≡◌, refl, sym, subst}
 use Rattle.cache.specs.Calls.{Caching, caching, caching_of, Keeps}
-use Rattle.cache.proofs.Beginning.{free_block, read_one, read_is_at, busy_begun}
+use Rattle.cache.proofs.Beginning.{read_one, read_is_at, busy_begun}
 use Rattle.cache.proofs.Placing.{keeps_none}
 use Rattle.cache.proofs.Flushes.{follows_posts}
 use Rattle.cache.proofs.cache.Cache.try_read.Goals as goal
-
-pub begin-requires-clause-free : goal.begin-requires-clause-free
-begin-requires-clause-free g c =
-    free_block c.args.self.now.shape.block_size c.args.block _ _ _ c.requires.ready.tied.blocks c.read-ask.ensures.position c.read-ask.ensures.count
 
 pub returns-in-Ok-clause-keeps : goal.returns-in-Ok-clause-keeps
 returns-in-Ok-clause-keeps g c =

@@ -1,20 +1,32 @@
-use Rattle.std.proofs.Common.{sym, ◌∙◌}
-use Rattle.cache.proofs.Edits.{written_some, written_none}
-use Rattle.cache.proofs.Staying.{all_none, written_stays}
+use Rattle.std.proofs.Common.{◌≡◌, ℕ, length, refl, ◌∙◌, subst, arith}
+use Rattle.cache.proofs.Settled.{Settling, settling_none, settling_more, settled_written, settled_stays}
 use Rattle.cache.proofs.table.Slots.settle.Goals as goal
 
-pub returns-in-Some-clause-written : goal.returns-in-Some-clause-written
-returns-in-Some-clause-written c =
-    written_some c.args.self.now.items.items c.set_state.new.self.items.items c.in-Some.at c.args.ticket c.written.result c.get.result.now
-    c.args.self.now.distinct (sym c.find_ticket.ensures ∙ c.in-Some.is) c.get.ensures c.written.ensures c.set_state.ensures.set
+pub loop-at-init : goal.loop-at-init
+loop-at-init c = record { settling = settling_none c.args.ticket c.args.self.now.items.items; within = omega arith; uses = refl }
 
-pub returns-in_default-clause-written : goal.returns-in_default-clause-written
-returns-in_default-clause-written c = written_none c.args.self.now.items.items c.args.ticket (sym c.find_ticket.ensures ∙ c.in_default.is)
+pub settle_at-requires : goal.settle_at-requires
+settle_at-requires c = let k = c.loop-at.invariant.settling.count in omega (arith, k, c.loop-at-test.true, c.len-at-end.ensures)
 
-pub returns-in-Some-clause-stay : goal.returns-in-Some-clause-stay
-returns-in-Some-clause-stay c =
-    written_stays c.args.self.now c.set_state.new.self c.in-Some.at c.written.result c.get.result.now c.get.ensures c.written.ensures
-    c.set_state.ensures.set c.set_state.ensures.uses
+pub loop-at-preserved : goal.loop-at-preserved
+loop-at-preserved c =
+    let i = c.loop-at.invariant in
+    record {
+      settling = settling_more c.args.ticket _ _ _ c.loop-at.at i.settling c.settle_at.ensures.set;
+      within = omega (arith, c.loop-at-test.true, c.len-at-end.ensures);
+      uses = c.settle_at.ensures.uses ∙ i.uses;
+    }
 
-pub returns-in_default-clause-stay : goal.returns-in_default-clause-stay
-returns-in_default-clause-stay c = all_none _
+pub returns-clause-written : goal.returns-clause-written
+returns-clause-written c =
+    let i = c.loop-at.invariant in
+    let items = c.args.self.now.items.items in
+    let all : c.loop-at.at ≡ length items = omega (arith, i.within, c.loop-at-test.false, c.len-at-end.ensures) in
+    settled_written c.args.ticket items _ c.loop-at.self.distinct (subst (λ (n : ℕ). Settling c.args.ticket items c.loop-at.self.items.items n) all i.settling)
+
+pub returns-clause-stay : goal.returns-clause-stay
+returns-clause-stay c =
+    let i = c.loop-at.invariant in
+    let items = c.args.self.now.items.items in
+    let all : c.loop-at.at ≡ length items = omega (arith, i.within, c.loop-at-test.false, c.len-at-end.ensures) in
+    settled_stays c.args.ticket c.args.self.now c.loop-at.self i.uses (subst (λ (n : ℕ). Settling c.args.ticket items c.loop-at.self.items.items n) all i.settling)

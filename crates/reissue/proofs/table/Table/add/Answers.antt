@@ -10,7 +10,7 @@ push-requires-clause-fresh c = fresh_above c.args.self.now.ids _ c.args.self.now
 pub returns-clause-agrees : goal.returns-clause-agrees
 returns-clause-agrees c = λ marks h.
     let p = c.push.ensures in
-    agrees_add c.args.self.now c.push.new.self marks _ h p.items p.ids refl p.posted p.issued p.current p.given_up c.requires.room refl (λ k. refl) c.requires.free c.requires.other
+    agrees_add c.args.self.now c.push.new.self marks _ h p.items p.ids refl p.posted p.issued p.current p.given_up c.requires.room refl (λ k. refl) c.requires.free
 
 pub returns-clause-fresh : goal.returns-clause-fresh
 returns-clause-fresh c = pending_none c.args.self.now.pending _

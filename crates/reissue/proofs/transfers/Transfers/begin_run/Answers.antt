@@ -2,20 +2,17 @@ use Rattle.std.proofs.Common.{rules, sym, ◌∙◌, ap, ◌≤◌, arith, refl,
 use Rattle.message.specs.declared.BlockRequest.{BlockRequest}
 use Rattle.reissue.specs.Entries.{pending_of}
 use Rattle.reissue.proofs.Posting.{busy, busy_any}
-use Rattle.reissue.proofs.Joining.{begins_add, begins_none, posts_new, free_list}
-use Rattle.reissue.proofs.transfers.Transfers.begin.Goals as goal
-
-pub add-ticket-requires-clause-free : goal.add-ticket-requires-clause-free
-add-ticket-requires-clause-free g c = free_list _ _ c.args.self.now.table.pending c.args.self.now.table.numbers.distinct c.requires.free
+use Rattle.reissue.proofs.Joining.{begins_add, begins_none, posts_new}
+use Rattle.reissue.proofs.transfers.Transfers.begin_run.Goals as goal
 
 pub returns-then-is_full-clause-opens : goal.returns-then-is_full-clause-opens
 returns-then-is_full-clause-opens g c =
     let full : 16 ≤ length c.args.self.now.table.pending = search rules in
     (refl, busy c.args.self.now.table.pending (omega (arith, full)))
 
-pub returns-then-has_range-clause-opens : goal.returns-then-has_range-clause-opens
-returns-then-has_range-clause-opens g c =
-    (refl, busy_any _ c.args.self.now.table.pending (sym c.has_range.ensures ∙ c.if-has_range.true))
+pub returns-then-meets-clause-opens : goal.returns-then-meets-clause-opens
+returns-then-meets-clause-opens g c =
+    (refl, busy_any _ c.args.self.now.table.pending (sym c.meets.ensures ∙ c.if-meets.true))
 
 pub returns-clause-adds : goal.returns-clause-adds
 returns-clause-adds g c =
@@ -44,5 +41,5 @@ returns-clause-begins g c =
 pub returns-then-is_full-clause-begins : goal.returns-then-is_full-clause-begins
 returns-then-is_full-clause-begins g c = begins_none _ _ _ _
 
-pub returns-then-has_range-clause-begins : goal.returns-then-has_range-clause-begins
-returns-then-has_range-clause-begins g c = begins_none _ _ _ _
+pub returns-then-meets-clause-begins : goal.returns-then-meets-clause-begins
+returns-then-meets-clause-begins g c = begins_none _ _ _ _

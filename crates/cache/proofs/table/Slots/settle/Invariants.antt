@@ -1,0 +1,10 @@
+use Rattle.std.proofs.Common.{◌≡◌, ◌≤◌, length}
+use Rattle.cache.proofs.Settled.{Settling}
+use Rattle.cache.proofs.table.Slots.settle.Given as goal
+
+abbrev pub invariant-loop-at : goal.invariant-loop-at
+invariant-loop-at l = record {
+  settling : Settling l.ticket l.initial.self.items.items l.self.items.items l.at;
+  within : l.at ≤ length l.initial.self.items.items;
+  uses : l.self.uses ≡ l.initial.self.uses;
+}

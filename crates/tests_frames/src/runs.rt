@@ -1,0 +1,218 @@
+//! Runs: neighbouring changed blocks, which a flush writes by one request.
+ghost use Rattle.std.specs.Prelude.{◌≡◌, IfOk};
+ghost use Rattle.cache.specs.Calls.{caching, IsReady};
+ghost use Rattle.reissue.specs.Transfers.{link_of, table_of};
+
+use cache::{Cache, CacheRefusal};
+use fixtures::frames::{VOLUME, fresh_each};
+use fixtures::lists::{moved, started, told};
+use flusher::{flush_some, sync};
+use layout::Geometry;
+use message::Incoming;
+use reissue::list_link::ListLink;
+use reissue::{Link, Transfers};
+use std::alloc::{AllocError, Global};
+use std::test::Fail;
+use tests_texts::row_is_told;
+
+/// What a link gives.
+enum Given {
+    /// The driver of this generation is started.
+    Started(u32),
+    /// The driver of this generation answers the request of this id: so many bytes were moved.
+    Moved(u32, u64, u32),
+}
+
+/// What is done with a cache.
+enum Step {
+    /// Blocks, from the first one up to another one, get frames of zero bytes.
+    Fresh(u32, u32),
+    /// A block is filled with this byte.
+    Fill(u32, u8),
+    /// Some of what was changed is written.
+    Flush,
+    /// All that was changed is written.
+    Sync,
+}
+
+/// These messages.
+fn messages(alloc: Global, given: &[Given]) -> Result<Vec<Incoming>, AllocError> {
+    let mut messages = Vec::new(alloc);
+    for message in given {
+        match message {
+            Given::Started(generation) => messages.push(started(*generation))?,
+            Given::Moved(generation, id, count) => messages.push(moved(*generation, *id, *count, 0))?,
+        }
+    }
+    Ok(messages)
+}
+
+/// A cache of 32 frames for blocks of this size over a link that gives these messages; none where it is refused.
+fn cache_over(
+    alloc: Global,
+    volume: &Geometry,
+    given: &[Given],
+) -> Result<Result<Cache<ListLink>, CacheRefusal>, AllocError>
+    requires { volume.now.block_size ≡ 1024 }
+    ensures ready { IfOk result (λ r. IfOk r (λ c. IsReady (caching ⟦<ListLink as Link>⟧ c))) }
+    ensures size { IfOk result (λ r. IfOk r (λ c. c.shape.block_size ≡ 1024)) }
+{
+    let transfers = Transfers::new(alloc, ListLink::new(alloc, messages(alloc, given)?)?)?;
+    Ok(Cache::new(alloc, transfers, 0, volume, 32))
+}
+
+/// Fills a block of 1024 bytes with this byte.
+fn fill<L: Link>(cache: &mut Cache<L>, block: u32, byte: u8)
+    requires ready { IsReady (caching L.Link cache.old) }
+    requires size { cache.old.shape.block_size ≡ 1024 }
+    ensures ready { IsReady (caching L.Link cache.new) }
+    ensures size { cache.new.shape.block_size ≡ 1024 }
+{
+    match cache.fetch(block) {
+        Ok(frame) => cache.change(frame, 0, &[byte; 1024]),
+        Err(_) => {}
+    }
+}
+
+/// Does a step.
+fn does<L: Link>(cache: &mut Cache<L>, step: &Step)
+    requires ready { IsReady (caching L.Link cache.old) }
+    requires size { cache.old.shape.block_size ≡ 1024 }
+    ensures ready { IsReady (caching L.Link cache.new) }
+    ensures size { cache.new.shape.block_size ≡ 1024 }
+{
+    match step {
+        Step::Fresh(first, end) => {
+            fresh_each(cache, *first, *end);
+        }
+        Step::Fill(block, byte) => fill(cache, *block, *byte),
+        Step::Flush => flush_some(cache),
+        Step::Sync => {
+            let _done = sync(cache).is_ok();
+        }
+    }
+}
+
+/// Does these steps.
+fn do_each<L: Link>(cache: &mut Cache<L>, steps: &[Step])
+    requires ready { IsReady (caching L.Link cache.old) }
+    requires size { cache.old.shape.block_size ≡ 1024 }
+{
+    for step in steps {
+        does(cache, step);
+    }
+}
+
+/// What a link gives, what is done with a cache over it, and what the link was told.
+type Row = (&'static [Given], &'static [Step], &'static str);
+
+static ROWS: [Row; 5] = [
+    // two runs; a rest, which goes to the next driver behind the other run; what was changed in flight is written again
+    (
+        &[
+            Given::Started(1),
+            Given::Moved(1, 1, 1024),
+            Given::Moved(1, 2, 1536),
+            Given::Started(2),
+            Given::Moved(2, 3, 2048),
+            Given::Moved(2, 4, 1536),
+            Given::Moved(2, 5, 1024),
+        ],
+        &[
+            Step::Fresh(100, 101),
+            Step::Sync,
+            Step::Fresh(2, 5),
+            Step::Fresh(6, 8),
+            Step::Flush,
+            Step::Fill(3, 49),
+            Step::Sync,
+        ],
+        "write 1 102400 1024 0
+write 2 2048 3072 0
+write 3 6144 2048 0
+write 4 3584 1536 0
+write 3 6144 2048 0
+write 4 3584 1536 0
+write 5 3072 1024 49
+",
+    ),
+    // as many as one request takes
+    (
+        &[Given::Started(1), Given::Moved(1, 1, 1024)],
+        &[Step::Fresh(100, 101), Step::Sync, Step::Fresh(10, 20), Step::Flush],
+        "write 1 102400 1024 0
+write 2 10240 4096 0
+write 3 14336 4096 0
+write 4 18432 2048 0
+",
+    ),
+    // none whose write is under way
+    (
+        &[Given::Started(1), Given::Moved(1, 1, 1024)],
+        &[
+            Step::Fresh(100, 101),
+            Step::Sync,
+            Step::Fresh(11, 12),
+            Step::Flush,
+            Step::Fresh(10, 13),
+            Step::Flush,
+        ],
+        "write 1 102400 1024 0
+write 2 11264 1024 0
+write 3 10240 1024 0
+write 4 12288 1024 0
+",
+    ),
+    // sixteen frames at most
+    (
+        &[Given::Started(1), Given::Moved(1, 1, 1024)],
+        &[
+            Step::Fresh(100, 101),
+            Step::Sync,
+            Step::Fresh(9, 11),
+            Step::Fresh(12, 29),
+            Step::Flush,
+            Step::Flush,
+        ],
+        "write 1 102400 1024 0
+write 2 9216 2048 0
+write 3 12288 4096 0
+write 4 16384 4096 0
+write 5 20480 4096 0
+write 6 24576 2048 0
+write 7 26624 3072 0
+",
+    ),
+    // a sync writes each block by a request of its own
+    (
+        &[
+            Given::Started(1),
+            Given::Moved(1, 1, 1024),
+            Given::Moved(1, 2, 1024),
+        ],
+        &[Step::Fresh(2, 4), Step::Sync],
+        "write 1 2048 1024 0
+write 2 3072 1024 0
+",
+    ),
+];
+
+/// A row comes out as it says.
+fn comes_out(alloc: Global, number: usize, row: &Row) -> Result<(), Fail> {
+    let (given, steps, lines) = row;
+    let small = Geometry {
+        block_size: 1024,
+        ..VOLUME
+    };
+    let mut cache = cache_over(alloc, &small, given)??;
+    do_each(&mut cache, steps);
+    row_is_told(number, told(alloc, cache.link())?.as_str(), lines)
+}
+
+#[test]
+fn neighbours_are_written_together(rt: HostRuntime) -> Result<(), Fail> {
+    for (number, row) in ROWS.iter().enumerate() {
+        comes_out(rt.alloc(), number, row)?;
+    }
+    Ok(())
+}
