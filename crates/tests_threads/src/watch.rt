@@ -14,7 +14,7 @@ const ASKS: u64 = 10_000_000;
 const YIELDS: u64 = 1000;
 
 /// For how many milliseconds they rest then.
-const REST: u64 = 5;
+const REST: u64 = 20;
 
 /// The most ticks of a test.
 const TICKS: u64 = 1000;
