@@ -1,5 +1,5 @@
 //! Runs: neighbouring changed blocks, which a flush writes by one request.
-ghost use Rattle.std.specs.Prelude.{◌≡◌, IfOk};
+ghost use Rattle.std.specs.Prelude.{◌≤◌, IfOk};
 ghost use Rattle.cache.specs.Calls.{caching, IsReady};
 ghost use Rattle.reissue.specs.Transfers.{link_of, table_of};
 
@@ -41,7 +41,12 @@ fn messages(alloc: Global, given: &[Given]) -> Result<Vec<Incoming>, AllocError>
     for message in given {
         match message {
             Given::Started(generation) => messages.push(started(*generation))?,
-            Given::Moved(generation, id, count) => messages.push(moved(*generation, *id, *count, 0))?,
+            Given::Moved(generation, id, count) => messages.push(moved(
+                *generation,
+                *id,
+                *count,
+                0,
+            ))?,
         }
     }
     Ok(messages)
@@ -53,20 +58,20 @@ fn cache_over(
     volume: &Geometry,
     given: &[Given],
 ) -> Result<Result<Cache<ListLink>, CacheRefusal>, AllocError>
-    requires { volume.now.block_size ≡ 1024 }
+    requires { 1024 ≤ volume.now.block_size }
     ensures ready { IfOk result (λ r. IfOk r (λ c. IsReady (caching ⟦<ListLink as Link>⟧ c))) }
-    ensures size { IfOk result (λ r. IfOk r (λ c. c.shape.block_size ≡ 1024)) }
+    ensures size { IfOk result (λ r. IfOk r (λ c. 1024 ≤ c.shape.block_size)) }
 {
     let transfers = Transfers::new(alloc, ListLink::new(alloc, messages(alloc, given)?)?)?;
     Ok(Cache::new(alloc, transfers, 0, volume, 32))
 }
 
-/// Fills a block of 1024 bytes with this byte.
+/// Fills the first 1024 bytes of a block with this byte.
 fn fill<L: Link>(cache: &mut Cache<L>, block: u32, byte: u8)
     requires ready { IsReady (caching L.Link cache.old) }
-    requires size { cache.old.shape.block_size ≡ 1024 }
+    requires size { 1024 ≤ cache.old.shape.block_size }
     ensures ready { IsReady (caching L.Link cache.new) }
-    ensures size { cache.new.shape.block_size ≡ 1024 }
+    ensures size { 1024 ≤ cache.new.shape.block_size }
 {
     match cache.fetch(block) {
         Ok(frame) => cache.change(frame, 0, &[byte; 1024]),
@@ -77,9 +82,9 @@ fn fill<L: Link>(cache: &mut Cache<L>, block: u32, byte: u8)
 /// Does a step.
 fn does<L: Link>(cache: &mut Cache<L>, step: &Step)
     requires ready { IsReady (caching L.Link cache.old) }
-    requires size { cache.old.shape.block_size ≡ 1024 }
+    requires size { 1024 ≤ cache.old.shape.block_size }
     ensures ready { IsReady (caching L.Link cache.new) }
-    ensures size { cache.new.shape.block_size ≡ 1024 }
+    ensures size { 1024 ≤ cache.new.shape.block_size }
 {
     match step {
         Step::Fresh(first, end) => {
@@ -96,19 +101,26 @@ fn does<L: Link>(cache: &mut Cache<L>, step: &Step)
 /// Does these steps.
 fn do_each<L: Link>(cache: &mut Cache<L>, steps: &[Step])
     requires ready { IsReady (caching L.Link cache.old) }
-    requires size { cache.old.shape.block_size ≡ 1024 }
+    requires size { 1024 ≤ cache.old.shape.block_size }
 {
     for step in steps {
         does(cache, step);
     }
 }
 
-/// What a link gives, what is done with a cache over it, and what the link was told.
-type Row = (&'static [Given], &'static [Step], &'static str);
+/// The size of blocks, what a link gives, what is done with a cache over it, and what the link was told.
+type Row = (Size, &'static [Given], &'static [Step], &'static str);
 
-static ROWS: [Row; 5] = [
+/// The size of blocks of a volume.
+enum Size {
+    Of1024,
+    Of4096,
+}
+
+static ROWS: [Row; 6] = [
     // two runs; a rest, which goes to the next driver behind the other run; what was changed in flight is written again
     (
+        Size::Of1024,
         &[
             Given::Started(1),
             Given::Moved(1, 1, 1024),
@@ -138,8 +150,14 @@ write 5 3072 1024 49
     ),
     // as many as one request takes
     (
+        Size::Of1024,
         &[Given::Started(1), Given::Moved(1, 1, 1024)],
-        &[Step::Fresh(100, 101), Step::Sync, Step::Fresh(10, 20), Step::Flush],
+        &[
+            Step::Fresh(100, 101),
+            Step::Sync,
+            Step::Fresh(10, 20),
+            Step::Flush,
+        ],
         "write 1 102400 1024 0
 write 2 10240 4096 0
 write 3 14336 4096 0
@@ -148,6 +166,7 @@ write 4 18432 2048 0
     ),
     // none whose write is under way
     (
+        Size::Of1024,
         &[Given::Started(1), Given::Moved(1, 1, 1024)],
         &[
             Step::Fresh(100, 101),
@@ -165,6 +184,7 @@ write 4 12288 1024 0
     ),
     // sixteen frames at most
     (
+        Size::Of1024,
         &[Given::Started(1), Given::Moved(1, 1, 1024)],
         &[
             Step::Fresh(100, 101),
@@ -185,6 +205,7 @@ write 7 26624 3072 0
     ),
     // a sync writes each block by a request of its own
     (
+        Size::Of1024,
         &[
             Given::Started(1),
             Given::Moved(1, 1, 1024),
@@ -195,16 +216,34 @@ write 7 26624 3072 0
 write 2 3072 1024 0
 ",
     ),
+    // a block that is as large as a request goes alone
+    (
+        Size::Of4096,
+        &[Given::Started(1), Given::Moved(1, 1, 4096)],
+        &[
+            Step::Fresh(100, 101),
+            Step::Sync,
+            Step::Fresh(10, 12),
+            Step::Flush,
+        ],
+        "write 1 409600 4096 0
+write 2 40960 4096 0
+write 3 45056 4096 0
+",
+    ),
 ];
 
 /// A row comes out as it says.
 fn comes_out(alloc: Global, number: usize, row: &Row) -> Result<(), Fail> {
-    let (given, steps, lines) = row;
-    let small = Geometry {
-        block_size: 1024,
+    let (size, given, steps, lines) = row;
+    let volume = Geometry {
+        block_size: match size {
+            Size::Of1024 => 1024,
+            Size::Of4096 => 4096,
+        },
         ..VOLUME
     };
-    let mut cache = cache_over(alloc, &small, given)??;
+    let mut cache = cache_over(alloc, &volume, given)??;
     do_each(&mut cache, steps);
     row_is_told(number, told(alloc, cache.link())?.as_str(), lines)
 }

@@ -66,7 +66,11 @@ fn begin_first<L: Link>(transfers: &mut Transfers<L>, count: u8) -> u32
 }
 
 /// Begins a write of so many sectors from this one on; why not, where it is refused.
-fn begin_write<L: Link>(transfers: &mut Transfers<L>, first: u8, sectors: u8) -> Option<BeginRefusal>
+fn begin_write<L: Link>(
+    transfers: &mut Transfers<L>,
+    first: u8,
+    sectors: u8,
+) -> Option<BeginRefusal>
     requires ids { (table_of transfers.old).ids < 2 ^ 50 }
     requires room { HasRoom (table_of transfers.old) (L.room (link_of transfers.old)) }
     requires some { 1 ≤ sectors }
@@ -101,9 +105,17 @@ fn ranges_never_meet(alloc: Global) -> Result<(), Fail> {
     let (lower, upper) = (begin_write(&mut one, 2, 3), begin_write(&mut one, 9, 8));
     let (before, behind) = (begin_write(&mut one, 2, 2), begin_write(&mut one, 10, 1));
     let first = format!(in alloc; "{begun:?} {same:?} {inner:?}")?;
-    row_is_told(3, first.as_str(), "None Some(BlockPending) Some(BlockPending)")?;
+    row_is_told(
+        3,
+        first.as_str(),
+        "None Some(BlockPending) Some(BlockPending)",
+    )?;
     let sides = format!(in alloc; "{lower:?} {upper:?} {before:?} {behind:?}")?;
-    row_is_told(4, sides.as_str(), "Some(BlockPending) Some(BlockPending) None None")
+    row_is_told(
+        4,
+        sides.as_str(),
+        "Some(BlockPending) Some(BlockPending) None None",
+    )
 }
 
 /// A place of a block, and the byte that is read there.

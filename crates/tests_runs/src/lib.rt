@@ -14,6 +14,8 @@ mod reads;
 #[cfg(test)]
 mod refusals;
 #[cfg(test)]
+mod runs;
+#[cfg(test)]
 mod supplies;
 #[cfg(test)]
 mod writers;

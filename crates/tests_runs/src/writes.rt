@@ -61,32 +61,29 @@ call 0 0 0 100 seek 0 set 0
 call 0 0 0 101 fill 0 1024 32
 step 1
 step 1
+step 1
+step 1
+step 1
+step 1
 deliver 4
 step 1
 step 1
+step 1
+step 1
 deliver 5
+call 0 0 0 101 sync
 step 1
 step 1
 deliver 6
 step 1
 step 1
 deliver 7
-step 1
-step 1
-deliver 8
-call 0 0 0 101 sync
-step 1
-step 1
-deliver 9
-step 1
-step 1
-deliver 10
 call 0 0 0 101 seek 0 set 0
 call 0 0 0 101 read 0 1
 tick
 ";
 
-/// Both maps, the inodes, the root's entries and the file's page are written; then again what changed.
+/// Both maps and the inodes are written by one request, the root's entries and the file's page by another; then again what changed.
 const WRITTEN_AGAIN: &str = "\
 started 1.1
 issue 1 read 4096 1024 to 1.1
@@ -100,22 +97,16 @@ answer 4 1024 from 1.1
 reply 0 fd 0
 reply 0 wrote 1024
 flush
-issue 5 write 2048 1024 to 1.1
-issue 6 write 3072 1024 to 1.1
-issue 7 write 4096 1024 to 1.1
-issue 8 write 6144 1024 to 1.1
-issue 9 write 7168 1024 to 1.1
+issue 5 write 2048 3072 to 1.1
+issue 6 write 6144 2048 to 1.1
 reply 0 at 0
 reply 0 wrote 1024
-answer 5 1024 from 1.1
-answer 6 1024 from 1.1
+answer 5 3072 from 1.1
+answer 6 2048 from 1.1
+issue 7 write 4096 1024 to 1.1
+issue 8 write 7168 1024 to 1.1
 answer 7 1024 from 1.1
 answer 8 1024 from 1.1
-answer 9 1024 from 1.1
-issue 10 write 4096 1024 to 1.1
-issue 11 write 7168 1024 to 1.1
-answer 10 1024 from 1.1
-answer 11 1024 from 1.1
 reply 0 ok
 reply 0 at 0
 reply 0 bytes 32
