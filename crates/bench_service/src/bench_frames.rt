@@ -1,9 +1,10 @@
-//! Measures the drivers and the frames, over 2048 blocks of 4096 bytes, which is 8 MiB. The frames' driver runs in a thread of its own, as
-//! those of a service do.
+//! Measures the drivers over 2048 blocks of 4096 bytes, which is 8 MiB, and the frames over 2048 blocks of each size. The frames' driver runs in
+//! a thread of its own, as those of a service do.
 
 mod caches;
 mod work;
 
+use bench_layers::sizes::{large_blocks, middle_blocks, small_blocks};
 use bench_layers::timing::{copy, micros_since, say, tell};
 use caches::{measure_frames, zeros};
 use media::Media;
@@ -51,7 +52,8 @@ fn measure_copy(rt: &HostRuntime, from: &[u8], to: &mut [u8]) -> io::Result<()> 
     eprintln!(*rt; "a plain copy of {count} bytes: {took} microseconds, last {last:?}")
 }
 
-/// Measures a plain copy, a driver, and caches of three sizes, in several rounds.
+/// Measures a plain copy, a driver, caches of three sizes for blocks of 4096 bytes, and those of 256 frames for smaller blocks, in several
+/// rounds.
 pub fn run<R: Threads + Wait + Copy + Send + Sync + 'static>(
     rt: &HostRuntime,
     waits: R,
@@ -62,8 +64,10 @@ pub fn run<R: Threads + Wait + Copy + Send + Sync + 'static>(
         measure_copy(rt, &from, &mut to)?;
         measure_driver(rt)?;
         for frames in [16, 256, 1024] {
-            measure_frames(rt, waits, frames)?;
+            measure_frames(rt, waits, &large_blocks(4096), frames)?;
         }
+        measure_frames(rt, waits, &middle_blocks(4096), 256)?;
+        measure_frames(rt, waits, &small_blocks(4096), 256)?;
     }
     Ok(())
 }

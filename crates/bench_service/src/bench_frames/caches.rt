@@ -3,14 +3,14 @@ ghost use Rattle.std.specs.Prelude.{◌≡◌};
 ghost use Rattle.cache.specs.Calls.{caching, IsReady};
 
 use crate::bench_frames::BLOCKS;
-use crate::bench_frames::work::{driver, fetch_again, fetch_run, write_run};
-use bench_layers::sizes::large_blocks;
+use crate::bench_frames::work::{By, driver, fetch_again, fetch_run, write_run};
 use bench_layers::timing::{say, tell};
 use board::{Board, Seat};
 use cache::Cache;
 use counting_link::room::Room;
 use driver_threads::running::start_drivers;
 use gate::paced_gate::Paced;
+use layout::Geometry;
 use media::Media;
 use modeldisk::RamDriver;
 use reincarnate::Reincarnation;
@@ -23,13 +23,10 @@ use std::sync::{Arc, Wait};
 use std::thread::Threads;
 use std::time::Instant;
 
-/// How many blocks of 4096 bytes the volume has: 16 MiB.
-const ZONES: u32 = 4096;
-
-/// Its sectors.
+/// The sectors of the media, which hold 4096 blocks of 4096 bytes.
 const SECTORS: u32 = 32768;
 
-/// Media of zero bytes that hold the volume.
+/// Media of zero bytes.
 pub(crate) fn zeros(alloc: Global) -> Option<Media> {
     let bytes = vec![in alloc; 0; 16777216].ok()?;
     Media::from_bytes(alloc, &bytes).ok()
@@ -47,18 +44,26 @@ fn measure_cache<L: Link>(rt: &HostRuntime, cache: &mut Cache<L>) -> io::Result<
     let hit = fetch_again(cache, BLOCKS);
     tell(rt, "fetches that hit", hit, "blocks", start)?;
     let start = Instant::now(rt)?;
-    let written = write_run(cache, BLOCKS / 16);
-    tell(rt, "made anew and written back", written, "blocks", start)
+    let written = write_run(cache, BLOCKS / 16, By::Runs);
+    tell(rt, "made anew and written back", written, "blocks", start)?;
+    let start = Instant::now(rt)?;
+    let written = write_run(cache, BLOCKS / 16, By::Blocks);
+    tell(rt, "the same, block by block", written, "blocks", start)
 }
 
-/// Measures a cache of so many frames over a link that may give 2^40 messages.
-fn measure_over<L: Link + Drop>(rt: &HostRuntime, link: L, frames: u32) -> io::Result<()>
+/// Measures a cache of so many frames for a volume, over a link that may give 2^40 messages.
+fn measure_over<L: Link + Drop>(
+    rt: &HostRuntime,
+    link: L,
+    volume: &Geometry,
+    frames: u32,
+) -> io::Result<()>
     requires { L.budget_left link ≡ 1099511627776 }
 {
     let Ok(transfers) = Transfers::new(rt.alloc(), link) else {
         return say(rt, "no memory");
     };
-    let Ok(mut cache) = Cache::new(rt.alloc(), transfers, 0, &large_blocks(ZONES), frames) else {
+    let Ok(mut cache) = Cache::new(rt.alloc(), transfers, 0, volume, frames) else {
         return say(rt, "no memory");
     };
     measure_cache(rt, &mut cache)
@@ -72,6 +77,7 @@ fn measure_on<N: Room + Send + Sync + 'static, R: Threads + Wait + Copy + Send +
     reincarnation: Reincarnation<RamDriver>,
     board: Board,
     seat: Seat,
+    volume: &Geometry,
     frames: u32,
 ) -> io::Result<()>
     requires range { (N.opening.first ≡ 0) × (N.opening.count ≡ 32768) }
@@ -94,24 +100,34 @@ fn measure_on<N: Room + Send + Sync + 'static, R: Threads + Wait + Copy + Send +
         seat,
         gate,
     )?;
-    let measured = measure_over(rt, link, frames);
+    let measured = measure_over(rt, link, volume, frames);
     let _ = running.stop(&waits);
     measured
 }
 
-/// Measures a cache of so many frames.
+/// Measures a cache of so many frames for a volume of at most 16 MiB.
 pub(crate) fn measure_frames<R: Threads + Wait + Copy + Send + Sync + 'static>(
     rt: &HostRuntime,
     waits: R,
+    volume: &Geometry,
     frames: u32,
 ) -> io::Result<()> {
     let alloc = rt.alloc();
-    eprintln!(*rt; "{frames} frames")?;
+    eprintln!(*rt; "{frames} frames of {} bytes", volume.block_size)?;
     let image = vec![in alloc; 0u8; 16777216]?;
     let supply = vec![in alloc; driver()]?;
     let Ok(reincarnation) = Reincarnation::new(alloc, Policy::default(), supply) else {
         return say(rt, "no memory");
     };
     let (board, seat) = Board::new(alloc)?;
-    measure_on::<Brand, R>(rt, waits, &image, reincarnation, board, seat, frames)
+    measure_on::<Brand, R>(
+        rt,
+        waits,
+        &image,
+        reincarnation,
+        board,
+        seat,
+        volume,
+        frames,
+    )
 }
