@@ -1,6 +1,6 @@
 //! Playing scripts against a server of their own, from the bytes of their files to the lines of their answers and the image that is left.
 
-ghost use Rattle.std.specs.Prelude.{◌≡◌, true, IfOk, IfErr, map, Some, None, if◌then◌else◌};
+ghost use Rattle.std.specs.Prelude.{◌≡◌, true, IfOk, IfErr, IfSome, OnOk, OnErr, map, Some, None, if◌then◌else◌};
 ghost use Rattle.std.specs.Option.{option_map};
 ghost use Rattle.std.specs.Bool.{OnTrue, OnFalse};
 ghost use Rattle.std.specs.Io.KnownBytes.{Appends};
@@ -16,9 +16,9 @@ ghost use Rattle.script_text.specs.Files.{AreScripts};
 use bdev::BlockDriver;
 use gate::Gate;
 use mounting::StartRefusal;
-use output::{OutputRefusal, Told, tell};
+use output::{OutputRefusal, Told, tell, write_text};
 use reincarnate::policy::Setup;
-use reply_text::answers::write_sessions;
+use reply_text::answers::{Played, write_sessions};
 use script_play::turns::has_eio;
 use script_play::{Came, ServiceRefusal, play_scripts};
 use script_text::script::Script;
@@ -216,9 +216,35 @@ fn show<W: Write, E: Write>(alloc: Global, came: &Came, out: &mut W, err: &mut E
         × Tells (Some (refusal_text refusal)) told (E.contents err.old) (E.contents err.new) × (is_of_output refusal ≡ true)
         × AppendsPart (W.contents out.old) (W.contents out.new) (sessions_text came.now.sessions.items) }
 {
-    match write_sessions(alloc, out, came.sessions.as_slice()) {
+    match write_answers(alloc, out, came.sessions.as_slice()) {
         Ok(()) => status_of(was_given_up(came)),
         Err(refusal) => Status::Refused(tell(alloc, err, &told_as(refusal))),
+    }
+}
+
+/// Writes the answers at once where there is memory for their text, else line by line.
+fn write_answers<W: Write>(
+    alloc: Global,
+    out: &mut W,
+    sessions: &[Played],
+) -> Result<(), OutputRefusal>
+    ensures ok { OnOk result (Appends (W.contents out.old) (W.contents out.new) (sessions_text sessions.now)) }
+    ensures err { OnErr result (AppendsPart (W.contents out.old) (W.contents out.new) (sessions_text sessions.now)) }
+{
+    match text_of(alloc, sessions) {
+        Some(text) => write_text(out, text.as_slice()),
+        None => write_sessions(alloc, out, sessions),
+    }
+}
+
+/// The text of the answers; none where there is no memory for it.
+fn text_of(alloc: Global, sessions: &[Played]) -> Option<Vec<u8>>
+    ensures { IfSome result (λ text. text.items ≡ sessions_text sessions.now) }
+{
+    let mut text = Vec::new(alloc);
+    match write_sessions(alloc, &mut text, sessions) {
+        Ok(()) => Some(text),
+        Err(_) => None,
     }
 }
 
