@@ -57,7 +57,8 @@ abbrev pub AreUnread : Option (Bor (List ℕ)) → Bor (List ℕ) → List File 
 AreUnread None name scripts refusal = refusal ≡ CannotRead name
 AreUnread (Some bytes) name scripts refusal = files.IsRefused scripts refusal
 
--- why nothing is played, in the order in which faults are looked for
+-- why nothing is told of what came of scripts, in the order in which faults are looked for; where the service is refused calls may have
+-- been made
 abbrev pub IsUnplayed : File → List File → Setup → List DriverState → PlayRefusal → Type 0
 IsUnplayed image scripts setup supply (Files refusal) = AreUnread image.bytes image.name scripts refusal
 IsUnplayed image scripts setup supply (Start refusal) =
@@ -81,8 +82,8 @@ is_of_output OutOfMemory = true
 is_of_output NotWritten = true
 is_of_output _ = false
 
--- nothing went out, and no image was left: nothing was played, or memory ended before all was; or the scripts were played, a part of their
--- sessions' text went out, and the image was left
+-- nothing went out, and no image was left: nothing was played, or memory ended once calls were made; or the scripts were played, a part of
+-- their sessions' text went out, and the image was left
 abbrev pub IsCutShort : File → List File → Setup → List DriverState → PlayRefusal → Type 0 → (List ℕ → Type 0) → Option (List ℕ) → Type 0
 IsCutShort image scripts setup supply refusal Nothing Part left =
     (Nothing × (left ≡ None) × IsUnplayed image scripts setup supply refusal)
