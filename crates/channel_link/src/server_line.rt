@@ -1,5 +1,5 @@
 //! The server's line: each answer on it bears the endpoint of the driver whose end it was sent by.
-ghost use Rattle.std.specs.Prelude.{◌≡◌, ◌<◌, [], ◌∷◌, IfOk, IfSome, IfNone, true};
+ghost use Rattle.std.specs.Prelude.{◌≡◌, ◌<◌, [], ◌∷◌, IfOk, IfSome, IfNone, OnErr, true};
 ghost use Rattle.crossbeam_channel.specs.Claims.{view, IsSeatAt};
 ghost use Rattle.crossbeam_channel.specs.Ends.{sends_on};
 ghost use Rattle.channel_link.specs.News.{reader, driver, Bears, incoming_of};
@@ -159,9 +159,12 @@ fn spare(
 }
 
 impl NewsSender {
-    /// An end for this endpoint.
+    /// An end for this endpoint. This one stays as it is: what it sent, and the endpoint that its answers bear. An error: no memory was
+    /// found.
     pub fn another(&mut self, endpoint: Endpoint) -> Result<NewsSender, AllocError>
-        ensures { IfOk result (λ d. (d.endpoint ≡ endpoint) × (view d.pass ≡ driver endpoint [])) }
+        ensures made { IfOk result (λ d. (d.endpoint ≡ endpoint) × (view d.pass ≡ driver endpoint [])) }
+        ensures stays { (self.new.endpoint ≡ self.old.endpoint) × (view self.new.pass ≡ view self.old.pass) }
+        ensures refused { OnErr result (self.new ≡ self.old) }
     {
         let sender = self.sender.try_clone()?;
         let pass = spare(&self.sender, &mut self.pass, endpoint);

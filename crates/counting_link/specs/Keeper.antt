@@ -46,3 +46,7 @@ begins_further first next last a b = record {
   later = b.later ++ a.later;
   is = b.is ∙ ap (λ (l : List Mark). b.later ++ l) a.is ∙ sym (append_assoc b.later a.later first);
 }
+
+-- numbers that stay, and stay further, stay
+abbrev pub stays_further : (first next last : List ℕ) → next ≡ first → last ≡ next → last ≡ first
+stays_further first next last a b = b ∙ a

@@ -1,6 +1,6 @@
 //! A link that counts on the board what goes over another link.
 
-ghost use Rattle.std.specs.Prelude.{◌≡◌, ◌∷◌, [], List, Some, IfOk, if◌then◌else◌};
+ghost use Rattle.std.specs.Prelude.{◌≡◌, ◌∷◌, [], List, Some, IfOk, refl, if◌then◌else◌};
 ghost use Rattle.std.specs.Arc.{arc_value};
 ghost use Rattle.records.specs.Marks.{Mark, Took, IsBeginning};
 ghost use Rattle.records.specs.Opening.{Opening};
@@ -10,7 +10,7 @@ ghost use Rattle.board.specs.View.{IsKeeper, opener};
 ghost use Rattle.board.specs.Steps.{SessionLearns};
 ghost use Rattle.file_server.specs.Leaving.{IsEndLast};
 ghost use Rattle.heard.specs.Heard.{IsHeard};
-ghost use Rattle.counting_link.specs.Keeper.{record_of, numbers_of, begins_itself, begins_further};
+ghost use Rattle.counting_link.specs.Keeper.{record_of, numbers_of, begins_itself, begins_further, stays_further};
 
 use crate::keeper::Keeper;
 use crate::recorder::Recorder;
@@ -82,8 +82,9 @@ impl<N: Room, L: Link> Link for Noting<N, L> {
     ghost truth = { λ l v marks. L.truth l.link v marks × (record_of l.keeper ≡ marks) × IsHeard l.heard marks
         × IsEndLast (L.history l.link) };
 
-    // The link in it goes on, and the record grows.
-    ghost goes_on = { λ l m. L.goes_on l.link m.link × IsBeginning (record_of l.keeper) (record_of m.keeper) };
+    // The link in it goes on, the record grows, and the numbers of sessions stay.
+    ghost goes_on = { λ l m. L.goes_on l.link m.link × IsBeginning (record_of l.keeper) (record_of m.keeper)
+        × (numbers_of m.keeper ≡ numbers_of l.keeper) };
 
     fn post(&mut self, to: Endpoint, request: &BlockRequest) -> Result<(), LinkRefusal> {
         let posted = self.link.post(to, request);
@@ -115,11 +116,12 @@ impl<N: Room, L: Link> Link for Noting<N, L> {
         if self.ended { 0 } else { self.link.budget() }
     }
 
-    ghost stays = { λ l. (L.stays l.link, begins_itself (record_of l.keeper)) };
+    ghost stays = { λ l. (L.stays l.link, begins_itself (record_of l.keeper), refl) };
 
     ghost joins = { λ l m n first next. (
       L.joins l.link m.link n.link first.0 next.0,
       begins_further (record_of l.keeper) (record_of m.keeper) (record_of n.keeper) first.1 next.1,
+      stays_further (numbers_of l.keeper) (numbers_of m.keeper) (numbers_of n.keeper) first.2 next.2,
     ) };
 }
 
@@ -177,6 +179,8 @@ impl<N: Room, L: Steady + Supplied + Drop> Recorder<N> for Noting<N, L> {
     ghost is_record = { λ link v older truth. truth.1 };
 
     ghost is_roomy = { λ link. L.has_room link.link };
+
+    ghost numbers_stay = { λ l m goes. goes.2 };
 
     ghost end_last = { λ link v older truth. truth.3 };
 }

@@ -36,7 +36,7 @@ pub trait Recorder<N: Room>: Supplied + Drop {
         reply: &Reply,
     ) -> u64
         requires { (caller.old.table ≡ N.table) × (caller.old.view.number ≡ Some who.session) }
-        ensures same { SameLink Self.Link self.old self.new }
+        ensures same { SameLink Self.Link Self.runs_on self.old self.new }
         ensures truth { (v : Opening) (older : List Mark) → Self.truth self.old v older
             → Self.truth self.new v (Took who now call.now (answer_of reply.now) ∷ older) }
         ensures marks { marks self.new ≡ Took who now call.now (answer_of reply.now) ∷ marks self.old }
@@ -50,7 +50,7 @@ pub trait Recorder<N: Room>: Supplied + Drop {
     /// The caller has then seen the whole record. Gives how many counted marks it has, modulo 2^64.
     fn show(&mut self, caller: &mut Seat) -> u64
         requires { caller.old.table ≡ N.table }
-        ensures same { SameLink Self.Link self.old self.new }
+        ensures same { SameLink Self.Link Self.runs_on self.old self.new }
         ensures truth { (v : Opening) (older : List Mark) → Self.truth self.old v older → Self.truth self.new v older }
         ensures marks { marks self.new ≡ marks self.old }
         ensures numbers { numbers self.new ≡ numbers self.old }
@@ -62,7 +62,7 @@ pub trait Recorder<N: Room>: Supplied + Drop {
 
     /// A Flush was taken between two calls.
     fn note_flush(&mut self)
-        ensures same { SameLink Self.Link self.old self.new }
+        ensures same { SameLink Self.Link Self.runs_on self.old self.new }
         ensures truth { (v : Opening) (older : List Mark) → Self.truth self.old v older → Self.truth self.new v (Flush ∷ older) }
         ensures marks { marks self.new ≡ Flush ∷ marks self.old }
         ensures numbers { numbers self.new ≡ numbers self.old };
@@ -78,7 +78,7 @@ pub trait Recorder<N: Room>: Supplied + Drop {
     /// A seat with the lowest number that no session has, if there is one: its session has seen the whole record, and made no call. With it
     /// comes how many counted marks that has, modulo 2^64.
     fn admit(&mut self) -> Option<(u8, Seat, u64)>
-        ensures same { SameLink Self.Link self.old self.new }
+        ensures same { SameLink Self.Link Self.runs_on self.old self.new }
         ensures truth { (v : Opening) (older : List Mark) → Self.truth self.old v older → Self.truth self.new v older }
         ensures marks { marks self.new ≡ marks self.old }
         ensures full { IfNone result ((numbers self.new ≡ numbers self.old) × AreAllUsed (numbers self.old)) }
@@ -89,7 +89,7 @@ pub trait Recorder<N: Room>: Supplied + Drop {
     /// A session ends: its number is free again.
     fn release(&mut self, number: u8, caller: Seat)
         requires { (caller.table ≡ N.table) × (caller.view.number ≡ Some number) × (number < 64) }
-        ensures same { SameLink Self.Link self.old self.new }
+        ensures same { SameLink Self.Link Self.runs_on self.old self.new }
         ensures truth { (v : Opening) (older : List Mark) → Self.truth self.old v older → Self.truth self.new v older }
         ensures marks { marks self.new ≡ marks self.old }
         ensures numbers { numbers self.new ≡ without (Some number) (numbers self.old) };
@@ -99,6 +99,9 @@ pub trait Recorder<N: Room>: Supplied + Drop {
 
     // It always has room for what is done on a message.
     ghost is_roomy: { (link : Self) → 33 ≤ Self.room link };
+
+    // The numbers that sessions have stay while it goes on: what a server posts and takes gives and frees none.
+    ghost numbers_stay: { (l m : Self) → Self.goes_on l m → numbers m ≡ numbers l };
 
     // Where it guarantees a record, it took nothing after an End.
     ghost end_last: { (link : Self) (v : Opening) (older : List Mark) → Self.truth link v older → IsEndLast (Self.Link.history link) };

@@ -1,2 +1,3 @@
 pub mod Stopped
+pub mod Spent
 pub mod Ran

@@ -2,7 +2,9 @@
 
 ghost use Rattle.std.specs.Prelude.{◌≡◌, List, length};
 ghost use Rattle.records.specs.Marks.{Mark};
-ghost use Rattle.shared_server.specs.Held.{IsCutAtEnd};
+ghost use Rattle.records.specs.Opening.{Opening};
+ghost use Rattle.shared_server.specs.Held.{HasEnded, IsCutAtEnd};
+ghost use Rattle.launch.specs.Spent.{IsSpent};
 
 use channel_link::link::ChannelLink;
 use counting_link::Noting;
@@ -13,10 +15,11 @@ use std::sync::Wait;
 use tree::Outcome;
 
 /// Where a session says of a call that it was cut exactly once the link to the drivers had ended, and that link is one to drivers in
-/// threads, its budget was spent then: it had received 2^40 messages, which is all that it gives.
+/// threads, its budget was spent then: it had received 2^40 messages, which is all that it gives. So it had wherever it has ended.
 pub fn cut_once_spent<N: Room, R: Wait + Copy>()
-    ensures { (outcome : Outcome) (seen : List Mark)
-        → (is : IsCutAtEnd ⟦<Noting<N, ChannelLink<R>> as Link>⟧ ⟦<Noting<N, ChannelLink<R>> as Recorder<N>>⟧.marks outcome seen)
+    ensures cut { (v : Opening) (outcome : Outcome) (seen : List Mark)
+        → (is : IsCutAtEnd ⟦<Noting<N, ChannelLink<R>> as Link>⟧ ⟦<Noting<N, ChannelLink<R>> as Recorder<N>>⟧.marks v outcome seen)
         → outcome ≡ Outcome.Cut
         → (⟦<ChannelLink<R> as Link>⟧.budget_left is.line.link ≡ 0) × (length is.line.link.line ≡ 1099511627776) }
+    ensures ended { (v : Opening) (seen : List Mark) → HasEnded ⟦<Noting<N, ChannelLink<R>> as Link>⟧ v seen → IsSpent seen }
 {}

@@ -9,7 +9,7 @@ use Rattle.launch.specs.Ran.{HasRun, IsNotStarted}
 use Rattle.ninep_stream.specs.declared.answering.StreamRefusal.{StreamRefusal}
 use Rattle.mount_service.specs.Left.{IsLeftBy}
 use Rattle.mount_service.specs.declared.mount.Status.{Status}
-use Rattle.mount_service.specs.declared.mount.Status.TheVariants.{Done, Refused, GivenUp}
+use Rattle.mount_service.specs.declared.mount.Status.TheVariants.{Done, Refused, GivenUp, Cut}
 use Rattle.mount_service.specs.declared.mount.MountRefusal.{MountRefusal}
 use Rattle.mount_service.specs.declared.mount.MountRefusal.TheVariants as no
 
@@ -29,13 +29,14 @@ IsUnmounted image name setup supply (no.NoImage refusal) =
     (bytes : Bor (List ℕ)) × (image ≡ Some bytes) × HasRun bytes.now setup supply (λ g v. ⊤)
 IsUnmounted image name setup supply (no.Stream refusal) = ⊥
 IsUnmounted image name setup supply no.GivenUp = ⊥
+IsUnmounted image name setup supply no.Cut = ⊥
 
 -- how a mount ended that left an image: not all was answered, or the last sync wasn't made, or neither
 abbrev pub IsStatus : Result (Unit {0}) StreamRefusal → LastSync → Status → Type 0
 IsStatus (Err refusal) last (Refused told) = ⊤
 IsStatus (Ok done) sync.Done Done = ⊤
 IsStatus (Ok done) sync.GivenUp GivenUp = ⊤
-IsStatus (Ok done) sync.Cut GivenUp = ⊤
+IsStatus (Ok done) sync.Cut Cut = ⊤
 IsStatus _ _ _ = ⊥
 
 -- the status of the process
@@ -43,6 +44,7 @@ abbrev pub status_number : Status → ℕ
 status_number Done = 0
 status_number (Refused told) = 1
 status_number GivenUp = 3
+status_number Cut = 3
 
 -- nothing was left, and a line was to say why
 abbrev pub IsRefused : Status → Type 0

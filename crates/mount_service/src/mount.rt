@@ -4,7 +4,7 @@ ghost use Rattle.std.specs.Prelude.{◌≡◌, IfErr, IfNone, IfOk, IfSome, map}
 ghost use Rattle.std.specs.Bool.{OnTrue, OnFalse};
 ghost use Rattle.mount_service.specs.Mounted.{IsMounted, IsRefused, IsStatus, IsUnmounted, status_number};
 
-use crate::program::{Came, NoImage, Streams};
+use crate::program::{Came, Streams};
 use crate::starting::answer_messages;
 use bdev::BlockDriver;
 use gate::Gate;
@@ -12,6 +12,7 @@ use launch::StartRefusal;
 use ninep_stream::answering::StreamRefusal;
 use output::{Told, tell};
 use reincarnate::policy::Setup;
+use serve::stopping::NoImage;
 use shared_server::locked::LastSync;
 use std::alloc::Global;
 use std::fmt;
@@ -30,6 +31,8 @@ pub enum Status {
     Refused(Told),
     /// As `Done`, and the device was given up. A line was to say so.
     GivenUp,
+    /// As `Done`, and the last sync was cut, since the link to the drivers had ended. A line was to say so.
+    Cut,
 }
 
 impl Status {
@@ -40,7 +43,7 @@ impl Status {
         match self {
             Status::Done => 0,
             Status::Refused(_) => 1,
-            Status::GivenUp => 3,
+            Status::GivenUp | Status::Cut => 3,
         }
     }
 }
@@ -67,6 +70,8 @@ pub enum MountRefusal<'n> {
     Stream(StreamRefusal),
     /// The device was given up.
     GivenUp,
+    /// The last sync was cut, since the link to the drivers had ended.
+    Cut,
 }
 
 impl fmt::Display for MountRefusal<'_> {
@@ -74,10 +79,10 @@ impl fmt::Display for MountRefusal<'_> {
         match self {
             MountRefusal::CannotRead(name) => write!(f, "cannot read {name}"),
             MountRefusal::Start(refusal) => write!(f, "{refusal}"),
-            MountRefusal::NoImage(NoImage::SessionsLeft) => f.write_str("SessionsLeft"),
-            MountRefusal::NoImage(NoImage::OutOfMemory) => f.write_str("OutOfMemory"),
+            MountRefusal::NoImage(why) => write!(f, "{why}"),
             MountRefusal::Stream(refusal) => write!(f, "{refusal}"),
             MountRefusal::GivenUp => f.write_str("given up"),
+            MountRefusal::Cut => f.write_str("cut"),
         }
     }
 }
@@ -85,8 +90,8 @@ impl fmt::Display for MountRefusal<'_> {
 /// Starts a service on the volume of an image, whose threads ask this gate, answers messages by its sessions until their stream ends, and
 /// stops it. The image's bytes are none where its file of this name couldn't be read.
 ///
-/// Where no service starts, where messages are answered no further, where the device was given up, or where no image is left, a line on
-/// `err` says so. In the second case and the third the image is left all the same.
+/// Where no service starts, where messages are answered no further, where the device was given up, where the last sync was cut, or where no
+/// image is left, a line on `err` says so. But in the first case and the last the image is left all the same.
 pub fn mount<
     R: Threads + Wait + Copy + Send + Sync + 'static,
     D: BlockDriver + 'static,
@@ -190,9 +195,13 @@ fn shown<E: Write>(
     }
     match last_sync {
         LastSync::Done => Status::Done,
-        LastSync::GivenUp | LastSync::Cut => {
+        LastSync::GivenUp => {
             tell(alloc, err, &MountRefusal::GivenUp);
             Status::GivenUp
+        }
+        LastSync::Cut => {
+            tell(alloc, err, &MountRefusal::Cut);
+            Status::Cut
         }
     }
 }

@@ -1,7 +1,7 @@
 //! What is done with a service: its sessions answer the messages of a stream until that ends; then the service is stopped.
 
 ghost use Rattle.std.specs.Prelude.{IfOk, OnOk};
-ghost use Rattle.mount_service.specs.Left.{IsImageOf, IsLeftBy};
+ghost use Rattle.mount_service.specs.Left.{IsLeftBy};
 ghost use Rattle.mount_service.specs.Spoken.{IsSpoken};
 
 use crate::sessions::ServiceSessions;
@@ -11,7 +11,7 @@ use file_server::FileServer;
 use ninep_server::sessions::Sessions;
 use ninep_stream::answering::{StreamRefusal, answer_all};
 use serve::service::Service;
-use serve::stopping::StopRefusal;
+use serve::stopping::{NoImage, image_left};
 use shared_server::locked::LastSync;
 use std::alloc::Global;
 use std::io::{BufRead, Write};
@@ -28,15 +28,6 @@ pub struct Streams<I, O, C> {
     pub output: O,
     /// What the time of a call is.
     pub clock: C,
-}
-
-/// Why no image comes of a service that answered messages.
-#[derive(Clone, Copy, Debug, PartialEq, Eq)]
-pub enum NoImage {
-    /// The service isn't stopped, since a session is left.
-    SessionsLeft,
-    /// No memory was found for the image.
-    OutOfMemory,
 }
 
 /// What came of the messages of a stream.
@@ -71,7 +62,7 @@ pub(crate) fn answer_on<
 {
     let mut streams = streams;
     let answered = answer_by(alloc, &service, &mut streams);
-    let (last_sync, image) = image_of(service.stop(alloc))?;
+    let (last_sync, image) = image_left(service.stop(alloc))?;
     Ok(Came {
         streams,
         answered,
@@ -107,19 +98,4 @@ fn answer_by<
     );
     sessions.leave();
     answered
-}
-
-/// What came of the last sync of a service that was stopped, and the image.
-fn image_of<T: Drop>(
-    stopped: Result<Vec<u8>, StopRefusal<T>>,
-) -> Result<(LastSync, Vec<u8>), NoImage>
-    ensures { IfOk result (λ came. IsImageOf stopped came.0 came.1) }
-{
-    match stopped {
-        Ok(image) => Ok((LastSync::Done, image)),
-        Err(StopRefusal::GivenUp(image)) => Ok((LastSync::GivenUp, image)),
-        Err(StopRefusal::LinkEnded(image)) => Ok((LastSync::Cut, image)),
-        Err(StopRefusal::SessionsLeft(_)) => Err(NoImage::SessionsLeft),
-        Err(StopRefusal::OutOfMemory(_)) => Err(NoImage::OutOfMemory),
-    }
 }

@@ -14,7 +14,7 @@ ghost use Rattle.launch.specs.Stopped.{IsMountedTruly, IsStopped};
 ghost use Rattle.launch.specs.Ran.{HasRun, IsNotStarted};
 ghost use Rattle.mount_service.specs.Left.{IsLeftBy};
 
-use crate::program::{Came, NoImage, Streams, answer_on};
+use crate::program::{Came, Streams, answer_on};
 use bdev::BlockDriver;
 use board::{Board, Seat};
 use counting_link::recorder::Recorder;
@@ -28,6 +28,7 @@ use mounting::mounted::mount;
 use mounting::{Prepared, prepare};
 use reincarnate::policy::Setup;
 use serve::service::Service;
+use serve::stopping::NoImage;
 use std::alloc::Global;
 use std::io::{BufRead, Write};
 use std::marker::Brand;

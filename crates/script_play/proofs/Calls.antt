@@ -34,11 +34,11 @@ call_vouched truth g v old who now call outcome new h volume sound guaranteed =
     ((volume, λ tree first. (sound, h.legal tree first)), guaranteed)
 
 -- a call that was cut came once the link had ended
-pub cut_ended : {L : Type 0} (link : LinkWords L) (marks : L → List Mark) (outcome : Outcome) (seen : List Mark)
-    → IsCutAtEnd link marks outcome seen → cuts outcome ≡ true
-    → HasEnded link marks seen
-cut_ended link marks Cut seen h is = record { line = h.line; kept = h.kept; ended = h.exactly.0 refl }
-cut_ended link marks (Reply r) seen h is = absurd (cc)
+pub cut_ended : {L : Type 0} (link : LinkWords L) (marks : L → List Mark) (v : Opening) (outcome : Outcome) (seen : List Mark)
+    → IsCutAtEnd link marks v outcome seen → cuts outcome ≡ true
+    → HasEnded link v seen
+cut_ended link marks v Cut seen h is = record { line = h.line; guaranteed = h.guaranteed; ended = h.exactly.0 refl }
+cut_ended link marks v (Reply r) seen h is = absurd (cc)
 
 -- a session that was made has made no call
 pub made_unplayed : {L : Type 0} (truth : L → Truth) (g : Geometry) (v : Opening) (uid gid : ℕ) (s : SessionState) (marks : List Mark)

@@ -1,6 +1,7 @@
 //! Making the sessions of scripts.
 
-ghost use Rattle.std.specs.Prelude.{◌≡◌, All, IfOk, map};
+ghost use Rattle.std.specs.Prelude.{◌≡◌, All, IfErr, IfOk, map};
+ghost use Rattle.shared_server.specs.Held.{IsNotAdmitted};
 ghost use Rattle.script_text.specs.Said.{said};
 ghost use Rattle.script_play.specs.Turns.{IsUnplayed, asked};
 ghost use Rattle.script_play.specs.Vouched.{Vouched};
@@ -30,7 +31,8 @@ pub fn admit<
     service: &Service<N, R, L, S>,
     script: &'s Script<'_>,
 ) -> Result<Turn<'s, ScriptSession<N, R, L, S>>, SessionRefusal>
-    ensures { IfOk result (λ turn. IsAdmittedFor (Vouched L.truth N.geometry N.opening) (λ s. s.0) (said script.now) turn) }
+    ensures admitted { IfOk result (λ turn. IsAdmittedFor (Vouched L.truth N.geometry N.opening) (λ s. s.0) (said script.now) turn) }
+    ensures refused { IfErr result (IsNotAdmitted L.Link L.numbers N.opening) }
 {
     let session = service.session(script.uid, script.gid)?;
     let calls = script.calls(alloc)?;
@@ -54,6 +56,7 @@ pub fn admit_all<
 ) -> Result<Vec<Turn<'s, ScriptSession<N, R, L, S>>>, SessionRefusal>
     ensures unplayed { IfOk result (λ turns. All (λ turn. IsUnplayed (Vouched L.truth N.geometry N.opening) turn.client.0) turns.items) }
     ensures asked { IfOk result (λ turns. map (asked (λ s. s.0)) turns.items ≡ map said scripts.now) }
+    ensures refused { IfErr result (IsNotAdmitted L.Link L.numbers N.opening) }
 {
     let mut turns = Vec::new(alloc);
     for script in scripts {

@@ -1,6 +1,6 @@
 //! Scripts played at one time, each in a session of one service, which is stopped then.
 
-ghost use Rattle.std.specs.Prelude.{◌≡◌, Some, IfErr, IfOk, map};
+ghost use Rattle.std.specs.Prelude.{Some, IfErr, IfOk, map};
 ghost use Rattle.std.specs.Option.{option_map};
 ghost use Rattle.shared_server.specs.Held.{HasEnded};
 ghost use Rattle.serve.specs.Stopping.{IsLastImage};
@@ -8,7 +8,7 @@ ghost use Rattle.shared_server.specs.Finishing.{sync_of};
 ghost use Rattle.script_text.specs.Said.{said};
 ghost use Rattle.script_play.specs.Turns.{ArePlayed, seen_by};
 ghost use Rattle.script_play.specs.Vouched.{Vouched};
-ghost use Rattle.script_play.specs.Served.{AreServed, IsImageOf, service_text};
+ghost use Rattle.script_play.specs.Served.{AreServed, IsUnservedBy, service_text};
 
 use crate::admitting::admit_all;
 use crate::script_session::ScriptSession;
@@ -19,7 +19,7 @@ use file_server::FileServer;
 use reply_text::answers::Played;
 use script_text::script::Script;
 use serve::service::Service;
-use serve::stopping::StopRefusal;
+use serve::stopping::{NoImage, image_left};
 use shared_server::locked::LastSync;
 use shared_server::refusal::SessionRefusal;
 use std::alloc::Global;
@@ -32,10 +32,8 @@ use std::thread::Threads;
 pub enum ServiceRefusal {
     /// The service makes no session for a script, or no memory was found for its answers.
     NoSession(SessionRefusal),
-    /// The service isn't stopped, since a session is left.
-    SessionsLeft,
-    /// No memory was found for the image.
-    NoImage,
+    /// The service leaves no image.
+    NoImage(NoImage),
 }
 
 impl fmt::Display for ServiceRefusal {
@@ -44,8 +42,7 @@ impl fmt::Display for ServiceRefusal {
     fn fmt<W: fmt::Write>(&self, f: &mut fmt::Formatter<W>) -> fmt::Result {
         match self {
             ServiceRefusal::NoSession(refusal) => write!(f, "{refusal}"),
-            ServiceRefusal::SessionsLeft => f.write_str("SessionsLeft"),
-            ServiceRefusal::NoImage => f.write_str("OutOfMemory"),
+            ServiceRefusal::NoImage(why) => write!(f, "{why}"),
         }
     }
 }
@@ -61,7 +58,8 @@ pub struct Came {
     pub image: Vec<u8>,
 }
 
-/// Plays scripts on a service at one time, each in a session and a thread of its own, and stops the service.
+/// Plays scripts on a service at one time, each in a session and a thread of its own, and stops the service. The service's refusal of a
+/// session is told as it is.
 pub fn play_on<
     N: Room + Send + Sync,
     R: Threads + Wait + Copy + Send + Sync,
@@ -73,16 +71,19 @@ pub fn play_on<
     service: Service<N, R, L, S>,
     scripts: &[Script<'_>],
 ) -> Result<Came, ServiceRefusal>
-    ensures { IfOk result (λ came.
-        AreServed N.geometry N.opening (map said scripts.now) came.sessions.items came.last_sync came.image.items) }
+    ensures served { IfOk result (λ came. AreServed (HasEnded L.Link N.opening) N.geometry N.opening (map said scripts.now)
+        came.sessions.items came.last_sync came.image.items) }
+    ensures unserved { IfErr result (IsUnservedBy L.Link L.numbers N.opening) }
 {
     let (sessions, last) = play_all(alloc, rt, &service, scripts)?;
-    let (last_sync, image) = stop(alloc, service, last)?;
-    Ok(Came {
-        sessions,
-        last_sync,
-        image,
-    })
+    match stop(alloc, service, last) {
+        Ok((last_sync, image)) => Ok(Came {
+            sessions,
+            last_sync,
+            image,
+        }),
+        Err(why) => Err(ServiceRefusal::NoImage(why)),
+    }
 }
 
 /// Plays scripts, each in a session and a thread of its own; all sessions are made before a call is. What came of them, and the last
@@ -98,8 +99,9 @@ fn play_all<
     service: &Service<N, R, L, S>,
     scripts: &[Script<'_>],
 ) -> Result<(Vec<Played>, Option<ScriptSession<N, R, L, S>>), ServiceRefusal>
-    ensures { IfOk result (λ came. ArePlayed (Vouched L.truth N.geometry N.opening) (HasEnded L.Link L.marks) (map said scripts.now)
-        came.0.items (seen_by (option_map (λ s. s.0) came.1))) }
+    ensures played { IfOk result (λ came. ArePlayed (Vouched L.truth N.geometry N.opening) (HasEnded L.Link N.opening)
+        (map said scripts.now) came.0.items (seen_by (option_map (λ s. s.0) came.1))) }
+    ensures unserved { IfErr result (IsUnservedBy L.Link L.numbers N.opening) }
 {
     let turns = match admit_all(alloc, service, scripts) {
         Ok(turns) => turns,
@@ -116,27 +118,12 @@ fn stop<N: Room, R: Threads + Wait + Copy, L: Recorder<N>, S: FileServer<L>>(
     alloc: Global,
     service: Service<N, R, L, S>,
     last: Option<ScriptSession<N, R, L, S>>,
-) -> Result<(LastSync, Vec<u8>), ServiceRefusal>
+) -> Result<(LastSync, Vec<u8>), NoImage>
     ensures { IfOk result (λ came.
         IsLastImage L.Link N.geometry N.opening (seen_by (option_map (λ s. s.0) last)) (sync_of came.0) came.1.items) }
 {
     let Some(session) = last else {
-        return image_of(service.stop(alloc));
+        return image_left(service.stop(alloc));
     };
-    image_of(service.stop_after(alloc, session.session()))
-}
-
-/// What came of the last sync of a service that was stopped, and the image.
-fn image_of<T: Drop>(
-    stopped: Result<Vec<u8>, StopRefusal<T>>,
-) -> Result<(LastSync, Vec<u8>), ServiceRefusal>
-    ensures { IfOk result (λ came. IsImageOf stopped came.0 came.1) }
-{
-    match stopped {
-        Ok(image) => Ok((LastSync::Done, image)),
-        Err(StopRefusal::GivenUp(image)) => Ok((LastSync::GivenUp, image)),
-        Err(StopRefusal::LinkEnded(image)) => Ok((LastSync::Cut, image)),
-        Err(StopRefusal::SessionsLeft(_)) => Err(ServiceRefusal::SessionsLeft),
-        Err(StopRefusal::OutOfMemory(_)) => Err(ServiceRefusal::NoImage),
-    }
+    image_left(service.stop_after(alloc, session.session()))
 }

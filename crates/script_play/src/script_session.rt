@@ -40,7 +40,7 @@ impl<
 
     ghost vouches = { λ seen. Vouched L.truth N.geometry N.opening seen };
 
-    ghost ended = { λ seen. HasEnded L.Link L.marks seen };
+    ghost ended = { λ seen. HasEnded L.Link N.opening seen };
 
     fn number(&self) -> u8 {
         self.0.number()

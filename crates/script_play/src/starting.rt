@@ -14,7 +14,9 @@ ghost use Rattle.board.specs.View.{IsKeeper, opener};
 ghost use Rattle.script_text.specs.Said.{said};
 ghost use Rattle.launch.specs.Stopped.{IsMountedTruly, IsStopped};
 ghost use Rattle.launch.specs.Ran.{HasRun, IsNotStarted};
-ghost use Rattle.script_play.specs.Served.{AreServed};
+ghost use Rattle.launch.specs.Spent.{IsSpent};
+ghost use Rattle.shared_server.specs.Held.{HasEnded};
+ghost use Rattle.script_play.specs.Served.{AreServed, IsUnserved, IsUnservedBy};
 
 use crate::players::{Came, ServiceRefusal, play_on};
 use bdev::BlockDriver;
@@ -24,6 +26,7 @@ use counting_link::room::Room;
 use driver_threads::running::Running;
 use gate::Gate;
 use launch::StartRefusal;
+use launch::ending::cut_once_spent;
 use launch::opened::refusal_of;
 use launch::start::counted_drivers;
 use mounting::mounted::mount;
@@ -63,8 +66,9 @@ fn mount_and_play<
     requires budget { L.Link.budget_left link ≤ 2 ^ 57 }
     requires truth { L.Link.truth link N.opening [] }
     requires drivers { L.runs_on link N.policy N.supply }
-    ensures played { IfOk result (λ o. IfOk o (λ came.
-        AreServed N.geometry N.opening (map said scripts.now) came.sessions.items came.last_sync came.image.items)) }
+    ensures played { IfOk result (λ o. IfOk o (λ came. AreServed (HasEnded L.Link N.opening) N.geometry N.opening (map said scripts.now)
+        came.sessions.items came.last_sync came.image.items)) }
+    ensures unserved { IfOk result (λ o. IfErr o (IsUnservedBy L.Link L.numbers N.opening)) }
     ensures holds { OnOk result (IsMountedTruly L.truth N.geometry N.opening) }
     ensures refused { IfErr result (IsStopped N.opening frames) }
 {
@@ -105,7 +109,8 @@ fn start_and_play<
     requires prepared { IsPrepared image.now setup.now (map D.state supply.items) prepared.range }
     requires contents { prepared.media ≡ opening_media N.opening }
     ensures played { IfOk result (λ o. HasRun image.now setup.now (map D.state supply.items) (λ g v. IfOk o (λ came.
-        AreServed g v (map said scripts.now) came.sessions.items came.last_sync came.image.items))) }
+        AreServed IsSpent g v (map said scripts.now) came.sessions.items came.last_sync came.image.items))) }
+    ensures unserved { IfOk result (λ o. IfErr o (IsUnserved IsSpent)) }
     ensures refused { IfErr result (IsStopped (opening_of image.now setup.now.minor prepared.range) setup.now.frames) }
 {
     let Prepared { media, range } = prepared;
@@ -121,6 +126,7 @@ fn start_and_play<
         supply,
         asked,
     )?;
+    cut_once_spent::<N, R>();
     mount_and_play(
         alloc,
         rt,
@@ -137,7 +143,8 @@ fn start_and_play<
 /// Starts a service on the volume in an image, whose threads ask this gate, plays scripts at one time, each in a session and a thread of
 /// its own, and stops the service.
 ///
-/// The service is refused as `launch::start::serve` refuses it, and then nothing is played; of a service that started no image may come.
+/// The service is refused as `launch::start::serve` refuses it, and then nothing is played; of a service that started no image may come. A
+/// call is told as cut, or the last sync, only once the link to the drivers had received 2^40 messages.
 pub fn play_scripts<
     R: Threads + Wait + Copy + Send + Sync + 'static,
     D: BlockDriver + 'static,
@@ -153,7 +160,8 @@ pub fn play_scripts<
 ) -> Result<Result<Came, ServiceRefusal>, StartRefusal>
     ensures refusal { IfErr result (IsNotStarted image.now setup.now (map D.state supply.items)) }
     ensures played { IfOk result (λ o. HasRun image.now setup.now (map D.state supply.items) (λ g v. IfOk o (λ came.
-        AreServed g v (map said scripts.entry.items) came.sessions.items came.last_sync came.image.items))) }
+        AreServed IsSpent g v (map said scripts.entry.items) came.sessions.items came.last_sync came.image.items))) }
+    ensures unserved { IfOk result (λ o. IfErr o (IsUnserved IsSpent)) }
 {
     let prepared = prepare(alloc, image, setup, &supply)?;
     let (board, seat) = Board::new(alloc)?;

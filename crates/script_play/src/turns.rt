@@ -1,6 +1,6 @@
 //! Sessions whose calls are made at one time.
 
-ghost use Rattle.std.specs.Prelude.{◌≡◌, ◌<◌, ℕ, All, IfOk, Result, length, map, slice_index_or, vec_len};
+ghost use Rattle.std.specs.Prelude.{◌≡◌, ◌<◌, ℕ, All, IfOk, OnErr, Result, length, map, slice_index_or, vec_len};
 ghost use Rattle.std.specs.Option.{option_map};
 ghost use Rattle.std.specs.List.{list_any};
 ghost use Rattle.script_play.specs.Made.{Calls, Plays, cuts, is_eio, has_eio};
@@ -136,8 +136,9 @@ fn play_turn<C: Client>(
     client: &mut C,
     calls: &[TimedCall<'_>],
 ) -> Result<Played, AllocError>
-    ensures { IfOk result (λ played. Plays C.vouches C.ended (C.state client.old) calls.now played.outcomes.items (C.state client.new)
-        × (played.number ≡ (C.state client.old).knows.number)) }
+    ensures played { IfOk result (λ played. Plays C.vouches C.ended (C.state client.old) calls.now played.outcomes.items
+        (C.state client.new) × (played.number ≡ (C.state client.old).knows.number)) }
+    ensures unplayed { OnErr result (client.new ≡ client.old) }
 {
     let number = client.number();
     let outcomes = make_calls(alloc, client, calls)?;
@@ -145,13 +146,14 @@ fn play_turn<C: Client>(
 }
 
 /// Makes these calls in a session, one after the other; from the first that is cut on all are. Without memory for the outcomes none is
-/// made.
+/// made, and the session is as it was.
 pub fn make_calls<C: Client>(
     alloc: Global,
     client: &mut C,
     calls: &[TimedCall<'_>],
 ) -> Result<Vec<Outcome>, AllocError>
-    ensures { IfOk result (λ outcomes. Plays C.vouches C.ended (C.state client.old) calls.now outcomes.items (C.state client.new)) }
+    ensures made { IfOk result (λ outcomes. Plays C.vouches C.ended (C.state client.old) calls.now outcomes.items (C.state client.new)) }
+    ensures none_made { OnErr result (client.new ≡ client.old) }
 {
     let mut outcomes = Vec::with_capacity(alloc, calls.len())?;
     let mut cut = false;

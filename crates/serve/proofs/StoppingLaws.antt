@@ -10,7 +10,7 @@ use Rattle.shared_server.specs.Finishing.{sync_of}
 use Rattle.shared_server.specs.declared.locked.LastSync.{LastSync}
 use Rattle.shared_server.specs.declared.locked.LastSync.TheVariants as sync
 use Rattle.shared_server.proofs.StoppingLaws.{line_from}
-use Rattle.serve.specs.Stopping.{IsImageOutside, IsLastImage, IsLeftAfter, WhyNotSynced}
+use Rattle.serve.specs.Stopping.{IsImageOf, IsImageOutside, IsLastImage, IsLeftAfter, WhyNotSynced}
 use Rattle.serve.specs.declared.stopping.StopRefusal.{StopRefusal}
 use Rattle.serve.specs.declared.stopping.StopRefusal.TheVariants.{SessionsLeft, GivenUp, OutOfMemory, LinkEnded}
 
@@ -48,3 +48,28 @@ why_after link g v seen how is_back (Err (SessionsLeft left)) h l = absurd h
 why_after link g v seen how is_back (Err (GivenUp image)) h l = last_image link g v seen how sync.GivenUp image.items h.0 h.1 l
 why_after link g v seen how is_back (Err (OutOfMemory left)) h l = ((sync_of how, l.0, l.1), h)
 why_after link g v seen how is_back (Err (LinkEnded image)) h l = last_image link g v seen how sync.Cut image.items h.0 h.1 l
+
+-- the image that stopping a service gave is that of the last sync, which went as is told
+pub image_given : {L T : Type 0} (link : LinkWords L) (g : Geometry) (v : Opening) (seen : List Mark) (is_back : T → Type 0)
+    (stopped : Result (Vec ℕ) (StopRefusal T)) (last : LastSync) (image : Vec ℕ) → IsImageOf stopped last image
+    → IfOk stopped (λ i. IsLastImage link g v seen Went i.items)
+    → IfErr stopped (WhyNotSynced link g v seen is_back) → IsLastImage link g v seen (sync_of last) image.items
+image_given link g v seen is_back (Ok i) sync.Done image is ok why = rw is ok
+image_given link g v seen is_back (Ok i) sync.GivenUp image is ok why = absurd is
+image_given link g v seen is_back (Ok i) sync.Cut image is ok why = absurd is
+image_given link g v seen is_back (Err (GivenUp i)) sync.GivenUp image is ok why = rw is why
+image_given link g v seen is_back (Err (LinkEnded i)) sync.Cut image is ok why = rw is why
+image_given link g v seen is_back (Err (GivenUp i)) sync.Done image is ok why = absurd is
+image_given link g v seen is_back (Err (GivenUp i)) sync.Cut image is ok why = absurd is
+image_given link g v seen is_back (Err (LinkEnded i)) sync.Done image is ok why = absurd is
+image_given link g v seen is_back (Err (LinkEnded i)) sync.GivenUp image is ok why = absurd is
+image_given link g v seen is_back (Err (SessionsLeft s)) last image is ok why = absurd is
+image_given link g v seen is_back (Err (OutOfMemory s)) last image is ok why = absurd is
+
+-- and so of what is given out where it is given
+pub image_given_out : {L T E : Type 0} (link : LinkWords L) (g : Geometry) (v : Opening) (seen : List Mark) (is_back : T → Type 0)
+    (stopped : Result (Vec ℕ) (StopRefusal T)) (result : Result (LastSync × Vec ℕ) E)
+    → IfOk result (λ left. IsImageOf stopped left.0 left.1) → IfOk stopped (λ i. IsLastImage link g v seen Went i.items)
+    → IfErr stopped (WhyNotSynced link g v seen is_back) → IfOk result (λ left. IsLastImage link g v seen (sync_of left.0) left.1.items)
+image_given_out link g v seen is_back stopped (Ok left) is ok why = image_given link g v seen is_back stopped left.0 left.1 is ok why
+image_given_out link g v seen is_back stopped (Err e) is ok why = tt

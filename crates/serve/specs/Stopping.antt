@@ -1,5 +1,6 @@
 -- What a service that is stopped leaves.
-use Rattle.std.specs.Prelude.{◌≡◌, ℕ, List, IfSome}
+use Rattle.std.specs.Prelude.{◌≡◌, ℕ, List, Result, Ok, Err, IfSome, codes}
+use Rattle.std.specs.Global.{Vec}
 use Rattle.std.specs.List.{concat}
 use Rattle.layout.specs.declared.Geometry.{Geometry}
 use Rattle.media.specs.Contents.{IsWhole, MediaState}
@@ -12,6 +13,8 @@ use Rattle.shared_server.specs.declared.locked.LastSync.TheVariants as sync
 use Rattle.driver_threads.specs.Confined.{KeepsOutside}
 use Rattle.serve.specs.declared.stopping.StopRefusal.{StopRefusal}
 use Rattle.serve.specs.declared.stopping.StopRefusal.TheVariants.{SessionsLeft, GivenUp, OutOfMemory, LinkEnded}
+use Rattle.serve.specs.declared.stopping.NoImage.{NoImage}
+use Rattle.serve.specs.declared.stopping.NoImage.TheVariants as none
 
 -- the bytes of media that have as many sectors as were handed in, each of 512 bytes, and outside of the volume each as it was handed in
 pub record IsImageOutside (v : Opening) (image : List ℕ) : Type 0 where
@@ -49,3 +52,21 @@ stop_refusal_number (SessionsLeft service) = 1
 stop_refusal_number (GivenUp image) = 2
 stop_refusal_number (OutOfMemory left) = 3
 stop_refusal_number (LinkEnded image) = 4
+
+-- what stopping a service gave: how the last sync went, and the image
+abbrev pub IsImageOf : {S : Type 0} → Result (Vec ℕ) (StopRefusal S) → LastSync → Vec ℕ → Type 0
+IsImageOf (Ok image) sync.Done left = left ≡ image
+IsImageOf (Err (GivenUp image)) sync.GivenUp left = left ≡ image
+IsImageOf (Err (LinkEnded image)) sync.Cut left = left ≡ image
+IsImageOf _ _ _ = ⊥
+
+-- or why it gave none
+abbrev pub IsNoImageOf : {S : Type 0} → Result (Vec ℕ) (StopRefusal S) → NoImage → Type 0
+IsNoImageOf (Err (SessionsLeft service)) none.SessionsLeft = Unit {0}
+IsNoImageOf (Err (OutOfMemory left)) none.OutOfMemory = Unit {0}
+IsNoImageOf _ _ = ⊥
+
+-- the names of the reasons
+abbrev pub no_image_name : NoImage → List ℕ
+no_image_name none.SessionsLeft = codes "SessionsLeft"
+no_image_name none.OutOfMemory = codes "OutOfMemory"

@@ -6,6 +6,8 @@ ghost use Rattle.records.specs.Opening.{contents_at};
 ghost use Rattle.tree.specs.Tree.{Tree};
 ghost use Rattle.records.specs.Legal.{IsAtFirst};
 ghost use Rattle.shared_server.specs.Stopping.{Went};
+ghost use Rattle.records.specs.Session.{SessionState};
+ghost use Rattle.serve.specs.Closing.{HasClosed};
 ghost use Rattle.serve.specs.Stopping.{IsLastImage, WhyNotSynced};
 ghost use Rattle.shared_server.specs.Held.{HoldsIfTrue, IsAdmitted, IsGood, IsGuaranteed, IsHeld, IsNotAdmitted};
 
@@ -136,7 +138,7 @@ impl<N: Room, R: Threads + Wait + Copy, L: Recorder<N>, S: FileServer<L>> Servic
         gid: u16,
     ) -> Result<Session<N, Shared<N, R, L, S>>, SessionRefusal>
         ensures made { IfOk result (λ s. IsAdmitted L.runs_on L.marks L.numbers N.policy N.supply uid gid s) }
-        ensures refused { IfErr result (IsNotAdmitted L.Link L.numbers) }
+        ensures refused { IfErr result (IsNotAdmitted L.Link L.numbers N.opening) }
         ensures guaranteed { IfOk result (λ s. IsGuaranteed L.truth N.opening s.knows.seen) }
         ensures volume { IfOk result (λ s. HoldsIfTrue N.geometry N.opening s.knows.seen) }
         ensures sound { (tree : Tree) → IsAtFirst N.geometry (contents_at N.opening) tree
@@ -217,7 +219,7 @@ impl<N: Room, R: Threads + Wait + Copy, L: Recorder<N>, S: FileServer<L>> Servic
     }
 
     /// Stops the service once this session, which is one of its, has ended: its descriptors are closed first, as `end` does. What `stop`
-    /// says of the image and of each refusal holds then, and the last record goes on from what the session had seen.
+    /// says of the image and of each refusal holds then, and the last record goes on from what the session had seen at its end.
     pub fn stop_after(
         self,
         alloc: Global,
@@ -226,6 +228,8 @@ impl<N: Room, R: Threads + Wait + Copy, L: Recorder<N>, S: FileServer<L>> Servic
         ensures image { IfOk result (λ image. IsLastImage L.Link N.geometry N.opening last.knows.seen Went image.items) }
         ensures refused { IfErr result (WhyNotSynced L.Link N.geometry N.opening last.knows.seen
             (λ left. (left.board ≡ self.board) × (left.shared ≡ self.shared))) }
+        ensures closed { (closed : SessionState) × HasClosed L.Link N.opening last closed
+            × IfOk result (λ image. IsLastImage L.Link N.geometry N.opening closed.knows.seen Went image.items) }
     {
         last.close_all();
         let Session {

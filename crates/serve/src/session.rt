@@ -6,10 +6,10 @@ ghost use Rattle.tree.specs.Tree.{Tree};
 ghost use Rattle.records.specs.Marks.{counted, IsBeginning};
 ghost use Rattle.records.specs.Opening.{contents_at};
 ghost use Rattle.records.specs.Legal.{IsAtFirst};
-ghost use Rattle.records.specs.Session.{caller_of, SessionCallKeeps, DeviceKeeps, MeetKeeps};
+ghost use Rattle.records.specs.Session.{caller_of, SessionCallKeeps, SessionState, DeviceKeeps, MeetKeeps};
 ghost use Rattle.board.specs.Words.{is_given_up};
 ghost use Rattle.file_server.specs.Over.{outcome_of};
-ghost use Rattle.serve.specs.Closing.{ClosesBelow, ClosesOne};
+ghost use Rattle.serve.specs.Closing.{ClosesBelow, ClosesOne, HasClosed, IsFreed, IsLater};
 ghost use Rattle.shared_server.specs.Descriptors.{leaves_open};
 ghost use Rattle.shared_server.specs.Held.{HasEnded, HoldsIfTrue, IsCutAtEnd, IsEioOnceGivenUp, IsGuaranteed, IsSound};
 
@@ -104,7 +104,7 @@ impl<N: Room, R: Wait + Copy, L: Recorder<N>, S: FileServer<L>> Session<N, Share
         ensures guaranteed { IsGuaranteed L.truth N.opening self.new.knows.seen }
         ensures volume { HoldsIfTrue N.geometry N.opening self.new.knows.seen }
         ensures eio { IsEioOnceGivenUp result self.new.knows.seen }
-        ensures cut { IsCutAtEnd L.Link L.marks result self.new.knows.seen }
+        ensures cut { IsCutAtEnd L.Link L.marks N.opening result self.new.knows.seen }
     {
         let shared = &*self.shared;
         let (outcome, seen) = shared
@@ -119,11 +119,10 @@ impl<N: Room, R: Wait + Copy, L: Recorder<N>, S: FileServer<L>> Session<N, Share
     /// Closes a descriptor at the time 0, if the session's calls left it open. Whether that wasn't cut.
     fn close(&mut self, fd: u32) -> bool
         requires { fd < 32 }
-        ensures caller { caller_of self.new ≡ caller_of self.old }
-        ensures seen { IsBeginning self.old.knows.seen self.new.knows.seen }
+        ensures later { IsLater L.truth N.opening self.old self.new }
         ensures closed { OnTrue result (ClosesOne fd (caller_of self.old) self.old.knows.mine self.new.knows.mine) }
         ensures cut { OnFalse result (self.new.knows.mine ≡ self.old.knows.mine) }
-        ensures ended { OnFalse result (HasEnded L.Link L.marks self.new.knows.seen) }
+        ensures ended { OnFalse result (HasEnded L.Link N.opening self.new.knows.seen) }
         ensures open { OnFalse result (leaves_open fd self.old.knows.mine ≡ true) }
     {
         if !self.left_open.has(fd) {
@@ -138,10 +137,11 @@ impl<N: Room, R: Wait + Copy, L: Recorder<N>, S: FileServer<L>> Session<N, Share
     /// wasn't closed is the lowest that it left.
     pub fn close_all(&mut self) -> u32
         ensures bound { result ≤ 32 }
+        ensures later { IsLater L.truth N.opening self.old self.new }
         ensures caller { caller_of self.new ≡ caller_of self.old }
         ensures seen { IsBeginning self.old.knows.seen self.new.knows.seen }
         ensures closed { ClosesBelow result (caller_of self.old) self.old.knows.mine self.new.knows.mine }
-        ensures cut { result < 32 → (leaves_open result self.old.knows.mine ≡ true) × HasEnded L.Link L.marks self.new.knows.seen }
+        ensures cut { result < 32 → (leaves_open result self.old.knows.mine ≡ true) × HasEnded L.Link N.opening self.new.knows.seen }
     {
         for fd in 0..MAX_DESCRIPTORS {
             if !self.close(fd) {
@@ -153,7 +153,10 @@ impl<N: Room, R: Wait + Copy, L: Recorder<N>, S: FileServer<L>> Session<N, Share
 
     /// Ends the session: closes each descriptor that its calls left open, as `close_all` does; then its number is free again. It may wait
     /// for the calls of other sessions.
-    pub fn end(mut self) {
+    pub fn end(mut self)
+        ensures closed { (last : SessionState) × HasClosed L.Link N.opening self last }
+        ensures freed { IsFreed L.marks L.numbers self.knows.number }
+    {
         self.close_all();
         let Session {
             board: _,

@@ -1,14 +1,15 @@
 //! What is left of a service that was stopped.
 
-ghost use Rattle.std.specs.Prelude.{◌≡◌, IfErr, IfOk, IfSome};
+ghost use Rattle.std.specs.Prelude.{◌≡◌, IfErr, IfOk, IfSome, Some};
 ghost use Rattle.media.specs.Contents.{IsWhole};
 ghost use Rattle.driver_threads.specs.Confined.{KeepsOutside};
-ghost use Rattle.serve.specs.Stopping.{IsImageOutside, IsLeftAfter, stop_refusal_number};
+ghost use Rattle.serve.specs.Stopping.{IsImageOf, IsImageOutside, IsLeftAfter, IsNoImageOf, no_image_name, stop_refusal_number};
 
 use counting_link::room::Room;
 use media::Media;
 use shared_server::locked::LastSync;
 use std::alloc::Global;
+use std::fmt;
 
 /// Why a service that is stopped gives no image of a synced volume. `S` is the service.
 #[derive(Drop)]
@@ -35,6 +36,44 @@ impl<S> StopRefusal<S> {
             StopRefusal::OutOfMemory(_) => 3,
             StopRefusal::LinkEnded(_) => 4,
         }
+    }
+}
+
+/// Why no image is left of a service that was to be stopped.
+#[derive(Clone, Copy, Debug, PartialEq, Eq)]
+pub enum NoImage {
+    /// The service isn't stopped, since a session is left.
+    SessionsLeft,
+    /// No memory was found for the image.
+    OutOfMemory,
+}
+
+/// Writes the name.
+impl fmt::Display for NoImage {
+    ghost output = { λ why. Some (no_image_name why) };
+
+    fn fmt<W: fmt::Write>(&self, f: &mut fmt::Formatter<W>) -> fmt::Result {
+        f.write_str(match self {
+            NoImage::SessionsLeft => "SessionsLeft",
+            NoImage::OutOfMemory => "OutOfMemory",
+        })
+    }
+}
+
+/// What stopping a service gave: how its last sync went, and the image as the media stand. Else why there is no image; what came back with
+/// the refusal, the service or its media, is let go.
+pub fn image_left<S: Drop>(
+    stopped: Result<Vec<u8>, StopRefusal<S>>,
+) -> Result<(LastSync, Vec<u8>), NoImage>
+    ensures image { IfOk result (λ left. IsImageOf stopped left.0 left.1) }
+    ensures none { IfErr result (IsNoImageOf stopped) }
+{
+    match stopped {
+        Ok(image) => Ok((LastSync::Done, image)),
+        Err(StopRefusal::GivenUp(image)) => Ok((LastSync::GivenUp, image)),
+        Err(StopRefusal::LinkEnded(image)) => Ok((LastSync::Cut, image)),
+        Err(StopRefusal::SessionsLeft(_)) => Err(NoImage::SessionsLeft),
+        Err(StopRefusal::OutOfMemory(_)) => Err(NoImage::OutOfMemory),
     }
 }
 

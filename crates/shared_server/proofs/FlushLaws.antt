@@ -54,8 +54,8 @@ no_end_flushed (AtLink (Received message) ∷ later) quiet = absurd (true≢fals
 
 -- a Flush, which the link noted before the server was handed it
 pub record Flushed {N S L : Type 0} (room : RoomWords N) (link : LinkWords L) (serving : S → Serving) (line : S → L) (is_ready : S → Type 0)
-    (old mid new : S) : Type 0 where
-  pub same : SameServer link serving line is_ready old mid
+    (runs_on : L → Policy → List DriverState → Type 0) (old mid new : S) : Type 0 where
+  pub same : SameServer link serving line is_ready runs_on old mid
   pub noted : (older : List Mark) → link.truth (line old) room.opening older → link.truth (line mid) room.opening (Flush ∷ older)
   pub absorbs : AbsorbsOver (serving mid) (serving new) (link.truth (line mid)) (link.truth (line new)) incoming.Flush
   pub ready : is_ready new
@@ -64,10 +64,10 @@ pub record Flushed {N S L : Type 0} (room : RoomWords N) (link : LinkWords L) (s
 module _ {N S L : Type 0} (room : RoomWords N) (link : LinkWords L) (serving : S → Serving) (line : S → L) (is_ready : S → Type 0)
     (knows : Call → Type 0) (runs_on : L → Policy → List DriverState → Type 0) (record_in : L → List Mark) where
   -- the record after it
-  abbrev after : (old mid new : S) → Flushed room link serving line is_ready old mid new → List Mark
+  abbrev after : (old mid new : S) → Flushed room link serving line is_ready runs_on old mid new → List Mark
   after old mid new f = marks_after (f.absorbs.keeps.later ++ Absorbed incoming.Flush ∷ []) (record_in (line old))
 
-  stands_flushed : (old mid new : S) (f : Flushed room link serving line is_ready old mid new)
+  stands_flushed : (old mid new : S) (f : Flushed room link serving line is_ready runs_on old mid new)
       → (held : IsHeld room link serving line is_ready knows runs_on record_in old)
       → Stands (serving new) (link.truth (line new)) room.opening held.tree (after old mid new f)
   stands_flushed old mid new f held =
@@ -81,17 +81,17 @@ module _ {N S L : Type 0} (room : RoomWords N) (link : LinkWords L) (serving : S
       } in
       message_stands serving link.truth mid new (line mid) (line new) incoming.Flush room.opening t marks f.absorbs hears
 
-  record_flushed : (old mid new : S) → Kept room link serving line runs_on record_in → (f : Flushed room link serving line is_ready old mid new)
+  record_flushed : (old mid new : S) → Kept room link serving line runs_on record_in → (f : Flushed room link serving line is_ready runs_on old mid new)
       → IsHeld room link serving line is_ready knows runs_on record_in old → record_in (line new) ≡ after old mid new f
   record_flushed old mid new kept f held = kept.is_record (line new) _ (stands_flushed old mid new f held).truth
 
-  ended_flushed : (old mid new : S) (f : Flushed room link serving line is_ready old mid new) → (serving new).ended ≡ (serving old).ended
+  ended_flushed : (old mid new : S) (f : Flushed room link serving line is_ready runs_on old mid new) → (serving new).ended ≡ (serving old).ended
   ended_flushed old mid new f =
       f.absorbs.keeps.leads.ended
       ∙ ap (λ (b : Bool). b || (serving mid).ended) (no_end_flushed f.absorbs.keeps.later f.absorbs.keeps.none_taken)
       ∙ f.same.served.ended
 
-  ends_flushed : (old mid new : S) → Kept room link serving line runs_on record_in → (f : Flushed room link serving line is_ready old mid new)
+  ends_flushed : (old mid new : S) → Kept room link serving line runs_on record_in → (f : Flushed room link serving line is_ready runs_on old mid new)
       → IsHeld room link serving line is_ready knows runs_on record_in old → (serving new).ended ≡ took_end (link.history (line new))
   ends_flushed old mid new kept f held =
       let before : (serving mid).ended ≡ took_end (serving mid).told =
@@ -103,7 +103,7 @@ module _ {N S L : Type 0} (room : RoomWords N) (link : LinkWords L) (serving : S
       ∙ ap took_end (kept.tells new)
 
   -- what is held is held after it
-  pub held_flushed : (old mid new : S) → Kept room link serving line runs_on record_in → Flushed room link serving line is_ready old mid new
+  pub held_flushed : (old mid new : S) → Kept room link serving line runs_on record_in → Flushed room link serving line is_ready runs_on old mid new
       → IsHeld room link serving line is_ready knows runs_on record_in old → IsHeld room link serving line is_ready knows runs_on record_in new
   held_flushed old mid new kept f held =
       let marks = record_in (line old) in
@@ -112,7 +112,7 @@ module _ {N S L : Type 0} (room : RoomWords N) (link : LinkWords L) (serving : S
         ready = f.ready;
         knows_each = held.knows_each;
         ends = ends_flushed old mid new kept f held;
-        drivers = kept.keeps_on (line mid) (line new) f.goes (kept.keeps_on (line old) (line mid) f.same.at_link.goes held.drivers);
+        drivers = kept.keeps_on (line mid) (line new) f.goes (f.same.at_link.runs room.policy room.supply held.drivers);
         tree = held.tree;
         at_first = λ replies.
             let h = held.at_first (true_before (keeps.later ++ Absorbed incoming.Flush ∷ []) (contents_at room.opening) marks

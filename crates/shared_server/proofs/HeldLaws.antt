@@ -54,11 +54,11 @@ pub record Kept {N S L : Type 0} (room : RoomWords N) (link : LinkWords L) (serv
 
 -- a call, and what was done at the link then: an answer was counted
 pub record Called {N S L : Type 0} (room : RoomWords N) (link : LinkWords L) (serving : S → Serving) (line : S → L) (is_ready : S → Type 0)
-    (who : Who) (now : ℕ) (call : Call) (outcome : Outcome) (old mid new : S) : Type 0 where
+    (runs_on : L → Policy → List DriverState → Type 0) (who : Who) (now : ℕ) (call : Call) (outcome : Outcome) (old mid new : S) : Type 0 where
   pub calls : CallsOver (serving old) (serving mid) (link.truth (line old)) (link.truth (line mid)) who now call outcome
   pub ready : is_ready mid
   pub goes : link.goes_on (line old) (line mid)
-  pub same : SameServer link serving line is_ready mid new
+  pub same : SameServer link serving line is_ready runs_on mid new
   pub counted : (older : List Mark) → link.truth (line mid) room.opening older
       → link.truth (line new) room.opening (with_outcome who now call outcome older)
 
@@ -121,7 +121,7 @@ kept_if_cut serving truth old mid l m who now call Cut v t marks c last stood ei
 stands_after : {N S L : Type 0} (room : RoomWords N) (link : LinkWords L) (serving : S → Serving) (line : S → L) (is_ready : S → Type 0)
     (knows : Call → Type 0) (runs_on : L → Policy → List DriverState → Type 0) (record_in : L → List Mark)
     (who : Who) (now : ℕ) (call : Call) (outcome : Outcome) (old mid new : S) → Kept room link serving line runs_on record_in
-    → (c : Called room link serving line is_ready who now call outcome old mid new)
+    → (c : Called room link serving line is_ready runs_on who now call outcome old mid new)
     → (held : IsHeld room link serving line is_ready knows runs_on record_in old)
     → Stands (serving new) (link.truth (line new)) room.opening held.tree
     (with_outcome who now call outcome (marks_after c.calls.keeps.acts (record_in (line old))))
@@ -141,7 +141,7 @@ stands_after room link serving line is_ready knows runs_on record_in who now cal
 record_after : {N S L : Type 0} (room : RoomWords N) (link : LinkWords L) (serving : S → Serving) (line : S → L) (is_ready : S → Type 0)
     (knows : Call → Type 0) (runs_on : L → Policy → List DriverState → Type 0) (record_in : L → List Mark)
     (who : Who) (now : ℕ) (call : Call) (outcome : Outcome) (old mid new : S) → Kept room link serving line runs_on record_in
-    → (c : Called room link serving line is_ready who now call outcome old mid new) → IsHeld room link serving line is_ready knows runs_on record_in old
+    → (c : Called room link serving line is_ready runs_on who now call outcome old mid new) → IsHeld room link serving line is_ready knows runs_on record_in old
     → record_in (line new) ≡ with_outcome who now call outcome (marks_after c.calls.keeps.acts (record_in (line old)))
 record_after room link serving line is_ready knows runs_on record_in who now call outcome old mid new kept c held =
     kept.is_record (line new) _ (stands_after room link serving line is_ready knows runs_on record_in who now call outcome old mid new kept c held).truth
@@ -158,7 +158,7 @@ pub adds_call : {N S L : Type 0} (room : RoomWords N) (link : LinkWords L) (serv
     (knows : Call → Type 0) (runs_on : L → Policy → List DriverState → Type 0) (record_in : L → List Mark)
     (who : Who) (now : ℕ) (call : Call) (result given : TreeOutcome) (old mid new : S) → result ≡ given
     → Kept room link serving line runs_on record_in
-    → (c : Called room link serving line is_ready who now call (outcome_of result) old mid new)
+    → (c : Called room link serving line is_ready runs_on who now call (outcome_of result) old mid new)
     → IsHeld room link serving line is_ready knows runs_on record_in old
     → AddsCall who now call (outcome_of given) (record_in (line old)) (record_in (line new))
 adds_call room link serving line is_ready knows runs_on record_in who now call result given old mid new is kept c held = (
@@ -186,7 +186,7 @@ ends_called room link serving line is_ready knows runs_on record_in who now call
 ends_after : {N S L : Type 0} (room : RoomWords N) (link : LinkWords L) (serving : S → Serving) (line : S → L) (is_ready : S → Type 0)
     (knows : Call → Type 0) (runs_on : L → Policy → List DriverState → Type 0) (record_in : L → List Mark)
     (who : Who) (now : ℕ) (call : Call) (outcome : Outcome) (old mid new : S) → Kept room link serving line runs_on record_in
-    → (c : Called room link serving line is_ready who now call outcome old mid new) → IsHeld room link serving line is_ready knows runs_on record_in old
+    → (c : Called room link serving line is_ready runs_on who now call outcome old mid new) → IsHeld room link serving line is_ready knows runs_on record_in old
     → (serving mid).ended ≡ took_end (link.history (line mid))
 ends_after room link serving line is_ready knows runs_on record_in who now call outcome old mid new kept c held =
     ends_called room link serving line is_ready knows runs_on record_in who now call outcome old mid kept.tells c.calls held
@@ -194,7 +194,7 @@ ends_after room link serving line is_ready knows runs_on record_in who now call 
 -- where the link alone changed, and guarantees what it did
 pub held_same : {N S L : Type 0} (room : RoomWords N) (link : LinkWords L) (serving : S → Serving) (line : S → L) (is_ready : S → Type 0)
     (knows : Call → Type 0) (runs_on : L → Policy → List DriverState → Type 0) (record_in : L → List Mark)
-    (old new : S) → Kept room link serving line runs_on record_in → SameServer link serving line is_ready old new
+    (old new : S) → Kept room link serving line runs_on record_in → SameServer link serving line is_ready runs_on old new
     → ((older : List Mark) → link.truth (line old) room.opening older → link.truth (line new) room.opening older)
     → record_in (line new) ≡ record_in (line old) → IsHeld room link serving line is_ready knows runs_on record_in old → IsHeld room link serving line is_ready knows runs_on record_in new
 held_same room link serving line is_ready knows runs_on record_in old new kept same truth none held =
@@ -204,7 +204,7 @@ held_same room link serving line is_ready knows runs_on record_in old new kept s
       ready = same.may held.ready;
       knows_each = held.knows_each;
       ends = same.served.ended ∙ held.ends ∙ ap took_end (sym same.at_link.same_history);
-      drivers = kept.keeps_on (line old) (line new) same.at_link.goes held.drivers;
+      drivers = same.at_link.runs room.policy room.supply held.drivers;
       tree = held.tree;
       at_first = λ replies.
           let h = held.at_first (subst (λ (ms : List Mark). HasTrueReplies (contents_at v) ms) none replies) in
@@ -256,7 +256,7 @@ one_tree g image t u a b =
 pub held_after : {N S L : Type 0} (room : RoomWords N) (link : LinkWords L) (serving : S → Serving) (line : S → L) (is_ready : S → Type 0)
     (knows : Call → Type 0) (runs_on : L → Policy → List DriverState → Type 0) (record_in : L → List Mark)
     (who : Who) (now : ℕ) (call : Call) (outcome : Outcome) (old mid new : S) → Kept room link serving line runs_on record_in
-    → Called room link serving line is_ready who now call outcome old mid new → IsHeld room link serving line is_ready knows runs_on record_in old → IsHeld room link serving line is_ready knows runs_on record_in new
+    → Called room link serving line is_ready runs_on who now call outcome old mid new → IsHeld room link serving line is_ready knows runs_on record_in old → IsHeld room link serving line is_ready knows runs_on record_in new
 held_after room link serving line is_ready knows runs_on record_in who now call outcome old mid new kept c held =
     let v = room.opening in
     let marks = record_in (line old) in
@@ -266,7 +266,7 @@ held_after room link serving line is_ready knows runs_on record_in who now call 
       knows_each = held.knows_each;
       ends = c.same.served.ended ∙ ends_after room link serving line is_ready knows runs_on record_in who now call outcome old mid new kept c held
           ∙ ap took_end (sym c.same.at_link.same_history);
-      drivers = kept.keeps_on (line mid) (line new) c.same.at_link.goes (kept.keeps_on (line old) (line mid) c.goes held.drivers);
+      drivers = c.same.at_link.runs room.policy room.supply (kept.keeps_on (line old) (line mid) c.goes held.drivers);
       tree = held.tree;
       at_first = λ replies.
           let is = record_after room link serving line is_ready knows runs_on record_in who now call outcome old mid new kept c held in
@@ -432,14 +432,16 @@ admitted_guaranteed room link serving line is_ready knows runs_on record_in s ta
 admitted_guaranteed room link serving line is_ready knows runs_on record_in s table (Err e) new held = tt
 
 -- why no session was made
-pub not_admitted : {L T : Type 0} (link : LinkWords L) (numbers : L → List ℕ) (line : L) (result : Result T SessionRefusal)
+pub not_admitted : {L T : Type 0} (link : LinkWords L) (numbers : L → List ℕ) (v : Opening) (line : L) (marks : List Mark)
+    (result : Result T SessionRefusal) → link.truth line v marks
     → (IsErrOf result TooMany ↔ ((n : ℕ) → n < 64 → is_used n (numbers line) ≡ true))
     → (IsErrOf result Stopped ↔ ((took_end (link.history line) ≡ true) × ((n : ℕ) × (n < 64) × (is_used n (numbers line) ≡ false))))
-    → IfErr result (IsNotAdmitted link numbers)
-not_admitted link numbers line (Ok r) many stopped = tt
-not_admitted link numbers line (Err TooMany) many stopped = (line, many.0 refl)
-not_admitted link numbers line (Err Stopped) many stopped = let why = stopped.0 refl in (line, why.0, why.1)
-not_admitted link numbers line (Err OutOfMemory) many stopped = tt
+    → IfErr result (IsNotAdmitted link numbers v)
+not_admitted link numbers v line marks (Ok r) truth many stopped = tt
+not_admitted link numbers v line marks (Err TooMany) truth many stopped = (line, many.0 refl)
+not_admitted link numbers v line marks (Err Stopped) truth many stopped =
+    let why = stopped.0 refl in (marks, record { line = line; guaranteed = truth; ended = why.0 }, why.1)
+not_admitted link numbers v line marks (Err OutOfMemory) truth many stopped = tt
 
 -- a session whose call was answered
 pub session_answered : {N S L : Type 0} (room : RoomWords N) (link : LinkWords L) (serving : S → Serving) (line : S → L) (is_ready : S → Type 0)
@@ -509,7 +511,7 @@ pub eio_after : {N S L : Type 0} (room : RoomWords N) (link : LinkWords L) (serv
     (knows : Call → Type 0) (runs_on : L → Policy → List DriverState → Type 0) (record_in : L → List Mark)
     (who : Who) (now : ℕ) (call : Call) (result : TreeOutcome) (old mid new : S) (seen : List Mark) → seen ≡ record_in (line new)
     → Kept room link serving line runs_on record_in
-    → (c : Called room link serving line is_ready who now call (outcome_of result) old mid new) → IsHeld room link serving line is_ready knows runs_on record_in old
+    → (c : Called room link serving line is_ready runs_on who now call (outcome_of result) old mid new) → IsHeld room link serving line is_ready knows runs_on record_in old
     → (result ≡ tree.Reply (Refused EIO)) ↔ ((result ≢ tree.Cut) × (gave_up seen ≡ true))
 eio_after room link serving line is_ready knows runs_on record_in who now call result old mid new seen same kept c held =
     let marks = record_in (line old) in
@@ -534,7 +536,7 @@ pub cut_given : {N S L : Type 0} (room : RoomWords N) (link : LinkWords L) (serv
     (knows : Call → Type 0) (runs_on : L → Policy → List DriverState → Type 0) (record_in : L → List Mark)
     (who : Who) (now : ℕ) (call : Call) (result given : TreeOutcome) (old mid new : S) → result ≡ given
     → Kept room link serving line runs_on record_in
-    → (c : Called room link serving line is_ready who now call (outcome_of result) old mid new) → IsHeld room link serving line is_ready knows runs_on record_in old
+    → (c : Called room link serving line is_ready runs_on who now call (outcome_of result) old mid new) → IsHeld room link serving line is_ready knows runs_on record_in old
     → (given ≡ tree.Cut) ↔ (took_end (link.history (line new)) ≡ true)
 cut_given room link serving line is_ready knows runs_on record_in who now call result given old mid new is kept c held =
     let ends : (serving mid).ended ≡ took_end (link.history (line new)) =

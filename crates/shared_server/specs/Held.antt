@@ -86,21 +86,22 @@ pub record IsAdmitted {L : Type 0} (runs_on : L → Policy → List DriverState 
   pub made : IsMadeFor uid gid s (marks line)
   pub whole : s.knows.seen ≡ marks line
 
--- why none was made, by the service's link as it was then
-abbrev pub IsNotAdmitted : {L : Type 0} → LinkWords L → (L → List ℕ) → SessionRefusal → Type 0
-IsNotAdmitted {L} link numbers TooMany = (line : L) × AreAllUsed (numbers line)
-IsNotAdmitted {L} link numbers Stopped = (line : L) × (took_end (link.history line) ≡ true) × IsOneFree (numbers line)
-IsNotAdmitted {L} link numbers OutOfMemory = Unit {0}
-
--- The service's link, as it was when a call of a session was over: the session has seen its record, and the call was cut exactly where the link
--- has ended.
-pub record IsCutAtEnd {L : Type 0} (link : LinkWords L) (marks : L → List Mark) (outcome : TreeOutcome) (seen : List Mark) : Type 0 where
+-- The service's link, as it was when a call of a session was over: it guarantees its record, which the session has seen, and the call was cut
+-- exactly where the link has ended.
+pub record IsCutAtEnd {L : Type 0} (link : LinkWords L) (marks : L → List Mark) (v : Opening) (outcome : TreeOutcome) (seen : List Mark) : Type 0 where
   pub line : L
   pub kept : marks line ≡ seen
+  pub guaranteed : link.truth line v seen
   pub exactly : (outcome ≡ Cut) ↔ (took_end (link.history line) ≡ true)
 
--- a link of the service had this record and has ended
-pub record HasEnded {L : Type 0} (link : LinkWords L) (marks : L → List Mark) (seen : List Mark) : Type 0 where
+-- a link of the service guaranteed this record, and has ended
+pub record HasEnded {L : Type 0} (link : LinkWords L) (v : Opening) (seen : List Mark) : Type 0 where
   pub line : L
-  pub kept : marks line ≡ seen
+  pub guaranteed : link.truth line v seen
   pub ended : took_end (link.history line) ≡ true
+
+-- why none was made, by the service's link as it was then: each number was in use; or else the link had ended, with this record
+abbrev pub IsNotAdmitted : {L : Type 0} → LinkWords L → (L → List ℕ) → Opening → SessionRefusal → Type 0
+IsNotAdmitted {L} link numbers v TooMany = (line : L) × AreAllUsed (numbers line)
+IsNotAdmitted link numbers v Stopped = (seen : List Mark) × (h : HasEnded link v seen) × IsOneFree (numbers h.line)
+IsNotAdmitted link numbers v OutOfMemory = Unit {0}

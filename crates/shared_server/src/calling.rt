@@ -14,8 +14,8 @@ use file_server::FileServer;
 use tree::{Call, Outcome, Who};
 
 /// A call of the session that has this seat, which has then seen the whole record. An answer is a mark of it, the last; a cut isn't. No
-/// other call is made meanwhile. With the outcome comes how many counted marks the record has, modulo 2^64. The server stands with its
-/// record as before.
+/// other call is made meanwhile, and no number is given to a session or freed. With the outcome comes how many counted marks the record
+/// has, modulo 2^64. The server stands with its record as before.
 pub fn make_call<N: Room, L: Recorder<N>, S: FileServer<L>>(
     server: &mut S,
     seat: &mut Seat,
@@ -30,10 +30,12 @@ pub fn make_call<N: Room, L: Recorder<N>, S: FileServer<L>>(
     ensures seat { (seat.new.table ≡ N.table) × (seat.new.view.number ≡ Some who.session) }
     ensures call { IsServedCall N.geometry N.opening who now call.now seat.old.view (outcome_of result.0) seat.new.view }
     ensures added { AddsCall who now call.now (outcome_of result.0) (L.marks (S.line server.old)) (L.marks (S.line server.new)) }
+    ensures numbers { L.numbers (S.line server.new) ≡ L.numbers (S.line server.old) }
     ensures seen { seat.new.view.seen ≡ L.marks (S.line server.new) }
     ensures tally { result.1 ≡ tally_of seat.new.view.seen }
     ensures sound { IsSound seat.new.view.seen }
     ensures guaranteed { IsGuaranteed L.truth N.opening seat.new.view.seen }
+    ensures truth { L.truth (S.line server.new) N.opening (L.marks (S.line server.new)) }
     ensures volume { HoldsIfTrue N.geometry N.opening seat.new.view.seen }
     ensures cut { (result.0 ≡ Outcome.Cut) ↔ (took_end (L.Link.history (S.line server.new)) ≡ true) }
     ensures eio { IsEioOnceGivenUp result.0 seat.new.view.seen }

@@ -13,21 +13,23 @@ use message::Incoming;
 
 // The Flush is noted at the server's link.
 fn note_flush<N: Room, L: Recorder<N>, S: FileServer<L>>(server: &mut S)
-    ensures same { SameServer L.Link S.Serve.serving S.line S.is_ready server.old server.new }
+    ensures same { SameServer L.Link S.Serve.serving S.line S.is_ready L.runs_on server.old server.new }
     ensures truth { (v : Opening) (older : List Mark) → L.truth (S.line server.old) v older
         → L.truth (S.line server.new) v (Flush ∷ older) }
     ensures absorbed { S.absorbed server.new ≡ S.absorbed server.old }
+    ensures numbers { L.numbers (S.line server.new) ≡ L.numbers (S.line server.old) }
     ensures room { 33 ≤ L.room (S.line server.new) }
 {
     server.link_mut().note_flush();
 }
 
-/// The server takes a Flush, which is a mark of the record. It stands with its record as before.
+/// The server takes a Flush, which is a mark of the record. It stands with its record as before, and the numbers of sessions stay.
 pub fn take_flush<N: Room, L: Recorder<N>, S: FileServer<L>>(server: &mut S)
     requires held { IsHeld N.Room L.Link S.Serve.serving S.line S.is_ready S.knows L.runs_on L.marks server.old }
     requires few { S.absorbed server.old < 2 ^ 48 }
     ensures held { IsHeld N.Room L.Link S.Serve.serving S.line S.is_ready S.knows L.runs_on L.marks server.new }
     ensures absorbed { S.absorbed server.new ≤ S.absorbed server.old + 1 }
+    ensures numbers { L.numbers (S.line server.new) ≡ L.numbers (S.line server.old) }
 {
     note_flush(server);
     server.absorb(Incoming::Flush);

@@ -78,16 +78,18 @@ impl<N: Room, L: Recorder<N>, S: FileServer<L>> Locked<N, L, S> {
     }
 
     /// A call of a session, which has then seen the whole record. An answer is a mark of it, the last; a cut isn't. No other call is made
-    /// meanwhile. With the outcome comes how many counted marks the record has, modulo 2^64.
+    /// meanwhile, and the numbers of sessions stay. With the outcome comes how many counted marks the record has, modulo 2^64.
     pub fn call(&mut self, seat: &mut Seat, who: Who, now: u32, call: &Call) -> (Outcome, u64)
         requires seat { (seat.old.table ≡ N.table) × (seat.old.view.number ≡ Some who.session) }
         ensures seat { (seat.new.table ≡ N.table) × (seat.new.view.number ≡ Some who.session) }
         ensures call { IsServedCall N.geometry N.opening who now call.now seat.old.view (outcome_of result.0) seat.new.view }
         ensures added { AddsCall who now call.now (outcome_of result.0) (L.marks self.old) (L.marks self.new) }
+        ensures numbers { L.numbers self.new ≡ L.numbers self.old }
         ensures seen { seat.new.view.seen ≡ L.marks self.new }
         ensures tally { result.1 ≡ tally_of seat.new.view.seen }
         ensures sound { IsSound seat.new.view.seen }
         ensures guaranteed { IsGuaranteed L.truth N.opening seat.new.view.seen }
+        ensures truth { L.truth self.new N.opening (L.marks self.new) }
         ensures volume { HoldsIfTrue N.geometry N.opening seat.new.view.seen }
         ensures cut { (result.0 ≡ Outcome.Cut) ↔ (took_end (L.Link.history self.new) ≡ true) }
         ensures eio { IsEioOnceGivenUp result.0 seat.new.view.seen }
@@ -95,8 +97,10 @@ impl<N: Room, L: Recorder<N>, S: FileServer<L>> Locked<N, L, S> {
         make_call(&mut self.server, seat, who, now, call)
     }
 
-    /// A Flush is taken between two calls, while fewer than 2^48 were.
-    pub fn flush(&mut self) {
+    /// A Flush is taken between two calls, while fewer than 2^48 were. The numbers of sessions stay.
+    pub fn flush(&mut self)
+        ensures { L.numbers self.new ≡ L.numbers self.old }
+    {
         if self.flushes < MOST_FLUSHES {
             take_flush(&mut self.server);
             self.flushes += 1;
@@ -143,7 +147,7 @@ impl<N: Room, L: Recorder<N>, S: FileServer<L>> Locked<N, L, S> {
             × (L.numbers self.new ≡ r.0 ∷ L.numbers self.old)) }
         ensures seat { IfOk result (λ r. (r.1.table ≡ N.table) × SessionIsNew r.0 r.1.view (L.marks self.old)) }
         ensures tally { IfOk result (λ r. r.2 ≡ tally_of (L.marks self.old)) }
-        ensures refusal { IfErr result (IsNotAdmitted L.Link L.numbers) }
+        ensures refusal { IfErr result (IsNotAdmitted L.Link L.numbers N.opening) }
         ensures drivers { L.runs_on self.old N.policy N.supply }
         ensures guaranteed { IfOk result (λ r. IsGuaranteed L.truth N.opening r.1.view.seen) }
         ensures volume { IfOk result (λ r. HoldsIfTrue N.geometry N.opening r.1.view.seen) }

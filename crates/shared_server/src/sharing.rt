@@ -29,11 +29,12 @@ pub fn count_call<N: Room, L: Recorder<N>, S: FileServer<L>>(
     reply: &Reply,
 ) -> u64
     requires { (caller.old.table ≡ N.table) × (caller.old.view.number ≡ Some who.session) }
-    ensures same { SameServer L.Link S.Serve.serving S.line S.is_ready server.old server.new }
+    ensures same { SameServer L.Link S.Serve.serving S.line S.is_ready L.runs_on server.old server.new }
     ensures absorbed { S.absorbed server.new ≡ S.absorbed server.old }
     ensures truth { (v : Opening) (older : List Mark) → L.truth (S.line server.old) v older
         → L.truth (S.line server.new) v (Took who now call.now (answer_of reply.now) ∷ older) }
     ensures marks { L.marks (S.line server.new) ≡ Took who now call.now (answer_of reply.now) ∷ L.marks (S.line server.old) }
+    ensures numbers { L.numbers (S.line server.new) ≡ L.numbers (S.line server.old) }
     ensures caller { (caller.new.table ≡ N.table) × (caller.new.view.number ≡ Some who.session) }
     ensures seen { caller.new.view.seen ≡ L.marks (S.line server.new) }
     ensures tally { result ≡ tally_of (L.marks (S.line server.new)) }
@@ -46,10 +47,11 @@ pub fn count_call<N: Room, L: Recorder<N>, S: FileServer<L>>(
 /// The caller has then seen the whole record. Gives how many counted marks it has, modulo 2^64.
 pub fn show<N: Room, L: Recorder<N>, S: FileServer<L>>(server: &mut S, caller: &mut Seat) -> u64
     requires { caller.old.table ≡ N.table }
-    ensures same { SameServer L.Link S.Serve.serving S.line S.is_ready server.old server.new }
+    ensures same { SameServer L.Link S.Serve.serving S.line S.is_ready L.runs_on server.old server.new }
     ensures absorbed { S.absorbed server.new ≡ S.absorbed server.old }
     ensures truth { (v : Opening) (older : List Mark) → L.truth (S.line server.old) v older → L.truth (S.line server.new) v older }
     ensures marks { L.marks (S.line server.new) ≡ L.marks (S.line server.old) }
+    ensures numbers { L.numbers (S.line server.new) ≡ L.numbers (S.line server.old) }
     ensures caller { (caller.new.table ≡ N.table) × (caller.new.view.number ≡ caller.old.view.number) }
     ensures seen { caller.new.view.seen ≡ L.marks (S.line server.new) }
     ensures tally { result ≡ tally_of (L.marks (S.line server.new)) }
@@ -64,7 +66,7 @@ pub fn show<N: Room, L: Recorder<N>, S: FileServer<L>>(server: &mut S, caller: &
 pub fn admit<N: Room, L: Recorder<N>, S: FileServer<L>>(
     server: &mut S,
 ) -> Result<(u8, Seat, u64), SessionRefusal>
-    ensures same { SameServer L.Link S.Serve.serving S.line S.is_ready server.old server.new }
+    ensures same { SameServer L.Link S.Serve.serving S.line S.is_ready L.runs_on server.old server.new }
     ensures absorbed { S.absorbed server.new ≡ S.absorbed server.old }
     ensures truth { (v : Opening) (older : List Mark) → L.truth (S.line server.old) v older → L.truth (S.line server.new) v older }
     ensures marks { L.marks (S.line server.new) ≡ L.marks (S.line server.old) }
@@ -89,7 +91,7 @@ pub fn admit<N: Room, L: Recorder<N>, S: FileServer<L>>(
 /// A session ends: its number is free again.
 pub fn release<N: Room, L: Recorder<N>, S: FileServer<L>>(server: &mut S, number: u8, caller: Seat)
     requires { (caller.table ≡ N.table) × (caller.view.number ≡ Some number) × (number < 64) }
-    ensures same { SameServer L.Link S.Serve.serving S.line S.is_ready server.old server.new }
+    ensures same { SameServer L.Link S.Serve.serving S.line S.is_ready L.runs_on server.old server.new }
     ensures absorbed { S.absorbed server.new ≡ S.absorbed server.old }
     ensures truth { (v : Opening) (older : List Mark) → L.truth (S.line server.old) v older → L.truth (S.line server.new) v older }
     ensures marks { L.marks (S.line server.new) ≡ L.marks (S.line server.old) }

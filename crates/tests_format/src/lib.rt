@@ -11,4 +11,6 @@ mod inodes;
 #[cfg(test)]
 mod new_volumes;
 #[cfg(test)]
+mod refusals;
+#[cfg(test)]
 mod superblocks;

@@ -21,6 +21,8 @@ mod images;
 #[cfg(test)]
 mod largest;
 #[cfg(test)]
+mod left_open;
+#[cfg(test)]
 mod links;
 #[cfg(test)]
 mod moves;

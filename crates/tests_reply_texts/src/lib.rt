@@ -3,6 +3,8 @@
 #![tactic(auto)]
 
 #[cfg(test)]
+mod refusals;
+#[cfg(test)]
 mod replies;
 #[cfg(test)]
 mod transcripts;

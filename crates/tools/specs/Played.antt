@@ -8,6 +8,7 @@ use Rattle.reincarnate.specs.declared.policy.Setup.{Setup}
 use Rattle.mounting.specs.StartupRefusals.{start_refusal_text}
 use Rattle.mounting.specs.Starting.{opening_of}
 use Rattle.script_play.specs.launch.Ran.{IsNotStarted, IsStartable}
+use Rattle.script_play.specs.launch.Spent.{IsSpent}
 use Rattle.script_text.specs.declared.timed.TimedCall.{TimedCall}
 use Rattle.script_text.specs.declared.script_files.File.{File}
 use Rattle.script_text.specs.declared.script_files.FileRefusal.{FileRefusal}
@@ -16,7 +17,7 @@ use Rattle.script_text.specs.Files as files
 use Rattle.reply_text.specs.declared.answers.Played.{Played}
 use Rattle.reply_text.specs.Answers.{sessions_text}
 use Rattle.script_play.specs.Made.{has_eio}
-use Rattle.script_play.specs.Served.{AreServed, service_text}
+use Rattle.script_play.specs.Served.{AreServed, IsUnserved, service_text}
 use Rattle.tools.specs.Status.{is_given_up}
 use Rattle.shared_server.specs.declared.locked.LastSync.{LastSync}
 use Rattle.tools.specs.declared.play.PlayRefusal.{PlayRefusal}
@@ -28,12 +29,17 @@ pub record IsStarted (image : File) (setup : Setup) (supply : List DriverState) 
   pub read : image.bytes ≡ Some bytes
   pub startable : IsStartable bytes.now setup supply g range
 
+-- a service starts on some volume in the image
+abbrev pub IsStartedFor : File → Setup → List DriverState → Type 0
+IsStartedFor image setup supply =
+    (bytes : Bor (List ℕ)) × (g : Geometry) × (range : ℕ × ℕ) × IsStarted image setup supply bytes g range
+
 -- whether the device was given up: some call was answered EIO, or the last sync was
 abbrev pub gave_up : List Played → LastSync → Bool
 gave_up played last = list_any has_eio played || is_given_up last
 
 -- The files' scripts were played on the volume in the image, for which a service starts, each in a session of its own; then the service was
--- stopped, which left this image.
+-- stopped, which left this image. A call was cut only once the link to the drivers had received 2^40 messages, and so the last sync.
 pub record IsPlayed (image : File) (scripts : List File) (setup : Setup) (supply : List DriverState) (played : List Played) (gave : Bool)
     (left : List ℕ) : Type 0 where
   pub bytes : Bor (List ℕ)
@@ -43,7 +49,7 @@ pub record IsPlayed (image : File) (scripts : List File) (setup : Setup) (supply
   pub calls : List (ℕ × ℕ × List TimedCall)
   pub scripted : files.AreScripts scripts calls
   pub last : LastSync
-  pub served : AreServed sizes (opening_of bytes.now setup.minor range) calls played last left
+  pub served : AreServed IsSpent sizes (opening_of bytes.now setup.minor range) calls played last left
   pub given_up : gave ≡ gave_up played last
 
 -- why files aren't read: the image's, or else those of the scripts
@@ -51,15 +57,16 @@ abbrev pub AreUnread : Option (Bor (List ℕ)) → Bor (List ℕ) → List File 
 AreUnread None name scripts refusal = refusal ≡ CannotRead name
 AreUnread (Some bytes) name scripts refusal = files.IsRefused scripts refusal
 
--- why nothing is played, in the order in which faults are looked for
+-- why nothing is told of what came of scripts, in the order in which faults are looked for; where the service is refused calls may have
+-- been made
 abbrev pub IsUnplayed : File → List File → Setup → List DriverState → PlayRefusal → Type 0
 IsUnplayed image scripts setup supply (Files refusal) = AreUnread image.bytes image.name scripts refusal
 IsUnplayed image scripts setup supply (Start refusal) =
     ((bytes : Bor (List ℕ)) × (image.bytes ≡ Some bytes) × IsNotStarted bytes.now setup supply refusal)
     × ((calls : List (ℕ × ℕ × List TimedCall)) × files.AreScripts scripts calls)
 IsUnplayed image scripts setup supply (Service refusal) =
-    ((bytes : Bor (List ℕ)) × (g : Geometry) × (range : ℕ × ℕ) × IsStarted image setup supply bytes g range)
-    × ((calls : List (ℕ × ℕ × List TimedCall)) × files.AreScripts scripts calls)
+    IsStartedFor image setup supply × ((calls : List (ℕ × ℕ × List TimedCall)) × files.AreScripts scripts calls)
+    × IsUnserved IsSpent refusal
 IsUnplayed image scripts setup supply OutOfMemory = ⊥
 IsUnplayed image scripts setup supply NotWritten = ⊥
 
@@ -75,8 +82,8 @@ is_of_output OutOfMemory = true
 is_of_output NotWritten = true
 is_of_output _ = false
 
--- nothing went out, and no image was left: nothing was played, or memory ended before all was; or the scripts were played, a part of their
--- sessions' text went out, and the image was left
+-- nothing went out, and no image was left: nothing was played, or memory ended once calls were made; or the scripts were played, a part of
+-- their sessions' text went out, and the image was left
 abbrev pub IsCutShort : File → List File → Setup → List DriverState → PlayRefusal → Type 0 → (List ℕ → Type 0) → Option (List ℕ) → Type 0
 IsCutShort image scripts setup supply refusal Nothing Part left =
     (Nothing × (left ≡ None) × IsUnplayed image scripts setup supply refusal)

@@ -36,7 +36,7 @@ use volume_tools::make;
 pub enum Status {
     /// Each call was made, and all of the text was written.
     Done,
-    /// Nothing was played, or not all of the text was written. A line was to say why.
+    /// Nothing was written of what came of the scripts, or not all. A line was to say why.
     Refused(Told),
     /// As `Done`, and the device was given up.
     GivenUp,
@@ -60,19 +60,19 @@ impl Status {
 pub struct Ended {
     /// How it ended.
     pub status: Status,
-    /// The bytes of the image as the media stand after the last sync, also where not all of the text was written; none where nothing was
-    /// played.
+    /// The bytes of the image as the media stand after the last sync, also where not all of the text was written; none where nothing is
+    /// told of what came of the scripts.
     pub image: Option<Vec<u8>>,
 }
 
-/// Why scripts weren't played, or not all of their answers were written.
+/// Why nothing is told of what came of scripts, or not all of their answers were written.
 #[derive(Clone, Copy)]
 pub enum PlayRefusal<'n> {
     /// The image can't be read, or the files of the scripts give no scripts.
     Files(FileRefusal<'n>),
     /// No service starts on this image.
     Start(StartRefusal),
-    /// The service started, and gives no answers or no image.
+    /// The service started, and gives no answers or no image. Calls may have been made.
     Service(ServiceRefusal),
     /// No memory was found for the text of an answer.
     OutOfMemory,

@@ -1,6 +1,6 @@
 //! Which mark a note leaves.
 
-ghost use Rattle.std.specs.Prelude.{List, IfOk};
+ghost use Rattle.std.specs.Prelude.{List, IfErr, IfOk};
 ghost use Rattle.records.specs.Marks.{Mark};
 ghost use Rattle.records.specs.Told.{received};
 ghost use Rattle.schedule.specs.Noted.{Noted, marks_in, with_entry};
@@ -14,13 +14,14 @@ use reply_text::mark::MarkRef;
 use schedule::Entry;
 use std::alloc::AllocError;
 
-/// The mark that a note leaves, if it leaves one. An error: no memory was found.
+/// The mark that a note leaves, if it leaves one. An error: no memory was found, and what was heard is as it was.
 pub fn mark_of_note<'l>(
     heard: &mut Heard,
     entry: &'l Entry<'l>,
 ) -> Result<Option<MarkRef<'l>>, AllocError>
-    ensures { IfOk result (λ left. (n : Noted) → IsHeard heard.old (marks_in n)
+    ensures left { IfOk result (λ left. (n : Noted) → IsHeard heard.old (marks_in n)
         → Leaves heard.new (marks_in n) (marks_in (with_entry entry.now n)) left) }
+    ensures refused { IfErr result (λ _. (marks : List Mark) → IsHeard heard.old marks → IsHeard heard.new marks) }
 {
     match entry {
         Entry::Begun(_) => Ok(None),

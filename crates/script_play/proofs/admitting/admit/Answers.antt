@@ -1,8 +1,8 @@
 use Rattle.script_play.proofs.Calls.{made_unplayed}
 use Rattle.script_play.proofs.admitting.admit.Goals as goal
 
-pub returns : goal.returns
-returns g c =
+pub returns-clause-admitted : goal.returns-clause-admitted
+returns-clause-admitted g c =
     let made = c.in_ok-session.ensures.made in (
       made_unplayed g.L.Link.truth g.N.Room.geometry g.N.Room.opening _ _ c.in_ok-session.session (g.L.Recorder.marks made.line) made.made
           made.whole c.in_ok-session.ensures.sound

@@ -1,3 +1,4 @@
+use Rattle.std.proofs.Common.{◌∙◌}
 use Rattle.tree.specs.Answers.{answer_of}
 use Rattle.file_server.specs.Over.{outcome_of}
 use Rattle.shared_server.proofs.HeldLaws.{adds_call, cut_given, eio_after, eio_given, held_after, held_sound, held_guaranteed, held_volume, session_answered, session_cut}
@@ -236,3 +237,16 @@ returns-in-Cut-clause-added g c =
       counted = λ older truth. rw c.in-Cut.is (c.show.ensures.truth g.N.Room.opening older truth);
     })
     c.requires.held
+
+pub returns-in-Reply-clause-truth : goal.returns-in-Reply-clause-truth
+returns-in-Reply-clause-truth g c = (returns-in-Reply-clause-held g c).stands.truth
+
+pub returns-in-Cut-clause-truth : goal.returns-in-Cut-clause-truth
+returns-in-Cut-clause-truth g c = (returns-in-Cut-clause-held g c).stands.truth
+
+pub returns-in-Reply-clause-numbers : goal.returns-in-Reply-clause-numbers
+returns-in-Reply-clause-numbers g c =
+    c.count_call-count.ensures.numbers ∙ g.met.L.Recorder.numbers_stay _ _ c.call-outcome.ensures.goes
+
+pub returns-in-Cut-clause-numbers : goal.returns-in-Cut-clause-numbers
+returns-in-Cut-clause-numbers g c = c.show.ensures.numbers ∙ g.met.L.Recorder.numbers_stay _ _ c.call-outcome.ensures.goes

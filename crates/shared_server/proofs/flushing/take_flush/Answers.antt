@@ -1,3 +1,4 @@
+use Rattle.std.proofs.Common.{◌∙◌}
 use Rattle.shared_server.proofs.FlushLaws.{held_flushed}
 use Rattle.shared_server.proofs.flushing.take_flush.Goals as goal
 
@@ -21,3 +22,6 @@ returns-clause-held g c =
       goes = c.absorb.ensures.goes;
     })
     c.requires.held
+
+pub returns-clause-numbers : goal.returns-clause-numbers
+returns-clause-numbers g c = g.met.L.Recorder.numbers_stay _ _ c.absorb.ensures.goes ∙ c.note_flush.ensures.numbers

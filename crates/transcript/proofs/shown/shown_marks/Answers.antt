@@ -11,7 +11,7 @@ loop-entry-preserved c =
     let within = rw items at c.loop-entry-test.true in
     let here = rw items at c.entry-item.is in
     let next = next_noted entries c.loop-entry.entry-index c.entry-item.result within here in
-    let left = c.in_ok-mark.ensures (all_noted (take c.loop-entry.entry-index entries) nothing_noted) c.loop-entry.invariant.0 in
+    let left = c.in_ok-mark.ensures.left (all_noted (take c.loop-entry.entry-index entries) nothing_noted) c.loop-entry.invariant.0 in
     let noted = all_noted (take c.loop-entry.entry-index entries) nothing_noted in
     rw next (
       left.heard,

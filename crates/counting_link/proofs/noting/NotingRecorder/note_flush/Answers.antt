@@ -1,6 +1,5 @@
 use Rattle.std.proofs.Common.{List, ◌∷◌, ◌∙◌, ap, refl}
 use Rattle.records.specs.Marks.{Mark, Flush}
-use Rattle.counting_link.specs.Keeper.{begins_before}
 use Rattle.counting_link.proofs.noting.NotingRecorder.note_flush.Goals as goal
 
 pub returns-clause-same : goal.returns-clause-same
@@ -8,7 +7,7 @@ returns-clause-same g c = record {
   same_history = refl;
   same_budget = refl;
   same_room = refl;
-  goes = (g.met.L.Link.stays c.args.self.now.link, begins_before Flush _ _ c.note.ensures.record_is);
+  runs = λ policy supply runs. runs;
 }
 
 pub returns-clause-truth : goal.returns-clause-truth

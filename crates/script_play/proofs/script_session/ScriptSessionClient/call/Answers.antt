@@ -8,5 +8,5 @@ returns g c = record {
   vouched = call_vouched g.L.Link.truth g.N.Room.geometry g.N.Room.opening _ _ _ _ c.call.result _ c.call.ensures.keeps
       c.call.ensures.volume c.call.ensures.sound
       c.call.ensures.guaranteed;
-  cut = cut_ended _ _ _ _ c.call.ensures.cut;
+  cut = cut_ended _ _ _ _ _ c.call.ensures.cut;
 }

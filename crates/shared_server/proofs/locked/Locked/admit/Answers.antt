@@ -20,7 +20,9 @@ invariant_of-self g c = (
 
 pub returns-clause-refusal : goal.returns-clause-refusal
 returns-clause-refusal g c =
-    not_admitted g.L.Link g.L.Recorder.numbers (g.S.FileServer.line c.self.inside.server) c.admit.result c.admit.ensures.too_many c.admit.ensures.stopped
+    not_admitted g.L.Link g.L.Recorder.numbers g.N.Room.opening (g.S.FileServer.line c.self.inside.server)
+    (g.L.Recorder.marks (g.S.FileServer.line c.self.inside.server)) c.admit.result c.self.invariant.0.stands.truth c.admit.ensures.too_many
+    c.admit.ensures.stopped
 
 pub returns-clause-guaranteed : goal.returns-clause-guaranteed
 returns-clause-guaranteed g c =
