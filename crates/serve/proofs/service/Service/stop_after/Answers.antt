@@ -25,8 +25,8 @@ pub returns-then-has_sessions-clause-closed : goal.returns-then-has_sessions-cla
 returns-then-has_sessions-clause-closed g c = (c.close_all.new.self, closed_all g.L.Link g.N.Room.opening _ _ c.close_all.result
     c.close_all.ensures.later c.close_all.ensures.bound c.close_all.ensures.closed c.close_all.ensures.cut, tt)
 
-pub returns-in-Err-clause-closed : goal.returns-in-Err-clause-closed
-returns-in-Err-clause-closed g c = (c.close_all.new.self, closed_all g.L.Link g.N.Room.opening _ _ c.close_all.result
+pub returns-clause-closed : goal.returns-clause-closed
+returns-clause-closed g c = (c.close_all.new.self, closed_all g.L.Link g.N.Room.opening _ _ c.close_all.result
     c.close_all.ensures.later c.close_all.ensures.bound c.close_all.ensures.closed c.close_all.ensures.cut, tt)
 
 pub returns-in-Ok-clause-closed : goal.returns-in-Ok-clause-closed
