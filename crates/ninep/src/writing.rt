@@ -348,6 +348,7 @@ fn put_message(out: &mut Vec<u8>, tag: u16, reply: &Reply<'_>) -> Result<(), All
     ensures ok { OnOk result (out.new.items ≡ (out.old.items ++ 0 ∷ 0 ∷ 0 ∷ 0 ∷ []) ++ rest_bytes (replied tag reply.now)) }
     ensures kept { OnErr result (StandsFirst out.old.items out.new.items) }
     ensures full { OnErr result (vec_capacity out.old < length out.old.items + (4 + length (rest_bytes (replied tag reply.now)))) }
+    ensures capacity { vec_capacity out.old ≤ vec_capacity out.new }
 {
     out.extend_from_slice(&[0; 4])?;
     put_rest(out, tag, reply)
@@ -362,6 +363,7 @@ pub fn write(out: &mut Vec<u8>, limit: u32, tag: u16, reply: &Reply<'_>) -> Resu
     ensures long { result ≡ Err WriteRefusal.TooLong → (limit < size_of reply.now) × (out.new.items ≡ out.old.items) }
     ensures full { result ≡ Err WriteRefusal.OutOfMemory → vec_capacity out.old < length out.old.items + size_of reply.now }
     ensures kept { OnErr result (out.new.items ≡ out.old.items) }
+    ensures capacity { vec_capacity out.old ≤ vec_capacity out.new }
 {
     let at = out.len();
     let Ok(()) = put_message(out, tag, reply) else {

@@ -1,5 +1,5 @@
 -- How a connection begins, and how users attach.
-use Rattle.std.specs.Prelude.{ℕ, List, [], ◌∷◌, min, nat_lt, codes, Option, Some, None, Result, Ok, Err, if◌then◌else◌, ◌==◌}
+use Rattle.std.specs.Prelude.{ℕ, Bool, List, [], ◌∷◌, min, nat_lt, codes, Option, Some, None, Result, Ok, Err, if◌then◌else◌, ◌==◌}
 use Rattle.std.specs.Str.{bytes_eq}
 use Rattle.errno.specs.declared.Errno.TheVariants.{EINVAL}
 use Rattle.tree.specs.declared.Call.TheVariants as call

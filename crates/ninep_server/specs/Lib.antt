@@ -15,6 +15,7 @@ pub mod Walks
 pub mod Opens
 pub mod Naming
 pub mod Settings
+pub mod Listings
 pub mod Messages
 pub mod Progress
 pub mod Answering

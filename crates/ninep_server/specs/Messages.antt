@@ -20,13 +20,14 @@ use Rattle.tree.specs.declared.Whence.TheVariants.{Set}
 use Rattle.ninep_server.specs.Paths.{called}
 use Rattle.ninep_server.specs.Knowledge.{Known, File, found, named, opened}
 use Rattle.ninep_server.specs.Hearing.{done_in, attributes_in, position_in, bytes_in, count_in, room_in, target_in}
-use Rattle.ninep_server.specs.Plans.{Plan, Open, Says, Changes, OrNoMemory, Drops, reply, body_said, refuses, closing, with_it, calls, at}
+use Rattle.ninep_server.specs.Plans.{Plan, Says, Changes, OrNoMemory, Drops, reply, body_said, refuses, closing, with_it, calls, at}
 use Rattle.ninep_server.specs.Nodes.{says, said_of, node_of, qid_of}
 use Rattle.ninep_server.specs.Attaching.{begins, attaching}
 use Rattle.ninep_server.specs.Walks.{walks}
 use Rattle.ninep_server.specs.Opens.{opens, creates, makes_directory, makes_link}
 use Rattle.ninep_server.specs.Naming.{links, renames, renames_at, unlinks, removes}
 use Rattle.ninep_server.specs.Settings.{sets}
+use Rattle.ninep_server.specs.Listings.{lists}
 use Rattle.ninep_server.specs.declared.refused.Refused.{Refused}
 use Rattle.ninep_server.specs.declared.refused.Refused.TheVariants.{By, Stale, Unsupported}
 use Rattle.ninep_server.specs.declared.fid.Kind.{Kind}
@@ -156,7 +157,7 @@ of_file k (request.Open fid flags) = opens k fid flags
 of_file k (request.Create fid name flags mode gid) = creates k fid name.now flags mode gid
 of_file k (request.Read fid offset count) = reading k fid offset count
 of_file k (request.Write fid offset bytes) = writing k fid offset bytes.now
-of_file k (request.Readdir fid offset count) = Open
+of_file k (request.Readdir fid offset count) = lists k fid offset count
 of_file k (request.Lock fid kind flags start length process client) = with_it (opened k.fids fid) (λ _. says answer.Lock)
 of_file k (request.Getlock fid kind start length process client) =
     with_it (opened k.fids fid) (λ _. says (answer.Getlock start length process))

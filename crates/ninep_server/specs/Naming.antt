@@ -63,7 +63,7 @@ is_directory k = false
 
 -- what a remove says behind the call, and a descriptor is closed
 abbrev pub removed : ℕ → List ℕ → Option ℕ → Result Reply Refused → Plan
-removed session path descriptor (Ok done) = Changes (Unlinks path) (closing session descriptor (said_of answer.Remove))
+removed session path descriptor (Ok _) = Changes (Unlinks path) (closing session descriptor (said_of answer.Remove))
 removed session path descriptor (Err refused) = closing session descriptor (error refused)
 
 abbrev pub removing : ℕ → List ℕ → Bool → Option ℕ → Plan

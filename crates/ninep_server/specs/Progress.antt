@@ -12,6 +12,7 @@ use Rattle.ninep_server.specs.Walks.{looking_at, walking}
 use Rattle.ninep_server.specs.Opens.{opening, making_file, giving_group, looking_at_file, making, giving_made_group, looking_at_made}
 use Rattle.ninep_server.specs.Naming.{linking, renaming, unlinking, removing}
 use Rattle.ninep_server.specs.Settings.{looking_first, changing, in_order}
+use Rattle.ninep_server.specs.Listings.{listing}
 use Rattle.ninep_server.specs.Messages.{transferring, looking, measuring, reading_link, syncing}
 use Rattle.ninep_server.specs.declared.refused.Refused.{Refused}
 use Rattle.ninep_server.specs.declared.refused.Refused.TheVariants.{By}
@@ -35,6 +36,7 @@ use Rattle.ninep_server.specs.declared.naming.Link.{Link}
 use Rattle.ninep_server.specs.declared.naming.Rename.{Rename}
 use Rattle.ninep_server.specs.declared.naming.Unlink.{Unlink}
 use Rattle.ninep_server.specs.declared.naming.Remove.{Remove}
+use Rattle.ninep_server.specs.declared.listing.Listing.{Listing}
 use Rattle.ninep_server.specs.declared.attributes.Setattr.{Setattr}
 use Rattle.ninep_server.specs.declared.attributes.Change.{Change}
 use Rattle.ninep_server.specs.declared.transfer.Transfer.{Transfer}
@@ -104,6 +106,9 @@ left_at_change s (Some c) = changing s.session s.path.items (c ∷ in_order s.le
 abbrev pub left_of_setattr : Setattr → Plan
 left_of_setattr s = left_at_change s s.change
 
+abbrev pub left_of_listing : Listing → Plan
+left_of_listing l = listing l.session l.path.items l.fd l.above
+
 -- what is left of a work
 abbrev pub left_of : Work → Plan
 left_of (work.Transfer t) = left_of_transfer t
@@ -122,7 +127,7 @@ left_of (work.Rename r) = left_of_rename r
 left_of (work.Unlink u) = left_of_unlink u
 left_of (work.Remove r) = left_of_remove r
 left_of (work.Setattr s) = left_of_setattr s
-left_of w = Open
+left_of (work.List l) = left_of_listing l
 
 abbrev pub left_of_next : Result Next Refused → Plan
 left_of_next (Ok (next.Go w)) = left_of w

@@ -1,9 +1,7 @@
 //! How a connection begins, and how users attach.
 
 ghost use Rattle.std.specs.Prelude.{◌≡◌, ◌≤◌, Ok};
-ghost use Rattle.ninep_server.specs.Knowledge.{Known, known_of};
-ghost use Rattle.ninep_server.specs.Attaching.{begins, user_number, attaching};
-ghost use Rattle.ninep_server.specs.Progress.{AsksNext, BeginsAs, Leaves, behind, left_of_attach, left_of_next, left_of_version};
+ghost use Rattle.ninep_server.specs.Attaching.{user_number};
 
 use crate::answer::Answer;
 use crate::ask::Ask;
@@ -28,6 +26,10 @@ pub(crate) struct Version {
 }
 
 impl Version {
+    ghost use Rattle.ninep_server.specs.Knowledge.{Known, known_of};
+    ghost use Rattle.ninep_server.specs.Attaching.{begins};
+    ghost use Rattle.ninep_server.specs.Progress.{Leaves, behind, left_of_next, left_of_version};
+
     /// Refused with EINVAL where messages would be shorter than may be.
     pub(crate) fn begin<'m>(message_size: u32, version: &[u8]) -> Result<Next<'m>, Refused>
         ensures { (k : Known) → Leaves (begins message_size version.now) k (left_of_next result) k }
@@ -78,6 +80,10 @@ pub(crate) enum Attach {
 }
 
 impl Attach {
+    ghost use Rattle.ninep_server.specs.Knowledge.{known_of};
+    ghost use Rattle.ninep_server.specs.Attaching.{attaching};
+    ghost use Rattle.ninep_server.specs.Progress.{AsksNext, BeginsAs, Leaves, behind, left_of_attach, left_of_next};
+
     pub(crate) fn begin<'m>(knows: &mut Knows, fid: u32, uid: u32) -> Result<Next<'m>, Refused>
         ensures { BeginsAs (attaching (known_of knows.old) fid uid) knows.old knows.new result }
     {

@@ -229,7 +229,7 @@ struct Changes {
 impl Wanted {
     /// The changes, where the node is so.
     fn changes(&self, was: &Attributes) -> Result<Changes, Refused>
-        ensures { result ≡ changes_wanted self.now was.now }
+        ensures { result ≡ changes_wanted self.entry.now was.now }
     {
         let valid = self.valid;
         let size = size(valid, self.size)?;

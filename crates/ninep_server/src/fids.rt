@@ -92,8 +92,9 @@ impl Fids {
     pub(crate) fn replace(&mut self, fid: u32, what: Fid)
         ensures { table_of self.new ≡ set_value (is_at (nat_cmp fid)) (table_of self.old) (file_of what) }
     {
-        if let Some(found) = self.fids.get_mut(&fid) {
-            *found = what;
+        match self.fids.get_mut(&fid) {
+            Some(found) => *found = what,
+            None => {}
         }
     }
 

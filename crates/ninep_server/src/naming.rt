@@ -101,7 +101,7 @@ impl Rename {
         old: (u32, &[u8]),
         new: (u32, &[u8]),
     ) -> Result<Next<'m>, Refused>
-        ensures { BeginsAs (renames_at (known_of knows.now) old.0 old.1.now new.0 new.1.now) knows.now knows.now result }
+        ensures { BeginsAs (renames_at (known_of knows.now) old.entry.0 old.entry.1.now new.entry.0 new.entry.1.now) knows.now knows.now result }
     {
         let from = knows.fids.named(old.0)?;
         let to = knows.fids.named(new.0)?;

@@ -32,7 +32,14 @@ impl Users {
     pub(crate) fn find(&self, uid: u16) -> Option<User>
         ensures { result ≡ user_of self.now.users.items uid }
     {
-        self.users.iter().find(|user| user.uid == uid).copied()
+        let mut left = self.users.as_slice();
+        while let Some((user, rest)) = left.split_first() {
+            if user.uid == uid {
+                return Some(*user);
+            }
+            left = rest;
+        }
+        None
     }
 
     /// Finds the memory for a user more.

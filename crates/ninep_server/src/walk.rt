@@ -63,7 +63,7 @@ impl<'m> Walk<'m> {
         new_fid: u32,
         names: Names<'m>,
     ) -> Result<Next<'m>, Refused>
-        ensures { BeginsAs (walks (known_of knows.old) fid new_fid (names_in names)) knows.old knows.new result }
+        ensures { BeginsAs (walks (known_of knows.old) fid new_fid (names_in names.entry)) knows.old knows.new result }
     {
         let from = knows.fids.named(fid)?;
         check_place(knows, fid, new_fid, from.descriptor)?;
@@ -80,7 +80,7 @@ impl<'m> Walk<'m> {
 
     /// Goes on from the node at its path: to the next name, or to the end.
     fn onward(self, knows: &mut Knows, node: Node) -> Result<Next<'m>, Refused>
-        ensures { BeginsAs (walking self.new_fid self.user (names_in self.left) self.path.items node self.qids.items) knows.old knows.new
+        ensures { BeginsAs (walking self.entry.new_fid self.entry.user (names_in self.entry.left) self.entry.path.items node self.entry.qids.items) knows.old knows.new
             result }
     {
         let Some((name, left)) = self.left.split_first() else {
@@ -104,7 +104,7 @@ impl<'m> Walk<'m> {
 
     /// All names are walked: the new fid stands on the node.
     fn arrive(self, knows: &mut Knows, node: Node) -> Result<Next<'m>, Refused>
-        ensures { BeginsAs (walking self.new_fid self.user [] self.path.items node self.qids.items) knows.old knows.new result }
+        ensures { BeginsAs (walking self.entry.new_fid self.entry.user [] self.entry.path.items node self.entry.qids.items) knows.old knows.new result }
     {
         let Walk {
             new_fid,
@@ -119,7 +119,7 @@ impl<'m> Walk<'m> {
 
     /// A name leads nowhere: the answer is what those before it lead to, or why the first one leads nowhere.
     fn stop(self, refused: Refused) -> Next<'m>
-        ensures { (k : Known) → Leaves (stops self.qids.items refused) k (left_of_next (Ok result)) k }
+        ensures { (k : Known) → Leaves (stops self.entry.qids.items refused) k (left_of_next (Ok result)) k }
     {
         if self.qids.is_empty() {
             Next::Done(Answer::Refused(refused))
