@@ -363,7 +363,7 @@ pub fn write(out: &mut Vec<u8>, limit: u32, tag: u16, reply: &Reply<'_>) -> Resu
     ensures long { result ≡ Err WriteRefusal.TooLong → (limit < size_of reply.now) × (out.new.items ≡ out.old.items) }
     ensures full { result ≡ Err WriteRefusal.OutOfMemory → vec_capacity out.old < length out.old.items + size_of reply.now }
     ensures kept { OnErr result (out.new.items ≡ out.old.items) }
-    ensures capacity { vec_capacity out.old ≤ vec_capacity out.new }
+    ensures capacity { OnErr result (vec_capacity out.old ≤ vec_capacity out.new) }
 {
     let at = out.len();
     let Ok(()) = put_message(out, tag, reply) else {

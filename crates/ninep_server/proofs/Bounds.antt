@@ -213,8 +213,8 @@ file_within k (request.Read fid offset count) = it_within 16 (opened k.fids fid)
 file_within k (request.Write fid offset bytes) = it_within 16 (opened k.fids fid) _
     (λ file. either_within 16 (nat_lt 2147483647 offset) _ _ tt
     (transferring_within 14 file.0 file.1 (Some (pos offset)) (moved.Write (at (take 65536 bytes.now)))))
-file_within k (request.Readdir fid offset count) = it_within 16 (opened k.fids fid) _ (λ open. it_within 16 (named k.fids fid) _
-    (λ file. either_within 16 (nat_lt (min count (k.message_size - 24)) 84) _ _ tt (listing_within 14 open.0 file.path open.1 _)))
+file_within k (request.Readdir fid offset count) = it_within 16 (opened k.fids fid) _ (λ used. it_within 16 (named k.fids fid) _
+    (λ file. either_within 16 (nat_lt (min count (k.message_size - 24)) 84) _ _ tt (listing_within 14 used.0 file.path used.1 _)))
 file_within k (request.Lock fid kind flags start length process client) = it_within 16 (opened k.fids fid) _ (λ file. tt)
 file_within k (request.Getlock fid kind start length process client) = it_within 16 (opened k.fids fid) _ (λ file. tt)
 file_within k r = tt

@@ -49,7 +49,9 @@ parent_at [] i less is none = absurd (omega (arith, less))
 parent_at (c ∷ path) zero less is none = rw (none, is) refl
 parent_at (c ∷ path) (suc i) less is none =
     let shorter : i < length path = omega (arith, less) in
-    rw (has_at path i shorter is) (ap (λ (x : List ℕ). c ∷ x) (parent_at path i shorter is none))
+    let e : suc i + 1 ≡ suc (i + 1) = omega arith in
+    let behind : has_byte (drop (i + 1) path) 47 ≡ false = subst (λ (m : ℕ). has_byte (drop m (c ∷ path)) 47 ≡ false) e none in
+    rw (has_at path i shorter is) (ap (λ (x : List ℕ). c ∷ x) (parent_at path i shorter is behind))
 
 -- one byte more that is no slash
 pub none_behind : (path : List ℕ) (i : ℕ) → i < length path → ¬ (slice_index_or path i 0 ≡ 47) → has_byte (drop (i + 1) path) 47 ≡ false
@@ -59,4 +61,7 @@ none_behind (c ∷ path) zero less other none = elim (eqb_tells c 47) [
   | inl same ↦ absurd (other same.1)
   | inr differ ↦ rw differ.0 none
 ]
-none_behind (c ∷ path) (suc i) less other none = none_behind path i (omega (arith, less)) other none
+none_behind (c ∷ path) (suc i) less other none =
+    let e : suc i + 1 ≡ suc (i + 1) = omega arith in
+    let behind : has_byte (drop (i + 1) path) 47 ≡ false = subst (λ (m : ℕ). has_byte (drop m (c ∷ path)) 47 ≡ false) e none in
+    none_behind path i (omega (arith, less)) other behind

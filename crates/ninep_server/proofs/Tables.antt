@@ -7,7 +7,8 @@ use Rattle.std.specs.BTreeMap.{is_at, insert_entry}
 use Rattle.std.specs.Map.{lookup, remove_entry, set_value}
 use Rattle.std.specs.Map.Calls.{RetainsPairs}
 use Rattle.std.specs.Option.{option_map, ok_or, is_some}
-use Rattle.std.specs.Ordering.{Ordering, Less, Equal, Greater, nat_cmp, match_ordering}
+use Rattle.std.specs.Ordering.{Less, Equal, Greater, nat_cmp, match_ordering}
+use Rattle.core.specs.declared.cmp.Ordering.{Ordering}
 use Rattle.errno.specs.declared.Errno.TheVariants.{EBADF, EINVAL, ENFILE}
 use Rattle.ninep_server.specs.Fids.{EachBecomes}
 use Rattle.ninep_server.specs.Knowledge.{File, entry_of, file_of, found, new_fid, table_of}

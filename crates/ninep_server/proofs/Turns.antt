@@ -136,3 +136,21 @@ all_stays may now bytes s t k l len capacity limit it true (Err e) X Y answered 
     let enough : len + 65560 ≤ capacity = room refl in
     absurd (omega (arith, enough, most, full))
 all_stays may now bytes s t k l len capacity limit it false (Err e) X Y answered room most full kept = (answered.1, answered.2, kept)
+
+-- room is there where it was found
+pub has_room : {A E : Type 0} (r : Result A E) (b : Bool) (P : Type 0) → b ≡ is_ok r → OnOk r P → b ≡ true → P
+has_room (Ok a) b P e h f = h
+has_room (Err x) b P e h f = absurd (no (sym e ∙ f)) where
+  no : false ≡ true → ⊥
+  no y = cc
+
+-- what can't be written had no room
+pub had_none : {A E : Type 0} (len capacity limit : ℕ) (has_room : Bool) (r : Result A E) (e : E) (P : Type 0)
+    → (has_room ≡ true → len + 65560 ≤ capacity) → (has_room ≡ false → P) → limit ≤ 65560 → OnErr r (capacity < len + limit) → r ≡ Err e → P
+had_none len capacity limit has_room (Ok a) e P room none most full is = absurd (no is) where
+  no : Ok a ≡ Err e → ⊥
+  no y = cc
+had_none len capacity limit true (Err x) e P room none most full is =
+    let enough : len + 65560 ≤ capacity = room refl in
+    absurd (omega (arith, enough, most, full))
+had_none len capacity limit false (Err x) e P room none most full is = none refl

@@ -20,6 +20,6 @@ listing session path fd (Some above) = listing_names session fd
 
 -- Treaddir: from an offset behind the second entry on the directory above isn't told. EINVAL where not even the longest entry has room.
 abbrev pub lists : Known → ℕ → ℕ → ℕ → Plan
-lists k fid offset count = with_it (opened k.fids fid) (λ open. with_it (named k.fids fid) (λ file.
+lists k fid offset count = with_it (opened k.fids fid) (λ used. with_it (named k.fids fid) (λ file.
     if nat_lt (min count (k.message_size - 24)) 84 then refuses (By EINVAL)
-    else OrNoMemory (listing open.0 file.path open.1 (if nat_lt 1 offset then Some 0 else None))))
+    else OrNoMemory (listing used.0 file.path used.1 (if nat_lt 1 offset then Some 0 else None))))
