@@ -7,8 +7,9 @@ use Rattle.std.specs.BTreeMap.{is_at, insert_entry}
 use Rattle.std.specs.Map.{lookup, remove_entry, set_value}
 use Rattle.std.specs.Map.Calls.{RetainsPairs}
 use Rattle.std.specs.Option.{option_map, ok_or, is_some}
-use Rattle.std.specs.Ordering.{Less, Equal, Greater, nat_cmp, match_ordering}
-use Rattle.core.specs.declared.cmp.Ordering.{Ordering}
+use Rattle.std.specs.Ordering.{nat_cmp, match_ordering}
+use Rattle.std.specs.declared.cmp.Ordering.{Ordering}
+use Rattle.std.specs.declared.cmp.Ordering.TheVariants.{Less, Equal, Greater}
 use Rattle.errno.specs.declared.Errno.TheVariants.{EBADF, EINVAL, ENFILE}
 use Rattle.ninep_server.specs.Fids.{EachBecomes}
 use Rattle.ninep_server.specs.Knowledge.{File, entry_of, file_of, found, new_fid, table_of}
@@ -101,7 +102,7 @@ pub is_full : (fids : Fids) (fid len : ℕ) → is_some (lookup (is_at (nat_cmp 
     → len ≡ length fids.fids.entries → 4096 ≤ len → Err (By ENFILE) ≡ new_fid (table_of fids) fid
 is_full fids fid len h e full =
     let unused : is_some (lookup (is_at (nat_cmp fid)) (table_of fids)) ≡ false = has_seen fids fid ∙ h in
-    let same : length (table_of fids) ≡ len = length-map entry_of fids.fids.entries ∙ sym e in
+    let same : length (table_of fids) ≡ len = length-map fids.fids.entries entry_of ∙ sym e in
     let none : nat_lt len 4096 ≡ false = grind (arith, nat_tests) in
     rw (unused, same, none) refl
 
@@ -109,6 +110,6 @@ pub has_room : (fids : Fids) (fid len : ℕ) → is_some (lookup (is_at (nat_cmp
     → len ≡ length fids.fids.entries → len < 4096 → Ok tt ≡ new_fid (table_of fids) fid
 has_room fids fid len h e less =
     let unused : is_some (lookup (is_at (nat_cmp fid)) (table_of fids)) ≡ false = has_seen fids fid ∙ h in
-    let same : length (table_of fids) ≡ len = length-map entry_of fids.fids.entries ∙ sym e in
+    let same : length (table_of fids) ≡ len = length-map fids.fids.entries entry_of ∙ sym e in
     let room : nat_lt len 4096 ≡ true = grind (arith, nat_tests) in
     rw (unused, same, room) refl

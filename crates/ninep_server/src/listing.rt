@@ -140,7 +140,7 @@ impl Listing {
     }
 
     pub(crate) fn hear<'m>(mut self, knows: &Knows, heard: Heard) -> Result<Next<'m>, Refused>
-        ensures { GoesOnAs (left_of_listing self.entry) heard result }
+        ensures { GoesOnAs (left_of_listing self) heard result }
     {
         let Some(above) = self.above else {
             self.above = Some(heard.attributes()?.inode);

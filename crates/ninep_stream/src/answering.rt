@@ -120,7 +120,7 @@ impl Answerer {
 /// flushed, before the next message is read. Times of calls are those of this clock.
 ///
 /// Where it is refused, the messages before were answered, and what went out is their answers, and of one more a beginning at most.
-#[tactic(auto, using(crate::proofs::Streams::none_answered, crate::proofs::Streams::answered_more, crate::proofs::Streams::answered_whole))]
+#[tactic(auto, using(crate::proofs::Streams::none_answered, crate::proofs::Streams::answered_more, crate::proofs::Streams::answered_all, crate::proofs::Streams::stopped))]
 pub fn answer_all<I: BufRead, O: Write, C: Clock, S: Sessions>(
     alloc: Global,
     input: &mut I,
@@ -143,7 +143,7 @@ pub fn answer_all<I: BufRead, O: Write, C: Clock, S: Sessions>(
 }
 
 /// Writes an answer, and flushes it.
-#[tactic(auto, using(crate::proofs::Streams::appends_kept))]
+#[tactic(auto, using(crate::proofs::Streams::appends_kept, crate::proofs::Streams::appends_some))]
 fn write<O: Write>(output: &mut O, answer: &[u8]) -> Result<(), StreamRefusal>
     ensures ok { OnOk result (Appends (O.contents output.old) (O.contents output.new) answer.now) }
     ensures err { IfErr result (λ e. (e ≡ StreamRefusal.NotWritten) × AppendsSome (O.contents output.old) (O.contents output.new) answer.now) }
