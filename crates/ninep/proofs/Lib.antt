@@ -1,4 +1,4 @@
-mod FieldLaws
+pub mod FieldLaws
 mod RequestLaws
-mod TextLaws
+pub mod TextLaws
 pub mod WritingLaws

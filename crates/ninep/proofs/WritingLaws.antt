@@ -1,13 +1,16 @@
 -- The bytes of fields, one list behind another.
-use Rattle.std.proofs.Common.{◌≡◌, ℕ, ◌+◌, ◌-◌, ◌≤◌, List, [], ◌∷◌, ◌++◌, length, take, refl, sym, ap, ◌∙◌, append_assoc, arith}
+use Rattle.std.proofs.Common.{◌≡◌, ℕ, ◌+◌, ◌-◌, ◌*◌, ◌<◌, ◌≤◌, List, [], ◌∷◌, ◌++◌, length, take, drop, refl, sym, ap, ◌∙◌, append_assoc, arith}
+use Rattle.std.proofs.Common.{Result, Ok, Err, OnErr}
 use Rattle.std.specs.List.{flat_map}
-use Rattle.std.proofs.lemmas.List.{set-append_right, length-append, take_at}
+use Rattle.std.proofs.lemmas.List.{set-append_right, length-append, length-take, take_at, take-append-drop}
 use Rattle.std.proofs.Math.ListN.{set}
 use Rattle.std.proofs.lemmas.List.Concat.{flat_map-cons}
+use Rattle.ninep.specs.declared.reply.Qid.{Qid}
 use Rattle.ninep.specs.declared.reply.Reply.{Reply}
-use Rattle.ninep.specs.Fields.{One, Two, Field, number_bytes, field_bytes, fields_bytes}
+use Rattle.ninep.specs.Puts.{StandsFirst}
+use Rattle.ninep.specs.Fields.{One, Two, Four, Eight, Field, number_bytes, field_bytes, fields_bytes}
 use Rattle.ninep.specs.Requests.{rest_bytes}
-use Rattle.ninep.specs.Replies.{number_of, reply_fields, replied, size_of}
+use Rattle.ninep.specs.Replies.{number_of, reply_fields, replied, size_of, qid_fields}
 use Rattle.ninep.proofs.FieldLaws.{number_length}
 
 pub fields_append : (a b : List Field) → fields_bytes (a ++ b) ≡ fields_bytes a ++ fields_bytes b
@@ -60,3 +63,52 @@ answer_size tag r =
       length-append (number_bytes Two tag) fields,
       number_length Two tag,
     )
+
+-- what holds holds of a refusal
+pub on_err : {A E : Type 0} (r : Result A E) (P : Type 0) → P → OnErr r P
+on_err (Ok a) P h = tt
+on_err (Err e) P h = h
+
+-- what stands before bytes that stand first does so
+pub stands_first : (old mid new rest : List ℕ) → mid ≡ old ++ rest → StandsFirst mid new → StandsFirst old new
+stands_first old mid new rest e first =
+    let parts : new ≡ old ++ (rest ++ drop (length mid) new) =
+        sym (take-append-drop (length mid) new) ∙ ap (λ (x : List ℕ). x ++ drop (length mid) new) (first ∙ e)
+        ∙ append_assoc old rest (drop (length mid) new) in
+    ap (take (length old)) parts ∙ take_at old (rest ++ drop (length mid) new) (length old) refl
+
+pub qid_length : (q : Qid) → length (fields_bytes (qid_fields q)) ≡ 13
+qid_length q =
+    let whole : length (number_bytes One q.kind ++ (number_bytes Four q.version ++ (number_bytes Eight q.path ++ []))) ≡ 13 = omega (
+      arith,
+      length-append (number_bytes One q.kind) (number_bytes Four q.version ++ (number_bytes Eight q.path ++ [])),
+      length-append (number_bytes Four q.version) (number_bytes Eight q.path ++ []),
+      length-append (number_bytes Eight q.path) [],
+      number_length One q.kind,
+      number_length Four q.version,
+      number_length Eight q.path,
+    ) in
+    whole
+
+qids_length : (qids : List Qid) → length (fields_bytes (flat_map qid_fields qids)) ≡ 13 * length qids
+qids_length [] = refl
+qids_length (q ∷ qids) = omega (
+  arith,
+  ap length (fields_append (qid_fields q) (flat_map qid_fields qids)),
+  length-append (fields_bytes (qid_fields q)) (fields_bytes (flat_map qid_fields qids)),
+  qid_length q,
+  qids_length qids,
+)
+
+-- where a qid has no room, all of them have none
+pub no_room : (qids : List Qid) (i len before at : ℕ) (head : List ℕ) → i < length qids → before ≤ at
+    → at < len + length (head ++ fields_bytes (flat_map qid_fields (take i qids))) + 13
+    → before < len + length (head ++ fields_bytes (flat_map qid_fields qids))
+no_room qids i len before at head less order full = omega (
+  arith,
+  length-append head (fields_bytes (flat_map qid_fields (take i qids))),
+  length-append head (fields_bytes (flat_map qid_fields qids)),
+  qids_length qids,
+  qids_length (take i qids),
+  length-take i qids,
+)

@@ -3,3 +3,4 @@ pub mod Parts
 pub mod Requests
 pub mod Reading
 pub mod Replies
+pub mod Puts

@@ -1,7 +1,8 @@
 //! The entries of a directory, as an answer has them.
 
-ghost use Rattle.std.specs.Prelude.{◌≡◌, ◌++◌, OnOk};
+ghost use Rattle.std.specs.Prelude.{◌≡◌, ◌++◌, OnOk, OnErr};
 ghost use Rattle.ninep.specs.Fields.{IsShort, fields_bytes};
+ghost use Rattle.ninep.specs.Puts.{StandsFirst};
 ghost use Rattle.ninep.specs.Replies.{entry_fields};
 
 use crate::reply::Qid;
@@ -19,10 +20,25 @@ pub struct Entry<'a> {
     pub name: &'a [u8],
 }
 
-/// Writes an entry behind others. An error: no memory was found, and a part of it may have been written.
+/// Writes an entry behind others. An error: no memory was found for it, and `out` has what it had.
 pub fn push_entry(out: &mut Vec<u8>, entry: &Entry<'_>) -> Result<(), AllocError>
     requires { IsShort entry.now.name.now }
-    ensures { OnOk result (out.new.items ≡ out.old.items ++ fields_bytes (entry_fields entry.now)) }
+    ensures ok { OnOk result (out.new.items ≡ out.old.items ++ fields_bytes (entry_fields entry.now)) }
+    ensures kept { OnErr result (out.new.items ≡ out.old.items) }
+{
+    let len = out.len();
+    let Ok(()) = put_entry(out, entry) else {
+        out.truncate(len);
+        return Err(AllocError);
+    };
+    Ok(())
+}
+
+/// The fields of an entry.
+fn put_entry(out: &mut Vec<u8>, entry: &Entry<'_>) -> Result<(), AllocError>
+    requires { IsShort entry.now.name.now }
+    ensures ok { OnOk result (out.new.items ≡ out.old.items ++ fields_bytes (entry_fields entry.now)) }
+    ensures kept { OnErr result (StandsFirst out.old.items out.new.items) }
 {
     put_qid(out, &entry.qid)?;
     put_u64(out, entry.next)?;

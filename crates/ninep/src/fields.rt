@@ -85,6 +85,7 @@ pub(crate) fn data_of(bytes: &[u8]) -> Result<(&[u8], &[u8]), Fault>
 
 /// So many texts, and the bytes behind them.
 fn texts_of(count: usize, bytes: &[u8]) -> Result<(Names<'_>, &[u8]), Fault>
+    requires { count ≤ 16 }
     ensures { Gives (λ x. (names_in x.0, x.1.now)) result (texts_at count bytes.now) }
 {
     let rest = skip_texts(count, bytes)?;

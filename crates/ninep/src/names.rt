@@ -1,5 +1,6 @@
 //! The names of a walk.
 
+ghost use Rattle.std.specs.Prelude.{◌≤◌};
 ghost use Rattle.ninep.specs.Parts.{AreTexts};
 
 use crate::fields::text_of;
@@ -14,6 +15,7 @@ pub struct Names<'a> {
     pub(crate) count: usize,
     pub(crate) bytes: &'a [u8],
     ghost whole: { AreTexts count bytes.now },
+    ghost few: { count ≤ 16 },
 }
 
 impl<'a> Names<'a> {

@@ -1,6 +1,7 @@
 //! The bytes of an answer.
 
-ghost use Rattle.std.specs.Prelude.{◌≡◌, ◌≤◌, ◌<◌, ◌^◌, ◌+◌, ◌++◌, ◌∷◌, [], ℕ, List, length, OnOk, Err};
+ghost use Rattle.std.specs.Prelude.{◌≡◌, ◌≤◌, ◌<◌, ◌^◌, ◌+◌, ◌++◌, ◌∷◌, [], ℕ, List, length, vec_capacity, OnOk, OnErr, Err};
+ghost use Rattle.ninep.specs.Puts.{StandsFirst};
 ghost use Rattle.std.specs.List.{flat_map, AllByRecursion};
 ghost use Rattle.ninep.specs.Fields.{One, Two, Four, Eight, Number, Fits, IsShort, number_bytes, fields_bytes, text_bytes};
 ghost use Rattle.ninep.specs.Requests.{rest_bytes, spelling};
@@ -15,7 +16,10 @@ use std::alloc::AllocError;
 /// A number of one byte.
 #[tactic(auto, unfolding(crate::specs::Fields::number_bytes))]
 pub(crate) fn put_u8(out: &mut Vec<u8>, n: u8) -> Result<(), AllocError>
-    ensures { OnOk result (out.new.items ≡ out.old.items ++ number_bytes One n) }
+    ensures ok { OnOk result (out.new.items ≡ out.old.items ++ number_bytes One n) }
+    ensures kept { OnErr result (StandsFirst out.old.items out.new.items) }
+    ensures full { OnErr result (vec_capacity out.old < length out.old.items + length (number_bytes One n)) }
+    ensures capacity { vec_capacity out.old ≤ vec_capacity out.new }
 {
     out.extend_from_slice(&n.to_le_bytes())
 }
@@ -23,7 +27,10 @@ pub(crate) fn put_u8(out: &mut Vec<u8>, n: u8) -> Result<(), AllocError>
 /// A number of two bytes.
 #[tactic(auto, unfolding(crate::specs::Fields::number_bytes))]
 fn put_u16(out: &mut Vec<u8>, n: u16) -> Result<(), AllocError>
-    ensures { OnOk result (out.new.items ≡ out.old.items ++ number_bytes Two n) }
+    ensures ok { OnOk result (out.new.items ≡ out.old.items ++ number_bytes Two n) }
+    ensures kept { OnErr result (StandsFirst out.old.items out.new.items) }
+    ensures full { OnErr result (vec_capacity out.old < length out.old.items + length (number_bytes Two n)) }
+    ensures capacity { vec_capacity out.old ≤ vec_capacity out.new }
 {
     out.extend_from_slice(&n.to_le_bytes())
 }
@@ -31,7 +38,10 @@ fn put_u16(out: &mut Vec<u8>, n: u16) -> Result<(), AllocError>
 /// A text, behind its length of two bytes.
 pub(crate) fn put_text(out: &mut Vec<u8>, text: &[u8]) -> Result<(), AllocError>
     requires { IsShort text.now }
-    ensures { OnOk result (out.new.items ≡ out.old.items ++ text_bytes text.now) }
+    ensures ok { OnOk result (out.new.items ≡ out.old.items ++ text_bytes text.now) }
+    ensures kept { OnErr result (StandsFirst out.old.items out.new.items) }
+    ensures full { OnErr result (vec_capacity out.old < length out.old.items + length (text_bytes text.now)) }
+    ensures capacity { vec_capacity out.old ≤ vec_capacity out.new }
 {
     put_u16(out, text.len() as u16)?;
     out.extend_from_slice(text)
@@ -39,7 +49,10 @@ pub(crate) fn put_text(out: &mut Vec<u8>, text: &[u8]) -> Result<(), AllocError>
 
 fn put_data(out: &mut Vec<u8>, bytes: &[u8]) -> Result<(), AllocError>
     requires { length bytes.now < 2 ^ 32 }
-    ensures { OnOk result (out.new.items ≡ out.old.items ++ (number_bytes Four (length bytes.now) ++ bytes.now)) }
+    ensures ok { OnOk result (out.new.items ≡ out.old.items ++ (number_bytes Four (length bytes.now) ++ bytes.now)) }
+    ensures kept { OnErr result (StandsFirst out.old.items out.new.items) }
+    ensures full { OnErr result (vec_capacity out.old < length out.old.items + length ((number_bytes Four (length bytes.now) ++ bytes.now))) }
+    ensures capacity { vec_capacity out.old ≤ vec_capacity out.new }
 {
     put_u32(out, bytes.len() as u32)?;
     out.extend_from_slice(bytes)
@@ -48,7 +61,10 @@ fn put_data(out: &mut Vec<u8>, bytes: &[u8]) -> Result<(), AllocError>
 /// A number of four bytes.
 #[tactic(auto, unfolding(crate::specs::Fields::number_bytes))]
 fn put_u32(out: &mut Vec<u8>, n: u32) -> Result<(), AllocError>
-    ensures { OnOk result (out.new.items ≡ out.old.items ++ number_bytes Four n) }
+    ensures ok { OnOk result (out.new.items ≡ out.old.items ++ number_bytes Four n) }
+    ensures kept { OnErr result (StandsFirst out.old.items out.new.items) }
+    ensures full { OnErr result (vec_capacity out.old < length out.old.items + length (number_bytes Four n)) }
+    ensures capacity { vec_capacity out.old ≤ vec_capacity out.new }
 {
     out.extend_from_slice(&n.to_le_bytes())
 }
@@ -56,13 +72,19 @@ fn put_u32(out: &mut Vec<u8>, n: u32) -> Result<(), AllocError>
 /// A number of eight bytes.
 #[tactic(auto, unfolding(crate::specs::Fields::number_bytes))]
 pub(crate) fn put_u64(out: &mut Vec<u8>, n: u64) -> Result<(), AllocError>
-    ensures { OnOk result (out.new.items ≡ out.old.items ++ number_bytes Eight n) }
+    ensures ok { OnOk result (out.new.items ≡ out.old.items ++ number_bytes Eight n) }
+    ensures kept { OnErr result (StandsFirst out.old.items out.new.items) }
+    ensures full { OnErr result (vec_capacity out.old < length out.old.items + length (number_bytes Eight n)) }
+    ensures capacity { vec_capacity out.old ≤ vec_capacity out.new }
 {
     out.extend_from_slice(&n.to_le_bytes())
 }
 
 pub(crate) fn put_qid(out: &mut Vec<u8>, qid: &Qid) -> Result<(), AllocError>
-    ensures { OnOk result (out.new.items ≡ out.old.items ++ fields_bytes (qid_fields qid.now)) }
+    ensures ok { OnOk result (out.new.items ≡ out.old.items ++ fields_bytes (qid_fields qid.now)) }
+    ensures kept { OnErr result (StandsFirst out.old.items out.new.items) }
+    ensures full { OnErr result (vec_capacity out.old < length out.old.items + length (fields_bytes (qid_fields qid.now))) }
+    ensures capacity { vec_capacity out.old ≤ vec_capacity out.new }
 {
     put_u8(out, qid.kind)?;
     put_u32(out, qid.version)?;
@@ -70,14 +92,20 @@ pub(crate) fn put_qid(out: &mut Vec<u8>, qid: &Qid) -> Result<(), AllocError>
 }
 
 fn put_time(out: &mut Vec<u8>, time: (u64, u64)) -> Result<(), AllocError>
-    ensures { OnOk result (out.new.items ≡ out.old.items ++ fields_bytes (time_fields time)) }
+    ensures ok { OnOk result (out.new.items ≡ out.old.items ++ fields_bytes (time_fields time)) }
+    ensures kept { OnErr result (StandsFirst out.old.items out.new.items) }
+    ensures full { OnErr result (vec_capacity out.old < length out.old.items + length (fields_bytes (time_fields time))) }
+    ensures capacity { vec_capacity out.old ≤ vec_capacity out.new }
 {
     put_u64(out, time.0)?;
     put_u64(out, time.1)
 }
 
 fn put_pair(out: &mut Vec<u8>, a: u64, b: u64) -> Result<(), AllocError>
-    ensures { OnOk result (out.new.items ≡ out.old.items ++ fields_bytes (pair_fields a b)) }
+    ensures ok { OnOk result (out.new.items ≡ out.old.items ++ fields_bytes (pair_fields a b)) }
+    ensures kept { OnErr result (StandsFirst out.old.items out.new.items) }
+    ensures full { OnErr result (vec_capacity out.old < length out.old.items + length (fields_bytes (pair_fields a b))) }
+    ensures capacity { vec_capacity out.old ≤ vec_capacity out.new }
 {
     put_u64(out, a)?;
     put_u64(out, b)
@@ -85,7 +113,10 @@ fn put_pair(out: &mut Vec<u8>, a: u64, b: u64) -> Result<(), AllocError>
 
 #[tactic(auto, unfolding(crate::specs::Replies::block_fields))]
 fn put_blocks(out: &mut Vec<u8>, room: &Room) -> Result<(), AllocError>
-    ensures { OnOk result (out.new.items ≡ out.old.items ++ fields_bytes (block_fields room.now)) }
+    ensures ok { OnOk result (out.new.items ≡ out.old.items ++ fields_bytes (block_fields room.now)) }
+    ensures kept { OnErr result (StandsFirst out.old.items out.new.items) }
+    ensures full { OnErr result (vec_capacity out.old < length out.old.items + length (fields_bytes (block_fields room.now))) }
+    ensures capacity { vec_capacity out.old ≤ vec_capacity out.new }
 {
     put_u32(out, room.kind)?;
     put_u32(out, room.block_size)?;
@@ -95,7 +126,10 @@ fn put_blocks(out: &mut Vec<u8>, room: &Room) -> Result<(), AllocError>
 
 #[tactic(auto, unfolding(crate::specs::Replies::file_fields))]
 fn put_files(out: &mut Vec<u8>, room: &Room) -> Result<(), AllocError>
-    ensures { OnOk result (out.new.items ≡ out.old.items ++ fields_bytes (file_fields room.now)) }
+    ensures ok { OnOk result (out.new.items ≡ out.old.items ++ fields_bytes (file_fields room.now)) }
+    ensures kept { OnErr result (StandsFirst out.old.items out.new.items) }
+    ensures full { OnErr result (vec_capacity out.old < length out.old.items + length (fields_bytes (file_fields room.now))) }
+    ensures capacity { vec_capacity out.old ≤ vec_capacity out.new }
 {
     put_pair(out, room.files, room.free_files)?;
     put_u64(out, room.id)?;
@@ -104,7 +138,10 @@ fn put_files(out: &mut Vec<u8>, room: &Room) -> Result<(), AllocError>
 
 #[tactic(auto, using(crate::proofs::WritingLaws::fields_append))]
 fn put_room(out: &mut Vec<u8>, room: &Room) -> Result<(), AllocError>
-    ensures { OnOk result (out.new.items ≡ out.old.items ++ fields_bytes (room_fields room.now)) }
+    ensures ok { OnOk result (out.new.items ≡ out.old.items ++ fields_bytes (room_fields room.now)) }
+    ensures kept { OnErr result (StandsFirst out.old.items out.new.items) }
+    ensures full { OnErr result (vec_capacity out.old < length out.old.items + length (fields_bytes (room_fields room.now))) }
+    ensures capacity { vec_capacity out.old ≤ vec_capacity out.new }
 {
     put_blocks(out, room)?;
     put_files(out, room)
@@ -112,7 +149,10 @@ fn put_room(out: &mut Vec<u8>, room: &Room) -> Result<(), AllocError>
 
 #[tactic(auto, unfolding(crate::specs::Replies::owner_fields))]
 fn put_owner(out: &mut Vec<u8>, a: &Attributes) -> Result<(), AllocError>
-    ensures { OnOk result (out.new.items ≡ out.old.items ++ fields_bytes (owner_fields a.now)) }
+    ensures ok { OnOk result (out.new.items ≡ out.old.items ++ fields_bytes (owner_fields a.now)) }
+    ensures kept { OnErr result (StandsFirst out.old.items out.new.items) }
+    ensures full { OnErr result (vec_capacity out.old < length out.old.items + length (fields_bytes (owner_fields a.now))) }
+    ensures capacity { vec_capacity out.old ≤ vec_capacity out.new }
 {
     put_u64(out, a.valid)?;
     put_qid(out, &a.qid)?;
@@ -123,7 +163,10 @@ fn put_owner(out: &mut Vec<u8>, a: &Attributes) -> Result<(), AllocError>
 
 #[tactic(auto, unfolding(crate::specs::Replies::size_fields))]
 fn put_size(out: &mut Vec<u8>, a: &Attributes) -> Result<(), AllocError>
-    ensures { OnOk result (out.new.items ≡ out.old.items ++ fields_bytes (size_fields a.now)) }
+    ensures ok { OnOk result (out.new.items ≡ out.old.items ++ fields_bytes (size_fields a.now)) }
+    ensures kept { OnErr result (StandsFirst out.old.items out.new.items) }
+    ensures full { OnErr result (vec_capacity out.old < length out.old.items + length (fields_bytes (size_fields a.now))) }
+    ensures capacity { vec_capacity out.old ≤ vec_capacity out.new }
 {
     put_pair(out, a.links, a.device)?;
     put_pair(out, a.size, a.block_size)?;
@@ -132,7 +175,10 @@ fn put_size(out: &mut Vec<u8>, a: &Attributes) -> Result<(), AllocError>
 
 #[tactic(auto, unfolding(crate::specs::Replies::times_fields))]
 fn put_times(out: &mut Vec<u8>, a: &Attributes) -> Result<(), AllocError>
-    ensures { OnOk result (out.new.items ≡ out.old.items ++ fields_bytes (times_fields a.now)) }
+    ensures ok { OnOk result (out.new.items ≡ out.old.items ++ fields_bytes (times_fields a.now)) }
+    ensures kept { OnErr result (StandsFirst out.old.items out.new.items) }
+    ensures full { OnErr result (vec_capacity out.old < length out.old.items + length (fields_bytes (times_fields a.now))) }
+    ensures capacity { vec_capacity out.old ≤ vec_capacity out.new }
 {
     put_time(out, a.atime)?;
     put_time(out, a.mtime)?;
@@ -142,14 +188,20 @@ fn put_times(out: &mut Vec<u8>, a: &Attributes) -> Result<(), AllocError>
 
 #[tactic(auto, unfolding(crate::specs::Replies::version_fields))]
 fn put_version(out: &mut Vec<u8>, a: &Attributes) -> Result<(), AllocError>
-    ensures { OnOk result (out.new.items ≡ out.old.items ++ fields_bytes (version_fields a.now)) }
+    ensures ok { OnOk result (out.new.items ≡ out.old.items ++ fields_bytes (version_fields a.now)) }
+    ensures kept { OnErr result (StandsFirst out.old.items out.new.items) }
+    ensures full { OnErr result (vec_capacity out.old < length out.old.items + length (fields_bytes (version_fields a.now))) }
+    ensures capacity { vec_capacity out.old ≤ vec_capacity out.new }
 {
     put_pair(out, a.generation, a.data_version)
 }
 
 #[tactic(auto, using(crate::proofs::WritingLaws::fields_append))]
 fn put_attributes(out: &mut Vec<u8>, a: &Attributes) -> Result<(), AllocError>
-    ensures { OnOk result (out.new.items ≡ out.old.items ++ fields_bytes (attribute_fields a.now)) }
+    ensures ok { OnOk result (out.new.items ≡ out.old.items ++ fields_bytes (attribute_fields a.now)) }
+    ensures kept { OnErr result (StandsFirst out.old.items out.new.items) }
+    ensures full { OnErr result (vec_capacity out.old < length out.old.items + length (fields_bytes (attribute_fields a.now))) }
+    ensures capacity { vec_capacity out.old ≤ vec_capacity out.new }
 {
     put_owner(out, a)?;
     put_size(out, a)?;
@@ -159,7 +211,10 @@ fn put_attributes(out: &mut Vec<u8>, a: &Attributes) -> Result<(), AllocError>
 
 fn put_held(out: &mut Vec<u8>, held: &Held<'_>) -> Result<(), AllocError>
     requires { IsShort held.now.client.now }
-    ensures { OnOk result (out.new.items ≡ out.old.items ++ fields_bytes (held_fields held.now)) }
+    ensures ok { OnOk result (out.new.items ≡ out.old.items ++ fields_bytes (held_fields held.now)) }
+    ensures kept { OnErr result (StandsFirst out.old.items out.new.items) }
+    ensures full { OnErr result (vec_capacity out.old < length out.old.items + length (fields_bytes (held_fields held.now))) }
+    ensures capacity { vec_capacity out.old ≤ vec_capacity out.new }
 {
     put_u8(out, held.kind)?;
     put_u64(out, held.start)?;
@@ -170,7 +225,10 @@ fn put_held(out: &mut Vec<u8>, held: &Held<'_>) -> Result<(), AllocError>
 
 fn put_qids(out: &mut Vec<u8>, qids: &[Qid]) -> Result<(), AllocError>
     requires { length qids.now < 2 ^ 16 }
-    ensures { OnOk result (out.new.items ≡ out.old.items ++ (number_bytes Two (length qids.now) ++ fields_bytes (flat_map qid_fields qids.now))) }
+    ensures ok { OnOk result (out.new.items ≡ out.old.items ++ (number_bytes Two (length qids.now) ++ fields_bytes (flat_map qid_fields qids.now))) }
+    ensures kept { OnErr result (StandsFirst out.old.items out.new.items) }
+    ensures full { OnErr result (vec_capacity out.old < length out.old.items + length ((number_bytes Two (length qids.now) ++ fields_bytes (flat_map qid_fields qids.now)))) }
+    ensures capacity { vec_capacity out.old ≤ vec_capacity out.new }
 {
     put_u16(out, qids.len() as u16)?;
     for qid in qids {
@@ -180,7 +238,10 @@ fn put_qids(out: &mut Vec<u8>, qids: &[Qid]) -> Result<(), AllocError>
 }
 
 fn put_opened(out: &mut Vec<u8>, qid: &Qid, unit: u32) -> Result<(), AllocError>
-    ensures { OnOk result (out.new.items ≡ out.old.items ++ fields_bytes (qid_fields qid.now ++ Number Four unit ∷ [])) }
+    ensures ok { OnOk result (out.new.items ≡ out.old.items ++ fields_bytes (qid_fields qid.now ++ Number Four unit ∷ [])) }
+    ensures kept { OnErr result (StandsFirst out.old.items out.new.items) }
+    ensures full { OnErr result (vec_capacity out.old < length out.old.items + length (fields_bytes (qid_fields qid.now ++ Number Four unit ∷ []))) }
+    ensures capacity { vec_capacity out.old ≤ vec_capacity out.new }
 {
     put_qid(out, qid)?;
     put_u32(out, unit)
@@ -189,7 +250,10 @@ fn put_opened(out: &mut Vec<u8>, qid: &Qid, unit: u32) -> Result<(), AllocError>
 /// The fields of an answer.
 fn put_fields(out: &mut Vec<u8>, reply: &Reply<'_>) -> Result<(), AllocError>
     requires { AllByRecursion Fits (reply_fields reply.now) }
-    ensures { OnOk result (out.new.items ≡ out.old.items ++ fields_bytes (reply_fields reply.now)) }
+    ensures ok { OnOk result (out.new.items ≡ out.old.items ++ fields_bytes (reply_fields reply.now)) }
+    ensures kept { OnErr result (StandsFirst out.old.items out.new.items) }
+    ensures full { OnErr result (vec_capacity out.old < length out.old.items + length (fields_bytes (reply_fields reply.now))) }
+    ensures capacity { vec_capacity out.old ≤ vec_capacity out.new }
 {
     match reply {
         Reply::Error { number } => put_u32(out, *number),
@@ -255,7 +319,10 @@ fn number(reply: &Reply<'_>) -> u8
 /// An answer with its tag, without its size.
 fn put_rest(out: &mut Vec<u8>, tag: u16, reply: &Reply<'_>) -> Result<(), AllocError>
     requires { AllByRecursion Fits (reply_fields reply.now) }
-    ensures { OnOk result (out.new.items ≡ out.old.items ++ rest_bytes (replied tag reply.now)) }
+    ensures ok { OnOk result (out.new.items ≡ out.old.items ++ rest_bytes (replied tag reply.now)) }
+    ensures kept { OnErr result (StandsFirst out.old.items out.new.items) }
+    ensures full { OnErr result (vec_capacity out.old < length out.old.items + length (rest_bytes (replied tag reply.now))) }
+    ensures capacity { vec_capacity out.old ≤ vec_capacity out.new }
 {
     put_u8(out, number(reply))?;
     put_u16(out, tag)?;
@@ -275,17 +342,34 @@ fn put_length(out: &mut Vec<u8>, at: usize, size: u32)
     out[at + 3] = bytes[3];
 }
 
+/// An answer with its tag, behind four bytes of zeros for its size.
+fn put_message(out: &mut Vec<u8>, tag: u16, reply: &Reply<'_>) -> Result<(), AllocError>
+    requires { AllByRecursion Fits (reply_fields reply.now) }
+    ensures ok { OnOk result (out.new.items ≡ (out.old.items ++ 0 ∷ 0 ∷ 0 ∷ 0 ∷ []) ++ rest_bytes (replied tag reply.now)) }
+    ensures kept { OnErr result (StandsFirst out.old.items out.new.items) }
+    ensures full { OnErr result (vec_capacity out.old < length out.old.items + (4 + length (rest_bytes (replied tag reply.now)))) }
+    ensures capacity { vec_capacity out.old ≤ vec_capacity out.new }
+{
+    out.extend_from_slice(&[0; 4])?;
+    put_rest(out, tag, reply)
+}
+
 /// Writes an answer with this tag at the end of `out`, if it has at most `limit` bytes.
 ///
-/// 1 TooLong: it has more, and `out` is as it was. 2 OutOfMemory: no memory was found, and a part of it may have been written.
+/// 1 TooLong: it has more. 2 OutOfMemory: no memory was found for it. In both cases `out` has what it had.
 pub fn write(out: &mut Vec<u8>, limit: u32, tag: u16, reply: &Reply<'_>) -> Result<(), WriteRefusal>
     requires { AllByRecursion Fits (reply_fields reply.now) }
     ensures ok { OnOk result ((size_of reply.now ≤ limit) × (out.new.items ≡ out.old.items ++ spelling (replied tag reply.now))) }
     ensures long { result ≡ Err WriteRefusal.TooLong → (limit < size_of reply.now) × (out.new.items ≡ out.old.items) }
+    ensures full { result ≡ Err WriteRefusal.OutOfMemory → vec_capacity out.old < length out.old.items + size_of reply.now }
+    ensures kept { OnErr result (out.new.items ≡ out.old.items) }
+    ensures capacity { OnErr result (vec_capacity out.old ≤ vec_capacity out.new) }
 {
     let at = out.len();
-    out.extend_from_slice(&[0; 4])?;
-    put_rest(out, tag, reply)?;
+    let Ok(()) = put_message(out, tag, reply) else {
+        out.truncate(at);
+        return Err(WriteRefusal::OutOfMemory);
+    };
     let size = out.len() - at;
     if size > limit as usize {
         out.truncate(at);

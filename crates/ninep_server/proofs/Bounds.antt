@@ -1,17 +1,49 @@
 -- No message asks more than sixteen things.
-use Rattle.std.proofs.Common.{ℕ, suc, ◌-◌, min, take, pos, Bool, true, false, ℤ, List, Option, Some, None, Result, Ok, Err}
-use Rattle.std.proofs.Common.{if◌then◌else◌, nat_lt, ◌≡◌, ◌⊎◌, ◌≤◌, ◌+◌, inl, inr, sym, subst, arith}
-use Rattle.ninep.specs.Requests.{Body}
+use Rattle.std.proofs.Common.{ℕ, zero, suc, ◌-◌, ◌%◌, min, take, pos, Bool, true, false, ℤ, List, [], ◌∷◌, ◌++◌, Option, Some, None, Result, Ok, Err}
+use Rattle.std.proofs.Common.{if◌then◌else◌, nat_lt, length, ◌≡◌, ◌⊎◌, ◌≤◌, ◌+◌, inl, inr, sym, subst, arith}
+use Rattle.std.proofs.lemmas.List.{length-append}
+use Rattle.std.specs.Option.{option_map, option_to_list}
+use Rattle.ninep.specs.Requests.{Body, names_in}
+use Rattle.ninep.specs.declared.reply.Qid.{Qid}
+use Rattle.ninep.proofs.TextLaws.{count_is}
+use Rattle.tree.specs.declared.OpenFlags.{OpenFlags}
+use Rattle.tree.specs.declared.Reply.{Reply}
 use Rattle.ninep.specs.declared.request.Request.{Request}
 use Rattle.ninep.specs.declared.request.Request.TheVariants as request
-use Rattle.ninep_server.specs.Knowledge.{Known, File, found, named, opened}
-use Rattle.ninep_server.specs.Hearing.{done_in, attributes_in, position_in, bytes_in, count_in, room_in, target_in}
-use Rattle.ninep_server.specs.Plans.{Plan, Follows, with_it, at}
-use Rattle.ninep_server.specs.Messages.{moving, transferring, looking, attributes_of, closing, of_file, of_name, of_node, of_fid, plan_of}
-use Rattle.ninep_server.specs.Progress.{Within, IsLoose, IsCarriedOn, left_of, left_of_turn}
+use Rattle.ninep_server.specs.Paths.{below, checked, stepped}
+use Rattle.ninep_server.specs.Knowledge.{Known, File, found, named, opened, new_fid, user_of, closed}
+use Rattle.ninep_server.specs.Hearing.{done_in, attributes_in, position_in, bytes_in, count_in, room_in, target_in, descriptor_in, session_in, names_heard}
+use Rattle.ninep_server.specs.Plans.{Plan, Follows, closing, with_it, at}
+use Rattle.ninep_server.specs.Nodes.{node_of, qid_of}
+use Rattle.ninep_server.specs.Attaching.{begins, entering, looking_at_root, attaching_as, user_number}
+use Rattle.ninep_server.specs.Walks.{with_name, enters, walking, place}
+use Rattle.ninep_server.specs.Opens.{opening, opens, open_bits, flags_by, not_link, or_closes, looking_at_file, made_file, making_file, creates}
+use Rattle.ninep_server.specs.Opens.{was_made, making, group_of, is_set, flag_for}
+use Rattle.ninep_server.specs.Naming.{linking, renaming, unlinking, removed, removing_file}
+use Rattle.ninep_server.specs.Settings.{changing, in_order, looking_first, changes_wanted, changeable}
+use Rattle.ninep_server.specs.Listings.{listing}
+use Rattle.ninep_server.specs.Messages.{moving, transferring, looking, attributes_of, of_file, of_name, of_node, of_fid, plan_of}
+use Rattle.ninep_server.specs.Progress.{Within, IsLoose, IsCarriedOn, left_of, left_of_turn, left_at_stage, left_at_change}
 use Rattle.ninep_server.specs.declared.refused.Refused.{Refused}
 use Rattle.ninep_server.specs.declared.transfer.Moved.{Moved}
 use Rattle.ninep_server.specs.declared.transfer.Moved.TheVariants as moved
+use Rattle.ninep_server.specs.declared.users.User.{User}
+use Rattle.ninep_server.specs.declared.fid.Node.{Node}
+use Rattle.ninep_server.specs.declared.attach.Attach.TheVariants as attach
+use Rattle.ninep_server.specs.declared.creation.Creation.TheVariants as creation
+use Rattle.ninep_server.specs.declared.making.Made.{Made}
+use Rattle.ninep_server.specs.declared.making.Made.TheVariants as made
+use Rattle.ninep_server.specs.declared.making.Making.{Making}
+use Rattle.ninep_server.specs.declared.making.Stage.{Stage}
+use Rattle.ninep_server.specs.declared.making.Stage.TheVariants as stage
+use Rattle.ninep_server.specs.declared.listing.Listing.{Listing}
+use Rattle.ninep_server.specs.declared.attributes.Setattr.{Setattr}
+use Rattle.ninep_server.specs.declared.attributes.Wanted.{Wanted}
+use Rattle.ninep_server.specs.declared.attributes.Change.{Change}
+use Rattle.ninep_server.specs.declared.attributes.Change.TheVariants as change
+use Rattle.ninep_server.specs.declared.attributes.Changes.{Changes}
+use Rattle.ninep_server.specs.declared.answer.Answer.{Answer}
+use Rattle.ninep_server.specs.declared.answer.Answer.TheVariants as answer
 use Rattle.ninep_server.specs.declared.work.Work.{Work}
 use Rattle.ninep_server.specs.declared.work.Work.TheVariants as work
 use Rattle.ninep_server.specs.declared.ask.Ask.{Ask}
@@ -49,41 +81,195 @@ closing_within : (n session : ℕ) (descriptor : Option ℕ) (body : ℕ → Bod
 closing_within n session None body = tt
 closing_within n session (Some fd) body = λ h. tt
 
+beginning_within : (n most : ℕ) (version : List ℕ) → Within (begins most version) (suc n)
+beginning_within n most version = either_within (suc n) (nat_lt most 4096) _ _ tt (λ h. tt)
+
+root_within : (n fid : ℕ) (user : User) → Within (looking_at_root fid user) (suc n)
+root_within n fid user = λ h. it_within n (attributes_in h) _ (λ a. tt)
+
+entering_within : (n fid uid : ℕ) → Within (entering fid uid) (suc (suc n))
+entering_within n fid uid = λ h. it_within (suc n) (session_in h) _ (λ session. root_within n fid _)
+
+attaching_within : (n fid uid : ℕ) (user : Option User) → Within (attaching_as fid uid user) (suc (suc n))
+attaching_within n fid uid None = entering_within n fid uid
+attaching_within n fid uid (Some user) = root_within (suc n) fid user
+
+name_it_within : {A : Type 0} (n : ℕ) (qids : List Qid) (r : Result A Refused) (next : A → Plan) → ((a : A) → Within (next a) n)
+    → Within (with_name qids r next) n
+name_it_within n qids (Ok a) next h = h a
+name_it_within n [] (Err refused) next h = tt
+name_it_within n (q ∷ qids) (Err refused) next h = tt
+
+walking_within : (n fid : ℕ) (user : User) (names : List (List ℕ)) (path : List ℕ) (node : Node) (qids : List Qid) → length names ≤ n
+    → Within (walking fid user names path node qids) n
+walking_within n fid user [] path node qids few = tt
+walking_within zero fid user (name ∷ names) path node qids few = absurd (omega (arith, few))
+walking_within (suc n) fid user (name ∷ names) path node qids few =
+    let fewer : length names ≤ n = omega (arith, few) in
+    name_it_within (suc n) qids (enters node.kind name) _ (λ _ h. name_it_within n qids (attributes_in h) _
+    (λ a. walking_within n fid user names (stepped path name) (node_of a) (qids ++ qid_of (node_of a) ∷ []) fewer))
+
+opening_within : (n fid : ℕ) (user : User) (path : List ℕ) (node : Node) (flags : OpenFlags) → Within (opening fid user path node flags) (suc n)
+opening_within n fid user path node flags = λ h. it_within n (descriptor_in h) _ (λ fd. tt)
+
+or_closes_within : {A : Type 0} (n session fd : ℕ) (r : Result A Refused) (next : A → Plan) → ((a : A) → Within (next a) (suc n))
+    → Within (or_closes session fd r next) (suc n)
+or_closes_within n session fd (Ok a) next h = h a
+or_closes_within n session fd (Err refused) next h = λ heard. tt
+
+file_look_within : (n fid : ℕ) (user : User) (path : List ℕ) (fd : ℕ) → Within (looking_at_file fid user path fd) (suc (suc n))
+file_look_within n fid user path fd = λ h. or_closes_within n user.session fd (attributes_in h) _ (λ a. tt)
+
+made_file_within : (n fid : ℕ) (user : User) (path : List ℕ) (group : Option ℕ) (fd : ℕ)
+    → Within (made_file fid user path group fd) (suc (suc (suc n)))
+made_file_within n fid user path None fd = file_look_within (suc n) fid user path fd
+made_file_within n fid user path (Some gid) fd = λ h. or_closes_within (suc n) user.session fd (done_in h) _
+    (λ _. file_look_within n fid user path fd)
+
+making_file_within : (n fid : ℕ) (user : User) (path : List ℕ) (flags : OpenFlags) (mode : ℕ) (group : Option ℕ)
+    → Within (making_file fid user path flags mode group) (suc (suc (suc (suc n))))
+making_file_within n fid user path flags mode group =
+    λ h. it_within (suc (suc (suc n))) (descriptor_in h) _ (made_file_within n fid user path group)
+
+was_made_within : (n session : ℕ) (path : List ℕ) (what : Made) (group : Option ℕ) → Within (was_made session path what group) (suc (suc n))
+was_made_within n session path what None = λ h. it_within (suc n) (attributes_in h) _ (λ a. tt)
+was_made_within n session path what (Some gid) = λ h. it_within (suc n) (done_in h) _ (λ _ i. it_within n (attributes_in i) _ (λ a. tt))
+
+making_within : (n session : ℕ) (path : List ℕ) (what : Made) (group : Option ℕ) → Within (making session path what group) (suc (suc (suc n)))
+making_within n session path what group = λ h. it_within (suc (suc n)) (done_in h) _ (λ _. was_made_within n session path what group)
+
+linking_within : (n session : ℕ) (old new : List ℕ) → Within (linking session old new) (suc n)
+linking_within n session old new = λ h. it_within n (done_in h) _ (λ _. tt)
+
+renaming_within : (n session : ℕ) (old new : List ℕ) (a : Answer) → Within (renaming session old new a) (suc n)
+renaming_within n session old new a = λ h. it_within n (done_in h) _ (λ _. tt)
+
+unlinking_within : (n session : ℕ) (path : List ℕ) (directory : Bool) → Within (unlinking session path directory) (suc n)
+unlinking_within n session path directory = λ h. it_within n (done_in h) _ (λ _. tt)
+
+removed_within : (n session : ℕ) (path : List ℕ) (descriptor : Option ℕ) (r : Result Reply Refused)
+    → Within (removed session path descriptor r) (suc n)
+removed_within n session path descriptor (Ok _) = closing_within n session descriptor _
+removed_within n session path descriptor (Err refused) = closing_within n session descriptor _
+
+removing_within : (n : ℕ) (file : File) (gone : Bool) → Within (removing_file file gone) (suc (suc n))
+removing_within n file true = closing_within (suc n) file.user.session file.descriptor _
+removing_within n file false = λ h. removed_within n file.user.session file.path file.descriptor (done_in h)
+
+-- no more changes than there are kinds of them
+one_at_most : {A : Type 0} (o : Option A) → length (option_to_list o) ≤ 1
+one_at_most None = omega arith
+one_at_most (Some a) = omega arith
+
+few_changes : (c : Changes) → length (in_order c) ≤ 4
+few_changes c =
+    let sizes = option_to_list (option_map (λ size. change.Size size) c.size) in
+    let owners = option_to_list (option_map (λ (owners : ℕ × ℕ). change.Owners owners.0 owners.1) c.owners) in
+    let modes = option_to_list (option_map (λ mode. change.Mode mode) c.mode) in
+    let times = option_to_list (option_map (λ (times : ℕ × ℕ). change.Times times.0 times.1) c.times) in
+    omega (
+      arith,
+      length-append sizes (owners ++ (modes ++ times)),
+      length-append owners (modes ++ times),
+      length-append modes times,
+      one_at_most (option_map (λ size. change.Size size) c.size),
+      one_at_most (option_map (λ (owners : ℕ × ℕ). change.Owners owners.0 owners.1) c.owners),
+      one_at_most (option_map (λ mode. change.Mode mode) c.mode),
+      one_at_most (option_map (λ (times : ℕ × ℕ). change.Times times.0 times.1) c.times),
+    )
+
+changing_within : (n session : ℕ) (path : List ℕ) (changes : List Change) → length changes ≤ n → Within (changing session path changes) n
+changing_within n session path [] few = tt
+changing_within zero session path (c ∷ changes) few = absurd (omega (arith, few))
+changing_within (suc n) session path (c ∷ changes) few =
+    let fewer : length changes ≤ n = omega (arith, few) in
+    λ h. it_within n (done_in h) _ (λ _. changing_within n session path changes fewer)
+
+setting_within : (session : ℕ) (path : List ℕ) (wanted : Wanted) → Within (looking_first session path wanted) 16
+setting_within session path wanted = λ h. it_within 15 (attributes_in h) _ (λ a. it_within 15 (changes_wanted wanted a) _
+    (λ c. changing_within 15 session path (in_order c) (omega (arith, few_changes c))))
+
+listing_within : (n session : ℕ) (path : List ℕ) (fd : ℕ) (above : Option ℕ) → Within (listing session path fd above) (suc (suc n))
+listing_within n session path fd None =
+    λ h. it_within (suc n) (attributes_in h) _ (λ a i. it_within n (names_heard i) _ (λ names. tt))
+listing_within n session path fd (Some above) = λ h. it_within (suc n) (names_heard h) _ (λ names. tt)
+
+opens_within : (k : Known) (fid flags : ℕ) → Within (opens k fid flags) 16
+opens_within k fid flags = it_within 16 (named k.fids fid) _ (λ file. it_within 16 (closed file.descriptor) _
+    (λ _. it_within 16 (not_link file.node.kind) _ (λ _. it_within 16 (open_bits flags) _
+    (λ bits. opening_within 15 fid file.user file.path file.node (flags_by bits)))))
+
+creates_within : (k : Known) (fid : ℕ) (name : List ℕ) (flags mode gid : ℕ) → Within (creates k fid name flags mode gid) 16
+creates_within k fid name flags mode gid = it_within 16 (named k.fids fid) _ (λ directory. it_within 16 (closed directory.descriptor) _
+    (λ _. it_within 16 (checked name) _ (λ _. it_within 16 (open_bits flags) _ (λ bits. making_file_within 12 fid directory.user
+    (below directory.path name) (flags_by (bits + (8 + flag_for flags 0x80 16))) (mode % 4096) (group_of directory.user gid)))))
+
 file_within : (k : Known) (r : Request) → Within (of_file k r) 16
+file_within k (request.Open fid flags) = opens_within k fid flags
+file_within k (request.Create fid name flags mode gid) = creates_within k fid name.now flags mode gid
 file_within k (request.Read fid offset count) = it_within 16 (opened k.fids fid) _
     (λ file. either_within 16 (nat_lt 2147483647 offset) _ _ tt
     (transferring_within 14 file.0 file.1 (Some (pos offset)) (moved.Read (min (min count (k.message_size - 24)) 65536))))
 file_within k (request.Write fid offset bytes) = it_within 16 (opened k.fids fid) _
     (λ file. either_within 16 (nat_lt 2147483647 offset) _ _ tt
     (transferring_within 14 file.0 file.1 (Some (pos offset)) (moved.Write (at (take 65536 bytes.now)))))
+file_within k (request.Readdir fid offset count) = it_within 16 (opened k.fids fid) _ (λ used. it_within 16 (named k.fids fid) _
+    (λ file. either_within 16 (nat_lt (min count (k.message_size - 24)) 84) _ _ tt (listing_within 14 used.0 file.path used.1 _)))
 file_within k (request.Lock fid kind flags start length process client) = it_within 16 (opened k.fids fid) _ (λ file. tt)
 file_within k (request.Getlock fid kind start length process client) = it_within 16 (opened k.fids fid) _ (λ file. tt)
 file_within k r = tt
 
 name_within : (k : Known) (r : Request) → Within (of_name k r) 16
-name_within k (request.Symlink directory name target gid) = tt
-name_within k (request.Mkdir directory name mode gid) = tt
-name_within k (request.Link directory fid name) = tt
-name_within k (request.Rename fid directory name) = tt
-name_within k (request.Renameat old_directory old_name new_directory new_name) = tt
-name_within k (request.Unlinkat directory name flags) = tt
+name_within k (request.Symlink directory name target gid) = it_within 16 (named k.fids directory) _
+    (λ parent. it_within 16 (checked name.now) _ (λ _. making_within 13 parent.user.session (below parent.path name.now)
+    (made.Symlink (at target.now)) None))
+name_within k (request.Mkdir directory name mode gid) = it_within 16 (named k.fids directory) _
+    (λ parent. it_within 16 (checked name.now) _ (λ _. making_within 13 parent.user.session (below parent.path name.now)
+    (made.Directory (mode % 4096)) (group_of parent.user gid)))
+name_within k (request.Link directory fid name) = it_within 16 (named k.fids directory) _
+    (λ parent. it_within 16 (named k.fids fid) _ (λ file. it_within 16 (checked name.now) _
+    (λ _. linking_within 15 parent.user.session file.path (below parent.path name.now))))
+name_within k (request.Rename fid directory name) = it_within 16 (named k.fids fid) _
+    (λ file. it_within 16 (named k.fids directory) _ (λ parent. it_within 16 (checked name.now) _
+    (λ _. renaming_within 15 parent.user.session file.path (below parent.path name.now) answer.Rename)))
+name_within k (request.Renameat old_directory old_name new_directory new_name) = it_within 16 (named k.fids old_directory) _
+    (λ from. it_within 16 (named k.fids new_directory) _ (λ to. it_within 16 (checked old_name.now) _ (λ _. it_within 16
+    (checked new_name.now) _ (λ _. renaming_within 15 from.user.session (below from.path old_name.now)
+    (below to.path new_name.now) answer.Renameat))))
+name_within k (request.Unlinkat directory name flags) = it_within 16 (named k.fids directory) _
+    (λ parent. it_within 16 (checked name.now) _ (λ _. unlinking_within 15 parent.user.session (below parent.path name.now)
+    (is_set flags 0x200)))
 name_within k r = file_within k r
 
 node_within : (k : Known) (now : ℕ) (r : Request) → Within (of_node k now r) 16
 node_within k now (request.Getattr fid mask) =
     it_within 16 (found k.fids fid) _ (λ file. attributes_within 15 file file.descriptor file.gone)
-node_within k now (request.Setattr fid valid mode uid gid size atime mtime) = tt
+node_within k now (request.Setattr fid valid mode uid gid size atime mtime) = it_within 16 (named k.fids fid) _
+    (λ file. it_within 16 (changeable file.node.kind) _ (λ _. setting_within file.user.session file.path (record {
+  valid = valid;
+  mode = mode;
+  uid = uid;
+  gid = gid;
+  size = size;
+  atime = atime.0;
+  mtime = mtime.0;
+  now = now;
+})))
 node_within k now (request.Readlink fid) = it_within 16 (named k.fids fid) _ (λ file h. it_within 15 (target_in h) _ (λ target. tt))
 node_within k now (request.Statfs fid) = it_within 16 (found k.fids fid) _ (λ file h. it_within 15 (room_in h) _ (λ room. tt))
 node_within k now r = name_within k r
 
 fid_within : (k : Known) (now : ℕ) (r : Request) → Within (of_fid k now r) 16
-fid_within k now (request.Version message_size version) = tt
-fid_within k now (request.Attach fid auth_fid user_name tree uid) = tt
-fid_within k now (request.Walk fid new_fid names) = tt
+fid_within k now (request.Version message_size version) = beginning_within 15 message_size version.now
+fid_within k now (request.Attach fid auth_fid user_name tree uid) = it_within 16 (new_fid k.fids fid) _
+    (λ _. it_within 16 (user_number uid) _ (λ number. attaching_within 14 fid number (user_of k.users number)))
+fid_within k now (request.Walk fid new names) =
+    let few : length (names_in names) ≤ 16 = omega (arith, count_is names.count names.bytes.now names.whole, names.few) in
+    it_within 16 (named k.fids fid) _ (λ file. it_within 16 (place k fid new file.descriptor) _
+    (λ _. walking_within 16 new file.user (names_in names) file.path file.node [] few))
 fid_within k now (request.Clunk fid) =
     it_within 16 (found k.fids fid) _ (λ file. closing_within 15 file.user.session file.descriptor _)
-fid_within k now (request.Remove fid) = tt
+fid_within k now (request.Remove fid) = it_within 16 (found k.fids fid) _ (λ file. removing_within 14 file file.gone)
 fid_within k now (request.Flush old_tag) = tt
 fid_within k now r = node_within k now r
 
@@ -104,6 +290,19 @@ asks_looking : (session : ℕ) (path : List ℕ) (descriptor : Option ℕ) → W
 asks_looking session path None few = few
 asks_looking session path (Some fd) few = few
 
+asks_making : (m : Making) (stage : Stage) → Within (left_at_stage m stage) 0 → ⊥
+asks_making m stage.Make few = few
+asks_making m (stage.Chown gid) few = few
+asks_making m stage.Look few = few
+
+asks_setting : (x : Setattr) (change : Option Change) → Within (left_at_change x change) 0 → ⊥
+asks_setting x None few = few
+asks_setting x (Some c) few = few
+
+asks_listing : (l : Listing) (above : Option ℕ) → Within (listing l.session l.path.items l.fd above) 0 → ⊥
+asks_listing l None few = few
+asks_listing l (Some above) few = few
+
 -- what may ask nothing more has nothing that is asked next
 pub none_left : {S : Type 0} (may : S → Ask → Heard → S → Type 0) (w : Work) (s : S) (k : Known) → Within (left_of w) 0
     → IsLoose may (left_of w) s k
@@ -112,7 +311,21 @@ none_left may (work.Getattr g) s k few = absurd (asks_looking g.session g.path.i
 none_left may (work.Readlink r) s k few = absurd few
 none_left may (work.Close c) s k few = absurd few
 none_left may (work.Statfs session) s k few = absurd few
-none_left may w s k few = λ it u m. tt
+none_left may (work.Version v) s k few = absurd few
+none_left may (work.Attach (attach.Enter fid uid)) s k few = absurd few
+none_left may (work.Attach (attach.Root fid user)) s k few = absurd few
+none_left may (work.Walk w) s k few = absurd few
+none_left may (work.Open o) s k few = absurd few
+none_left may (work.Create (creation.Open file flags mode group)) s k few = absurd few
+none_left may (work.Create (creation.Chown file fd gid)) s k few = absurd few
+none_left may (work.Create (creation.Look file fd)) s k few = absurd few
+none_left may (work.Make m) s k few = absurd (asks_making m m.stage few)
+none_left may (work.Link l) s k few = absurd few
+none_left may (work.Rename r) s k few = absurd few
+none_left may (work.Unlink u) s k few = absurd few
+none_left may (work.Remove r) s k few = absurd few
+none_left may (work.Setattr x) s k few = absurd (asks_setting x x.change few)
+none_left may (work.List l) s k few = absurd (asks_listing l l.above few)
 
 -- A turn that still waits when sixteen things were asked has a plan that leaves open what is said.
 pub runs_out : {S : Type 0} (may : S → Ask → Heard → S → Type 0) (p : Plan) (s t : S) (k l : Known) (here : Turn) (asked : ℕ) (it : Said)

@@ -3,9 +3,9 @@ use Rattle.std.proofs.Common.{◌≡◌, ℕ, List, ◌++◌, sym, ap, ◌∙◌
 use Rattle.std.proofs.lemmas.List.{append_cancel_left}
 use Rattle.ninep_server.specs.Paths.{IsRest}
 use Rattle.ninep_server.specs.Fids.{IsRenamed}
-use Rattle.ninep_server.specs.declared.fid.Fid.{Fid}
+use Rattle.ninep_server.specs.Knowledge.{File}
 
-pub goes_along : (old new rest : List ℕ) (f g : Fid) → f.path.items ≡ old ++ rest → IsRest rest → g.path.items ≡ new ++ rest
+pub goes_along : (old new rest : List ℕ) (f g : File) → f.path ≡ old ++ rest → IsRest rest → g.path ≡ new ++ rest
     → g.gone ≡ f.gone → g.node ≡ f.node → g.user ≡ f.user → g.descriptor ≡ f.descriptor → IsRenamed old new f g
 goes_along old new rest f g e h p gone node user descriptor = record {
   moved = λ other is o. inr (p ∙ ap (λ (r : List ℕ). new ++ r) (append_cancel_left old rest other (sym e ∙ o)), gone);

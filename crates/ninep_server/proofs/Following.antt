@@ -1,13 +1,19 @@
 -- How plans are followed.
-use Rattle.std.proofs.Common.{◌≡◌, ◌⊎◌, ◌∙◌, ◌+◌, ℕ, suc, inl, inr, refl, sym, subst, arith}
+use Rattle.std.proofs.Common.{◌≡◌, ◌⊎◌, ◌∙◌, ◌+◌, ℕ, suc, List, Option, Some, None, Result, Ok, inl, inr, refl, sym, subst, arith}
 use Rattle.errno.specs.declared.Errno.TheVariants.{ENOMEM}
 use Rattle.ninep.specs.Requests.{Body}
-use Rattle.ninep_server.specs.Knowledge.{Known}
-use Rattle.ninep_server.specs.Plans.{Plan, Open, Says, Asks, Changes, OrNoMemory, IsSaid, Follows, error}
+use Rattle.tree.specs.declared.Reply.{Reply}
+use Rattle.ninep_server.specs.Fids.{EachBecomes, IsUnlinked}
+use Rattle.ninep_server.specs.Knowledge.{Known, File}
+use Rattle.ninep_server.specs.Plans.{Plan, Open, Says, Asks, Changes, OrNoMemory, IsSaid, Follows, closing, error}
+use Rattle.ninep_server.specs.Nodes.{said_of}
+use Rattle.ninep_server.specs.Naming.{removed}
 use Rattle.ninep_server.specs.Progress.{left_of, left_of_turn, AsksNext, behind, SaysSame, Leaves, IsCarriedOn, Within, IsLoose}
 use Rattle.ninep_server.specs.Messages.{syncing, synced}
 use Rattle.tree.specs.declared.Call.TheVariants as call
+use Rattle.ninep_server.specs.declared.refused.Refused.{Refused}
 use Rattle.ninep_server.specs.declared.refused.Refused.TheVariants.{By}
+use Rattle.ninep_server.specs.declared.answer.Answer.TheVariants as answer
 use Rattle.ninep_server.specs.declared.work.Work.{Work}
 use Rattle.ninep_server.specs.declared.ask.Ask.{Ask}
 use Rattle.ninep_server.specs.declared.ask.Ask.TheVariants as ask
@@ -158,3 +164,18 @@ pub sync_few : {S : Type 0} (may : S → Ask → Heard → S → Type 0) (n : �
 sync_few {S} may n here session r h s t k e heard left =
     let P : Turn → Type 0 = λ x. Within (left_of_turn x) (suc n) → Within r n ⊎ IsLoose may (left_of_turn x) s k in
     subst P (sym e) (fewer may n (syncing session) r (ask.Call session call.Sync) h s t k k refl heard left)
+
+-- the same is left
+closes : (session : ℕ) (d : Option ℕ) (body : ℕ → Body) (k : Known) → Leaves (closing session d body) k (closing session d body) k
+closes session None body k = ((λ most. refl), refl)
+closes session (Some fd) body k = (refl, refl)
+
+-- a name was taken away, and what is left is to close
+pub removed_leaves : (session : ℕ) (path : List ℕ) (d : Option ℕ) (r : Result Reply Refused) (done : Reply) (k : Known)
+    (fids : List (ℕ × File)) (q : Plan) → r ≡ Ok done → EachBecomes (IsUnlinked path) k.fids fids
+    → q ≡ closing session d (said_of answer.Remove) → Leaves (removed session path d r) k q (record k { fids = fids })
+removed_leaves session path d r done k fids q told each is =
+    let l : Known = record k { fids = fids } in
+    let P : Result Reply Refused → Type 0 = λ x. Leaves (removed session path d x) k q l in
+    let Q : Plan → Type 0 = λ x. Leaves (closing session d (said_of answer.Remove)) l x l in
+    subst P (sym told) (l, (fids, each, refl), subst Q (sym is) (closes session d (said_of answer.Remove) l))

@@ -1,12 +1,17 @@
 -- A reply that is written.
 use Rattle.std.proofs.Common.{◌≡◌, ◌≤◌, ◌<◌, ◌+◌, ◌-◌, ◌^◌, ℕ, zero, suc, List, [], ◌∷◌, ◌++◌, length, take, slice_index_or, Result, Ok}
-use Rattle.std.proofs.Common.{Err, OnOk, inr, subst, arith}
+use Rattle.std.proofs.Common.{Err, OnOk, inr, subst, refl, arith}
+use Rattle.std.proofs.lemmas.List.{length-append}
 use Rattle.std.specs.List.{AllByRecursion, flat_map}
-use Rattle.ninep.specs.Fields.{Field, Fits, fields_bytes}
+use Rattle.ninep.specs.Fields.{Four, Field, Number, Fits, fields_bytes, number_bytes}
+use Rattle.ninep.proofs.FieldLaws.{number_length}
 use Rattle.ninep.specs.Requests.{spelling}
 use Rattle.ninep.specs.Replies.{qid_fields, replied, reply_fields, size_of}
 use Rattle.ninep.specs.declared.reply.Qid.{Qid}
 use Rattle.ninep.specs.declared.reply.Reply.{Reply}
+use Rattle.ninep.specs.declared.reply.Reply.TheVariants as reply
+use Rattle.ninep.specs.declared.write_refusal.WriteRefusal.{WriteRefusal}
+use Rattle.ninep.specs.declared.write_refusal.WriteRefusal.TheVariants.{TooLong, OutOfMemory}
 use Rattle.ninep_server.specs.declared.answer.Said.{Said}
 use Rattle.ninep_server.specs.Sending.{IsSent}
 use Rattle.ninep_server.specs.Written.{said_number, said_fields, too_long, IsWritten, IsSaidIn}
@@ -41,3 +46,14 @@ too_much limit tag s r old mid new (Ok a) sent long h = inr (
   subst (λ (fields : List Field). limit < 7 + length (fields_bytes fields)) sent.1 long.0,
   subst (λ (o : List ℕ). IsWritten limit tag too_long o new) long.1 h,
 )
+
+error_size : (n : ℕ) → length (fields_bytes (Number Four n ∷ [])) ≡ 4
+error_size n =
+    let whole : length (number_bytes Four n ++ []) ≡ 4 = omega (arith, length-append (number_bytes Four n) [], number_length Four n) in
+    whole
+
+-- a refusal has eleven bytes, and is never too long
+pub no_room : (e : WriteRefusal) (n limit len capacity : ℕ) → (e ≡ TooLong → limit < size_of (reply.Error n))
+    → (e ≡ OutOfMemory → capacity < len + size_of (reply.Error n)) → 4096 ≤ limit → capacity < len + 11
+no_room TooLong n limit len capacity long full least = absurd (omega (arith, error_size n, long refl, least))
+no_room OutOfMemory n limit len capacity long full least = omega (arith, error_size n, full refl)

@@ -1,6 +1,6 @@
 -- Turns and what was asked before them.
 use Rattle.std.proofs.Common.{◌≡◌, ◌∙◌, ◌<◌, ◌+◌, ℕ, Bool, true, false, sym, List, [], ◌∷◌, Result, Ok, Err, OnOk, OnErr, is_ok, refl}
-use Rattle.std.proofs.Common.{subst, inl, inr, ◌⊎◌}
+use Rattle.std.proofs.Common.{subst, inl, inr, ◌⊎◌, ◌≤◌, arith}
 use Rattle.ninep_server.specs.declared.heard.Heard.{Heard}
 use Rattle.ninep_server.specs.declared.answer.Said.{Said}
 use Rattle.ninep_server.specs.declared.answer.Said.TheVariants as said
@@ -114,7 +114,7 @@ wants_room (Err x) b P e h f = h
 
 pub said_so : {S A E : Type 0} (may : S → Ask → Heard → S → Type 0) (now : ℕ) (bytes : List ℕ) (s t : S) (k l : Known)
     (len capacity tag : ℕ) (from old new : List ℕ) (it : Said) (has_room : Bool) (r : Result A E) → tag ≡ tag_in bytes → from ≡ old
-    → IsAnswered may now bytes has_room s k it t l → (has_room ≡ false → capacity < len + k.message_size)
+    → IsAnswered may now bytes has_room s k it t l → (has_room ≡ false → capacity < len + 65560)
     → OnOk r (IsSaidIn l.message_size tag it from new) → OnOk r (Says may now bytes s k t l len capacity old new)
 said_so may now bytes s t k l len capacity tag from old new it has_room (Err e) same_tag same answered room written = tt
 said_so may now bytes s t k l len capacity tag from old new it has_room (Ok a) same_tag same answered room written = (
@@ -125,3 +125,32 @@ said_so may now bytes s t k l len capacity tag from old new it has_room (Ok a) s
   subst (λ (m : ℕ). IsSaidIn l.message_size m it old new) same_tag
       (subst (λ (o : List ℕ). IsSaidIn l.message_size tag it o new) same written),
 )
+
+-- what can't be written wasn't asked for
+pub all_stays : {S A E : Type 0} (may : S → Ask → Heard → S → Type 0) (now : ℕ) (bytes : List ℕ) (s t : S) (k l : Known)
+    (len capacity limit : ℕ) (it : Said) (has_room : Bool) (r : Result A E) (X Y : List ℕ) → IsAnswered may now bytes has_room s k it t l
+    → (has_room ≡ true → len + 65560 ≤ capacity) → limit ≤ 65560 → OnErr r (capacity < len + limit) → OnErr r (X ≡ Y)
+    → OnErr r ((t ≡ s) × (l ≡ k) × (X ≡ Y))
+all_stays may now bytes s t k l len capacity limit it has_room (Ok a) X Y answered room most full kept = tt
+all_stays may now bytes s t k l len capacity limit it true (Err e) X Y answered room most full kept =
+    let enough : len + 65560 ≤ capacity = room refl in
+    absurd (omega (arith, enough, most, full))
+all_stays may now bytes s t k l len capacity limit it false (Err e) X Y answered room most full kept = (answered.1, answered.2, kept)
+
+-- room is there where it was found
+pub has_room : {A E : Type 0} (r : Result A E) (b : Bool) (P : Type 0) → b ≡ is_ok r → OnOk r P → b ≡ true → P
+has_room (Ok a) b P e h f = h
+has_room (Err x) b P e h f = absurd (no (sym e ∙ f)) where
+  no : false ≡ true → ⊥
+  no y = cc
+
+-- what can't be written had no room
+pub had_none : {A E : Type 0} (len capacity limit : ℕ) (has_room : Bool) (r : Result A E) (e : E) (P : Type 0)
+    → (has_room ≡ true → len + 65560 ≤ capacity) → (has_room ≡ false → P) → limit ≤ 65560 → OnErr r (capacity < len + limit) → r ≡ Err e → P
+had_none len capacity limit has_room (Ok a) e P room none most full is = absurd (no is) where
+  no : Ok a ≡ Err e → ⊥
+  no y = cc
+had_none len capacity limit true (Err x) e P room none most full is =
+    let enough : len + 65560 ≤ capacity = room refl in
+    absurd (omega (arith, enough, most, full))
+had_none len capacity limit false (Err x) e P room none most full is = none refl

@@ -22,8 +22,9 @@ abbrev pub known : Connection → Known
 known c = known_of c.knows
 
 -- One message more stands behind those before: what is said by the plan for these bytes, at this time, or EIO where that has more bytes
--- than a message may have. Only where the buffer had no room for the longest answer ENOMEM may be said in its place, and then nothing is asked.
+-- than a message may have. Only where the buffer had no room for the longest answer ENOMEM may be said in its place, and then nothing is
+-- asked.
 abbrev pub Says : {S : Type 0} → (S → Ask → Heard → S → Type 0) → ℕ → List ℕ → S → Known → S → Known → ℕ → ℕ → List ℕ → List ℕ
     → Type 0
 Says may now bytes s k t l len capacity old new = (it : Said) × (has_room : Bool) × IsAnswered may now bytes has_room s k it t l
-    × (has_room ≡ false → capacity < len + k.message_size) × IsSaidIn l.message_size (tag_in bytes) it old new
+    × (has_room ≡ false → capacity < len + 65560) × IsSaidIn l.message_size (tag_in bytes) it old new

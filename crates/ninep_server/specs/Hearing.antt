@@ -2,12 +2,14 @@
 use Rattle.std.specs.Prelude.{ℕ, List, Result, Ok, Err}
 use Rattle.errno.specs.declared.Errno.TheVariants.{EIO}
 use Rattle.tree.specs.declared.Attributes.{Attributes}
+use Rattle.tree.specs.declared.Entry.{Entry}
 use Rattle.tree.specs.declared.LinkTarget.{LinkTarget}
 use Rattle.tree.specs.declared.Room.{Room}
 use Rattle.tree.specs.declared.Outcome.TheVariants as outcome
 use Rattle.tree.specs.declared.Reply.{Reply}
 use Rattle.tree.specs.declared.Reply.TheVariants as reply
 use Rattle.ninep_server.specs.Knowledge.{then_of}
+use Rattle.ninep_server.specs.Refusals.{entering}
 use Rattle.ninep_server.specs.declared.heard.Heard.{Heard}
 use Rattle.ninep_server.specs.declared.heard.Heard.TheVariants as heard
 use Rattle.ninep_server.specs.declared.refused.Refused.{Refused}
@@ -60,6 +62,11 @@ abbrev pub as_target : Reply → Result LinkTarget Refused
 as_target (reply.Target target) = Ok target
 as_target r = Err eio
 
+-- the names of a directory
+abbrev pub as_names : Reply → Result (List Entry) Refused
+as_names (reply.Names names) = Ok names.items
+as_names r = Err eio
+
 abbrev pub done_in : Heard → Result Reply Refused
 done_in h = then_of (reply_in h) as_done
 
@@ -83,3 +90,12 @@ room_in h = then_of (reply_in h) as_room
 
 abbrev pub target_in : Heard → Result LinkTarget Refused
 target_in h = then_of (reply_in h) as_target
+
+abbrev pub names_heard : Heard → Result (List Entry) Refused
+names_heard h = then_of (reply_in h) as_names
+
+-- the number of a session
+abbrev pub session_in : Heard → Result ℕ Refused
+session_in (heard.Entered (Ok session)) = Ok session
+session_in (heard.Entered (Err refusal)) = Err (By (entering refusal))
+session_in h = Err eio

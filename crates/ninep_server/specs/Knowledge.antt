@@ -1,11 +1,12 @@
 -- What a connection knows: its users, and what its fids stand for.
-use Rattle.std.specs.Prelude.{ℕ, Bool, true, false, List, map, Option, Some, None, Result, Ok, Err}
+use Rattle.std.specs.Prelude.{⊤, ℕ, Bool, true, false, List, map, length, nat_lt, Option, Some, None, Result, Ok, Err, if◌then◌else◌, ◌==◌}
 use Rattle.std.specs.Borrow.{Bor}
-use Rattle.std.specs.Option.{ok_or}
+use Rattle.std.specs.Option.{ok_or, is_some}
+use Rattle.std.specs.List.{find}
 use Rattle.std.specs.Ordering.{nat_cmp}
 use Rattle.std.specs.BTreeMap.{is_at}
 use Rattle.std.specs.Map.{lookup}
-use Rattle.errno.specs.declared.Errno.TheVariants.{EBADF}
+use Rattle.errno.specs.declared.Errno.TheVariants.{EBADF, EINVAL, ENFILE}
 use Rattle.ninep_server.specs.declared.refused.Refused.{Refused}
 use Rattle.ninep_server.specs.declared.refused.Refused.TheVariants.{By, Stale}
 use Rattle.ninep_server.specs.declared.users.User.{User}
@@ -70,3 +71,26 @@ opened fids fid = then_of (found fids fid) (λ file. by_descriptor file file.des
 abbrev pub seen : Result (Bor Fid) Refused → Result File Refused
 seen (Ok fid) = Ok (file_of fid.now)
 seen (Err refused) = Err refused
+
+-- a number for a new fid: EINVAL where it is used, ENFILE where there are as many fids as may be
+abbrev pub new_fid : List (ℕ × File) → ℕ → Result ⊤ Refused
+new_fid fids fid =
+    if is_some (lookup (is_at (nat_cmp fid)) fids) then Err (By EINVAL)
+    else if nat_lt (length fids) 4096 then Ok tt else Err (By ENFILE)
+
+-- a fid that isn't open
+abbrev pub closed : Option ℕ → Result ⊤ Refused
+closed None = Ok tt
+closed (Some fd) = Err (By EINVAL)
+
+-- a file that isn't open
+abbrev pub file_at : User → List ℕ → Node → File
+file_at user path node = record { user = user; path = path; node = node; descriptor = None; gone = false }
+
+-- one that is
+abbrev pub file_open : User → List ℕ → Node → ℕ → File
+file_open user path node fd = record { user = user; path = path; node = node; descriptor = Some fd; gone = false }
+
+-- the user with this number, if it is attached
+abbrev pub user_of : List User → ℕ → Option User
+user_of users uid = find (λ (user : User). user.uid == uid) users

@@ -9,6 +9,13 @@ pub mod Fids
 pub mod Knowledge
 pub mod Hearing
 pub mod Plans
+pub mod Nodes
+pub mod Attaching
+pub mod Walks
+pub mod Opens
+pub mod Naming
+pub mod Settings
+pub mod Listings
 pub mod Messages
 pub mod Progress
 pub mod Answering

@@ -4,7 +4,7 @@ use Rattle.std.specs.Prelude.{if◌then◌else◌, ◌==◌}
 use Rattle.std.specs.Int.{div_ceil}
 use Rattle.errno.specs.declared.Errno.TheVariants.{EFBIG, EINVAL}
 use Rattle.ninep.specs.Fields.{Text, Data}
-use Rattle.ninep.specs.Requests.{Body}
+use Rattle.ninep.specs.Requests.{names_in}
 use Rattle.ninep.specs.declared.fault.Fault.{Fault}
 use Rattle.ninep.specs.declared.fault.Fault.TheVariants as fault
 use Rattle.ninep.specs.declared.reply.Qid.{Qid}
@@ -20,7 +20,14 @@ use Rattle.tree.specs.declared.Whence.TheVariants.{Set}
 use Rattle.ninep_server.specs.Paths.{called}
 use Rattle.ninep_server.specs.Knowledge.{Known, File, found, named, opened}
 use Rattle.ninep_server.specs.Hearing.{done_in, attributes_in, position_in, bytes_in, count_in, room_in, target_in}
-use Rattle.ninep_server.specs.Plans.{Plan, Open, Says, Changes, OrNoMemory, Drops, reply, body_said, refuses, with_it, calls, at}
+use Rattle.ninep_server.specs.Plans.{Plan, Says, Changes, OrNoMemory, Drops, reply, body_said, refuses, closing, with_it, calls, at}
+use Rattle.ninep_server.specs.Nodes.{says, said_of, node_of, qid_of}
+use Rattle.ninep_server.specs.Attaching.{begins, attaching}
+use Rattle.ninep_server.specs.Walks.{walks}
+use Rattle.ninep_server.specs.Opens.{opens, creates, makes_directory, makes_link}
+use Rattle.ninep_server.specs.Naming.{links, renames, renames_at, unlinks, removes}
+use Rattle.ninep_server.specs.Settings.{sets}
+use Rattle.ninep_server.specs.Listings.{lists}
 use Rattle.ninep_server.specs.declared.refused.Refused.{Refused}
 use Rattle.ninep_server.specs.declared.refused.Refused.TheVariants.{By, Stale, Unsupported}
 use Rattle.ninep_server.specs.declared.fid.Kind.{Kind}
@@ -32,29 +39,6 @@ use Rattle.ninep_server.specs.declared.heard.Heard.{Heard}
 use Rattle.ninep_server.specs.declared.answer.Answer.{Answer}
 use Rattle.ninep_server.specs.declared.answer.Answer.TheVariants as answer
 use Rattle.ninep_server.specs.declared.answer.Said.TheVariants as said
-
-abbrev pub said_of : Answer → ℕ → Body
-said_of a = body_said (said.Plain a)
-
-abbrev pub says : Answer → Plan
-says a = Says (said_of a)
-
--- the node with these attributes: its type is that of its mode
-abbrev pub kind_of : ℕ → Kind
-kind_of mode =
-    if mode / 4096 == 4 then kind.Directory else if mode / 4096 == 10 then kind.Symlink else kind.File
-
-abbrev pub node_of : Attributes → Node
-node_of a = record { inode = a.inode; kind = kind_of a.mode }
-
--- the type of a file in its qid
-abbrev pub qid_kind : Kind → ℕ
-qid_kind kind.File = 0
-qid_kind kind.Directory = 0x80
-qid_kind kind.Symlink = 0x02
-
-abbrev pub qid_of : Node → Qid
-qid_of node = record { kind = qid_kind node.kind; version = 0; path = node.inode }
 
 -- the attributes of a node: blocks are counted by its size, times are whole seconds
 abbrev pub attributes_told : Attributes → AttributesTold
@@ -142,11 +126,6 @@ synced h = with_it (done_in h) (λ _. Says (body_said said.Synced))
 abbrev pub syncing : ℕ → Plan
 syncing session = calls session call.Sync synced
 
--- a descriptor is closed, if there is one, and then this is said, whatever the close says
-abbrev pub closing : ℕ → Option ℕ → (ℕ → Body) → Plan
-closing session None body = Says body
-closing session (Some fd) body = calls session (call.Close fd) (λ h. Says body)
-
 -- Tclunk: the fid is let go
 abbrev pub clunking : Known → ℕ → Plan
 clunking k fid = with_it (found k.fids fid)
@@ -174,11 +153,11 @@ refusal_for f = By EINVAL
 
 -- Of an open file, or one that is opened. Tlock is granted, and Tgetlock finds none.
 abbrev pub of_file : Known → Request → Plan
-of_file k (request.Open fid flags) = Open
-of_file k (request.Create fid name flags mode gid) = Open
+of_file k (request.Open fid flags) = opens k fid flags
+of_file k (request.Create fid name flags mode gid) = creates k fid name.now flags mode gid
 of_file k (request.Read fid offset count) = reading k fid offset count
 of_file k (request.Write fid offset bytes) = writing k fid offset bytes.now
-of_file k (request.Readdir fid offset count) = Open
+of_file k (request.Readdir fid offset count) = lists k fid offset count
 of_file k (request.Lock fid kind flags start length process client) = with_it (opened k.fids fid) (λ _. says answer.Lock)
 of_file k (request.Getlock fid kind start length process client) =
     with_it (opened k.fids fid) (λ _. says (answer.Getlock start length process))
@@ -186,29 +165,39 @@ of_file k r = refuses Unsupported
 
 -- of a name
 abbrev pub of_name : Known → Request → Plan
-of_name k (request.Symlink directory name target gid) = Open
-of_name k (request.Mkdir directory name mode gid) = Open
-of_name k (request.Link directory fid name) = Open
-of_name k (request.Rename fid directory name) = Open
-of_name k (request.Renameat old_directory old_name new_directory new_name) = Open
-of_name k (request.Unlinkat directory name flags) = Open
+of_name k (request.Symlink directory name target gid) = makes_link k directory name.now target.now
+of_name k (request.Mkdir directory name mode gid) = makes_directory k directory name.now mode gid
+of_name k (request.Link directory fid name) = links k directory fid name.now
+of_name k (request.Rename fid directory name) = renames k fid directory name.now
+of_name k (request.Renameat old_directory old_name new_directory new_name) =
+    renames_at k old_directory old_name.now new_directory new_name.now
+of_name k (request.Unlinkat directory name flags) = unlinks k directory name.now flags
 of_name k r = of_file k r
 
 -- of a node
 abbrev pub of_node : Known → ℕ → Request → Plan
 of_node k now (request.Getattr fid mask) = telling k fid
-of_node k now (request.Setattr fid valid mode uid gid size atime mtime) = Open
+of_node k now (request.Setattr fid valid mode uid gid size atime mtime) = sets k fid (record {
+  valid = valid;
+  mode = mode;
+  uid = uid;
+  gid = gid;
+  size = size;
+  atime = atime.0;
+  mtime = mtime.0;
+  now = now;
+})
 of_node k now (request.Readlink fid) = following k fid
 of_node k now (request.Statfs fid) = with_it (found k.fids fid) (λ file. measuring file.user.session)
 of_node k now r = of_name k r
 
 -- of fids that are made or let go
 abbrev pub of_fid : Known → ℕ → Request → Plan
-of_fid k now (request.Version message_size version) = Open
-of_fid k now (request.Attach fid auth_fid user_name tree uid) = Open
-of_fid k now (request.Walk fid new_fid names) = Open
+of_fid k now (request.Version message_size version) = begins message_size version.now
+of_fid k now (request.Attach fid auth_fid user_name tree uid) = attaching k fid uid
+of_fid k now (request.Walk fid new_fid names) = walks k fid new_fid (names_in names)
 of_fid k now (request.Clunk fid) = clunking k fid
-of_fid k now (request.Remove fid) = Open
+of_fid k now (request.Remove fid) = removes k fid
 of_fid k now (request.Flush old_tag) = says answer.Flush
 of_fid k now r = of_node k now r
 

@@ -1,18 +1,20 @@
 -- How a message is answered: what is asked of the sessions, one thing after the other, and what is said in the end, as a function of what
 -- was heard.
-use Rattle.std.specs.Prelude.{⊤, ◌≡◌, ◌⊎◌, ℕ, List, [], ◌∷◌, Result, Ok, Err}
+use Rattle.std.specs.Prelude.{⊤, ◌≡◌, ◌⊎◌, ℕ, List, [], ◌∷◌, ◌++◌, Option, Some, None, Result, Ok, Err}
 use Rattle.std.specs.Borrow.{Bor}
 use Rattle.std.specs.Ordering.{nat_cmp}
-use Rattle.std.specs.BTreeMap.{is_at}
-use Rattle.std.specs.Map.{remove_entry}
+use Rattle.std.specs.BTreeMap.{is_at, insert_entry}
+use Rattle.std.specs.Map.{remove_entry, set_value}
 use Rattle.errno.specs.declared.Errno.TheVariants.{ENOMEM}
 use Rattle.ninep.specs.Fields.{Four, Field, Number}
 use Rattle.ninep.specs.Requests.{Body}
 use Rattle.tree.specs.declared.Call.{Call}
 use Rattle.tree.specs.declared.Call.TheVariants as call
-use Rattle.ninep_server.specs.Knowledge.{Known}
+use Rattle.ninep_server.specs.Knowledge.{Known, File}
+use Rattle.ninep_server.specs.Fids.{IsRenamed, IsUnlinked, EachBecomes}
 use Rattle.ninep_server.specs.Numbers.{number_of}
 use Rattle.ninep_server.specs.Written.{said_number, said_fields}
+use Rattle.ninep_server.specs.declared.users.User.{User}
 use Rattle.ninep_server.specs.declared.refused.Refused.{Refused}
 use Rattle.ninep_server.specs.declared.refused.Refused.TheVariants.{By}
 use Rattle.ninep_server.specs.declared.ask.Ask.{Ask}
@@ -50,11 +52,30 @@ plain (ask.Call session c) = ask.Call session (plain_call c)
 
 -- what becomes of what is known
 pub data Change : Type 0 where
+  -- a connection begins, whose messages have at most so many bytes
+  Begins : ℕ → Change
+  -- a user is attached
+  Attaches : User → Change
+  -- a number that stood for nothing stands for this
+  Puts : ℕ → File → Change
+  -- a fid stands for this in place of what it stood for
+  Becomes : ℕ → File → Change
   -- a fid is let go
   Drops : ℕ → Change
+  -- a name became another one
+  Renames : (old new : List ℕ) → Change
+  -- a name was taken away
+  Unlinks : List ℕ → Change
 
 abbrev pub IsChanged : Change → Known → Known → Type 0
+IsChanged (Begins most) k l = l ≡ record { message_size = most; users = []; fids = [] }
+IsChanged (Attaches user) k l = l ≡ record k { users = k.users ++ user ∷ [] }
+IsChanged (Puts fid file) k l = l ≡ record k { fids = insert_entry nat_cmp k.fids fid file }
+IsChanged (Becomes fid file) k l = l ≡ record k { fids = set_value (is_at (nat_cmp fid)) k.fids file }
 IsChanged (Drops fid) k l = l ≡ record k { fids = remove_entry (is_at (nat_cmp fid)) k.fids }
+IsChanged (Renames old new) k l =
+    (fids : List (ℕ × File)) × EachBecomes (IsRenamed old new) k.fids fids × (l ≡ record k { fids = fids })
+IsChanged (Unlinks path) k l = (fids : List (ℕ × File)) × EachBecomes (IsUnlinked path) k.fids fids × (l ≡ record k { fids = fids })
 
 pub data Plan : Type 0 where
   -- not said here
@@ -88,6 +109,11 @@ with_it (Err refused) next = refuses refused
 
 abbrev pub calls : ℕ → Call → (Heard → Plan) → Plan
 calls session c next = Asks (ask.Call session c) next
+
+-- a descriptor is closed, if there is one, and then this is said, whatever the close says
+abbrev pub closing : ℕ → Option ℕ → (ℕ → Body) → Plan
+closing session None body = Says body
+closing session (Some fd) body = calls session (call.Close fd) (λ h. Says body)
 
 abbrev pub IsSaid : Said → (ℕ → Body) → Type 0
 IsSaid it body = (most : ℕ) → body_said it most ≡ body most

@@ -1,12 +1,19 @@
 -- How far an answer is: what it still has to ask and to say.
-use Rattle.std.specs.Prelude.{⊤, ◌≡◌, ◌⊎◌, ℕ, zero, suc, Result, Ok, Err}
-use Rattle.ninep.specs.Requests.{Body}
+use Rattle.std.specs.Prelude.{⊤, ◌≡◌, ◌⊎◌, ℕ, zero, suc, ◌∷◌, Option, Some, None, Result, Ok, Err}
+use Rattle.ninep.specs.Requests.{Body, names_in}
 use Rattle.errno.specs.declared.Errno.TheVariants.{ENOMEM}
 use Rattle.tree.specs.declared.Call.TheVariants as call
 use Rattle.ninep_server.specs.Knowledge.{Known, known_of}
 use Rattle.ninep_server.specs.Plans.{Plan, Open, Says, Asks, Changes, OrNoMemory, IsChanged, Follows, body_said, error, refuses}
 use Rattle.ninep_server.specs.Plans.{calls, plain}
-use Rattle.ninep_server.specs.Messages.{says, transferring, looking, measuring, reading_link, syncing}
+use Rattle.ninep_server.specs.Nodes.{says}
+use Rattle.ninep_server.specs.Attaching.{beginning, entering, looking_at_root}
+use Rattle.ninep_server.specs.Walks.{looking_at, walking}
+use Rattle.ninep_server.specs.Opens.{opening, making_file, giving_group, looking_at_file, making, giving_made_group, looking_at_made}
+use Rattle.ninep_server.specs.Naming.{linking, renaming, unlinking, removing}
+use Rattle.ninep_server.specs.Settings.{looking_first, changing, in_order}
+use Rattle.ninep_server.specs.Listings.{listing}
+use Rattle.ninep_server.specs.Messages.{transferring, looking, measuring, reading_link, syncing}
 use Rattle.ninep_server.specs.declared.refused.Refused.{Refused}
 use Rattle.ninep_server.specs.declared.refused.Refused.TheVariants.{By}
 use Rattle.ninep_server.specs.declared.ask.Ask.{Ask}
@@ -15,6 +22,23 @@ use Rattle.ninep_server.specs.declared.answer.Said.{Said}
 use Rattle.ninep_server.specs.declared.knows.Knows.{Knows}
 use Rattle.ninep_server.specs.declared.turn.Turn.{Turn}
 use Rattle.ninep_server.specs.declared.turn.Turn.TheVariants as turn
+use Rattle.ninep_server.specs.declared.attach.Version.{Version}
+use Rattle.ninep_server.specs.declared.attach.Attach.{Attach}
+use Rattle.ninep_server.specs.declared.attach.Attach.TheVariants as attach
+use Rattle.ninep_server.specs.declared.walk.Walk.{Walk}
+use Rattle.ninep_server.specs.declared.opening.Opening.{Opening}
+use Rattle.ninep_server.specs.declared.creation.Creation.{Creation}
+use Rattle.ninep_server.specs.declared.creation.Creation.TheVariants as creation
+use Rattle.ninep_server.specs.declared.making.Making.{Making}
+use Rattle.ninep_server.specs.declared.making.Stage.{Stage}
+use Rattle.ninep_server.specs.declared.making.Stage.TheVariants as stage
+use Rattle.ninep_server.specs.declared.naming.Link.{Link}
+use Rattle.ninep_server.specs.declared.naming.Rename.{Rename}
+use Rattle.ninep_server.specs.declared.naming.Unlink.{Unlink}
+use Rattle.ninep_server.specs.declared.naming.Remove.{Remove}
+use Rattle.ninep_server.specs.declared.listing.Listing.{Listing}
+use Rattle.ninep_server.specs.declared.attributes.Setattr.{Setattr}
+use Rattle.ninep_server.specs.declared.attributes.Change.{Change}
 use Rattle.ninep_server.specs.declared.transfer.Transfer.{Transfer}
 use Rattle.ninep_server.specs.declared.attributes.Getattr.{Getattr}
 use Rattle.ninep_server.specs.declared.opening.Readlink.{Readlink}
@@ -36,6 +60,55 @@ left_of_readlink r = reading_link r.session r.path.items
 abbrev pub left_of_close : Close → Plan
 left_of_close c = calls c.session (call.Close c.fd) (λ h. says c.answer)
 
+abbrev pub left_of_version : Version → Plan
+left_of_version v = beginning v.message_size v.known
+
+abbrev pub left_of_attach : Attach → Plan
+left_of_attach (attach.Enter fid uid) = entering fid uid
+left_of_attach (attach.Root fid user) = looking_at_root fid user
+
+abbrev pub left_of_walk : Walk → Plan
+left_of_walk w =
+    looking_at w.user w.path.items w.qids.items (walking w.new_fid w.user (names_in w.left) w.path.items)
+
+abbrev pub left_of_opening : Opening → Plan
+left_of_opening o = opening o.fid o.user o.path.items o.node o.flags
+
+abbrev pub left_of_creation : Creation → Plan
+left_of_creation (creation.Open file flags mode group) = making_file file.fid file.user file.path.items flags mode group
+left_of_creation (creation.Chown file fd gid) = giving_group file.fid file.user file.path.items fd gid
+left_of_creation (creation.Look file fd) = looking_at_file file.fid file.user file.path.items fd
+
+abbrev pub left_at_stage : Making → Stage → Plan
+left_at_stage m stage.Make = making m.session m.path.items m.made m.group
+left_at_stage m (stage.Chown gid) = giving_made_group m.session m.path.items m.made gid
+left_at_stage m stage.Look = looking_at_made m.session m.path.items m.made
+
+abbrev pub left_of_making : Making → Plan
+left_of_making m = left_at_stage m m.stage
+
+abbrev pub left_of_link : Link → Plan
+left_of_link l = linking l.session l.old.items l.new.items
+
+abbrev pub left_of_rename : Rename → Plan
+left_of_rename r = renaming r.session r.old.items r.new.items r.then
+
+abbrev pub left_of_unlink : Unlink → Plan
+left_of_unlink u = unlinking u.session u.path.items u.directory
+
+abbrev pub left_of_remove : Remove → Plan
+left_of_remove r = removing r.session r.path.items r.directory r.descriptor
+
+abbrev pub left_at_change : Setattr → Option Change → Plan
+left_at_change s None = looking_first s.session s.path.items s.wanted
+left_at_change s (Some c) = changing s.session s.path.items (c ∷ in_order s.left)
+
+abbrev pub left_of_setattr : Setattr → Plan
+left_of_setattr s = left_at_change s s.change
+
+abbrev pub left_of_listing : Listing → Plan
+left_of_listing l = listing l.session l.path.items l.fd l.above
+
 -- what is left of a work
 abbrev pub left_of : Work → Plan
 left_of (work.Transfer t) = left_of_transfer t
@@ -43,7 +116,18 @@ left_of (work.Getattr g) = left_of_getattr g
 left_of (work.Readlink r) = left_of_readlink r
 left_of (work.Close c) = left_of_close c
 left_of (work.Statfs session) = measuring session
-left_of w = Open
+left_of (work.Version v) = left_of_version v
+left_of (work.Attach a) = left_of_attach a
+left_of (work.Walk w) = left_of_walk w
+left_of (work.Open o) = left_of_opening o
+left_of (work.Create c) = left_of_creation c
+left_of (work.Make m) = left_of_making m
+left_of (work.Link l) = left_of_link l
+left_of (work.Rename r) = left_of_rename r
+left_of (work.Unlink u) = left_of_unlink u
+left_of (work.Remove r) = left_of_remove r
+left_of (work.Setattr s) = left_of_setattr s
+left_of (work.List l) = left_of_listing l
 
 abbrev pub left_of_next : Result Next Refused → Plan
 left_of_next (Ok (next.Go w)) = left_of w

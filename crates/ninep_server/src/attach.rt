@@ -1,6 +1,7 @@
 //! How a connection begins, and how users attach.
 
-ghost use Rattle.std.specs.Prelude.{◌≤◌};
+ghost use Rattle.std.specs.Prelude.{◌≡◌, ◌≤◌, Ok};
+ghost use Rattle.ninep_server.specs.Attaching.{user_number};
 
 use crate::answer::Answer;
 use crate::ask::Ask;
@@ -25,8 +26,14 @@ pub(crate) struct Version {
 }
 
 impl Version {
+    ghost use Rattle.ninep_server.specs.Knowledge.{Known, known_of};
+    ghost use Rattle.ninep_server.specs.Attaching.{begins};
+    ghost use Rattle.ninep_server.specs.Progress.{Leaves, behind, left_of_next, left_of_version};
+
     /// Refused with EINVAL where messages would be shorter than may be.
-    pub(crate) fn begin<'m>(message_size: u32, version: &[u8]) -> Result<Next<'m>, Refused> {
+    pub(crate) fn begin<'m>(message_size: u32, version: &[u8]) -> Result<Next<'m>, Refused>
+        ensures { (k : Known) → Leaves (begins message_size version.now) k (left_of_next result) k }
+    {
         if message_size < MIN_MESSAGE {
             return Err(Refused::By(Errno::EINVAL));
         }
@@ -37,7 +44,9 @@ impl Version {
     }
 
     /// The sessions have ended.
-    pub(crate) fn hear<'m>(self, knows: &mut Knows) -> Next<'m> {
+    pub(crate) fn hear<'m>(self, knows: &mut Knows, heard: &Heard) -> Next<'m>
+        ensures { Leaves (behind (left_of_version self) heard.now) (known_of knows.old) (left_of_next (Ok result)) (known_of knows.new) }
+    {
         knows.users.clear();
         knows.fids.clear();
         knows.message_size = self.message_size;
@@ -45,6 +54,19 @@ impl Version {
             message_size: self.message_size,
             known: self.known,
         })
+    }
+}
+
+/// The number of a user on a volume; EINVAL where it has none.
+fn number_of(uid: u32) -> Result<u16, Refused>
+    ensures { result ≡ user_number uid }
+{
+    if uid == NO_USER {
+        return Ok(0);
+    }
+    match u16::try_from(uid) {
+        Ok(uid) => Ok(uid),
+        Err(_) => Err(Refused::By(Errno::EINVAL)),
     }
 }
 
@@ -58,13 +80,16 @@ pub(crate) enum Attach {
 }
 
 impl Attach {
-    pub(crate) fn begin<'m>(knows: &mut Knows, fid: u32, uid: u32) -> Result<Next<'m>, Refused> {
+    ghost use Rattle.ninep_server.specs.Knowledge.{known_of};
+    ghost use Rattle.ninep_server.specs.Attaching.{attaching};
+    ghost use Rattle.ninep_server.specs.Progress.{AsksNext, BeginsAs, Leaves, behind, left_of_attach, left_of_next};
+
+    pub(crate) fn begin<'m>(knows: &mut Knows, fid: u32, uid: u32) -> Result<Next<'m>, Refused>
+        ensures { BeginsAs (attaching (known_of knows.old) fid uid) knows.old knows.new result }
+    {
         knows.fids.check_new(fid)?;
+        let uid = number_of(uid)?;
         knows.users.reserve()?;
-        let uid = match u16::try_from(if uid == NO_USER { 0 } else { uid }) {
-            Ok(uid) => uid,
-            Err(_) => return Err(Refused::By(Errno::EINVAL)),
-        };
         let work = match knows.users.find(uid) {
             Some(user) => Attach::Root { fid, user },
             None => Attach::Enter { fid, uid },
@@ -72,7 +97,9 @@ impl Attach {
         Ok(Next::Go(Work::Attach(work)))
     }
 
-    pub(crate) fn ask(&self) -> Ask<'_> {
+    pub(crate) fn ask(&self) -> Ask<'_>
+        ensures { AsksNext (left_of_attach self.now) result }
+    {
         match self {
             Attach::Enter { uid, .. } => Ask::Enter {
                 uid: *uid,
@@ -85,7 +112,9 @@ impl Attach {
         }
     }
 
-    pub(crate) fn hear<'m>(self, knows: &mut Knows, heard: Heard) -> Result<Next<'m>, Refused> {
+    pub(crate) fn hear<'m>(self, knows: &mut Knows, heard: Heard) -> Result<Next<'m>, Refused>
+        ensures { Leaves (behind (left_of_attach self) heard) (known_of knows.old) (left_of_next result) (known_of knows.new) }
+    {
         match self {
             Attach::Enter { fid, uid } => {
                 let session = heard.session()?;

@@ -1,15 +1,20 @@
 //! Attributes: told, and changed.
 
-ghost use Rattle.std.specs.Prelude.{◌≡◌};
-ghost use Rattle.ninep_server.specs.Knowledge.{known_of};
+ghost use Rattle.std.specs.Prelude.{◌≡◌, [], ◌∷◌, MatchOption, Ok};
+ghost use Rattle.ninep_server.specs.Knowledge.{Known, known_of};
 ghost use Rattle.ninep_server.specs.Messages.{room_told, attributes_told, telling};
-ghost use Rattle.ninep_server.specs.Progress.{AsksNext, BeginsAs, GoesOnAs, left_of_getattr};
+ghost use Rattle.ninep_server.specs.Plans.{plain_call};
+ghost use Rattle.ninep_server.specs.Settings.{size_wanted, owner_wanted, time_wanted, changes_wanted, in_order, change_call, changing};
+ghost use Rattle.ninep_server.specs.Settings.{changeable, sets};
+ghost use Rattle.ninep_server.specs.Progress.{AsksNext, BeginsAs, GoesOnAs, Leaves, left_of_getattr, left_of_next, left_of_setattr};
 
 use crate::answer::Answer;
 use crate::ask::Ask;
+use crate::creation::mode_of;
 use crate::fid::{Kind, Node};
 use crate::heard::Heard;
 use crate::knows::Knows;
+use crate::opening::has;
 use crate::paths::called;
 use crate::refused::Refused;
 use crate::work::{Next, Work};
@@ -146,12 +151,27 @@ pub(crate) struct Wanted {
     pub(crate) now: u32,
 }
 
+/// What a size becomes, if it changes. EFBIG where it doesn't fit the volume.
+fn size(valid: u32, given: u64) -> Result<Option<u32>, Refused>
+    ensures { result ≡ size_wanted valid given }
+{
+    if !has(valid, SIZE) {
+        return Ok(None);
+    }
+    match u32::try_from(given) {
+        Ok(size) => Ok(Some(size)),
+        Err(_) => Err(Refused::By(Errno::EFBIG)),
+    }
+}
+
 /// What a time becomes: the given one, now, or what it was. EINVAL where it doesn't fit the volume.
-fn time(valid: u32, bits: (u32, u32), given: u64, now: u32, was: u32) -> Result<u32, Refused> {
-    if valid & bits.0 == 0 {
+fn time(valid: u32, bits: (u32, u32), given: u64, now: u32, was: u32) -> Result<u32, Refused>
+    ensures { result ≡ time_wanted valid bits given now was }
+{
+    if !has(valid, bits.0) {
         return Ok(was);
     }
-    if valid & bits.1 == 0 {
+    if !has(valid, bits.1) {
         return Ok(now);
     }
     match u32::try_from(given) {
@@ -161,13 +181,39 @@ fn time(valid: u32, bits: (u32, u32), given: u64, now: u32, was: u32) -> Result<
 }
 
 /// What an owner becomes: the given one, or what it was. EINVAL where it doesn't fit the volume.
-fn owner(valid: u32, bit: u32, given: u32, was: u16) -> Result<u16, Refused> {
-    if valid & bit == 0 {
+fn owner(valid: u32, bit: u32, given: u32, was: u16) -> Result<u16, Refused>
+    ensures { result ≡ owner_wanted valid bit given was }
+{
+    if !has(valid, bit) {
         return Ok(was);
     }
     match u16::try_from(given) {
         Ok(number) => Ok(number),
         Err(_) => Err(Refused::By(Errno::EINVAL)),
+    }
+}
+
+/// A change of a node.
+#[derive(Clone, Copy, Debug)]
+pub(crate) enum Change {
+    Size(u32),
+    Owners(u16, u16),
+    Mode(u16),
+    Times(u32, u32),
+}
+
+impl Change {
+    /// The call that makes it.
+    fn call<'a>(&self, path: &'a [u8]) -> Call<'a>
+        ensures { plain_call result ≡ change_call path.now self.now }
+    {
+        let path = called(path);
+        match *self {
+            Change::Size(size) => Call::Truncate { path, size },
+            Change::Owners(uid, gid) => Call::Chown { path, uid, gid },
+            Change::Mode(mode) => Call::Chmod { path, mode },
+            Change::Times(atime, mtime) => Call::Utime { path, atime, mtime },
+        }
     }
 }
 
@@ -182,58 +228,55 @@ struct Changes {
 
 impl Wanted {
     /// The changes, where the node is so.
-    fn changes(&self, was: &Attributes) -> Result<Changes, Refused> {
+    fn changes(&self, was: &Attributes) -> Result<Changes, Refused>
+        ensures { result ≡ changes_wanted self.entry.now was.now }
+    {
         let valid = self.valid;
-        let size = match u32::try_from(self.size) {
-            _ if valid & SIZE == 0 => None,
-            Ok(size) => Some(size),
-            Err(_) => return Err(Refused::By(Errno::EFBIG)),
-        };
+        let size = size(valid, self.size)?;
         let uid = owner(valid, UID, self.uid, was.uid)?;
         let gid = owner(valid, GID, self.gid, was.gid)?;
         let atime = time(valid, (ATIME, ATIME_SET), self.atime, self.now, was.atime)?;
         let mtime = time(valid, (MTIME, MTIME_SET), self.mtime, self.now, was.mtime)?;
         Ok(Changes {
             size,
-            owners: (valid & (UID | GID) != 0).then_some((uid, gid)),
-            mode: (valid & MODE != 0).then_some((self.mode & 0o7777) as u16),
-            times: (valid & (ATIME | MTIME) != 0).then_some((atime, mtime)),
+            owners: if has(valid, UID | GID) { Some((uid, gid)) } else { None },
+            mode: if has(valid, MODE) { Some(mode_of(self.mode)) } else { None },
+            times: if has(valid, ATIME | MTIME) { Some((atime, mtime)) } else { None },
         })
     }
 }
 
 impl Changes {
-    /// The call that makes the first of them.
-    fn call<'a>(&self, path: &'a [u8]) -> Option<Call<'a>> {
-        if let Some(size) = self.size {
-            Some(Call::Truncate { path, size })
-        } else if let Some((uid, gid)) = self.owners {
-            Some(Call::Chown { path, uid, gid })
-        } else if let Some(mode) = self.mode {
-            Some(Call::Chmod { path, mode })
-        } else if let Some((atime, mtime)) = self.times {
-            Some(Call::Utime { path, atime, mtime })
-        } else {
-            None
+    /// None.
+    fn none() -> Changes
+        ensures { in_order result ≡ [] }
+    {
+        Changes {
+            size: None,
+            owners: None,
+            mode: None,
+            times: None,
         }
     }
 
-    /// Those behind the first one.
-    fn rest(self) -> Changes {
-        if self.size.is_some() {
-            Changes { size: None, ..self }
-        } else if self.owners.is_some() {
-            Changes {
+    /// The first of them, and those behind it.
+    fn split_first(self) -> Option<(Change, Changes)>
+        ensures { MatchOption result (in_order self ≡ []) (λ parts. in_order self ≡ parts.0 ∷ in_order parts.1) }
+    {
+        if let Some(size) = self.size {
+            Some((Change::Size(size), Changes { size: None, ..self }))
+        } else if let Some((uid, gid)) = self.owners {
+            let rest = Changes {
                 owners: None,
                 ..self
-            }
-        } else if self.mode.is_some() {
-            Changes { mode: None, ..self }
+            };
+            Some((Change::Owners(uid, gid), rest))
+        } else if let Some(mode) = self.mode {
+            Some((Change::Mode(mode), Changes { mode: None, ..self }))
+        } else if let Some((atime, mtime)) = self.times {
+            Some((Change::Times(atime, mtime), Changes::none()))
         } else {
-            Changes {
-                times: None,
-                ..self
-            }
+            None
         }
     }
 }
@@ -244,49 +287,86 @@ pub(crate) struct Setattr {
     session: u8,
     path: Vec<u8>,
     wanted: Wanted,
-    /// What is left to change; none before the look.
-    left: Option<Changes>,
+    /// The change that is made; none at the look.
+    change: Option<Change>,
+    /// What is left to change behind it.
+    left: Changes,
+}
+
+/// Refuses to change what a symbolic link has.
+fn check_changeable(kind: Kind) -> Result<(), Refused>
+    ensures { result ≡ changeable kind }
+{
+    match kind {
+        Kind::Symlink => Err(Refused::Unsupported),
+        Kind::File | Kind::Directory => Ok(()),
+    }
 }
 
 impl Setattr {
     /// ESTALE where the node has lost its name, EOPNOTSUPP for a symbolic link.
-    pub(crate) fn begin<'m>(knows: &Knows, fid: u32, wanted: Wanted) -> Result<Next<'m>, Refused> {
+    pub(crate) fn begin<'m>(knows: &Knows, fid: u32, wanted: Wanted) -> Result<Next<'m>, Refused>
+        ensures { BeginsAs (sets (known_of knows.now) fid wanted) knows.now knows.now result }
+    {
         let file = knows.fids.named(fid)?;
-        if file.node.kind == Kind::Symlink {
-            return Err(Refused::Unsupported);
-        }
+        check_changeable(file.node.kind)?;
         Ok(Next::Go(Work::Setattr(Setattr {
             session: file.user.session,
             path: file.path.to_vec(knows.alloc)?,
             wanted,
-            left: None,
+            change: None,
+            left: Changes::none(),
         })))
     }
 
-    pub(crate) fn ask(&self) -> Ask<'_> {
-        let path = called(&self.path);
-        let change = match self.left {
-            Some(changes) => changes.call(path),
-            None => None,
-        };
-        Ask::Call {
-            session: self.session,
-            call: change.unwrap_or(Call::Lstat { path }),
+    /// The call of its stage.
+    fn call(&self) -> Call<'_>
+        ensures { AsksNext (left_of_setattr self.now) (Ask.Call self.now.session result) }
+    {
+        match &self.change {
+            Some(change) => change.call(&self.path),
+            None => Call::Lstat {
+                path: called(&self.path),
+            },
         }
     }
 
-    pub(crate) fn hear<'m>(mut self, heard: Heard) -> Result<Next<'m>, Refused> {
-        let left = match self.left {
-            None => self.wanted.changes(&heard.attributes()?)?,
-            Some(changes) => {
-                heard.done()?;
-                changes.rest()
-            }
-        };
-        if left.call(b"").is_none() {
-            return Ok(Next::Done(Answer::Setattr));
+    pub(crate) fn ask(&self) -> Ask<'_>
+        ensures { AsksNext (left_of_setattr self.now) result }
+    {
+        Ask::Call {
+            session: self.session,
+            call: self.call(),
         }
-        self.left = Some(left);
-        Ok(Next::Go(Work::Setattr(self)))
+    }
+
+    /// Goes on to what is left to change, or to the end.
+    fn onward<'m>(self, left: Changes) -> Next<'m>
+        ensures { (k : Known) → Leaves (changing self.session self.path.items (in_order left)) k (left_of_next (Ok result)) k }
+    {
+        match left.split_first() {
+            Some((change, left)) => Next::Go(Work::Setattr(Setattr {
+                change: Some(change),
+                left,
+                ..self
+            })),
+            None => Next::Done(Answer::Setattr),
+        }
+    }
+
+    pub(crate) fn hear<'m>(self, heard: Heard) -> Result<Next<'m>, Refused>
+        ensures { GoesOnAs (left_of_setattr self) heard result }
+    {
+        match self.change {
+            None => {
+                let left = self.wanted.changes(&heard.attributes()?)?;
+                Ok(self.onward(left))
+            }
+            Some(_) => {
+                heard.done()?;
+                let left = self.left;
+                Ok(self.onward(left))
+            }
+        }
     }
 }

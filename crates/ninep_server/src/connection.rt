@@ -1,6 +1,6 @@
 //! A connection, which answers messages.
 
-ghost use Rattle.std.specs.Prelude.{◌≡◌, ◌<◌, ◌⊎◌, ℕ, suc, length, vec_len, vec_capacity, IfOk, IfErr, IsErr, OnOk, ◌↔◌, Err};
+ghost use Rattle.std.specs.Prelude.{◌≡◌, ◌<◌, ◌+◌, ◌⊎◌, ℕ, suc, [], length, vec_len, vec_capacity, IfOk, IfErr, IsErr, OnOk, OnErr, ◌↔◌, Err};
 ghost use Rattle.ninep_server.specs.Talks.{MayHear, Reaches, HasAsked};
 ghost use Rattle.ninep_server.specs.Written.{tag_in};
 ghost use Rattle.ninep_server.specs.Knowledge.{known_of};
@@ -14,7 +14,7 @@ use crate::ask::Ask;
 use crate::begin::begin;
 use crate::end::End;
 use crate::heard::Heard;
-use crate::knows::Knows;
+use crate::knows::{Knows, MAX_MESSAGE};
 use crate::refused::Refused;
 use crate::send::send;
 use crate::sessions::Sessions;
@@ -142,7 +142,7 @@ impl Connection {
 
     /// A connection of no user, whose messages have at most 65560 bytes until a version is settled.
     pub fn new(alloc: Global) -> Connection
-        ensures { limit_of result ≡ 65560 }
+        ensures { known result ≡ record { message_size = 65560; users = []; fids = [] } }
     {
         Connection {
             knows: Knows::new(alloc),
@@ -159,8 +159,8 @@ impl Connection {
     /// Answers one message, all of its bytes: its answer is written behind what stands in `out`, by what the sessions answer to what they
     /// are asked.
     ///
-    /// NoMessage: the bytes have no tag, and nothing is asked or written. OutOfMemory: no memory was found for the answer, and a part of it
-    /// may have been written. Where none is found for the longest answer there may be, nothing is asked, and the answer is ENOMEM.
+    /// Where no room is found for the longest answer there may be, nothing is asked, and the answer is ENOMEM. NoMessage: the bytes have no
+    /// tag. OutOfMemory: there was no room for that answer either. In both cases nothing is asked, and all stays.
     pub fn answer<S: Sessions>(
         &mut self,
         sessions: &mut S,
@@ -173,10 +173,11 @@ impl Connection {
         ensures said { OnOk result (Says (MayHear S.called S.entered S.left now) now bytes.now sessions.old (known self.old) sessions.new
             (known self.new) (vec_len out.old) (vec_capacity out.old) out.old.items out.new.items) }
         ensures short { (result ≡ Err End.NoMessage) ↔ (length bytes.now < 7) }
-        ensures none { result ≡ Err End.NoMessage → (sessions.new ≡ sessions.old) × (out.new.items ≡ out.old.items) }
+        ensures full { result ≡ Err End.OutOfMemory → vec_capacity out.old < vec_len out.old + 65560 }
+        ensures none { OnErr result ((sessions.new ≡ sessions.old) × (known self.new ≡ known self.old) × (out.new.items ≡ out.old.items)) }
     {
         let tag = tag_of(bytes)?;
-        let has_room = out.reserve(self.knows.message_size as usize).is_ok();
+        let has_room = out.reserve(MAX_MESSAGE as usize).is_ok();
         let said = said_to(&mut self.knows, sessions, now, bytes, has_room);
         send(out, self.knows.message_size, tag, &said)
     }

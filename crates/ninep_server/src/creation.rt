@@ -1,30 +1,44 @@
 //! Making a file, which its directory's fid stands for from then on, open.
 
+ghost use Rattle.std.specs.Prelude.{◌≡◌, ◌%◌, Ok, Some};
+ghost use Rattle.ninep_server.specs.Knowledge.{Known, known_of};
+ghost use Rattle.ninep_server.specs.Plans.{closing, error};
+ghost use Rattle.ninep_server.specs.Opens.{creates, group_of, made_file};
+ghost use Rattle.ninep_server.specs.Progress.{AsksNext, BeginsAs, Leaves, behind, left_of_creation, left_of_next};
+
 use crate::answer::Answer;
 use crate::ask::Ask;
 use crate::fid::{Fid, Node};
 use crate::heard::Heard;
 use crate::knows::Knows;
-use crate::opening::{Close, EXCLUSIVE, flags_of, has};
-use crate::paths::called;
+use crate::opening::{Close, EXCLUSIVE, bits_of, check_closed, flag_for};
+use crate::paths::{below, called, check_name};
 use crate::refused::Refused;
 use crate::users::User;
-use crate::walk::named;
 use crate::work::{Next, Work};
 use bitflags::Flags;
-use errno::Errno;
 use tree::{Call, OpenFlags};
 
+/// The flag of the server's open that makes a file, and the one by which it refuses one that is there.
+const CREATE: u8 = 8;
+
+const ONLY_NEW: u8 = 16;
+
 /// The permission bits of a mode of Linux, with those that the server refuses.
-pub(crate) fn mode_of(mode: u32) -> u16 {
-    (mode & 0o7777) as u16
+pub(crate) fn mode_of(mode: u32) -> u16
+    ensures { result ≡ mode % 4096 }
+{
+    (mode % 0o10000) as u16
 }
 
 /// The group that a new node is given: the one that is asked for, where user 0 asks and it isn't its own.
-pub(crate) fn group_of(user: User, gid: u32) -> Option<u16> {
-    match u16::try_from(gid) {
-        Ok(gid) if user.uid == 0 && gid != 0 => Some(gid),
-        _ => None,
+pub(crate) fn group_of(user: User, gid: u32) -> Option<u16>
+    ensures { result ≡ group_of user gid }
+{
+    if user.uid == 0 && gid != 0 && gid <= 0xffff {
+        Some(gid as u16)
+    } else {
+        None
     }
 }
 
@@ -34,7 +48,6 @@ pub(crate) struct NewFile {
     fid: u32,
     user: User,
     path: Vec<u8>,
-    group: Option<u16>,
 }
 
 /// How far the making is.
@@ -45,6 +58,7 @@ pub(crate) enum Creation {
         file: NewFile,
         flags: OpenFlags,
         mode: u16,
+        group: Option<u16>,
     },
     /// It is given its group.
     Chown {
@@ -67,31 +81,30 @@ impl Creation {
         flags: u32,
         mode: u32,
         gid: u32,
-    ) -> Result<Next<'m>, Refused> {
+    ) -> Result<Next<'m>, Refused>
+        ensures { BeginsAs (creates (known_of knows.now) fid name.now flags mode gid) knows.now knows.now result }
+    {
         let directory = knows.fids.named(fid)?;
-        if directory.descriptor.is_some() {
-            return Err(Refused::By(Errno::EINVAL));
-        }
+        check_closed(directory.descriptor)?;
+        check_name(name)?;
+        let bits = bits_of(flags)? + (CREATE + flag_for(flags, EXCLUSIVE, ONLY_NEW));
         let user = directory.user;
-        let file = NewFile {
-            fid,
-            user,
-            path: named(knows.alloc, &directory.path, name)?,
+        let path = below(knows.alloc, &directory.path, name)?;
+        Ok(Next::Go(Work::Create(Creation::Open {
+            file: NewFile { fid, user, path },
+            flags: OpenFlags::from_bits_retain(bits),
+            mode: mode_of(mode),
             group: group_of(user, gid),
-        };
-        let made = flags_of(flags)?.union(OpenFlags::CREATE);
-        let flags = if has(flags, EXCLUSIVE) {
-            made.union(OpenFlags::EXCLUSIVE)
-        } else {
-            made
-        };
-        let mode = mode_of(mode);
-        Ok(Next::Go(Work::Create(Creation::Open { file, flags, mode })))
+        })))
     }
 
-    pub(crate) fn ask(&self) -> Ask<'_> {
+    pub(crate) fn ask(&self) -> Ask<'_>
+        ensures { AsksNext (left_of_creation self.now) result }
+    {
         match self {
-            Creation::Open { file, flags, mode } => Ask::Call {
+            Creation::Open {
+                file, flags, mode, ..
+            } => Ask::Call {
                 session: file.user.session,
                 call: Call::Open {
                     path: called(&file.path),
@@ -114,22 +127,20 @@ impl Creation {
         }
     }
 
-    pub(crate) fn hear<'m>(self, knows: &mut Knows, heard: Heard) -> Result<Next<'m>, Refused> {
+    pub(crate) fn hear<'m>(self, knows: &mut Knows, heard: Heard) -> Result<Next<'m>, Refused>
+        ensures { Leaves (behind (left_of_creation self) heard) (known_of knows.old) (left_of_next result) (known_of knows.new) }
+    {
         match self {
-            Creation::Open { file, .. } => {
+            Creation::Open { file, group, .. } => {
                 let fd = heard.descriptor()?;
-                let on = match file.group {
-                    Some(gid) => Creation::Chown { file, fd, gid },
-                    None => Creation::Look { file, fd },
-                };
-                Ok(Next::Go(Work::Create(on)))
+                Ok(file.opened(fd, group))
             }
             Creation::Chown { file, fd, .. } => match heard.done() {
                 Ok(()) => Ok(Next::Go(Work::Create(Creation::Look { file, fd }))),
                 Err(refused) => Ok(file.give_up(fd, refused)),
             },
             Creation::Look { file, fd } => match heard.attributes() {
-                Ok(attributes) => file.made(knows, fd, Node::of(&attributes)),
+                Ok(attributes) => Ok(file.made(knows, fd, Node::of(&attributes))),
                 Err(refused) => Ok(file.give_up(fd, refused)),
             },
         }
@@ -137,16 +148,37 @@ impl Creation {
 }
 
 impl NewFile {
+    ghost use Rattle.ninep_server.specs.Nodes.{says, qid_of};
+    ghost use Rattle.ninep_server.specs.Opens.{became};
+
+    /// It was made and opened: it is given its group, where it is given one, or looked at.
+    fn opened<'m>(self, fd: u32, group: Option<u16>) -> Next<'m>
+        ensures { left_of_next (Ok result) ≡ made_file self.fid self.user self.path.items group fd }
+    {
+        Next::Go(Work::Create(match group {
+            Some(gid) => Creation::Chown {
+                file: self,
+                fd,
+                gid,
+            },
+            None => Creation::Look { file: self, fd },
+        }))
+    }
+
     /// The fid stands for the file from now on.
-    fn made<'m>(self, knows: &mut Knows, fd: u32, node: Node) -> Result<Next<'m>, Refused> {
-        let mut file = Fid::closed(self.user, self.path, node);
-        file.descriptor = Some(fd);
-        knows.fids.put(self.fid, file)?;
-        Ok(Next::Done(Answer::Create(node.qid())))
+    fn made<'m>(self, knows: &mut Knows, fd: u32, node: Node) -> Next<'m>
+        ensures { Leaves (became self.fid self.user self.path.items node fd) (known_of knows.old) (left_of_next (Ok result))
+            (known_of knows.new) }
+    {
+        let fid = self.fid;
+        knows.fids.replace(fid, Fid::open(self.user, self.path, node, fd));
+        Next::Done(Answer::Create(node.qid()))
     }
 
     /// The file is closed, and the request is refused.
-    fn give_up<'m>(self, fd: u32, refused: Refused) -> Next<'m> {
+    fn give_up<'m>(self, fd: u32, refused: Refused) -> Next<'m>
+        ensures { (k : Known) → Leaves (closing self.user.session (Some fd) (error refused)) k (left_of_next (Ok result)) k }
+    {
         Close::begin(self.user.session, Some(fd), Answer::Refused(refused))
     }
 }

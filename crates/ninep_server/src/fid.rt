@@ -24,7 +24,7 @@ pub(crate) struct Node {
 }
 
 impl Node {
-    ghost use Rattle.ninep_server.specs.Messages.{node_of, qid_of};
+    ghost use Rattle.ninep_server.specs.Nodes.{node_of, qid_of};
 
     /// The node with these attributes.
     pub(crate) fn of(attributes: &Attributes) -> Node
@@ -73,9 +73,12 @@ pub(crate) struct Fid {
 
 impl Fid {
     ghost use Rattle.ninep_server.specs.Fids.{IsRenamed, IsUnlinked};
+    ghost use Rattle.ninep_server.specs.Knowledge.{file_of, file_at, file_open};
 
     /// A fid that isn't open.
-    pub(crate) fn closed(user: User, path: Vec<u8>, node: Node) -> Fid {
+    pub(crate) fn closed(user: User, path: Vec<u8>, node: Node) -> Fid
+        ensures { file_of result ≡ file_at user path.items node }
+    {
         Fid {
             user,
             path,
@@ -85,10 +88,23 @@ impl Fid {
         }
     }
 
+    /// One that is open.
+    pub(crate) fn open(user: User, path: Vec<u8>, node: Node, fd: u32) -> Fid
+        ensures { file_of result ≡ file_open user path.items node fd }
+    {
+        Fid {
+            user,
+            path,
+            node,
+            descriptor: Some(fd),
+            gone: false,
+        }
+    }
+
     /// The old name is the new one now, and what stood at the new one is gone: the fid stays on its node. Where no memory is found for
     /// its path, it counts as gone.
     pub(crate) fn rename(&mut self, alloc: Global, old: &[u8], new: &[u8])
-        ensures { IsRenamed old.now new.now self.old self.new }
+        ensures { IsRenamed old.now new.now (file_of self.old) (file_of self.new) }
     {
         if let Some(rest) = rest(&self.path, old) {
             match joined(alloc, new, rest) {
@@ -102,7 +118,7 @@ impl Fid {
 
     /// The name at this path is gone.
     pub(crate) fn unlink(&mut self, path: &[u8])
-        ensures { IsUnlinked path.now self.old self.new }
+        ensures { IsUnlinked path.now (file_of self.old) (file_of self.new) }
     {
         if rest(&self.path, path).is_some() {
             self.gone = true;

@@ -1,12 +1,12 @@
 //! The fids of a connection.
 
-ghost use Rattle.std.specs.Prelude.{◌≡◌, OnErr};
+ghost use Rattle.std.specs.Prelude.{◌≡◌, [], OnOk, OnErr};
 ghost use Rattle.std.specs.Result.{result_map_both};
-ghost use Rattle.std.specs.Map.{remove_entry};
-ghost use Rattle.std.specs.BTreeMap.{is_at};
+ghost use Rattle.std.specs.Map.{remove_entry, set_value};
+ghost use Rattle.std.specs.BTreeMap.{is_at, insert_entry};
 ghost use Rattle.std.specs.Ordering.{nat_cmp};
 
-use crate::fid::{Fid, Node};
+use crate::fid::Fid;
 use crate::refused::Refused;
 use errno::Errno;
 use std::alloc::{AllocError, Global};
@@ -22,10 +22,13 @@ pub(crate) struct Fids {
 }
 
 impl Fids {
-    ghost use Rattle.ninep_server.specs.Knowledge.{table_of, found, named, opened, seen, file_of};
+    ghost use Rattle.ninep_server.specs.Knowledge.{table_of, found, named, opened, seen, file_of, new_fid};
+    ghost use Rattle.ninep_server.specs.Fids.{EachBecomes, IsRenamed, IsUnlinked};
 
     /// None.
-    pub(crate) fn new(alloc: Global) -> Fids {
+    pub(crate) fn new(alloc: Global) -> Fids
+        ensures { table_of result ≡ [] }
+    {
         Fids {
             fids: BTreeMap::new(alloc),
         }
@@ -64,7 +67,9 @@ impl Fids {
     }
 
     /// Refuses a number for a new fid: EINVAL where it is used, ENFILE where there are as many fids as may be.
-    pub(crate) fn check_new(&self, fid: u32) -> Result<(), Refused> {
+    pub(crate) fn check_new(&self, fid: u32) -> Result<(), Refused>
+        ensures { result ≡ new_fid (table_of self.now) fid }
+    {
         if self.fids.contains_key(&fid) {
             return Err(Refused::By(Errno::EINVAL));
         }
@@ -75,19 +80,21 @@ impl Fids {
     }
 
     /// The number stands for this from now on.
-    pub(crate) fn put(&mut self, fid: u32, what: Fid) -> Result<(), AllocError> {
+    pub(crate) fn put(&mut self, fid: u32, what: Fid) -> Result<(), AllocError>
+        ensures ok { OnOk result (table_of self.new ≡ insert_entry nat_cmp (table_of self.old) fid (file_of what)) }
+        ensures err { OnErr result (table_of self.new ≡ table_of self.old) }
+    {
         self.fids.insert(fid, what)?;
         Ok(())
     }
 
-    /// The fid is open from now on. Its node.
-    pub(crate) fn opened(&mut self, fid: u32, fd: u32) -> Result<Node, Refused> {
+    /// A fid stands for this from now on, in place of what it stood for.
+    pub(crate) fn replace(&mut self, fid: u32, what: Fid)
+        ensures { table_of self.new ≡ set_value (is_at (nat_cmp fid)) (table_of self.old) (file_of what) }
+    {
         match self.fids.get_mut(&fid) {
-            Some(found) => {
-                found.descriptor = Some(fd);
-                Ok(found.node)
-            }
-            None => Err(Refused::By(Errno::EBADF)),
+            Some(found) => *found = what,
+            None => {}
         }
     }
 
@@ -104,21 +111,29 @@ impl Fids {
     }
 
     /// A name was changed: each fid stays on its node.
-    pub(crate) fn rename(&mut self, alloc: Global, old: &[u8], new: &[u8]) {
-        for fid in self.fids.values_mut() {
+    pub(crate) fn rename(&mut self, alloc: Global, old: &[u8], new: &[u8])
+        ensures { EachBecomes (IsRenamed old.now new.now) (table_of self.old) (table_of self.new) }
+    {
+        self.fids.retain(|_, fid| {
             fid.rename(alloc, old, new);
-        }
+            true
+        });
     }
 
     /// A name was taken away: what had it is gone.
-    pub(crate) fn unlink(&mut self, path: &[u8]) {
-        for fid in self.fids.values_mut() {
+    pub(crate) fn unlink(&mut self, path: &[u8])
+        ensures { EachBecomes (IsUnlinked path.now) (table_of self.old) (table_of self.new) }
+    {
+        self.fids.retain(|_, fid| {
             fid.unlink(path);
-        }
+            true
+        });
     }
 
     /// All go.
-    pub(crate) fn clear(&mut self) {
+    pub(crate) fn clear(&mut self)
+        ensures { table_of self.new ≡ [] }
+    {
         self.fids.clear();
     }
 }

@@ -4,7 +4,7 @@ ghost use Rattle.std.specs.Prelude.{◌≡◌, Ok, Err, IsOk, IfOk, MatchResult}
 ghost use Rattle.std.specs.Result.{result_map_both};
 ghost use Rattle.tree.specs.declared.Reply.TheVariants as reply;
 ghost use Rattle.ninep_server.specs.Hearing.{reply_in, done_in, attributes_in, descriptor_in, position_in, bytes_in, count_in, room_in};
-ghost use Rattle.ninep_server.specs.Hearing.{target_in};
+ghost use Rattle.ninep_server.specs.Hearing.{target_in, session_in, names_heard};
 ghost use Rattle.ninep_server.specs.Talks.{IsDone, Replies};
 
 use crate::refused::Refused;
@@ -25,7 +25,9 @@ pub enum Heard {
 
 impl Heard {
     /// The number of a session.
-    pub(crate) fn session(self) -> Result<u8, Refused> {
+    pub(crate) fn session(self) -> Result<u8, Refused>
+        ensures { result ≡ session_in self }
+    {
         match self {
             Heard::Entered(Ok(session)) => Ok(session),
             Heard::Entered(Err(refusal)) => Err(Refused::from(refusal)),
@@ -109,7 +111,9 @@ impl Heard {
     }
 
     /// The names of a directory.
-    pub(crate) fn names(self) -> Result<Vec<Entry>, Refused> {
+    pub(crate) fn names(self) -> Result<Vec<Entry>, Refused>
+        ensures { result_map_both (λ names. names.items) (λ e. e) result ≡ names_heard self }
+    {
         match self.reply()? {
             Reply::Names(names) => Ok(names),
             _ => Err(Refused::By(Errno::EIO)),

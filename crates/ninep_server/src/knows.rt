@@ -1,6 +1,6 @@
 //! What a connection knows.
 
-ghost use Rattle.std.specs.Prelude.{◌≡◌, ◌-◌, ◌≤◌};
+ghost use Rattle.std.specs.Prelude.{◌≡◌, ◌-◌, ◌≤◌, []};
 
 use crate::fids::Fids;
 use crate::users::Users;
@@ -27,9 +27,11 @@ pub(crate) struct Knows {
 }
 
 impl Knows {
+    ghost use Rattle.ninep_server.specs.Knowledge.{known_of};
+
     /// A new connection's: no user is attached.
     pub(crate) fn new(alloc: Global) -> Knows
-        ensures { result.message_size ≡ 65560 }
+        ensures { known_of result ≡ record { message_size = 65560; users = []; fids = [] } }
     {
         Knows {
             alloc,

@@ -1,11 +1,17 @@
 //! The entries of a directory: `.`, `..`, and the names in the order of their bytes. An offset counts them.
 
+ghost use Rattle.std.specs.Prelude.{◌≡◌, min};
+ghost use Rattle.ninep_server.specs.Knowledge.{known_of};
+ghost use Rattle.ninep_server.specs.Listings.{lists};
+ghost use Rattle.ninep_server.specs.Progress.{AsksNext, BeginsAs, GoesOnAs, left_of_listing};
+
 use crate::answer::Answer;
 use crate::ask::Ask;
 use crate::heard::Heard;
 use crate::knows::Knows;
 use crate::paths::{called, parent};
 use crate::refused::Refused;
+use crate::transfer::least;
 use crate::work::{Next, Work};
 use errno::Errno;
 use ninep::entries::{Entry, push_entry};
@@ -98,10 +104,12 @@ impl Listing {
         fid: u32,
         offset: u64,
         count: u32,
-    ) -> Result<Next<'m>, Refused> {
+    ) -> Result<Next<'m>, Refused>
+        ensures { BeginsAs (lists (known_of knows.now) fid offset count) knows.now knows.now result }
+    {
         let (session, fd) = knows.fids.open(fid)?;
         let directory = knows.fids.named(fid)?;
-        let limit = count.min(knows.most());
+        let limit = least(count, knows.most());
         if (limit as usize) < ENTRY_HEAD + MAX_NAME {
             return Err(Refused::By(Errno::EINVAL));
         }
@@ -116,7 +124,9 @@ impl Listing {
         })))
     }
 
-    pub(crate) fn ask(&self) -> Ask<'_> {
+    pub(crate) fn ask(&self) -> Ask<'_>
+        ensures { AsksNext (left_of_listing self.now) result }
+    {
         let call = match self.above {
             None => Call::Lstat {
                 path: called(parent(&self.path)),
@@ -129,7 +139,9 @@ impl Listing {
         }
     }
 
-    pub(crate) fn hear<'m>(mut self, knows: &Knows, heard: Heard) -> Result<Next<'m>, Refused> {
+    pub(crate) fn hear<'m>(mut self, knows: &Knows, heard: Heard) -> Result<Next<'m>, Refused>
+        ensures { GoesOnAs (left_of_listing self) heard result }
+    {
         let Some(above) = self.above else {
             self.above = Some(heard.attributes()?.inode);
             return Ok(Next::Go(Work::List(self)));

@@ -1,14 +1,18 @@
 //! Making a directory or a symbolic link.
 
+ghost use Rattle.std.specs.Prelude.{◌≡◌};
+ghost use Rattle.ninep_server.specs.Knowledge.{known_of};
+ghost use Rattle.ninep_server.specs.Opens.{makes_directory, makes_link};
+ghost use Rattle.ninep_server.specs.Progress.{AsksNext, BeginsAs, GoesOnAs, left_of_making};
+
 use crate::answer::Answer;
 use crate::ask::Ask;
 use crate::creation::{group_of, mode_of};
 use crate::fid::Node;
 use crate::heard::Heard;
 use crate::knows::Knows;
-use crate::paths::called;
+use crate::paths::{below, called, check_name};
 use crate::refused::Refused;
-use crate::walk::named;
 use crate::work::{Next, Work};
 use tree::Call;
 
@@ -49,11 +53,14 @@ impl<'m> Making<'m> {
         name: &[u8],
         mode: u32,
         gid: u32,
-    ) -> Result<Next<'m>, Refused> {
+    ) -> Result<Next<'m>, Refused>
+        ensures { BeginsAs (makes_directory (known_of knows.now) directory name.now mode gid) knows.now knows.now result }
+    {
         let parent = knows.fids.named(directory)?;
+        check_name(name)?;
         Ok(Next::Go(Work::Make(Making {
             session: parent.user.session,
-            path: named(knows.alloc, &parent.path, name)?,
+            path: below(knows.alloc, &parent.path, name)?,
             made: Made::Directory {
                 mode: mode_of(mode),
             },
@@ -68,11 +75,14 @@ impl<'m> Making<'m> {
         directory: u32,
         name: &[u8],
         target: &'m [u8],
-    ) -> Result<Next<'m>, Refused> {
+    ) -> Result<Next<'m>, Refused>
+        ensures { BeginsAs (makes_link (known_of knows.now) directory name.now target.now) knows.now knows.now result }
+    {
         let parent = knows.fids.named(directory)?;
+        check_name(name)?;
         Ok(Next::Go(Work::Make(Making {
             session: parent.user.session,
-            path: named(knows.alloc, &parent.path, name)?,
+            path: below(knows.alloc, &parent.path, name)?,
             made: Made::Symlink { target },
             group: None,
             stage: Stage::Make,
@@ -80,7 +90,9 @@ impl<'m> Making<'m> {
     }
 
     /// The call of its stage.
-    fn call(&self) -> Call<'_> {
+    fn call(&self) -> Call<'_>
+        ensures { AsksNext (left_of_making self.now) (Ask.Call self.now.session result) }
+    {
         let path = called(&self.path);
         match self.stage {
             Stage::Make => match self.made {
@@ -92,14 +104,18 @@ impl<'m> Making<'m> {
         }
     }
 
-    pub(crate) fn ask(&self) -> Ask<'_> {
+    pub(crate) fn ask(&self) -> Ask<'_>
+        ensures { AsksNext (left_of_making self.now) result }
+    {
         Ask::Call {
             session: self.session,
             call: self.call(),
         }
     }
 
-    pub(crate) fn hear(mut self, heard: Heard) -> Result<Next<'m>, Refused> {
+    pub(crate) fn hear(mut self, heard: Heard) -> Result<Next<'m>, Refused>
+        ensures { GoesOnAs (left_of_making self.entry) heard result }
+    {
         match self.stage {
             Stage::Make => {
                 heard.done()?;

@@ -1,14 +1,20 @@
 //! Names: further ones, changed ones, and ones that are taken away.
 
+ghost use Rattle.std.specs.Prelude.{◌≡◌};
+ghost use Rattle.ninep_server.specs.Knowledge.{known_of};
+ghost use Rattle.ninep_server.specs.Naming.{links, renames, renames_at, unlinks, unlink_call, removes, is_directory};
+ghost use Rattle.ninep_server.specs.Plans.{plain_call};
+ghost use Rattle.ninep_server.specs.Progress.{AsksNext, BeginsAs, GoesOnAs, Leaves, behind, left_of_link, left_of_next, left_of_rename};
+ghost use Rattle.ninep_server.specs.Progress.{left_of_unlink, left_of_remove};
+
 use crate::answer::Answer;
 use crate::ask::Ask;
 use crate::fid::Kind;
 use crate::heard::Heard;
 use crate::knows::Knows;
 use crate::opening::{Close, has};
-use crate::paths::called;
+use crate::paths::{below, called, check_name};
 use crate::refused::Refused;
-use crate::walk::named;
 use crate::work::{Next, Work};
 use tree::Call;
 
@@ -26,17 +32,22 @@ impl Link {
         directory: u32,
         fid: u32,
         name: &[u8],
-    ) -> Result<Next<'m>, Refused> {
+    ) -> Result<Next<'m>, Refused>
+        ensures { BeginsAs (links (known_of knows.now) directory fid name.now) knows.now knows.now result }
+    {
         let parent = knows.fids.named(directory)?;
         let file = knows.fids.named(fid)?;
+        check_name(name)?;
         Ok(Next::Go(Work::Link(Link {
             session: parent.user.session,
             old: file.path.to_vec(knows.alloc)?,
-            new: named(knows.alloc, &parent.path, name)?,
+            new: below(knows.alloc, &parent.path, name)?,
         })))
     }
 
-    pub(crate) fn ask(&self) -> Ask<'_> {
+    pub(crate) fn ask(&self) -> Ask<'_>
+        ensures { AsksNext (left_of_link self.now) result }
+    {
         Ask::Call {
             session: self.session,
             call: Call::Link {
@@ -46,7 +57,9 @@ impl Link {
         }
     }
 
-    pub(crate) fn hear<'m>(self, heard: Heard) -> Result<Next<'m>, Refused> {
+    pub(crate) fn hear<'m>(self, heard: Heard) -> Result<Next<'m>, Refused>
+        ensures { GoesOnAs (left_of_link self) heard result }
+    {
         heard.done()?;
         Ok(Next::Done(Answer::Link))
     }
@@ -68,13 +81,16 @@ impl Rename {
         fid: u32,
         directory: u32,
         name: &[u8],
-    ) -> Result<Next<'m>, Refused> {
+    ) -> Result<Next<'m>, Refused>
+        ensures { BeginsAs (renames (known_of knows.now) fid directory name.now) knows.now knows.now result }
+    {
         let file = knows.fids.named(fid)?;
         let parent = knows.fids.named(directory)?;
+        check_name(name)?;
         Ok(Next::Go(Work::Rename(Rename {
             session: parent.user.session,
             old: file.path.to_vec(knows.alloc)?,
-            new: named(knows.alloc, &parent.path, name)?,
+            new: below(knows.alloc, &parent.path, name)?,
             then: Answer::Rename,
         })))
     }
@@ -84,18 +100,24 @@ impl Rename {
         knows: &Knows,
         old: (u32, &[u8]),
         new: (u32, &[u8]),
-    ) -> Result<Next<'m>, Refused> {
+    ) -> Result<Next<'m>, Refused>
+        ensures { BeginsAs (renames_at (known_of knows.now) old.entry.0 old.entry.1.now new.entry.0 new.entry.1.now) knows.now knows.now result }
+    {
         let from = knows.fids.named(old.0)?;
         let to = knows.fids.named(new.0)?;
+        check_name(old.1)?;
+        check_name(new.1)?;
         Ok(Next::Go(Work::Rename(Rename {
             session: from.user.session,
-            old: named(knows.alloc, &from.path, old.1)?,
-            new: named(knows.alloc, &to.path, new.1)?,
+            old: below(knows.alloc, &from.path, old.1)?,
+            new: below(knows.alloc, &to.path, new.1)?,
             then: Answer::Renameat,
         })))
     }
 
-    pub(crate) fn ask(&self) -> Ask<'_> {
+    pub(crate) fn ask(&self) -> Ask<'_>
+        ensures { AsksNext (left_of_rename self.now) result }
+    {
         Ask::Call {
             session: self.session,
             call: Call::Rename {
@@ -106,7 +128,9 @@ impl Rename {
     }
 
     /// Each fid stays on its node.
-    pub(crate) fn hear<'m>(self, knows: &mut Knows, heard: Heard) -> Result<Next<'m>, Refused> {
+    pub(crate) fn hear<'m>(self, knows: &mut Knows, heard: Heard) -> Result<Next<'m>, Refused>
+        ensures { Leaves (behind (left_of_rename self) heard) (known_of knows.old) (left_of_next result) (known_of knows.new) }
+    {
         heard.done()?;
         knows.fids.rename(knows.alloc, &self.old, &self.new);
         Ok(Next::Done(self.then))
@@ -117,7 +141,9 @@ impl Rename {
 const REMOVE_DIRECTORY: u32 = 0x200;
 
 /// The call that takes a name away.
-fn unlinking(path: &[u8], directory: bool) -> Call<'_> {
+fn unlinking(path: &[u8], directory: bool) -> Call<'_>
+    ensures { plain_call result ≡ unlink_call path.now directory }
+{
     let path = called(path);
     if directory {
         Call::Rmdir { path }
@@ -140,26 +166,43 @@ impl Unlink {
         directory: u32,
         name: &[u8],
         flags: u32,
-    ) -> Result<Next<'m>, Refused> {
+    ) -> Result<Next<'m>, Refused>
+        ensures { BeginsAs (unlinks (known_of knows.now) directory name.now flags) knows.now knows.now result }
+    {
         let parent = knows.fids.named(directory)?;
+        check_name(name)?;
         Ok(Next::Go(Work::Unlink(Unlink {
             session: parent.user.session,
-            path: named(knows.alloc, &parent.path, name)?,
+            path: below(knows.alloc, &parent.path, name)?,
             directory: has(flags, REMOVE_DIRECTORY),
         })))
     }
 
-    pub(crate) fn ask(&self) -> Ask<'_> {
+    pub(crate) fn ask(&self) -> Ask<'_>
+        ensures { AsksNext (left_of_unlink self.now) result }
+    {
         Ask::Call {
             session: self.session,
             call: unlinking(&self.path, self.directory),
         }
     }
 
-    pub(crate) fn hear<'m>(self, knows: &mut Knows, heard: Heard) -> Result<Next<'m>, Refused> {
+    pub(crate) fn hear<'m>(self, knows: &mut Knows, heard: Heard) -> Result<Next<'m>, Refused>
+        ensures { Leaves (behind (left_of_unlink self) heard) (known_of knows.old) (left_of_next result) (known_of knows.new) }
+    {
         heard.done()?;
         knows.fids.unlink(&self.path);
         Ok(Next::Done(Answer::Unlinkat))
+    }
+}
+
+/// Whether a node is a directory.
+fn is_directory(kind: Kind) -> bool
+    ensures { result ≡ is_directory kind }
+{
+    match kind {
+        Kind::Directory => true,
+        Kind::File | Kind::Symlink => false,
     }
 }
 
@@ -173,7 +216,9 @@ pub(crate) struct Remove {
 }
 
 impl Remove {
-    pub(crate) fn begin<'m>(knows: &mut Knows, fid: u32) -> Result<Next<'m>, Refused> {
+    pub(crate) fn begin<'m>(knows: &mut Knows, fid: u32) -> Result<Next<'m>, Refused>
+        ensures { BeginsAs (removes (known_of knows.old) fid) knows.old knows.new result }
+    {
         let taken = knows.fids.take(fid)?;
         let session = taken.user.session;
         if taken.gone {
@@ -182,27 +227,33 @@ impl Remove {
         }
         Ok(Next::Go(Work::Remove(Remove {
             session,
-            directory: taken.node.kind == Kind::Directory,
+            directory: is_directory(taken.node.kind),
             path: taken.path,
             descriptor: taken.descriptor,
         })))
     }
 
-    pub(crate) fn ask(&self) -> Ask<'_> {
+    pub(crate) fn ask(&self) -> Ask<'_>
+        ensures { AsksNext (left_of_remove self.now) result }
+    {
         Ask::Call {
             session: self.session,
             call: unlinking(&self.path, self.directory),
         }
     }
 
-    pub(crate) fn hear<'m>(self, knows: &mut Knows, heard: Heard) -> Result<Next<'m>, Refused> {
-        let answer = match heard.done() {
+    pub(crate) fn hear<'m>(self, knows: &mut Knows, heard: Heard) -> Result<Next<'m>, Refused>
+        ensures { Leaves (behind (left_of_remove self) heard) (known_of knows.old) (left_of_next result) (known_of knows.new) }
+    {
+        match heard.done() {
             Ok(()) => {
                 knows.fids.unlink(&self.path);
-                Answer::Remove
+                Ok(Close::begin(self.session, self.descriptor, Answer::Remove))
             }
-            Err(refused) => Answer::Refused(refused),
-        };
-        Ok(Close::begin(self.session, self.descriptor, answer))
+            Err(refused) => {
+                let answer = Answer::Refused(refused);
+                Ok(Close::begin(self.session, self.descriptor, answer))
+            }
+        }
     }
 }

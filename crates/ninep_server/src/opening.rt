@@ -1,25 +1,29 @@
 //! Opening, letting go, and reading a link.
 
-ghost use Rattle.std.specs.Prelude.{◌≡◌, Ok, take};
+ghost use Rattle.std.specs.Prelude.{◌≡◌, ◌≤◌, Ok, IfOk, take};
 ghost use Rattle.ninep_server.specs.Knowledge.{known_of};
-ghost use Rattle.ninep_server.specs.Messages.{said_of, closing, clunking, following, target_of};
-ghost use Rattle.ninep_server.specs.Progress.{AsksNext, BeginsAs, GoesOnAs, left_of_close, left_of_readlink, left_of_next};
+ghost use Rattle.ninep_server.specs.Knowledge.{closed};
+ghost use Rattle.ninep_server.specs.Nodes.{said_of};
+ghost use Rattle.ninep_server.specs.Plans.{closing};
+ghost use Rattle.ninep_server.specs.Opens.{is_set, flag_for, open_bits, not_link, opens};
+ghost use Rattle.ninep_server.specs.Messages.{clunking, following, target_of};
+ghost use Rattle.ninep_server.specs.Progress.{AsksNext, BeginsAs, GoesOnAs, Leaves, behind, left_of_close, left_of_opening};
+ghost use Rattle.ninep_server.specs.Progress.{left_of_readlink, left_of_next};
 
 use crate::answer::Answer;
 use crate::ask::Ask;
-use crate::fid::Kind;
+use crate::fid::{Fid, Kind, Node};
 use crate::heard::Heard;
 use crate::knows::Knows;
 use crate::paths::called;
 use crate::refused::Refused;
+use crate::users::User;
 use crate::work::{Next, Work};
 use bitflags::Flags;
 use errno::Errno;
 use tree::{Call, LinkTarget, MAX_TARGET, OpenFlags};
 
-/// The bits of Linux's flags of open that mean something here; the others are passed over.
-const ACCESS: u32 = 0o3;
-
+/// The bits of Linux's flags of open that mean something here, beside the access; the others are passed over.
 pub(crate) const EXCLUSIVE: u32 = 0o200;
 
 const TRUNCATE: u32 = 0o1000;
@@ -27,27 +31,51 @@ const TRUNCATE: u32 = 0o1000;
 const APPEND: u32 = 0o2000;
 
 /// Whether a bit is set.
-pub(crate) fn has(flags: u32, bit: u32) -> bool {
+pub(crate) fn has(flags: u32, bit: u32) -> bool
+    ensures { result ≡ is_set flags bit }
+{
     flags & bit != 0
 }
 
+/// A flag of the server's open, where a bit is set.
+pub(crate) fn flag_for(flags: u32, bit: u32, flag: u8) -> u8
+    ensures flag { result ≡ flag_for flags bit flag }
+    ensures most { result ≤ flag }
+{
+    if has(flags, bit) { flag } else { 0 }
+}
+
 /// The flags of the server's open; EINVAL where they name no access. Without writing nothing is truncated or appended.
-pub(crate) fn flags_of(flags: u32) -> Result<OpenFlags, Refused> {
-    let access = match flags & ACCESS {
-        0 => return Ok(OpenFlags::READ),
-        1 => OpenFlags::WRITE,
-        2 => OpenFlags::READ.union(OpenFlags::WRITE),
+pub(crate) fn bits_of(flags: u32) -> Result<u8, Refused>
+    ensures bits { result ≡ open_bits flags }
+    ensures few { IfOk result (λ bits. bits ≤ 39) }
+{
+    let access = match flags % 4 {
+        0 => return Ok(1),
+        1 => 2,
+        2 => 3,
         _ => return Err(Refused::By(Errno::EINVAL)),
     };
-    let access = if has(flags, TRUNCATE) {
-        access.union(OpenFlags::TRUNCATE)
-    } else {
-        access
-    };
-    if has(flags, APPEND) {
-        Ok(access.union(OpenFlags::APPEND))
-    } else {
-        Ok(access)
+    Ok(access + (flag_for(flags, TRUNCATE, 32) + flag_for(flags, APPEND, 4)))
+}
+
+/// Refuses a fid that is open.
+pub(crate) fn check_closed(descriptor: Option<u32>) -> Result<(), Refused>
+    ensures { result ≡ closed descriptor }
+{
+    match descriptor {
+        None => Ok(()),
+        Some(_) => Err(Refused::By(Errno::EINVAL)),
+    }
+}
+
+/// Refuses to open a symbolic link.
+fn check_kind(kind: Kind) -> Result<(), Refused>
+    ensures { result ≡ not_link kind }
+{
+    match kind {
+        Kind::Symlink => Err(Refused::By(Errno::ELOOP)),
+        Kind::File | Kind::Directory => Ok(()),
     }
 }
 
@@ -55,32 +83,35 @@ pub(crate) fn flags_of(flags: u32) -> Result<OpenFlags, Refused> {
 #[derive(Drop)]
 pub(crate) struct Opening {
     fid: u32,
-    session: u8,
+    user: User,
     path: Vec<u8>,
+    node: Node,
     flags: OpenFlags,
 }
 
 impl Opening {
     /// EINVAL where it is open, ELOOP where it stands on a symbolic link.
-    pub(crate) fn begin<'m>(knows: &Knows, fid: u32, flags: u32) -> Result<Next<'m>, Refused> {
+    pub(crate) fn begin<'m>(knows: &Knows, fid: u32, flags: u32) -> Result<Next<'m>, Refused>
+        ensures { BeginsAs (opens (known_of knows.now) fid flags) knows.now knows.now result }
+    {
         let file = knows.fids.named(fid)?;
-        if file.descriptor.is_some() {
-            return Err(Refused::By(Errno::EINVAL));
-        }
-        if file.node.kind == Kind::Symlink {
-            return Err(Refused::By(Errno::ELOOP));
-        }
+        check_closed(file.descriptor)?;
+        check_kind(file.node.kind)?;
+        let bits = bits_of(flags)?;
         Ok(Next::Go(Work::Open(Opening {
             fid,
-            session: file.user.session,
+            user: file.user,
             path: file.path.to_vec(knows.alloc)?,
-            flags: flags_of(flags)?,
+            node: file.node,
+            flags: OpenFlags::from_bits_retain(bits),
         })))
     }
 
-    pub(crate) fn ask(&self) -> Ask<'_> {
+    pub(crate) fn ask(&self) -> Ask<'_>
+        ensures { AsksNext (left_of_opening self.now) result }
+    {
         Ask::Call {
-            session: self.session,
+            session: self.user.session,
             call: Call::Open {
                 path: called(&self.path),
                 flags: self.flags,
@@ -89,9 +120,12 @@ impl Opening {
         }
     }
 
-    pub(crate) fn hear<'m>(self, knows: &mut Knows, heard: Heard) -> Result<Next<'m>, Refused> {
+    pub(crate) fn hear<'m>(self, knows: &mut Knows, heard: Heard) -> Result<Next<'m>, Refused>
+        ensures { Leaves (behind (left_of_opening self) heard) (known_of knows.old) (left_of_next result) (known_of knows.new) }
+    {
         let fd = heard.descriptor()?;
-        let node = knows.fids.opened(self.fid, fd)?;
+        let (fid, node) = (self.fid, self.node);
+        knows.fids.replace(fid, Fid::open(self.user, self.path, node, fd));
         Ok(Next::Done(Answer::Open(node.qid())))
     }
 }

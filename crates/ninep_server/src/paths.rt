@@ -1,8 +1,10 @@
 //! Paths of fids: each name behind a slash, so that the root's is empty.
 
 ghost use Rattle.std.specs.Prelude.{◌≡◌, ◌++◌, IfOk, IfSome, IfNone};
-ghost use Rattle.ninep_server.specs.Paths.{IsRest, IsElsewhere, is_rest, called, below};
+ghost use Rattle.ninep_server.specs.Paths.{IsRest, IsElsewhere, is_rest, called, below, parent, checked, leads, stepped, is_here, is_above};
 
+use crate::refused::Refused;
+use errno::Errno;
 use std::alloc::{AllocError, Global};
 
 /// A path as a call has it.
@@ -54,11 +56,65 @@ pub(crate) fn joined(alloc: Global, path: &[u8], rest: &[u8]) -> Result<Vec<u8>,
 }
 
 /// The path of the directory in which a path's last name stands; the root's is its own.
-pub(crate) fn parent(path: &[u8]) -> &[u8] {
-    for at in (0..path.len()).rev() {
+pub(crate) fn parent(path: &[u8]) -> &[u8]
+    ensures { result.now ≡ parent path.now }
+{
+    let mut at = path.len();
+    while at > 0 {
+        at -= 1;
         if path[at] == b'/' {
             return &path[..at];
         }
     }
     path
+}
+
+/// Whether a name is a directory's own.
+fn is_here(name: &[u8]) -> bool
+    ensures { result ≡ is_here name.now }
+{
+    name == b".".as_slice()
+}
+
+/// Whether it is that of the directory above.
+fn is_above(name: &[u8]) -> bool
+    ensures { result ≡ is_above name.now }
+{
+    name == b"..".as_slice()
+}
+
+/// Refuses a name that no entry may be given: ENOENT where it is empty, else EINVAL.
+pub(crate) fn check_name(name: &[u8]) -> Result<(), Refused>
+    ensures { result ≡ checked name.now }
+{
+    if name.is_empty() {
+        return Err(Refused::By(Errno::ENOENT));
+    }
+    if is_here(name) || is_above(name) || name.contains(&b'/') || name.contains(&0) {
+        return Err(Refused::By(Errno::EINVAL));
+    }
+    Ok(())
+}
+
+/// Refuses a name that leads nowhere from a directory.
+pub(crate) fn check_step(name: &[u8]) -> Result<(), Refused>
+    ensures { result ≡ leads name.now }
+{
+    if is_here(name) || is_above(name) {
+        return Ok(());
+    }
+    check_name(name)
+}
+
+/// Where a name leads from a directory: `.` is the directory itself, `..` the one in which it stands.
+pub(crate) fn step(alloc: Global, directory: &[u8], name: &[u8]) -> Result<Vec<u8>, AllocError>
+    ensures { IfOk result (λ path. path.items ≡ stepped directory.now name.now) }
+{
+    if is_here(name) {
+        directory.to_vec(alloc)
+    } else if is_above(name) {
+        parent(directory).to_vec(alloc)
+    } else {
+        below(alloc, directory, name)
+    }
 }

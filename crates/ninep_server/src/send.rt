@@ -1,6 +1,6 @@
 //! Answers, as they are written.
 
-ghost use Rattle.std.specs.Prelude.{◌≡◌, ◌∷◌, ◌≤◌, length, take, OnOk, IfErr};
+ghost use Rattle.std.specs.Prelude.{◌≡◌, ◌∷◌, ◌≤◌, ◌<◌, ◌+◌, length, take, vec_capacity, OnOk, OnErr, IfErr, nat_lt, not};
 ghost use Rattle.std.specs.List.{AllByRecursion, flat_map};
 ghost use Rattle.ninep.specs.Fields.{Two, Number, Fits};
 ghost use Rattle.ninep.specs.Replies.{qid_fields, reply_fields};
@@ -168,10 +168,19 @@ fn reply_to(said: &Said, most: u32) -> Reply<'_>
     }
 }
 
+/// Whether a buffer has room for so many bytes more.
+fn has_room(out: &Vec<u8>, limit: u32) -> bool
+    ensures { result ≡ not (nat_lt (vec_capacity out.now) (length out.now.items + limit)) }
+{
+    out.capacity() - out.len() >= limit as usize
+}
+
 /// Writes with this tag that an answer is longer than a message may be.
 fn refuse(out: &mut Vec<u8>, limit: u32, tag: u16) -> Result<(), End>
     ensures ok { OnOk result (IsWritten limit tag too_long out.old.items out.new.items) }
     ensures err { IfErr result (λ e. e ≡ End.OutOfMemory) }
+    ensures kept { OnErr result (out.new.items ≡ out.old.items) }
+    ensures full { OnErr result (4096 ≤ limit → vec_capacity out.old < length out.old.items + 11) }
 {
     let number = Errno::EIO.number();
     match write(out, limit, tag, &Reply::Error { number }) {
@@ -182,16 +191,21 @@ fn refuse(out: &mut Vec<u8>, limit: u32, tag: u16) -> Result<(), End>
 
 /// Writes what is said with this tag. Where that is longer than a message may be, EIO is said.
 ///
-/// An error: no memory was found for it, and a part of it may have been written.
+/// An error: no memory was found for it, where there was no room for the longest message, and `out` has what it had.
 #[tactic(auto, using(crate::proofs::SendLaws::too_much))]
 pub(crate) fn send(out: &mut Vec<u8>, limit: u32, tag: u16, said: &Said) -> Result<(), End>
     requires { 4096 ≤ limit }
     ensures ok { OnOk result (IsSaidIn limit tag said.now out.old.items out.new.items) }
     ensures err { IfErr result (λ e. e ≡ End.OutOfMemory) }
+    ensures kept { OnErr result (out.new.items ≡ out.old.items) }
+    ensures full { OnErr result (vec_capacity out.old < length out.old.items + limit) }
 {
+    let has_room = has_room(out, limit);
     match write(out, limit, tag, &reply_to(said, limit - HEAD)) {
         Ok(()) => Ok(()),
-        Err(WriteRefusal::OutOfMemory) => Err(End::OutOfMemory),
         Err(WriteRefusal::TooLong) => refuse(out, limit, tag),
+        // What finds no memory where there is room for the longest message is longer than that.
+        Err(WriteRefusal::OutOfMemory) if has_room => refuse(out, limit, tag),
+        Err(WriteRefusal::OutOfMemory) => Err(End::OutOfMemory),
     }
 }

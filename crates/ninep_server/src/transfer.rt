@@ -35,7 +35,7 @@ pub(crate) struct Transfer<'m> {
 }
 
 /// The smaller one.
-fn least(a: u32, b: u32) -> u32
+pub(crate) fn least(a: u32, b: u32) -> u32
     ensures { result ≡ min a b }
 {
     if a < b { a } else { b }

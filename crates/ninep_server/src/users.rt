@@ -1,5 +1,8 @@
 //! Users and their sessions.
 
+ghost use Rattle.std.specs.Prelude.{◌≡◌, ◌++◌, ◌∷◌, [], OnOk, OnErr};
+ghost use Rattle.ninep_server.specs.Knowledge.{user_of};
+
 use std::alloc::{AllocError, Global};
 
 /// A user who is attached, and its session.
@@ -17,30 +20,48 @@ pub(crate) struct Users {
 
 impl Users {
     /// None.
-    pub(crate) fn new(alloc: Global) -> Users {
+    pub(crate) fn new(alloc: Global) -> Users
+        ensures { result.users.items ≡ [] }
+    {
         Users {
             users: Vec::new(alloc),
         }
     }
 
     /// The user with this number, if it is attached.
-    pub(crate) fn find(&self, uid: u16) -> Option<User> {
-        self.users.iter().find(|user| user.uid == uid).copied()
+    pub(crate) fn find(&self, uid: u16) -> Option<User>
+        ensures { result ≡ user_of self.now.users.items uid }
+    {
+        let mut left = self.users.as_slice();
+        while let Some((user, rest)) = left.split_first() {
+            if user.uid == uid {
+                return Some(*user);
+            }
+            left = rest;
+        }
+        None
     }
 
     /// Finds the memory for a user more.
-    pub(crate) fn reserve(&mut self) -> Result<(), AllocError> {
+    pub(crate) fn reserve(&mut self) -> Result<(), AllocError>
+        ensures { self.new.users.items ≡ self.old.users.items }
+    {
         self.users.reserve(1)
     }
 
     /// A user more.
-    pub(crate) fn put(&mut self, user: User) -> Result<(), AllocError> {
+    pub(crate) fn put(&mut self, user: User) -> Result<(), AllocError>
+        ensures ok { OnOk result (self.new.users.items ≡ self.old.users.items ++ user ∷ []) }
+        ensures err { OnErr result (self.new.users.items ≡ self.old.users.items) }
+    {
         self.users.push(user)?;
         Ok(())
     }
 
     /// All go.
-    pub(crate) fn clear(&mut self) {
+    pub(crate) fn clear(&mut self)
+        ensures { self.new.users.items ≡ [] }
+    {
         self.users.clear();
     }
 }

@@ -1,18 +1,25 @@
 //! Walks: a new fid for what names lead to.
 
+ghost use Rattle.std.specs.Prelude.{◌≡◌, ◌++◌, ◌∷◌, [], Ok, OnOk};
+ghost use Rattle.ninep.specs.Requests.{names_in};
+ghost use Rattle.ninep_server.specs.Knowledge.{Known, known_of};
+ghost use Rattle.ninep_server.specs.Walks.{enters, place, walks, walking, stops};
+ghost use Rattle.ninep_server.specs.Progress.{AsksNext, BeginsAs, Leaves, behind, left_of_next, left_of_walk};
+
 use crate::answer::Answer;
 use crate::ask::Ask;
 use crate::fid::{Fid, Kind, Node};
 use crate::heard::Heard;
 use crate::knows::Knows;
-use crate::paths::{below, called, parent};
+use crate::opening::check_closed;
+use crate::paths::{called, check_step, step};
 use crate::refused::Refused;
 use crate::users::User;
 use crate::work::{Next, Work};
 use errno::Errno;
 use ninep::names::Names;
 use ninep::reply::Qid;
-use std::alloc::{AllocError, Global};
+use std::alloc::AllocError;
 use tree::Call;
 
 /// A walk, which looks at what one name after the other leads to.
@@ -28,30 +35,25 @@ pub(crate) struct Walk<'m> {
     qids: Vec<Qid>,
 }
 
-/// The path of a name in a directory: `.` is the directory itself, `..` the one in which it stands.
-fn step(alloc: Global, directory: &[u8], name: &[u8]) -> Result<Vec<u8>, Refused> {
-    if name == b".".as_slice() {
-        return Ok(directory.to_vec(alloc)?);
+/// Refuses a name behind a node: ENOTDIR where that is no directory.
+fn enters(kind: Kind, name: &[u8]) -> Result<(), Refused>
+    ensures { result ≡ enters kind name.now }
+{
+    match kind {
+        Kind::Directory => check_step(name),
+        Kind::File | Kind::Symlink => Err(Refused::By(Errno::ENOTDIR)),
     }
-    if name == b"..".as_slice() {
-        return Ok(parent(directory).to_vec(alloc)?);
-    }
-    named(alloc, directory, name)
 }
 
-/// The path of a name in a directory. ENOENT where the name is empty, EINVAL where it can't be one.
-pub(crate) fn named(alloc: Global, directory: &[u8], name: &[u8]) -> Result<Vec<u8>, Refused> {
-    if name.is_empty() {
-        return Err(Refused::By(Errno::ENOENT));
+/// Refuses a place for what is walked to: the fid itself where it is open, else a number that is used.
+fn check_place(knows: &Knows, fid: u32, new_fid: u32, descriptor: Option<u32>) -> Result<(), Refused>
+    ensures { result ≡ place (known_of knows.now) fid new_fid descriptor }
+{
+    if new_fid == fid {
+        check_closed(descriptor)
+    } else {
+        knows.fids.check_new(new_fid)
     }
-    if name == b".".as_slice()
-        || name == b"..".as_slice()
-        || name.contains(&b'/')
-        || name.contains(&0)
-    {
-        return Err(Refused::By(Errno::EINVAL));
-    }
-    Ok(below(alloc, directory, name)?)
 }
 
 impl<'m> Walk<'m> {
@@ -60,47 +62,50 @@ impl<'m> Walk<'m> {
         fid: u32,
         new_fid: u32,
         names: Names<'m>,
-    ) -> Result<Next<'m>, Refused> {
-        let alloc = knows.alloc;
+    ) -> Result<Next<'m>, Refused>
+        ensures { BeginsAs (walks (known_of knows.old) fid new_fid (names_in names.entry)) knows.old knows.new result }
+    {
         let from = knows.fids.named(fid)?;
-        let (user, node, path) = (from.user, from.node, from.path.to_vec(alloc)?);
-        if new_fid != fid {
-            knows.fids.check_new(new_fid)?;
-        } else if from.descriptor.is_some() {
-            return Err(Refused::By(Errno::EINVAL));
-        }
+        check_place(knows, fid, new_fid, from.descriptor)?;
         let walk = Walk {
             new_fid,
-            user,
-            path,
+            user: from.user,
+            path: from.path.to_vec(knows.alloc)?,
             left: names,
-            qids: Vec::new(alloc),
+            qids: Vec::new(knows.alloc),
         };
+        let node = from.node;
         walk.onward(knows, node)
     }
 
     /// Goes on from the node at its path: to the next name, or to the end.
-    fn onward(self, knows: &mut Knows, node: Node) -> Result<Next<'m>, Refused> {
+    fn onward(self, knows: &mut Knows, node: Node) -> Result<Next<'m>, Refused>
+        ensures { BeginsAs (walking self.entry.new_fid self.entry.user (names_in self.entry.left) self.entry.path.items node self.entry.qids.items) knows.old knows.new
+            result }
+    {
         let Some((name, left)) = self.left.split_first() else {
             return self.arrive(knows, node);
         };
-        if node.kind != Kind::Directory {
-            return Ok(self.stop(Refused::By(Errno::ENOTDIR)));
+        if let Err(refused) = enters(node.kind, name) {
+            return Ok(self.stop(refused));
         }
-        match step(knows.alloc, &self.path, name) {
-            Ok(path) => Ok(Next::Go(Work::Walk(Walk { path, left, ..self }))),
-            Err(refused) => Ok(self.stop(refused)),
-        }
+        let path = step(knows.alloc, &self.path, name)?;
+        Ok(Next::Go(Work::Walk(Walk { path, left, ..self })))
     }
 
     /// A name more is walked.
-    fn note(&mut self, qid: Qid) -> Result<(), AllocError> {
+    fn note(&mut self, qid: Qid) -> Result<(), AllocError>
+        ensures qids { OnOk result (self.new.qids.items ≡ self.old.qids.items ++ qid ∷ []) }
+        ensures rest { self.new ≡ record self.old { qids = self.new.qids } }
+    {
         self.qids.push(qid)?;
         Ok(())
     }
 
     /// All names are walked: the new fid stands on the node.
-    fn arrive(self, knows: &mut Knows, node: Node) -> Result<Next<'m>, Refused> {
+    fn arrive(self, knows: &mut Knows, node: Node) -> Result<Next<'m>, Refused>
+        ensures { BeginsAs (walking self.entry.new_fid self.entry.user [] self.entry.path.items node self.entry.qids.items) knows.old knows.new result }
+    {
         let Walk {
             new_fid,
             user,
@@ -113,7 +118,9 @@ impl<'m> Walk<'m> {
     }
 
     /// A name leads nowhere: the answer is what those before it lead to, or why the first one leads nowhere.
-    fn stop(self, refused: Refused) -> Next<'m> {
+    fn stop(self, refused: Refused) -> Next<'m>
+        ensures { (k : Known) → Leaves (stops self.entry.qids.items refused) k (left_of_next (Ok result)) k }
+    {
         if self.qids.is_empty() {
             Next::Done(Answer::Refused(refused))
         } else {
@@ -121,7 +128,9 @@ impl<'m> Walk<'m> {
         }
     }
 
-    pub(crate) fn ask(&self) -> Ask<'_> {
+    pub(crate) fn ask(&self) -> Ask<'_>
+        ensures { AsksNext (left_of_walk self.now) result }
+    {
         Ask::Call {
             session: self.user.session,
             call: Call::Lstat {
@@ -130,7 +139,9 @@ impl<'m> Walk<'m> {
         }
     }
 
-    pub(crate) fn hear(mut self, knows: &mut Knows, heard: Heard) -> Result<Next<'m>, Refused> {
+    pub(crate) fn hear(mut self, knows: &mut Knows, heard: Heard) -> Result<Next<'m>, Refused>
+        ensures { Leaves (behind (left_of_walk self.entry) heard) (known_of knows.old) (left_of_next result) (known_of knows.new) }
+    {
         match heard.attributes() {
             Ok(attributes) => {
                 let node = Node::of(&attributes);

@@ -86,7 +86,7 @@ impl<'m> Work<'m> {
         ensures { Leaves (behind (left_of self.entry) heard) (known_of knows.old) (left_of_next result) (known_of knows.new) }
     {
         match self {
-            Work::Version(work) => Ok(work.hear(knows)),
+            Work::Version(work) => Ok(work.hear(knows, &heard)),
             Work::Attach(work) => work.hear(knows, heard),
             Work::Walk(work) => work.hear(knows, heard),
             Work::Open(work) => work.hear(knows, heard),

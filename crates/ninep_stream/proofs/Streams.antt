@@ -7,7 +7,9 @@ use Rattle.std.specs.Prelude.{Option, Some, None}
 use Rattle.std.specs.List.{concat}
 use Rattle.std.specs.Io.KnownBytes.{Consumes, Appends, Keeps, IsAtEnd}
 use Rattle.ninep_stream.specs.Messages.{IsMessage}
-use Rattle.ninep_stream.specs.Answered.{IsAnswered, AreAnswered, IsAllOf, IsAnsweredWhole, Lead}
+use Rattle.ninep_stream.specs.Answered.{IsAnswered, AreAnswered, AppendsSome, IsAllOf, IsAnsweredAll, IsAnsweredWhole, Lead}
+use Rattle.ninep_stream.specs.Stopped.{Stops, StopsSilent, IsStopped}
+use Rattle.ninep_stream.specs.declared.answering.StreamRefusal.{StreamRefusal}
 
 pub appends_none : (a : Option (List ℕ)) → Appends a a []
 appends_none None = tt
@@ -76,7 +78,7 @@ all_of (Some xs) None bytes taken end = absurd taken
 all_of (Some xs) (Some ys) bytes taken end = taken ∙ ap (λ l. bytes ++ l) end ∙ append-nil bytes
 
 -- all were answered, where the stream has ended
-pub answered_whole : {S : Type 0} (R : List ℕ → List ℕ → S → S → Type 0) (a b o p : Option (List ℕ)) (s t : S)
+answered_whole : {S : Type 0} (R : List ℕ → List ℕ → S → S → Type 0) (a b o p : Option (List ℕ)) (s t : S)
     → AreAnswered R a b o p s t → IsAtEnd b → IsAnsweredWhole R a o p s t
 answered_whole R a b o p s t so_far end = record {
   messages = so_far.messages;
@@ -86,3 +88,34 @@ answered_whole R a b o p s t so_far end = record {
   given = so_far.given;
   leads = so_far.leads;
 }
+
+-- what was taken is nothing where a stream was at its end
+pub at_end : (a b : Option (List ℕ)) (bytes : List ℕ) → Consumes a b bytes → IsAtEnd b → bytes ≡ [] → IsAtEnd a
+at_end None b bytes taken end none = tt
+at_end (Some xs) None bytes taken end none = absurd taken
+at_end (Some xs) (Some ys) bytes taken end none = taken ∙ ap (λ l. bytes ++ l) end ∙ ap (λ l. l ++ []) none
+
+keeps_kept : (a b c : Option (List ℕ)) → Keeps a b → Keeps b c → Keeps a c
+keeps_kept None b c h k = tt
+keeps_kept (Some xs) None c h k = absurd h
+keeps_kept (Some xs) (Some ys) None h k = absurd k
+keeps_kept (Some xs) (Some ys) (Some zs) h k = k ∙ h
+
+-- a beginning of what was written
+pub appends_some : (a b c : Option (List ℕ)) (p : List ℕ) → Appends a b p → Keeps b c → AppendsSome a c p
+appends_some a b c p h k = (p, [], sym (append-nil p), appends_kept a b c p h k)
+
+pub keeps_same : (a : Option (List ℕ)) → Keeps a a
+keeps_same None = tt
+keeps_same (Some xs) = refl
+
+-- the same by states of two parts
+pub answered_all : {S K : Type 0} (R : List ℕ → List ℕ → S × K → S × K → Type 0) (a b o p : Option (List ℕ)) (s : S × K) (t : S) (l : K)
+    → AreAnswered R a b o p s (t, l) → IsAtEnd b → IsAnsweredAll R a o p s t
+answered_all R a b o p s t l so_far end = (l, answered_whole R a b o p s (t, l) so_far end)
+
+-- and then it stopped
+pub stopped : {S K : Type 0} (R : List ℕ → List ℕ → S × K → S × K → Type 0) (e : StreamRefusal) (a b c o p q : Option (List ℕ)) (s : S × K)
+    (t : S × K) (u : S) (l : K) → AreAnswered R a b o p s t → Stops R e b c p q t (u, l) → IsStopped R e a c o q s u
+stopped R e a b c o p q s t u l so_far stops =
+    (l, record { between = b; written = p; here = t; answered = so_far; stops = stops })

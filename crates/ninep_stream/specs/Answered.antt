@@ -1,5 +1,5 @@
 -- What answering the messages of a stream comes to, where the bytes of the streams are known.
-use Rattle.std.specs.Prelude.{⊤, ◌≡◌, ℕ, List, [], ◌∷◌, Option, Some, None, All}
+use Rattle.std.specs.Prelude.{⊤, ◌≡◌, ℕ, List, [], ◌∷◌, ◌++◌, Option, Some, None, All}
 use Rattle.std.specs.List.{concat}
 use Rattle.std.specs.Io.KnownBytes.{Consumes, Appends}
 use Rattle.ninep_stream.specs.Messages.{IsMessage}
@@ -46,3 +46,12 @@ pub record IsAnsweredWhole {S : Type 0} (answers : List ℕ → List ℕ → S �
   pub taken : IsAllOf stream (concat messages)
   pub given : Appends old new (concat replies)
   pub leads : Lead answers messages replies s t
+
+-- The same, by states of two parts, of which the second one, what is known in the end, may be any.
+abbrev pub IsAnsweredAll : {S K : Type 0} → (List ℕ → List ℕ → S × K → S × K → Type 0) → Option (List ℕ) → Option (List ℕ) → Option (List ℕ)
+    → S × K → S → Type 0
+IsAnsweredAll {S} {K} answers stream old new s t = (l : K) × IsAnsweredWhole answers stream old new s (t, l)
+
+-- a beginning of an answer went out, maybe all of it
+abbrev pub AppendsSome : Option (List ℕ) → Option (List ℕ) → List ℕ → Type 0
+AppendsSome old new answer = (part : List ℕ) × (rest : List ℕ) × (answer ≡ part ++ rest) × Appends old new part

@@ -1,11 +1,12 @@
 //! Messages that are answered as they come.
 
-ghost use Rattle.std.specs.Prelude.{◌≡◌, IfOk, OnOk};
+ghost use Rattle.std.specs.Prelude.{◌≡◌, Ok, false, IfOk, OnOk, IfErr};
 ghost use Rattle.std.specs.Bool.{OnTrue, OnFalse};
 ghost use Rattle.std.specs.Io.KnownBytes.{Appends, Consumes, IsAtEnd};
 ghost use Rattle.ninep_stream.specs.Messages.{IsMessage};
-ghost use Rattle.ninep_stream.specs.Answered.{IsAnswered, IsAnsweredWhole};
-ghost use Rattle.ninep_stream.specs.Exchanges.{answers};
+ghost use Rattle.ninep_stream.specs.Answered.{IsAnswered, IsAnsweredAll, AppendsSome};
+ghost use Rattle.ninep_stream.specs.Stopped.{Stops, IsStopped, IsUnread};
+ghost use Rattle.ninep_stream.specs.Exchanges.{answers, nobody};
 
 use crate::framing::{InputRefusal, next_message};
 use ninep_server::connection::Connection;
@@ -50,8 +51,12 @@ struct Answerer {
 }
 
 impl Answerer {
+    ghost use Rattle.ninep_server.specs.Connections.{known};
+
     /// A connection that begins.
-    fn new(alloc: Global) -> Answerer {
+    fn new(alloc: Global) -> Answerer
+        ensures { known result.connection ≡ nobody }
+    {
         Answerer {
             connection: Connection::new(alloc),
             message: Vec::new(alloc),
@@ -69,32 +74,39 @@ impl Answerer {
     ) -> Result<bool, StreamRefusal>
         ensures answered { IfOk result (λ some. OnTrue some
             (IsAnswered (answers S.called S.entered S.left) (I.remaining input.old) (I.remaining input.new)
-            (O.contents output.old) (O.contents output.new) sessions.old sessions.new)) }
+            (O.contents output.old) (O.contents output.new) (sessions.old, known self.old.connection)
+            (sessions.new, known self.new.connection))) }
         ensures ended { IfOk result (λ some. OnFalse some (IsAtEnd (I.remaining input.old))) }
-        ensures silent { IfOk result (λ some. OnFalse some ((output.new ≡ output.old) × (sessions.new ≡ sessions.old))) }
+        ensures silent { IfOk result (λ some. OnFalse some ((output.new ≡ output.old) × (sessions.new ≡ sessions.old)
+            × (self.new.connection ≡ self.old.connection))) }
+        ensures stopped { IfErr result (λ e. Stops (answers S.called S.entered S.left) e (I.remaining input.old) (I.remaining input.new)
+            (O.contents output.old) (O.contents output.new) (sessions.old, known self.old.connection)
+            (sessions.new, known self.new.connection)) }
     {
         if !self.read(input)? {
             return Ok(false);
         }
         self.answer.clear();
         let (now, bytes) = (seconds(clock), self.message.as_slice());
-        if self
+        match self
             .connection
             .answer(sessions, now, bytes, &mut self.answer)
-            .is_err()
         {
-            return Err(StreamRefusal::OutOfMemory);
+            Ok(()) => {
+                write(output, self.answer.as_slice())?;
+                Ok(true)
+            }
+            Err(_) => Err(StreamRefusal::OutOfMemory),
         }
-        write(output, self.answer.as_slice())?;
-        Ok(true)
     }
 
     /// Reads the next message. Whether there was one.
     fn read<I: BufRead>(&mut self, input: &mut I) -> Result<bool, StreamRefusal>
         ensures message { IfOk result (λ some. OnTrue some (IsMessage self.new.message.items)) }
-        ensures taken { IfOk result (λ some. OnTrue some
-            (Consumes (I.remaining input.old) (I.remaining input.new) self.new.message.items)) }
-        ensures ended { IfOk result (λ some. OnFalse some (IsAtEnd (I.remaining input.old))) }
+        ensures taken { Consumes (I.remaining input.old) (I.remaining input.new) self.new.message.items }
+        ensures ended { result ≡ Ok false → IsAtEnd (I.remaining input.old) }
+        ensures refused { IfErr result (λ e. IsUnread e (I.remaining input.new)) }
+        ensures connection { self.new.connection ≡ self.old.connection }
     {
         let most = self.connection.message_size();
         match next_message(input, most, &mut self.message) {
@@ -106,7 +118,9 @@ impl Answerer {
 
 /// Answers each message of a stream by a connection's calls of sessions, in order, until the stream ends. An answer is written whole, and
 /// flushed, before the next message is read. Times of calls are those of this clock.
-#[tactic(auto, using(crate::proofs::Streams::none_answered, crate::proofs::Streams::answered_more, crate::proofs::Streams::answered_whole))]
+///
+/// Where it is refused, the messages before were answered, and what went out is their answers, and of one more a beginning at most.
+#[tactic(auto, using(crate::proofs::Streams::none_answered, crate::proofs::Streams::answered_more, crate::proofs::Streams::answered_all, crate::proofs::Streams::stopped))]
 pub fn answer_all<I: BufRead, O: Write, C: Clock, S: Sessions>(
     alloc: Global,
     input: &mut I,
@@ -114,8 +128,10 @@ pub fn answer_all<I: BufRead, O: Write, C: Clock, S: Sessions>(
     clock: &C,
     sessions: &mut S,
 ) -> Result<(), StreamRefusal>
-    ensures { OnOk result (IsAnsweredWhole (answers S.called S.entered S.left) (I.remaining input.old)
-        (O.contents output.old) (O.contents output.new) sessions.old sessions.new) }
+    ensures whole { OnOk result (IsAnsweredAll (answers S.called S.entered S.left) (I.remaining input.old)
+        (O.contents output.old) (O.contents output.new) (sessions.old, nobody) sessions.new) }
+    ensures stopped { IfErr result (λ e. IsStopped (answers S.called S.entered S.left) e (I.remaining input.old) (I.remaining input.new)
+        (O.contents output.old) (O.contents output.new) (sessions.old, nobody) sessions.new) }
 {
     let mut answerer = Answerer::new(alloc);
     for _ in 0..u64::MAX {
@@ -127,9 +143,10 @@ pub fn answer_all<I: BufRead, O: Write, C: Clock, S: Sessions>(
 }
 
 /// Writes an answer, and flushes it.
-#[tactic(auto, using(crate::proofs::Streams::appends_kept))]
+#[tactic(auto, using(crate::proofs::Streams::appends_kept, crate::proofs::Streams::appends_some))]
 fn write<O: Write>(output: &mut O, answer: &[u8]) -> Result<(), StreamRefusal>
-    ensures { OnOk result (Appends (O.contents output.old) (O.contents output.new) answer.now) }
+    ensures ok { OnOk result (Appends (O.contents output.old) (O.contents output.new) answer.now) }
+    ensures err { IfErr result (λ e. (e ≡ StreamRefusal.NotWritten) × AppendsSome (O.contents output.old) (O.contents output.new) answer.now) }
 {
     if write_text(output, answer).is_err() || output.flush().is_err() {
         return Err(StreamRefusal::NotWritten);

@@ -1,13 +1,13 @@
 //! Whole messages from a stream: each begins with its size in bytes, which counts itself, in 4 bytes, the lowest first.
 
-ghost use Rattle.std.specs.Prelude.{◌≡◌, ◌≢◌, ◌⊎◌, ◌<◌, ◌≤◌, ℕ, Err, IfOk, OnOk, length, vec_len};
-ghost use Rattle.std.specs.Bool.{OnTrue, OnFalse};
-ghost use Rattle.std.specs.Io.KnownBytes.{Consumes, IsAtEnd, Keeps};
+ghost use Rattle.std.specs.Prelude.{◌≡◌, ◌≢◌, ◌⊎◌, ◌×◌, ◌<◌, ◌≤◌, ◌++◌, [], ℕ, List, Ok, Err, true, false, IfOk, OnOk, length, take, vec_len};
+ghost use Rattle.std.specs.Bool.{OnTrue};
+ghost use Rattle.std.specs.Io.KnownBytes.{Consumes, IsAtEnd};
 ghost use Rattle.std.specs.Int.{w32, from_le_bytes};
-ghost use Rattle.ninep_stream.specs.Messages.{IsMessage};
+ghost use Rattle.ninep_stream.specs.Messages.{IsMessage, IsCutShort, TakesMore};
 
 use std::fmt;
-use std::io::{BufRead, ErrorKind};
+use std::io::{ErrorKind, Read};
 
 /// The bytes of a size.
 const SIZE: usize = 4;
@@ -41,84 +41,83 @@ impl fmt::Display for InputRefusal {
 }
 
 /// Reads the next message in the place of `message`, at most so many bytes. Whether there was one: there is none where the stream has
-/// ended before it. After a refusal the stream may stand within the message.
-pub fn next_message<I: BufRead>(
+/// ended before it.
+///
+/// All that was taken from the stream stands in `message`, also where it is refused.
+pub fn next_message<I: Read>(
     input: &mut I,
     most: u32,
     message: &mut Vec<u8>,
 ) -> Result<bool, InputRefusal>
     ensures message { IfOk result (λ some. OnTrue some (IsMessage message.new.items)) }
     ensures few { IfOk result (λ some. OnTrue some (length message.new.items ≤ most)) }
-    ensures taken { IfOk result (λ some. OnTrue some (Consumes (I.remaining input.old) (I.remaining input.new) message.new.items)) }
-    ensures ended { IfOk result (λ some. OnFalse some (IsAtEnd (I.remaining input.old))) }
-    ensures size { (size : ℕ) → result ≡ Err (InputRefusal.BadSize size) → (size < 7) ⊎ (most < size) }
+    ensures taken { Consumes (I.remaining input.old) (I.remaining input.new) message.new.items }
+    ensures ended { result ≡ Ok false → IsAtEnd (I.remaining input.new) × (message.new.items ≡ []) }
+    ensures cut { result ≡ Err InputRefusal.CutShort → IsAtEnd (I.remaining input.new) × IsCutShort most message.new.items }
+    ensures size { (size : ℕ) → result ≡ Err (InputRefusal.BadSize size)
+        → (from_le_bytes w32 message.new.items ≡ size) × ((size < 7) ⊎ (most < size)) }
 {
-    if has_ended(input)? {
-        return Ok(false);
+    message.clear();
+    match take_more(input, message, SIZE) {
+        Ok(()) => {}
+        Err(InputRefusal::CutShort) if message.is_empty() => return Ok(false),
+        Err(refusal) => return Err(refusal),
     }
-    let size = read_size(input, most, message)?;
-    if message.resize(size, 0).is_err() {
-        return Err(InputRefusal::OutOfMemory);
-    }
-    read_into(input, &mut message[SIZE..])?;
-    Ok(true)
-}
-
-/// Whether a stream has no byte left.
-fn has_ended<I: BufRead>(input: &mut I) -> Result<bool, InputRefusal>
-    ensures ended { IfOk result (λ ended. OnTrue ended (IsAtEnd (I.remaining input.old))) }
-    ensures keeps { Keeps (I.remaining input.old) (I.remaining input.new) }
-    ensures size { (size : ℕ) → result ≢ Err (InputRefusal.BadSize size) }
-{
-    match input.fill_buf() {
-        Ok(bytes) => Ok(bytes.is_empty()),
-        Err(_) => Err(InputRefusal::NotRead),
-    }
-}
-
-/// Fills these bytes from a stream.
-fn read_into<I: BufRead>(input: &mut I, bytes: &mut [u8]) -> Result<(), InputRefusal>
-    ensures taken { OnOk result (Consumes (I.remaining input.old) (I.remaining input.new) bytes.new) }
-    ensures size { (size : ℕ) → result ≢ Err (InputRefusal.BadSize size) }
-{
-    match input.read_exact(bytes) {
-        Ok(()) => Ok(()),
-        Err(error) => Err(refusal_of(error.kind())),
-    }
-}
-
-/// Why bytes weren't read.
-fn refusal_of(kind: ErrorKind) -> InputRefusal
-    ensures { (size : ℕ) → result ≢ InputRefusal.BadSize size }
-{
-    match kind {
-        ErrorKind::UnexpectedEof => InputRefusal::CutShort,
-        _ => InputRefusal::NotRead,
-    }
-}
-
-/// Reads the size of the next message, and puts its bytes in the place of `message`.
-fn read_size<I: BufRead>(
-    input: &mut I,
-    most: u32,
-    message: &mut Vec<u8>,
-) -> Result<usize, InputRefusal>
-    ensures taken { OnOk result (Consumes (I.remaining input.old) (I.remaining input.new) message.new.items) }
-    ensures size { IfOk result (λ size. from_le_bytes w32 message.new.items ≡ size) }
-    ensures least { IfOk result (λ size. 7 ≤ size) }
-    ensures few { IfOk result (λ size. size ≤ most) }
-    ensures len { OnOk result (vec_len message.new ≡ 4) }
-    ensures refused { (size : ℕ) → result ≡ Err (InputRefusal.BadSize size) → (size < 7) ⊎ (most < size) }
-{
-    let mut head = [0; SIZE];
-    read_into(input, &mut head)?;
-    let size = u32::from_le_bytes(head);
+    let size = size_in(message);
     if size < LEAST || most < size {
         return Err(InputRefusal::BadSize(size));
     }
-    message.clear();
-    if message.extend_from_slice(&head).is_err() {
+    take_more(input, message, size as usize)?;
+    Ok(true)
+}
+
+/// The size that the first bytes of a message name.
+fn size_in(message: &Vec<u8>) -> u32
+    requires { vec_len message.now ≡ 4 }
+    ensures { result ≡ from_le_bytes w32 message.now.items }
+{
+    u32::from_le_bytes([message[0], message[1], message[2], message[3]])
+}
+
+/// Takes bytes from a stream behind those that a message has, until it has so many.
+fn take_more<I: Read>(input: &mut I, message: &mut Vec<u8>, size: usize) -> Result<(), InputRefusal>
+    requires { vec_len message.old ≤ size }
+    ensures taken { TakesMore (I.remaining input.old) (I.remaining input.new) message.old.items message.new.items }
+    ensures whole { OnOk result (vec_len message.new ≡ size) }
+    ensures cut { result ≡ Err InputRefusal.CutShort → IsAtEnd (I.remaining input.new) × (vec_len message.new < size) }
+    ensures size { (size : ℕ) → result ≢ Err (InputRefusal.BadSize size) }
+{
+    let at = message.len();
+    if message.resize(size, 0).is_err() {
         return Err(InputRefusal::OutOfMemory);
     }
-    Ok(size as usize)
+    let (count, read) = read_into(input, &mut message[at..]);
+    message.truncate(at + count);
+    read
+}
+
+/// Fills these bytes from a stream. How many were read, and why no more.
+fn read_into<I: Read>(input: &mut I, bytes: &mut [u8]) -> (usize, Result<(), InputRefusal>)
+    ensures taken { Consumes (I.remaining input.old) (I.remaining input.new) (take result.0 bytes.new) }
+    ensures most { result.0 ≤ length bytes.new }
+    ensures whole { OnOk result.1 (result.0 ≡ length bytes.new) }
+    ensures cut { result.1 ≡ Err InputRefusal.CutShort → IsAtEnd (I.remaining input.new) × (result.0 < length bytes.new) }
+    ensures size { (size : ℕ) → result.1 ≢ Err (InputRefusal.BadSize size) }
+{
+    let mut at = 0;
+    for _ in 0..u64::MAX {
+        if at >= bytes.len() {
+            return (at, Ok(()));
+        }
+        match input.read(&mut bytes[at..]) {
+            Ok(0) => return (at, Err(InputRefusal::CutShort)),
+            Ok(count) => at += count,
+            Err(error) => {
+                if error.kind() != ErrorKind::Interrupted {
+                    return (at, Err(InputRefusal::NotRead));
+                }
+            }
+        }
+    }
+    (at, Err(InputRefusal::NotRead))
 }

@@ -22,4 +22,5 @@ invariant_of-names c = record {
   whole =
       are_texts c.args.count c.args.bytes.now c.in_ok-rest.rest.now c.in_ok-rest.ensures.0 (λ i. omega (arith, c.type_inv.bytes i))
       c.in_ok-rest.ensures.1;
+  few = c.requires;
 }

@@ -1,3 +1,4 @@
+use Rattle.std.proofs.Common.{arith}
 use Rattle.ninep.proofs.TextLaws.{first_is_read, none_at, split_some}
 use Rattle.ninep.proofs.names.Names.split_first.Goals as goal
 
@@ -14,6 +15,7 @@ invariant_of-result c = record {
   whole =
       (split_some c.args.self.now.count c.args.self.now.bytes.now (c.in-Ok.name.now, c.in-Ok.bytes.now) c.if-self-eq0.false c.args.self.now.whole
       c.in-Ok.ensures).0;
+  few = omega (arith, c.args.self.now.few);
 }
 
 pub returns-clause-some : goal.returns-clause-some

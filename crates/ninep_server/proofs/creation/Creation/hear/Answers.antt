@@ -1,0 +1,9 @@
+use Rattle.ninep_server.specs.Knowledge.{known_of}
+use Rattle.ninep_server.proofs.creation.Creation.hear.Goals as goal
+
+pub returns-in-Err : goal.returns-in-Err
+returns-in-Err c = rw (c.in-Chown.is, c.in-Err.ensures.told) (c.give_up.ensures (known_of c.args.knows.now))
+
+pub returns-in-Err-attributes : goal.returns-in-Err-attributes
+returns-in-Err-attributes c =
+    rw (c.in-Look.is, ← c.in-Err-attributes.ensures) (c.give_up-in-Err-attributes.ensures (known_of c.args.knows.now))

@@ -1,0 +1,79 @@
+-- Names: further ones, changed ones, and ones that are taken away.
+use Rattle.std.specs.Prelude.{ℕ, Bool, true, false, List, Option, Result, Ok, Err}
+use Rattle.ninep.specs.Requests.{Body}
+use Rattle.tree.specs.declared.Call.{Call}
+use Rattle.tree.specs.declared.Call.TheVariants as call
+use Rattle.tree.specs.declared.Reply.{Reply}
+use Rattle.ninep_server.specs.Paths.{called, below, checked}
+use Rattle.ninep_server.specs.Knowledge.{Known, File, found, named}
+use Rattle.ninep_server.specs.Hearing.{done_in}
+use Rattle.ninep_server.specs.Opens.{is_set}
+use Rattle.ninep_server.specs.Plans.{Plan, Changes, OrNoMemory, Drops, Renames, Unlinks, error, closing, with_it, calls, at}
+use Rattle.ninep_server.specs.Nodes.{says, said_of}
+use Rattle.ninep_server.specs.declared.refused.Refused.{Refused}
+use Rattle.ninep_server.specs.declared.refused.Refused.TheVariants.{Stale}
+use Rattle.ninep_server.specs.declared.fid.Kind.{Kind}
+use Rattle.ninep_server.specs.declared.fid.Kind.TheVariants as kind
+use Rattle.ninep_server.specs.declared.answer.Answer.{Answer}
+use Rattle.ninep_server.specs.declared.answer.Answer.TheVariants as answer
+
+-- Tlink: the file of a fid gets a further name in a directory
+abbrev pub linking : ℕ → List ℕ → List ℕ → Plan
+linking session old new =
+    calls session (call.Link (at (called old)) (at (called new))) (λ h. with_it (done_in h) (λ _. says answer.Link))
+
+abbrev pub links : Known → ℕ → ℕ → List ℕ → Plan
+links k directory fid name = with_it (named k.fids directory) (λ parent. with_it (named k.fids fid) (λ file. with_it (checked name)
+    (λ _. OrNoMemory (linking parent.user.session file.path (below parent.path name)))))
+
+-- a name becomes another one, and each fid stays on its file
+abbrev pub renaming : ℕ → List ℕ → List ℕ → Answer → Plan
+renaming session old new a = calls session (call.Rename (at (called old)) (at (called new)))
+    (λ h. with_it (done_in h) (λ _. Changes (Renames old new) (says a)))
+
+-- Trename: that of a fid's file
+abbrev pub renames : Known → ℕ → ℕ → List ℕ → Plan
+renames k fid directory name = with_it (named k.fids fid) (λ file. with_it (named k.fids directory) (λ parent. with_it (checked name)
+    (λ _. OrNoMemory (renaming parent.user.session file.path (below parent.path name) answer.Rename))))
+
+-- Trenameat: one in a directory
+abbrev pub renames_at : Known → ℕ → List ℕ → ℕ → List ℕ → Plan
+renames_at k old_directory old_name new_directory new_name =
+    with_it (named k.fids old_directory) (λ from. with_it (named k.fids new_directory) (λ to. with_it (checked old_name)
+    (λ _. with_it (checked new_name) (λ _. OrNoMemory (renaming from.user.session (below from.path old_name)
+    (below to.path new_name) answer.Renameat)))))
+
+-- the call that takes a name away
+abbrev pub unlink_call : List ℕ → Bool → Call
+unlink_call path true = call.Rmdir (at (called path))
+unlink_call path false = call.Unlink (at (called path))
+
+-- Tunlinkat: a directory's name is taken away where the message says so (its flag 0x200), else another one's
+abbrev pub unlinking : ℕ → List ℕ → Bool → Plan
+unlinking session path directory = calls session (unlink_call path directory)
+    (λ h. with_it (done_in h) (λ _. Changes (Unlinks path) (says answer.Unlinkat)))
+
+abbrev pub unlinks : Known → ℕ → List ℕ → ℕ → Plan
+unlinks k directory name flags = with_it (named k.fids directory) (λ parent. with_it (checked name)
+    (λ _. OrNoMemory (unlinking parent.user.session (below parent.path name) (is_set flags 0x200))))
+
+abbrev pub is_directory : Kind → Bool
+is_directory kind.Directory = true
+is_directory k = false
+
+-- what a remove says behind the call, and a descriptor is closed
+abbrev pub removed : ℕ → List ℕ → Option ℕ → Result Reply Refused → Plan
+removed session path descriptor (Ok _) = Changes (Unlinks path) (closing session descriptor (said_of answer.Remove))
+removed session path descriptor (Err refused) = closing session descriptor (error refused)
+
+abbrev pub removing : ℕ → List ℕ → Bool → Option ℕ → Plan
+removing session path directory descriptor =
+    calls session (unlink_call path directory) (λ h. removed session path descriptor (done_in h))
+
+-- Tremove: the name of a fid's file is taken away, and the fid is let go, whatever the answer
+abbrev pub removing_file : File → Bool → Plan
+removing_file file true = closing file.user.session file.descriptor (error Stale)
+removing_file file false = removing file.user.session file.path (is_directory file.node.kind) file.descriptor
+
+abbrev pub removes : Known → ℕ → Plan
+removes k fid = with_it (found k.fids fid) (λ file. Changes (Drops fid) (removing_file file file.gone))
