@@ -52,18 +52,36 @@ fn messages(alloc: Global, given: &[Given]) -> Result<Vec<Incoming>, AllocError>
     Ok(messages)
 }
 
+/// The size of blocks of a volume.
+enum Size {
+    Of1024,
+    Of4096,
+}
+
+/// A volume of small blocks.
+const SMALL: Geometry = Geometry {
+    block_size: 1024,
+    inodes: 32,
+    zones: 128,
+    inode_map_blocks: 1,
+    zone_map_blocks: 1,
+    first_zone: 6,
+};
+
 /// A cache of 32 frames for blocks of this size over a link that gives these messages; none where it is refused.
 fn cache_over(
     alloc: Global,
-    volume: &Geometry,
+    size: &Size,
     given: &[Given],
 ) -> Result<Result<Cache<ListLink>, CacheRefusal>, AllocError>
-    requires { 1024 ≤ volume.now.block_size }
     ensures ready { IfOk result (λ r. IfOk r (λ c. IsReady (caching ⟦<ListLink as Link>⟧ c))) }
     ensures size { IfOk result (λ r. IfOk r (λ c. 1024 ≤ c.shape.block_size)) }
 {
     let transfers = Transfers::new(alloc, ListLink::new(alloc, messages(alloc, given)?)?)?;
-    Ok(Cache::new(alloc, transfers, 0, volume, 32))
+    Ok(match size {
+        Size::Of1024 => Cache::new(alloc, transfers, 0, &SMALL, 32),
+        Size::Of4096 => Cache::new(alloc, transfers, 0, &VOLUME, 32),
+    })
 }
 
 /// Fills the first 1024 bytes of a block with this byte.
@@ -110,12 +128,6 @@ fn do_each<L: Link>(cache: &mut Cache<L>, steps: &[Step])
 
 /// The size of blocks, what a link gives, what is done with a cache over it, and what the link was told.
 type Row = (Size, &'static [Given], &'static [Step], &'static str);
-
-/// The size of blocks of a volume.
-enum Size {
-    Of1024,
-    Of4096,
-}
 
 static ROWS: [Row; 6] = [
     // two runs; a rest, which goes to the next driver behind the other run; what was changed in flight is written again
@@ -236,14 +248,7 @@ write 3 45056 4096 0
 /// A row comes out as it says.
 fn comes_out(alloc: Global, number: usize, row: &Row) -> Result<(), Fail> {
     let (size, given, steps, lines) = row;
-    let volume = Geometry {
-        block_size: match size {
-            Size::Of1024 => 1024,
-            Size::Of4096 => 4096,
-        },
-        ..VOLUME
-    };
-    let mut cache = cache_over(alloc, &volume, given)??;
+    let mut cache = cache_over(alloc, size, given)??;
     do_each(&mut cache, steps);
     row_is_told(number, told(alloc, cache.link())?.as_str(), lines)
 }

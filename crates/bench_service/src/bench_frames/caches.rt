@@ -1,5 +1,6 @@
 //! Measures a cache over a driver in a thread of its own.
 ghost use Rattle.std.specs.Prelude.{◌≡◌};
+ghost use Rattle.layout.specs.Places.{IsGeometry};
 ghost use Rattle.cache.specs.Calls.{caching, IsReady};
 
 use crate::bench_frames::BLOCKS;
@@ -58,7 +59,8 @@ fn measure_over<L: Link + Drop>(
     volume: &Geometry,
     frames: u32,
 ) -> io::Result<()>
-    requires { L.budget_left link ≡ 1099511627776 }
+    requires budget { L.budget_left link ≡ 1099511627776 }
+    requires sizes { IsGeometry volume.now }
 {
     let Ok(transfers) = Transfers::new(rt.alloc(), link) else {
         return say(rt, "no memory");
@@ -83,6 +85,7 @@ fn measure_on<N: Room + Send + Sync + 'static, R: Threads + Wait + Copy + Send +
     requires range { (N.opening.first ≡ 0) × (N.opening.count ≡ 32768) }
     requires image { N.opening.media ≡ image.now }
     requires seat { seat.table ≡ board }
+    requires sizes { IsGeometry volume.now }
 {
     let alloc = rt.alloc();
     let Ok(media) = Media::from_bytes(alloc, image) else {
@@ -111,7 +114,9 @@ pub(crate) fn measure_frames<R: Threads + Wait + Copy + Send + Sync + 'static>(
     waits: R,
     volume: &Geometry,
     frames: u32,
-) -> io::Result<()> {
+) -> io::Result<()>
+    requires { IsGeometry volume.now }
+{
     let alloc = rt.alloc();
     eprintln!(*rt; "{frames} frames of {} bytes", volume.block_size)?;
     let image = vec![in alloc; 0u8; 16777216]?;
