@@ -1,6 +1,6 @@
 //! Whole messages from a stream: each begins with its size in bytes, which counts itself, in 4 bytes, the lowest first.
 
-ghost use Rattle.std.specs.Prelude.{◌≡◌, ◌≢◌, ◌⊎◌, ◌×◌, ◌<◌, ◌≤◌, ◌++◌, [], ℕ, List, Ok, Err, true, false, IfOk, OnOk, length, take, vec_len};
+ghost use Rattle.std.specs.Prelude.{◌≡◌, ◌≢◌, ◌⊎◌, ◌<◌, ◌≤◌, ◌++◌, [], ℕ, List, Ok, Err, true, false, IfOk, OnOk, length, take, vec_len};
 ghost use Rattle.std.specs.Bool.{OnTrue};
 ghost use Rattle.std.specs.Io.KnownBytes.{Consumes, IsAtEnd};
 ghost use Rattle.std.specs.Int.{w32, from_le_bytes};
