@@ -1,5 +1,5 @@
 -- Streams whose bytes are known, and messages that were answered.
-use Rattle.std.proofs.Common.{◌≡◌, ◌≤◌, ◌+◌, ℕ, List, [], ◌∷◌, ◌++◌, length, take, refl, sym, ap, subst, ◌∙◌, append_assoc, arith}
+use Rattle.std.proofs.Common.{◌≡◌, ◌≤◌, ◌+◌, ℕ, zero, suc, List, [], ◌∷◌, ◌++◌, length, take, refl, sym, ap, subst, ◌∙◌, append_assoc, arith}
 use Rattle.std.proofs.Math.Seq.{take-append-add}
 use Rattle.std.proofs.lemmas.List.{append-nil, length-append, length-take-le, take-append-le}
 use Rattle.std.proofs.lemmas.List.Elements.{All-nil, All-cons, All-append}
@@ -130,10 +130,10 @@ consumes_kept (Some xs) (Some ys) (Some zs) p h k = sym h ∙ k
 
 -- what takes nothing keeps all
 pub kept_at_end : (a b c : Option (List ℕ)) (n : ℕ) (bytes : List ℕ) → Keeps a b → n ≡ 0 → Consumes b c (take n bytes) → Keeps a c
-kept_at_end None b c n bytes h zero k = tt
-kept_at_end (Some xs) None c n bytes h zero k = absurd h
-kept_at_end (Some xs) (Some ys) None n bytes h zero k = absurd k
-kept_at_end (Some xs) (Some ys) (Some zs) n bytes h zero k = sym (subst (λ (m : ℕ). ys ≡ take m bytes ++ zs) zero k) ∙ h
+kept_at_end None b c n bytes h e k = tt
+kept_at_end (Some xs) None c n bytes h e k = absurd h
+kept_at_end (Some xs) (Some ys) None n bytes h e k = absurd k
+kept_at_end (Some xs) (Some ys) (Some zs) n bytes h e k = sym (subst (λ (m : ℕ). ys ≡ take m bytes ++ zs) e k) ∙ h
 
 -- bytes that were put behind others in their place
 pub put_behind : (xs ys post : List ℕ) (a n : ℕ) → a ≤ length xs → n ≤ length ys → take (a + n) (take a xs ++ (ys ++ post)) ≡ take a xs ++ take n ys
@@ -153,6 +153,16 @@ pub reads_on : (a b c : Option (List ℕ)) (xs ys post : List ℕ) (at n : ℕ) 
     → Consumes b c (take n ys) → Consumes a c (take (at + n) (take at xs ++ (ys ++ post)))
 reads_on a b c xs ys post at n less fits so_far more =
     subst (Consumes a c) (sym (put_behind xs ys post at n less fits)) (consumes_more a b c (take at xs) (take n ys) so_far more)
+
+take_less : (m n : ℕ) (xs : List ℕ) → m ≤ n → take m (take n xs) ≡ take m xs
+take_less zero n xs h = refl
+take_less (suc m) zero xs h = absurd (omega (arith, h))
+take_less (suc m) (suc n) [] h = refl
+take_less (suc m) (suc n) (x ∷ xs) h = ap (λ (l : List ℕ). x ∷ l) (take_less m n xs (omega (arith, h)))
+
+-- what stands in a part of a list stands in the list
+pub taken_of : (ms ds new : List ℕ) (len n : ℕ) → n ≤ len → n ≤ length ms → new ≡ take n (take len (ms ++ ds)) → new ≡ take n ms
+taken_of ms ds new len n fits less is = is ∙ take_less n len (ms ++ ds) fits ∙ take-append-le n ms ds less
 
 -- what was read stands behind what a message had
 pub takes_more : (a b : Option (List ℕ)) (old xs ys post new : List ℕ) (at n : ℕ) → at ≡ length old → take (length old) xs ≡ old
