@@ -1,15 +1,17 @@
 -- Streams whose bytes are known, and messages that were answered.
-use Rattle.std.proofs.Common.{◌≡◌, ℕ, List, [], ◌∷◌, ◌++◌, refl, sym, ap, subst, ◌∙◌, append_assoc}
-use Rattle.std.proofs.lemmas.List.{append-nil}
+use Rattle.std.proofs.Common.{◌≡◌, ◌≤◌, ◌+◌, ℕ, zero, suc, List, [], ◌∷◌, ◌++◌, length, take, refl, sym, ap, subst, ◌∙◌, append_assoc, arith}
+use Rattle.std.proofs.Math.Seq.{take-append-add}
+use Rattle.std.proofs.lemmas.List.{append-nil, length-append, length-take-le, take-append-le}
 use Rattle.std.proofs.lemmas.List.Elements.{All-nil, All-cons, All-append}
 use Rattle.std.proofs.lemmas.List.Folds.{concat-append}
-use Rattle.std.specs.Prelude.{Option, Some, None}
+use Rattle.std.specs.Prelude.{Option, Some, None, Result, Ok, Err, OnOk, IfErr}
 use Rattle.std.specs.List.{concat}
 use Rattle.std.specs.Io.KnownBytes.{Consumes, Appends, Keeps, IsAtEnd}
-use Rattle.ninep_stream.specs.Messages.{IsMessage}
+use Rattle.ninep_stream.specs.Messages.{IsMessage, TakesMore}
 use Rattle.ninep_stream.specs.Answered.{IsAnswered, AreAnswered, AppendsSome, IsAllOf, IsAnsweredAll, IsAnsweredWhole, Lead}
-use Rattle.ninep_stream.specs.Stopped.{Stops, StopsSilent, IsStopped}
+use Rattle.ninep_stream.specs.Stopped.{Stops, StopsSilent, IsStopped, IsUnread, Responds, RespondsNot}
 use Rattle.ninep_stream.specs.declared.answering.StreamRefusal.{StreamRefusal}
+use Rattle.ninep_stream.specs.declared.answering.StreamRefusal.TheVariants.{Input, OutOfMemory, NotWritten, TooMany}
 
 pub appends_none : (a : Option (List ℕ)) → Appends a a []
 appends_none None = tt
@@ -119,3 +121,110 @@ pub stopped : {S K : Type 0} (R : List ℕ → List ℕ → S × K → S × K �
     (t : S × K) (u : S) (l : K) → AreAnswered R a b o p s t → Stops R e b c p q t (u, l) → IsStopped R e a c o q s u
 stopped R e a b c o p q s t u l so_far stops =
     (l, record { between = b; written = p; here = t; answered = so_far; stops = stops })
+
+pub consumes_kept : (a b c : Option (List ℕ)) (p : List ℕ) → Keeps a b → Consumes b c p → Consumes a c p
+consumes_kept None b c p h k = tt
+consumes_kept (Some xs) None c p h k = absurd h
+consumes_kept (Some xs) (Some ys) None p h k = absurd k
+consumes_kept (Some xs) (Some ys) (Some zs) p h k = sym h ∙ k
+
+-- what takes nothing keeps all
+pub kept_at_end : (a b c : Option (List ℕ)) (n : ℕ) (bytes : List ℕ) → Keeps a b → n ≡ 0 → Consumes b c (take n bytes) → Keeps a c
+kept_at_end None b c n bytes h e k = tt
+kept_at_end (Some xs) None c n bytes h e k = absurd h
+kept_at_end (Some xs) (Some ys) None n bytes h e k = absurd k
+kept_at_end (Some xs) (Some ys) (Some zs) n bytes h e k = sym (subst (λ (m : ℕ). ys ≡ take m bytes ++ zs) e k) ∙ h
+
+-- bytes that were put behind others in their place
+pub put_behind : (xs ys post : List ℕ) (a n : ℕ) → a ≤ length xs → n ≤ length ys → take (a + n) (take a xs ++ (ys ++ post)) ≡ take a xs ++ take n ys
+put_behind xs ys post a n less fits =
+    let long : length (take a xs) ≡ a = length-take-le a xs less in
+    let front : take (length (take a xs) + n) (take a xs ++ (ys ++ post)) ≡ take a xs ++ take n (ys ++ post) =
+        take-append-add (take a xs) (ys ++ post) n in
+    subst (λ (m : ℕ). take (m + n) (take a xs ++ (ys ++ post)) ≡ take a xs ++ take n (ys ++ post)) long front
+    ∙ ap (λ (l : List ℕ). take a xs ++ l) (take-append-le n ys post fits)
+
+pub fits_behind : (xs ys post : List ℕ) (a n : ℕ) → a ≤ length xs → n ≤ length ys → a + n ≤ length (take a xs ++ (ys ++ post))
+fits_behind xs ys post a n less fits =
+    omega (arith, length-append (take a xs) (ys ++ post), length-append ys post, length-take-le a xs less)
+
+-- some bytes more are read
+pub reads_on : (a b c : Option (List ℕ)) (xs ys post : List ℕ) (at n : ℕ) → at ≤ length xs → n ≤ length ys → Consumes a b (take at xs)
+    → Consumes b c (take n ys) → Consumes a c (take (at + n) (take at xs ++ (ys ++ post)))
+reads_on a b c xs ys post at n less fits so_far more =
+    subst (Consumes a c) (sym (put_behind xs ys post at n less fits)) (consumes_more a b c (take at xs) (take n ys) so_far more)
+
+take_less : (m n : ℕ) (xs : List ℕ) → m ≤ n → take m (take n xs) ≡ take m xs
+take_less zero n xs h = refl
+take_less (suc m) zero xs h = absurd (omega (arith, h))
+take_less (suc m) (suc n) [] h = refl
+take_less (suc m) (suc n) (x ∷ xs) h = ap (λ (l : List ℕ). x ∷ l) (take_less m n xs (omega (arith, h)))
+
+-- what stands in a part of a list stands in the list
+pub taken_of : (ms ds new : List ℕ) (len n : ℕ) → n ≤ len → n ≤ length ms → new ≡ take n (take len (ms ++ ds)) → new ≡ take n ms
+taken_of ms ds new len n fits less is = is ∙ take_less n len (ms ++ ds) fits ∙ take-append-le n ms ds less
+
+-- what was read stands behind what a message had
+pub takes_more : (a b : Option (List ℕ)) (old xs ys post new : List ℕ) (at n : ℕ) → at ≡ length old → take (length old) xs ≡ old
+    → length old ≤ length xs → n ≤ length ys → Consumes a b (take n ys) → new ≡ take (at + n) (take at xs ++ (ys ++ post))
+    → TakesMore a b old new
+takes_more a b old xs ys post new at n e front less fits taken is =
+    let here : new ≡ take (length old + n) (take (length old) xs ++ (ys ++ post)) =
+        subst (λ (m : ℕ). new ≡ take (m + n) (take m xs ++ (ys ++ post))) e is in
+    (take n ys, here ∙ put_behind xs ys post (length old) n less fits ∙ ap (λ (l : List ℕ). l ++ take n ys) front, taken)
+
+-- a message was taken, and answered
+pub is_answered : {S : Type 0} (R : List ℕ → List ℕ → S → S → Type 0) (a b p q : Option (List ℕ)) (message : List ℕ) (s t : S)
+    → IsMessage message → Consumes a b message → Responds R message p q s t → IsAnswered R a b p q s t
+is_answered R a b p q message s t whole taken it = record {
+  message = message;
+  answer = it.answer;
+  whole = whole;
+  taken = taken;
+  given = it.given;
+  leads = it.leads;
+}
+
+-- a message was taken, and not answered whole
+pub stops_answering : {S : Type 0} (R : List ℕ → List ℕ → S → S → Type 0) (e : StreamRefusal) (a b p q : Option (List ℕ)) (message : List ℕ)
+    (s t : S) → IsMessage message → Consumes a b message → RespondsNot R e message p q s t → Stops R e a b p q s t
+stops_answering R (Input r) a b p q message s t whole taken it = absurd it
+stops_answering R OutOfMemory a b p q message s t whole taken it = record { part = message; taken = taken; silent = it.0; same = it.1 }
+stops_answering R NotWritten a b p q message s t whole taken it =
+    record { message = message; answer = it.0; whole = whole; taken = taken; given = it.1; leads = it.2 }
+stops_answering R TooMany a b p q message s t whole taken it = absurd it
+
+-- no message was taken
+pub stops_reading : {S : Type 0} (R : List ℕ → List ℕ → S → S → Type 0) (e : StreamRefusal) (a b p : Option (List ℕ)) (part : List ℕ)
+    (s : S) → Consumes a b part → IsUnread e b → Stops R e a b p p s s
+stops_reading R (Input r) a b p part s taken unread =
+    (record { part = part; taken = taken; silent = keeps_same p; same = refl }, unread)
+stops_reading R OutOfMemory a b p part s taken unread = absurd unread
+stops_reading R NotWritten a b p part s taken unread = absurd unread
+stops_reading R TooMany a b p part s taken unread = absurd unread
+
+-- as many were answered as may be
+pub stops_here : {S : Type 0} (R : List ℕ → List ℕ → S → S → Type 0) (a p : Option (List ℕ)) (s : S) → Stops R TooMany a a p p s s
+stops_here R a p s = record { part = []; taken = consumes_none a; silent = keeps_same p; same = refl }
+
+-- the stream has ended, and nothing more was done
+pub ended_silent : {S K O : Type 0} (R : List ℕ → List ℕ → S × K → S × K → Type 0) (contents : O → Option (List ℕ))
+    (a b o : Option (List ℕ)) (x y : O) (s : S × K) (t u : S) (l : K) → AreAnswered R a b o (contents x) s (t, l) → IsAtEnd b → y ≡ x → u ≡ t
+    → IsAnsweredAll R a o (contents y) s u
+ended_silent {S} {K} {O} R contents a b o x y s t u l so_far end same_output same_state =
+    subst (λ (z : O). IsAnsweredAll R a o (contents z) s u) (sym same_output)
+    (subst (λ (z : S). IsAnsweredAll R a o (contents x) s z) (sym same_state) (answered_all R a b o (contents x) s t l so_far end))
+
+-- an answer that was written
+pub responds : {S A E : Type 0} (R : List ℕ → List ℕ → S → S → Type 0) (r : Result A E) (message answer : List ℕ) (p q : Option (List ℕ))
+    (s t : S) → OnOk r (Appends p q answer) → R message answer s t → OnOk r (Responds R message p q s t)
+responds R (Ok a) message answer p q s t given leads = record { answer = answer; given = given; leads = leads }
+responds R (Err e) message answer p q s t given leads = tt
+
+-- one that wasn't, or not whole
+pub responds_not : {S A : Type 0} (R : List ℕ → List ℕ → S → S → Type 0) (r : Result A StreamRefusal) (message answer : List ℕ)
+    (p q : Option (List ℕ)) (s t : S) → IfErr r (λ e. (e ≡ NotWritten) × AppendsSome p q answer) → R message answer s t
+    → IfErr r (λ e. RespondsNot R e message p q s t)
+responds_not R (Ok a) message answer p q s t given leads = tt
+responds_not R (Err e) message answer p q s t given leads =
+    subst (λ (x : StreamRefusal). RespondsNot R x message p q s t) (sym given.0) (answer, given.1, leads)

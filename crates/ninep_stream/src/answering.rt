@@ -5,7 +5,7 @@ ghost use Rattle.std.specs.Bool.{OnTrue, OnFalse};
 ghost use Rattle.std.specs.Io.KnownBytes.{Appends, Consumes, IsAtEnd};
 ghost use Rattle.ninep_stream.specs.Messages.{IsMessage};
 ghost use Rattle.ninep_stream.specs.Answered.{IsAnswered, IsAnsweredAll, AppendsSome};
-ghost use Rattle.ninep_stream.specs.Stopped.{Stops, IsStopped, IsUnread};
+ghost use Rattle.ninep_stream.specs.Stopped.{Stops, IsStopped, IsUnread, Responds, RespondsNot};
 ghost use Rattle.ninep_stream.specs.Exchanges.{answers, nobody};
 
 use crate::framing::{InputRefusal, next_message};
@@ -65,6 +65,7 @@ impl Answerer {
     }
 
     /// Reads the next message, and answers it. Whether there was one.
+    #[tactic(auto, using(crate::proofs::Streams::is_answered, crate::proofs::Streams::stops_answering, crate::proofs::Streams::stops_reading))]
     fn next<I: BufRead, O: Write, C: Clock, S: Sessions>(
         &mut self,
         input: &mut I,
@@ -83,19 +84,36 @@ impl Answerer {
             (O.contents output.old) (O.contents output.new) (sessions.old, known self.old.connection)
             (sessions.new, known self.new.connection)) }
     {
-        if !self.read(input)? {
-            return Ok(false);
+        match self.read(input) {
+            Ok(true) => match self.respond(output, clock, sessions) {
+                Ok(()) => Ok(true),
+                Err(refusal) => Err(refusal),
+            },
+            Ok(false) => Ok(false),
+            Err(refusal) => Err(refusal),
         }
+    }
+
+    /// Answers the message that was read.
+    fn respond<O: Write, C: Clock, S: Sessions>(
+        &mut self,
+        output: &mut O,
+        clock: &C,
+        sessions: &mut S,
+    ) -> Result<(), StreamRefusal>
+        ensures answered { OnOk result (Responds (answers S.called S.entered S.left) self.old.message.items (O.contents output.old)
+            (O.contents output.new) (sessions.old, known self.old.connection) (sessions.new, known self.new.connection)) }
+        ensures refused { IfErr result (λ e. RespondsNot (answers S.called S.entered S.left) e self.old.message.items
+            (O.contents output.old) (O.contents output.new) (sessions.old, known self.old.connection)
+            (sessions.new, known self.new.connection)) }
+    {
         self.answer.clear();
         let (now, bytes) = (seconds(clock), self.message.as_slice());
         match self
             .connection
             .answer(sessions, now, bytes, &mut self.answer)
         {
-            Ok(()) => {
-                write(output, self.answer.as_slice())?;
-                Ok(true)
-            }
+            Ok(()) => write(output, self.answer.as_slice()),
             Err(_) => Err(StreamRefusal::OutOfMemory),
         }
     }
@@ -120,7 +138,7 @@ impl Answerer {
 /// flushed, before the next message is read. Times of calls are those of this clock.
 ///
 /// Where it is refused, the messages before were answered, and what went out is their answers, and of one more a beginning at most.
-#[tactic(auto, using(crate::proofs::Streams::none_answered, crate::proofs::Streams::answered_more, crate::proofs::Streams::answered_all, crate::proofs::Streams::stopped))]
+#[tactic(auto, using(crate::proofs::Streams::none_answered, crate::proofs::Streams::answered_more))]
 pub fn answer_all<I: BufRead, O: Write, C: Clock, S: Sessions>(
     alloc: Global,
     input: &mut I,
@@ -135,8 +153,10 @@ pub fn answer_all<I: BufRead, O: Write, C: Clock, S: Sessions>(
 {
     let mut answerer = Answerer::new(alloc);
     for _ in 0..u64::MAX {
-        if !answerer.next(input, output, clock, sessions)? {
-            return Ok(());
+        match answerer.next(input, output, clock, sessions) {
+            Ok(true) => {}
+            Ok(false) => return Ok(()),
+            Err(refusal) => return Err(refusal),
         }
     }
     Err(StreamRefusal::TooMany)

@@ -1,8 +1,8 @@
 //! Whole messages from a stream: each begins with its size in bytes, which counts itself, in 4 bytes, the lowest first.
 
-ghost use Rattle.std.specs.Prelude.{◌≡◌, ◌≢◌, ◌⊎◌, ◌×◌, ◌<◌, ◌≤◌, ◌++◌, [], ℕ, List, Ok, Err, true, false, IfOk, OnOk, length, take, vec_len};
+ghost use Rattle.std.specs.Prelude.{◌≡◌, ◌≢◌, ◌⊎◌, ◌<◌, ◌≤◌, ◌++◌, [], ℕ, List, Ok, Err, true, false, IfOk, IfErr, OnOk, OnErr, length, take, vec_len};
 ghost use Rattle.std.specs.Bool.{OnTrue};
-ghost use Rattle.std.specs.Io.KnownBytes.{Consumes, IsAtEnd};
+ghost use Rattle.std.specs.Io.KnownBytes.{Consumes, IsAtEnd, Keeps};
 ghost use Rattle.std.specs.Int.{w32, from_le_bytes};
 ghost use Rattle.ninep_stream.specs.Messages.{IsMessage, IsCutShort, TakesMore};
 
@@ -88,12 +88,28 @@ fn take_more<I: Read>(input: &mut I, message: &mut Vec<u8>, size: usize) -> Resu
     ensures size { (size : ℕ) → result ≢ Err (InputRefusal.BadSize size) }
 {
     let at = message.len();
-    if message.resize(size, 0).is_err() {
-        return Err(InputRefusal::OutOfMemory);
+    match make_room(message, size) {
+        Ok(()) => {
+            let (count, read) = read_into(input, &mut message[at..]);
+            message.truncate(at + count);
+            read
+        }
+        Err(refusal) => Err(refusal),
     }
-    let (count, read) = read_into(input, &mut message[at..]);
-    message.truncate(at + count);
-    read
+}
+
+/// Makes a message as long as this, by zeros behind what it has.
+fn make_room(message: &mut Vec<u8>, size: usize) -> Result<(), InputRefusal>
+    requires { vec_len message.old ≤ size }
+    ensures front { take (length message.old.items) message.new.items ≡ message.old.items }
+    ensures long { OnOk result (length message.new.items ≡ size) }
+    ensures same { OnErr result (message.new.items ≡ message.old.items) }
+    ensures refused { IfErr result (λ e. e ≡ InputRefusal.OutOfMemory) }
+{
+    match message.resize(size, 0) {
+        Ok(()) => Ok(()),
+        Err(_) => Err(InputRefusal::OutOfMemory),
+    }
 }
 
 /// Fills these bytes from a stream. How many were read, and why no more.
@@ -105,19 +121,35 @@ fn read_into<I: Read>(input: &mut I, bytes: &mut [u8]) -> (usize, Result<(), Inp
     ensures size { (size : ℕ) → result.1 ≢ Err (InputRefusal.BadSize size) }
 {
     let mut at = 0;
-    for _ in 0..u64::MAX {
-        if at >= bytes.len() {
-            return (at, Ok(()));
-        }
-        match input.read(&mut bytes[at..]) {
-            Ok(0) => return (at, Err(InputRefusal::CutShort)),
+    while at < bytes.len() {
+        match read_some(input, &mut bytes[at..]) {
             Ok(count) => at += count,
+            Err(refusal) => return (at, Err(refusal)),
+        }
+    }
+    (at, Ok(()))
+}
+
+/// Reads some bytes from a stream, at most as many as there is room for. How many there were.
+#[tactic(auto, using(crate::proofs::Streams::consumes_kept, crate::proofs::Streams::kept_at_end, crate::proofs::Streams::keeps_same))]
+fn read_some<I: Read>(input: &mut I, bytes: &mut [u8]) -> Result<usize, InputRefusal>
+    requires { 0 < length bytes.old }
+    ensures some { IfOk result (λ n. (0 < n) × (n ≤ length bytes.new)) }
+    ensures taken { IfOk result (λ n. Consumes (I.remaining input.old) (I.remaining input.new) (take n bytes.new)) }
+    ensures none { OnErr result (Keeps (I.remaining input.old) (I.remaining input.new)) }
+    ensures cut { result ≡ Err InputRefusal.CutShort → IsAtEnd (I.remaining input.new) }
+    ensures size { (size : ℕ) → result ≢ Err (InputRefusal.BadSize size) }
+{
+    for _ in 0..u64::MAX {
+        match input.read(bytes) {
+            Ok(0) => return Err(InputRefusal::CutShort),
+            Ok(count) => return Ok(count),
             Err(error) => {
                 if error.kind() != ErrorKind::Interrupted {
-                    return (at, Err(InputRefusal::NotRead));
+                    return Err(InputRefusal::NotRead);
                 }
             }
         }
     }
-    (at, Err(InputRefusal::NotRead))
+    Err(InputRefusal::NotRead)
 }
