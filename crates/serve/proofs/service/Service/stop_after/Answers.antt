@@ -22,12 +22,20 @@ returns-in-Ok-clause-refused g c =
     c.finish_after-how.ensures)
 
 pub returns-then-has_sessions-clause-closed : goal.returns-then-has_sessions-clause-closed
-returns-then-has_sessions-clause-closed g c = (c.close_all.new.self, closed_all g.L.Link g.N.Room.opening _ _ c.close_all.result
-    c.close_all.ensures.later c.close_all.ensures.bound c.close_all.ensures.closed c.close_all.ensures.cut, tt)
+returns-then-has_sessions-clause-closed g c = (
+  c.close_all.new.self,
+  closed_all g.L.Link g.N.Room.opening _ _ c.close_all.result
+      c.close_all.ensures.later c.close_all.ensures.bound c.close_all.ensures.closed c.close_all.ensures.cut,
+  tt,
+)
 
 pub returns-clause-closed : goal.returns-clause-closed
-returns-clause-closed g c = (c.close_all.new.self, closed_all g.L.Link g.N.Room.opening _ _ c.close_all.result
-    c.close_all.ensures.later c.close_all.ensures.bound c.close_all.ensures.closed c.close_all.ensures.cut, tt)
+returns-clause-closed g c = (
+  c.close_all.new.self,
+  closed_all g.L.Link g.N.Room.opening _ _ c.close_all.result
+      c.close_all.ensures.later c.close_all.ensures.bound c.close_all.ensures.closed c.close_all.ensures.cut,
+  tt,
+)
 
 pub returns-in-Ok-clause-closed : goal.returns-in-Ok-clause-closed
 returns-in-Ok-clause-closed g c = (

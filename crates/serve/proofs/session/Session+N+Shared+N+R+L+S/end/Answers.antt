@@ -5,8 +5,11 @@ use Rattle.serve.proofs.ClosingLaws.{closed_all, freed_by}
 use Rattle.serve.proofs.session.Session+N+Shared+N+R+L+S.end.Goals as goal
 
 pub returns-clause-closed : goal.returns-clause-closed
-returns-clause-closed g c = (c.close_all.new.self, closed_all g.L.Link g.N.Room.opening _ _ c.close_all.result
-    c.close_all.ensures.later c.close_all.ensures.bound c.close_all.ensures.closed c.close_all.ensures.cut)
+returns-clause-closed g c = (
+  c.close_all.new.self,
+  closed_all g.L.Link g.N.Room.opening _ _ c.close_all.result
+      c.close_all.ensures.later c.close_all.ensures.bound c.close_all.ensures.closed c.close_all.ensures.cut,
+)
 
 pub returns-clause-freed : goal.returns-clause-freed
 returns-clause-freed g c =
