@@ -86,14 +86,17 @@ spoken : {S : Type 0} (g : Geometry) (v : Opening) (stream old new : Option (Lis
     → IsAnsweredAll (answers (λ s session now call outcome t. MayAnswer g v now call outcome) (λ s uid gid result t. Unit {0})
     (λ s t. Unit {0})) stream old new (s, nobody) t
     → IsSpoken g v stream old new
-spoken g v stream old new s t (l, it) = (l, record {
-  messages = it.messages;
-  replies = it.replies;
-  whole = it.whole;
-  taken = it.taken;
-  given = it.given;
-  leads = lead_plain _ _ (answers_plain g v) it.messages it.replies (s, nobody) (t, l) it.leads;
-})
+spoken g v stream old new s t (l, it) = (
+  l,
+  record {
+    messages = it.messages;
+    replies = it.replies;
+    whole = it.whole;
+    taken = it.taken;
+    given = it.given;
+    leads = lead_plain _ _ (answers_plain g v) it.messages it.replies (s, nobody) (t, l) it.leads;
+  },
+)
 
 pub spoken_ok : {S E : Type 0} (result : Result (Unit {0}) E) (g : Geometry) (v : Opening) (stream old new : Option (List ℕ)) (s t : S)
     → OnOk result (IsAnsweredAll (answers (λ s session now call outcome t. MayAnswer g v now call outcome)

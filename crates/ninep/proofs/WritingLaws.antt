@@ -73,8 +73,8 @@ on_err (Err e) P h = h
 pub stands_first : (old mid new rest : List ℕ) → mid ≡ old ++ rest → StandsFirst mid new → StandsFirst old new
 stands_first old mid new rest e first =
     let parts : new ≡ old ++ (rest ++ drop (length mid) new) =
-        sym (take-append-drop (length mid) new) ∙ ap (λ (x : List ℕ). x ++ drop (length mid) new) (first ∙ e)
-        ∙ append_assoc old rest (drop (length mid) new) in
+    sym (take-append-drop (length mid) new) ∙ ap (λ (x : List ℕ). x ++ drop (length mid) new) (first ∙ e)
+    ∙ append_assoc old rest (drop (length mid) new) in
     ap (take (length old)) parts ∙ take_at old (rest ++ drop (length mid) new) (length old) refl
 
 pub qid_length : (q : Qid) → length (fields_bytes (qid_fields q)) ≡ 13

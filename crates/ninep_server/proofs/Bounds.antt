@@ -246,15 +246,15 @@ node_within k now (request.Getattr fid mask) =
     it_within 16 (found k.fids fid) _ (λ file. attributes_within 15 file file.descriptor file.gone)
 node_within k now (request.Setattr fid valid mode uid gid size atime mtime) = it_within 16 (named k.fids fid) _
     (λ file. it_within 16 (changeable file.node.kind) _ (λ _. setting_within file.user.session file.path (record {
-  valid = valid;
-  mode = mode;
-  uid = uid;
-  gid = gid;
-  size = size;
-  atime = atime.0;
-  mtime = mtime.0;
-  now = now;
-})))
+      valid = valid;
+      mode = mode;
+      uid = uid;
+      gid = gid;
+      size = size;
+      atime = atime.0;
+      mtime = mtime.0;
+      now = now;
+    })))
 node_within k now (request.Readlink fid) = it_within 16 (named k.fids fid) _ (λ file h. it_within 15 (target_in h) _ (λ target. tt))
 node_within k now (request.Statfs fid) = it_within 16 (found k.fids fid) _ (λ file h. it_within 15 (room_in h) _ (λ room. tt))
 node_within k now r = name_within k r

@@ -89,7 +89,7 @@ each_becomes T R f call (e ∷ es) kept (b, w, g, rest, called, more, is) =
     let same : RetainsPairs T f es rest = subst (λ (x : _). RetainsPairs T x es rest) done.2 more in
     let kept_is : kept ≡ (e.0, w) ∷ rest = is ∙ ap (λ (x : Bool). cond x ((e.0, w) ∷ rest) rest) done.0 in
     subst (λ (x : List (ℕ × Fid)). EachBecomes R (map entry_of (e ∷ es)) (map entry_of x)) (sym kept_is)
-        (refl, done.1, each_becomes T R f call es rest same)
+    (refl, done.1, each_becomes T R f call es rest same)
 
 -- what becomes of a number for a new fid
 pub is_used : (fids : Fids) (fid : ℕ) → is_some (lookup (is_at (nat_cmp fid)) fids.fids.entries) ≡ true

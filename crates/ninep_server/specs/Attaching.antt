@@ -34,7 +34,7 @@ looking_at_root fid user = calls user.session (call.Lstat (at (47 ∷ []))) (λ 
 abbrev pub entering : ℕ → ℕ → Plan
 entering fid uid = Asks (ask.Enter uid uid) (λ h. with_it (session_in h) (λ session.
     OrNoMemory (Changes (Attaches (record { uid = uid; session = session }))
-        (looking_at_root fid (record { uid = uid; session = session })))))
+    (looking_at_root fid (record { uid = uid; session = session })))))
 
 -- a user who is attached has a session
 abbrev pub attaching_as : ℕ → ℕ → Option User → Plan

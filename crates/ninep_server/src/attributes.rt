@@ -239,9 +239,21 @@ impl Wanted {
         let mtime = time(valid, (MTIME, MTIME_SET), self.mtime, self.now, was.mtime)?;
         Ok(Changes {
             size,
-            owners: if has(valid, UID | GID) { Some((uid, gid)) } else { None },
-            mode: if has(valid, MODE) { Some(mode_of(self.mode)) } else { None },
-            times: if has(valid, ATIME | MTIME) { Some((atime, mtime)) } else { None },
+            owners: if has(valid, UID | GID) {
+                Some((uid, gid))
+            } else {
+                None
+            },
+            mode: if has(valid, MODE) {
+                Some(mode_of(self.mode))
+            } else {
+                None
+            },
+            times: if has(valid, ATIME | MTIME) {
+                Some((atime, mtime))
+            } else {
+                None
+            },
         })
     }
 }

@@ -103,7 +103,10 @@ impl Creation {
     {
         match self {
             Creation::Open {
-                file, flags, mode, ..
+                file,
+                flags,
+                mode,
+                ..
             } => Ask::Call {
                 session: file.user.session,
                 call: Call::Open {
@@ -171,7 +174,9 @@ impl NewFile {
             (known_of knows.new) }
     {
         let fid = self.fid;
-        knows.fids.replace(fid, Fid::open(self.user, self.path, node, fd));
+        knows
+            .fids
+            .replace(fid, Fid::open(self.user, self.path, node, fd));
         Next::Done(Answer::Create(node.qid()))
     }
 

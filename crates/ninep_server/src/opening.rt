@@ -125,7 +125,9 @@ impl Opening {
     {
         let fd = heard.descriptor()?;
         let (fid, node) = (self.fid, self.node);
-        knows.fids.replace(fid, Fid::open(self.user, self.path, node, fd));
+        knows
+            .fids
+            .replace(fid, Fid::open(self.user, self.path, node, fd));
         Ok(Next::Done(Answer::Open(node.qid())))
     }
 }

@@ -46,7 +46,12 @@ fn enters(kind: Kind, name: &[u8]) -> Result<(), Refused>
 }
 
 /// Refuses a place for what is walked to: the fid itself where it is open, else a number that is used.
-fn check_place(knows: &Knows, fid: u32, new_fid: u32, descriptor: Option<u32>) -> Result<(), Refused>
+fn check_place(
+    knows: &Knows,
+    fid: u32,
+    new_fid: u32,
+    descriptor: Option<u32>,
+) -> Result<(), Refused>
     ensures { result ≡ place (known_of knows.now) fid new_fid descriptor }
 {
     if new_fid == fid {

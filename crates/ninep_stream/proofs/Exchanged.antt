@@ -19,10 +19,10 @@ pub answers_so : {S : Type 0} (called : S → ℕ → ℕ → Call → Outcome �
 answers_so called entered left now capacity len bytes message from to answer s t k l same none zero is answered said =
     let may = MayHear called entered left now in
     let P : List ℕ → List ℕ → ℕ → List ℕ → Type 0 = λ b f n o.
-        Answers may (tag_in b) l.message_size s t f o × Says may now b s k t l n capacity f o in
+    Answers may (tag_in b) l.message_size s t f o × Says may now b s k t l n capacity f o in
     let both : P message [] 0 answer =
-        subst (λ (o : List ℕ). P message [] 0 o) is
-        (subst (λ (n : ℕ). P message [] n to) zero
-        (subst (λ (f : List ℕ). P message f len to) none
-        (subst (λ (b : List ℕ). P b from len to) same (answered, said)))) in
+    subst (λ (o : List ℕ). P message [] 0 o) is
+    (subst (λ (n : ℕ). P message [] n to) zero
+    (subst (λ (f : List ℕ). P message f len to) none
+    (subst (λ (b : List ℕ). P b from len to) same (answered, said)))) in
     (now, capacity, both.0, both.1)

@@ -140,7 +140,7 @@ pub put_behind : (xs ys post : List ℕ) (a n : ℕ) → a ≤ length xs → n �
 put_behind xs ys post a n less fits =
     let long : length (take a xs) ≡ a = length-take-le a xs less in
     let front : take (length (take a xs) + n) (take a xs ++ (ys ++ post)) ≡ take a xs ++ take n (ys ++ post) =
-        take-append-add (take a xs) (ys ++ post) n in
+    take-append-add (take a xs) (ys ++ post) n in
     subst (λ (m : ℕ). take (m + n) (take a xs ++ (ys ++ post)) ≡ take a xs ++ take n (ys ++ post)) long front
     ∙ ap (λ (l : List ℕ). take a xs ++ l) (take-append-le n ys post fits)
 
@@ -170,7 +170,7 @@ pub takes_more : (a b : Option (List ℕ)) (old xs ys post new : List ℕ) (at n
     → TakesMore a b old new
 takes_more a b old xs ys post new at n e front less fits taken is =
     let here : new ≡ take (length old + n) (take (length old) xs ++ (ys ++ post)) =
-        subst (λ (m : ℕ). new ≡ take (m + n) (take m xs ++ (ys ++ post))) e is in
+    subst (λ (m : ℕ). new ≡ take (m + n) (take m xs ++ (ys ++ post))) e is in
     (take n ys, here ∙ put_behind xs ys post (length old) n less fits ∙ ap (λ (l : List ℕ). l ++ take n ys) front, taken)
 
 -- a message was taken, and answered

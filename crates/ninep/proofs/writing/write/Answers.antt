@@ -15,7 +15,7 @@ returns-then-size-limit-clause-long c = λ same.
     let size = answer_size c.args.tag c.args.reply.now in (
       omega (arith, at, end, long, size, c.if-size-limit.true),
       c.truncate-then-size-limit.ensures.items ∙ ap (λ n. take n c.put_message.new.out.items) (sym at)
-      ∙ cut_back c.args.out.now.items c.put_message.new.out.items rest put,
+          ∙ cut_back c.args.out.now.items c.put_message.new.out.items rest put,
     )
 
 pub returns-then-size-limit-clause-kept : goal.returns-then-size-limit-clause-kept

@@ -11,9 +11,9 @@ pub returns-in-Ok-false-clause-whole : goal.returns-in-Ok-false-clause-whole
 returns-in-Ok-false-clause-whole g c =
     let R = answers g.S.Sessions.called g.S.Sessions.entered g.S.Sessions.left in
     let end = subst (λ (b : Bool). OnFalse b (IsAtEnd (g.I.Read.remaining c.loop.input))) c.in-Ok-false.field-0-test
-        c.in-Ok-false.ensures.ended in
+    c.in-Ok-false.ensures.ended in
     let silent = subst (λ (b : Bool). OnFalse b ((c.next.new.output ≡ c.loop.output) × (c.next.new.sessions ≡ c.loop.sessions)
-        × (c.next.new.self.connection ≡ c.loop.answerer.connection))) c.in-Ok-false.field-0-test c.in-Ok-false.ensures.silent in
+    × (c.next.new.self.connection ≡ c.loop.answerer.connection))) c.in-Ok-false.field-0-test c.in-Ok-false.ensures.silent in
     ended_silent R g.O.Write.contents _ (g.I.Read.remaining c.loop.input) _ c.loop.output c.next.new.output (c.args.sessions.now, nobody)
     c.loop.sessions c.next.new.sessions (known c.loop.answerer.connection) c.loop.invariant end silent.0 silent.1
 

@@ -15,7 +15,7 @@ returns-in-Ok-clause-taken g c =
     let begun : c.len-at.result ≤ length room = omega (arith, less, at) in
     let most : count ≤ length c.read_into-count.new.bytes = c.read_into-count.ensures.most in
     let whole : c.len-at.result + count ≤ c.make_room.new.message.len =
-        omega (arith, most, c.read_into-count.auto.bytes, long, c.in-Ok.ensures.long, c.make_room.new.message.ok.0) in
+    omega (arith, most, c.read_into-count.auto.bytes, long, c.in-Ok.ensures.long, c.make_room.new.message.ok.0) in
     takes_more _ _ old room c.read_into-count.new.bytes _ _ c.len-at.result count at front less most c.read_into-count.ensures.taken
     (taken_of _ _ _ c.make_room.new.message.len (c.len-at.result + count) whole
     (fits_behind room c.read_into-count.new.bytes _ c.len-at.result count begun most) c.truncate.ensures.items)

@@ -22,7 +22,7 @@ pub returns-clause-none : goal.returns-clause-none
 returns-clause-none g c =
     let out = c.reserve.new.self in
     let room : c.is_ok-has_room.result ≡ true → vec_len out + 65560 ≤ vec_capacity out =
-        has_room c.reserve.result _ _ c.is_ok-has_room.ensures.value c.reserve.ensures.ok in
+    has_room c.reserve.result _ _ c.is_ok-has_room.ensures.value c.reserve.ensures.ok in
     all_stays (MayHear g.S.Sessions.called g.S.Sessions.entered g.S.Sessions.left c.args.now) c.args.now c.args.bytes.now
     c.args.sessions.now c.said_to-said.new.sessions (known_of c.args.self.now.knows) (known_of c.said_to-said.new.knows)
     (length out.items) (vec_capacity out) c.said_to-said.new.knows.message_size c.said_to-said.result c.is_ok-has_room.result c.send.result
@@ -34,7 +34,7 @@ pub returns-clause-full : goal.returns-clause-full
 returns-clause-full g c = λ is.
     let out = c.reserve.new.self in
     let room : c.is_ok-has_room.result ≡ true → vec_len out + 65560 ≤ vec_capacity out =
-        has_room c.reserve.result _ _ c.is_ok-has_room.ensures.value c.reserve.ensures.ok in
+    has_room c.reserve.result _ _ c.is_ok-has_room.ensures.value c.reserve.ensures.ok in
     had_none (length out.items) (vec_capacity out) c.said_to-said.new.knows.message_size c.is_ok-has_room.result c.send.result _ _
     (λ e. omega (arith, room e, out.ok.0))
     (wants_room c.reserve.result _ _ c.is_ok-has_room.ensures.value c.reserve.ensures.full) c.said_to-said.new.knows.sized.1
