@@ -27,8 +27,8 @@ pub record IsAnsweredBy (g : Geometry) (v : Opening) (now : ℕ) (call : Call) (
 abbrev pub MayAnswer : Geometry → Opening → ℕ → Call → Outcome → Type 0
 MayAnswer g v now call outcome = IsAnsweredBy g v now call outcome ⊎ (outcome ≡ Reply (Refused EINVAL))
 
--- A stream was messages, one after the other, and an answer to each went out, in the same order: as the plan of each message says, by what is
--- known of users and fids, from nobody on, and by what was asked of the sessions of a service on this volume and nothing else.
+-- A stream was messages, one after the other, and an answer to each went out, in the same order: as the plan of each message says, by what
+-- is known of users and fids, from nobody on, and by what was asked of the sessions of a service on this volume and nothing else.
 abbrev pub IsSpoken : Geometry → Opening → Option (List ℕ) → Option (List ℕ) → Option (List ℕ) → Type 0
 IsSpoken g v stream old new = IsAnsweredAll {S = Unit {0}} {K = Known}
     (answers (λ s session now call outcome t. MayAnswer g v now call outcome) (λ s uid gid result t. Unit {0}) (λ s t. Unit {0}))

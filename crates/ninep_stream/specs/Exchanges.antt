@@ -12,8 +12,8 @@ use Rattle.ninep_server.specs.declared.sessions.EnterRefusal.{EnterRefusal}
 abbrev pub nobody : Known
 nobody = record { message_size = 65560; users = []; fids = [] }
 
--- At some time, and with some room for an answer, a connection answers this message so, by what it knows and asks of the sessions: as the plan
--- of the message says, and by what it asks and nothing else. So the sessions go on, and what is known does.
+-- At some time, and with some room for an answer, a connection answers this message so, by what it knows and asks of the sessions: as the
+-- plan of the message says, and by what it asks and nothing else. So the sessions go on, and what is known does.
 abbrev pub answers : {S : Type 0} → (S → ℕ → ℕ → Call → Outcome → S → Type 0) → (S → ℕ → ℕ → Result ℕ EnterRefusal → S → Type 0)
     → (S → S → Type 0) → List ℕ → List ℕ → S × Known → S × Known → Type 0
 answers called entered left message answer s t = (now : ℕ) × (capacity : ℕ)
