@@ -1,13 +1,58 @@
-// A library with one function.
+//! Migration: a version 2 volume's tree in a new version 3 volume.
 #![tactic(auto)]
 
-ghost use Rattle.std.specs.Prelude.{◌≡◌};
-ghost use Rattle.migrate.specs.Echo.{echo_of};
+mod compare;
+mod directory;
+mod new_zones;
+mod refusal;
+mod volume_blocks;
+mod write;
 
-// The `ensures` clause is the contract: what `echo` returns is `echo_of` of its argument, a definition
-// in `specs/Echo.antt`, which a caller's clause can cite too.
-pub fn echo(x: usize) -> usize
-    ensures { result ≡ echo_of x }
-{
-    x
+use compare::same_nodes;
+use fsck::Verdict;
+use old_volume::{check, parse, stamped};
+pub use refusal::MigrateRefusal;
+use std::alloc::Global;
+use volume_blocks::VolumeBlocks;
+use write::written;
+
+/// The most blocks that a volume has.
+const MOST_BLOCKS: u32 = 65536;
+
+/// The image of a version 3 volume of so many blocks of 1024 bytes, which holds the tree of the version 2 volume in `old`: the same inode
+/// numbers, names, attributes, bytes and held pages. It has as many inodes as the old one.
+///
+/// Refused for the first of `MigrateRefusal` that holds; no memory may be found at any time.
+pub fn migrate(alloc: Global, old: &[u8], blocks: u32) -> Result<Vec<u8>, MigrateRefusal> {
+    let geometry = match parse(old) {
+        Ok(geometry) => geometry,
+        Err(refusal) => return Err(MigrateRefusal::OldLayout(refusal)),
+    };
+    let old_blocks = stamped(alloc, &geometry, old)?;
+    let Some(volume) = VolumeBlocks::of(&old_blocks) else {
+        return Err(MigrateRefusal::Mismatch);
+    };
+    if let Some(finding) = check(alloc, &volume.image())? {
+        return Err(MigrateRefusal::Found(finding));
+    }
+    if blocks > MOST_BLOCKS {
+        return Err(MigrateRefusal::TooManyBlocks);
+    }
+    let image = written(alloc, &volume, blocks)?;
+    confirm(alloc, &volume, &image)?;
+    Ok(image)
+}
+
+/// Reads the new volume back: it is clean, and its nodes are the old one's.
+fn confirm(alloc: Global, old: &VolumeBlocks, image: &[u8]) -> Result<(), MigrateRefusal> {
+    let Verdict::Clean(_) = fsck::check(alloc, image)? else {
+        return Err(MigrateRefusal::Mismatch);
+    };
+    let Some(new) = VolumeBlocks::of(image) else {
+        return Err(MigrateRefusal::Mismatch);
+    };
+    if !same_nodes(old, &new) {
+        return Err(MigrateRefusal::Mismatch);
+    }
+    Ok(())
 }

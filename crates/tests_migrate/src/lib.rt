@@ -1,13 +1,9 @@
-// A library with one function.
+//! Tests of the migration of version 2 volumes. Each expected value is taken from the format's tables or worked out by hand.
 #![tactic(auto)]
 
-ghost use Rattle.std.specs.Prelude.{◌≡◌};
-ghost use Rattle.tests_migrate.specs.Echo.{echo_of};
-
-// The `ensures` clause is the contract: what `echo` returns is `echo_of` of its argument, a definition
-// in `specs/Echo.antt`, which a caller's clause can cite too.
-pub fn echo(x: usize) -> usize
-    ensures { result ≡ echo_of x }
-{
-    x
-}
+#[cfg(test)]
+mod made;
+#[cfg(test)]
+mod old_images;
+#[cfg(test)]
+mod refused;

@@ -1,0 +1,66 @@
+//! Why a volume isn't migrated.
+
+use fsck::OutOfMemory;
+use old_volume::OldRefusal;
+use std::alloc::AllocError;
+use std::error::Error;
+use std::fmt;
+use volume::Finding;
+
+/// Why a volume isn't migrated: the first of these that holds, in this order. No memory may be found at any time.
+#[derive(Clone, Copy, Debug, Drop, PartialEq, Eq)]
+pub enum MigrateRefusal {
+    /// The superblock of the old volume is refused.
+    OldLayout(OldRefusal),
+    /// The old volume breaks a rule of its format.
+    Found(Finding),
+    /// Over 65536 blocks are wanted.
+    TooManyBlocks,
+    /// The new volume has fewer data zones than the tree uses, or none.
+    DoesNotFit,
+    /// No memory was found.
+    OutOfMemory,
+    /// What was written, read back, isn't clean or doesn't hold the old volume's nodes.
+    Mismatch,
+}
+
+impl MigrateRefusal {
+    /// The refusal's place in their order, 1 to 6.
+    pub fn number(&self) -> u32 {
+        match self {
+            MigrateRefusal::OldLayout(_) => 1,
+            MigrateRefusal::Found(_) => 2,
+            MigrateRefusal::TooManyBlocks => 3,
+            MigrateRefusal::DoesNotFit => 4,
+            MigrateRefusal::OutOfMemory => 5,
+            MigrateRefusal::Mismatch => 6,
+        }
+    }
+}
+
+/// Writes `migrate refusal 1 at N`, `migrate refusal 2 finding N at P`, or the number alone.
+impl fmt::Display for MigrateRefusal {
+    fn fmt<W: fmt::Write>(&self, f: &mut fmt::Formatter<W>) -> fmt::Result {
+        match self {
+            MigrateRefusal::OldLayout(refusal) => {
+                write!(f, "migrate refusal 1 at {}", refusal.number())
+            }
+            MigrateRefusal::Found(finding) => write!(f, "migrate refusal 2 {finding}"),
+            _ => write!(f, "migrate refusal {}", self.number()),
+        }
+    }
+}
+
+impl Error for MigrateRefusal {}
+
+impl From<AllocError> for MigrateRefusal {
+    fn from(_error: AllocError) -> MigrateRefusal {
+        MigrateRefusal::OutOfMemory
+    }
+}
+
+impl From<OutOfMemory> for MigrateRefusal {
+    fn from(_error: OutOfMemory) -> MigrateRefusal {
+        MigrateRefusal::OutOfMemory
+    }
+}
