@@ -1,15 +1,25 @@
 //! Comparing what an old volume says with what a new one says, node by node.
 
+ghost use Rattle.std.specs.Prelude.{◌≡◌, ◌≤◌, ◌<◌, ℕ, false, true};
+ghost use Rattle.tree.specs.Tree.{most_size};
+ghost use Rattle.image.specs.Contents.{contents};
+ghost use Rattle.old_volume.specs.Form.{version_2};
+ghost use Rattle.old_volume.specs.Findings.{has_bad_size};
+ghost use Rattle.migrate.specs.Same.{SameAttributes, SameBelow, SameDirectory, SameFile, SameNames, SameNode, SameNodes};
+
 use crate::new_zones::NUMBERS;
 use crate::volume_blocks::VolumeBlocks;
 use crate::write::level_of;
 use image::is_directory_mode;
 use layout::u32_at;
-use old_volume::entries::{entry, entry_count, is_free, number_of, widened};
+use old_volume::entries::{entry, entry_count, is_free};
 use volume::Inode;
 
 /// Whether both volumes have as many inodes, and of each number the same node.
-pub(crate) fn same_nodes(old: &VolumeBlocks, new: &VolumeBlocks) -> bool {
+pub(crate) fn same_nodes(old: &VolumeBlocks, new: &VolumeBlocks) -> bool
+    requires { (n : ℕ) → has_bad_size version_2 old.now.image.geometry (contents old.now.image) n ≡ false }
+    ensures { result ≡ true → SameNodes old.now.image new.now.image }
+{
     let inodes = old.image().geometry().inodes;
     if new.image().geometry().inodes != inodes {
         return false;
@@ -23,7 +33,10 @@ pub(crate) fn same_nodes(old: &VolumeBlocks, new: &VolumeBlocks) -> bool {
 }
 
 /// Whether both volumes have the same node of a number, or none.
-fn same_node(old: &VolumeBlocks, new: &VolumeBlocks, n: u32) -> bool {
+fn same_node(old: &VolumeBlocks, new: &VolumeBlocks, n: u32) -> bool
+    requires { (n : ℕ) → has_bad_size version_2 old.now.image.geometry (contents old.now.image) n ≡ false }
+    ensures { result ≡ true → SameNode old.now.image new.now.image n }
+{
     if old.image().is_marked(n) != new.image().is_marked(n) {
         return false;
     }
@@ -43,7 +56,9 @@ fn same_node(old: &VolumeBlocks, new: &VolumeBlocks, n: u32) -> bool {
 }
 
 /// Whether two inodes agree in what doesn't depend on their zones.
-fn same_attributes(x: &Inode, y: &Inode) -> bool {
+fn same_attributes(x: &Inode, y: &Inode) -> bool
+    ensures { result ≡ true → SameAttributes x.now y.now }
+{
     x.mode == y.mode
         && x.links == y.links
         && x.uid == y.uid
@@ -54,7 +69,9 @@ fn same_attributes(x: &Inode, y: &Inode) -> bool {
 }
 
 /// Whether all pages of two inodes are the same, and the same ones are held.
-fn same_file(old: &VolumeBlocks, x: &Inode, new: &VolumeBlocks, y: &Inode) -> bool {
+fn same_file(old: &VolumeBlocks, x: &Inode, new: &VolumeBlocks, y: &Inode) -> bool
+    ensures { result ≡ true → SameFile (contents old.now.image) (contents new.now.image) x.now y.now }
+{
     for slot in 0..10 {
         if !same_below(old, x.zones[slot], new, y.zones[slot], level_of(slot)) {
             return false;
@@ -64,7 +81,10 @@ fn same_file(old: &VolumeBlocks, x: &Inode, new: &VolumeBlocks, y: &Inode) -> bo
 }
 
 /// Whether two numbers of a level lead to the same pages. A number 0 leads to holes alone.
-fn same_below(old: &VolumeBlocks, x: u32, new: &VolumeBlocks, y: u32, level: usize) -> bool {
+fn same_below(old: &VolumeBlocks, x: u32, new: &VolumeBlocks, y: u32, level: usize) -> bool
+    requires { level < 4 }
+    ensures { result ≡ true → SameBelow (contents old.now.image) (contents new.now.image) level x y }
+{
     if x == 0 || y == 0 {
         return x == y;
     }
@@ -81,31 +101,37 @@ fn same_below(old: &VolumeBlocks, x: u32, new: &VolumeBlocks, y: u32, level: usi
 }
 
 /// Whether two directories have the same parent and the same names, in the same order.
-fn same_directory(old: &VolumeBlocks, x: &Inode, new: &VolumeBlocks, y: &Inode) -> bool {
+fn same_directory(old: &VolumeBlocks, x: &Inode, new: &VolumeBlocks, y: &Inode) -> bool
+    requires { x.now.size ≤ most_size }
+    ensures { result ≡ true → SameDirectory old.now.image new.now.image x.now y.now }
+{
     let (many, most) = (entry_count(x), y.size / 64);
     if many < 2 || most < 2 {
         return false;
     }
-    let parent = u32::from(number_of(entry(&old.image(), x, 1)));
-    if parent != u32_at(new.image().entry(y, 1), 0) {
+    let parent = entry(&old.image(), x, 1);
+    if u32_at(&parent, 0) != u32_at(new.image().entry(y, 1), 0) {
         return false;
     }
     same_names(old, x, new, y)
 }
 
 /// Whether the entries of two directories past the first two are the same, but for the old one's free ones.
-fn same_names(old: &VolumeBlocks, x: &Inode, new: &VolumeBlocks, y: &Inode) -> bool {
+fn same_names(old: &VolumeBlocks, x: &Inode, new: &VolumeBlocks, y: &Inode) -> bool
+    requires { x.now.size ≤ most_size }
+    ensures { result ≡ true → SameNames old.now.image new.now.image x.now y.now }
+{
     let most = y.size / 64;
     let mut place = 2;
     for number in 2..entry_count(x) {
         let entry = entry(&old.image(), x, number);
-        if is_free(entry, number) {
+        if is_free(&entry, number) {
             continue;
         }
         if place >= most {
             return false;
         }
-        if widened(entry).as_slice() != new.image().entry(y, place) {
+        if entry.as_slice() != new.image().entry(y, place) {
             return false;
         }
         place += 1;

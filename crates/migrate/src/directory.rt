@@ -1,8 +1,12 @@
 //! A directory's entries as version 3 has them.
 
+ghost use Rattle.std.specs.Prelude.{◌≤◌, IfOk, IfErr, length};
+ghost use Rattle.tree.specs.Tree.{most_size};
+ghost use Rattle.migrate.specs.Migrated.{IsLate};
+
 use crate::refusal::MigrateRefusal;
 use image::Image;
-use old_volume::entries::{entry, entry_count, is_free, widened};
+use old_volume::entries::{entry, entry_count, is_free};
 use std::alloc::Global;
 use volume::Inode;
 
@@ -14,17 +18,21 @@ pub(crate) fn new_entries(
     alloc: Global,
     image: &Image,
     inode: &Inode,
-) -> Result<Vec<u8>, MigrateRefusal> {
+) -> Result<Vec<u8>, MigrateRefusal>
+    requires { inode.now.size ≤ most_size }
+    ensures short { IfOk result (λ bytes. length bytes.items ≤ 67108928) }
+    ensures refused { IfErr result IsLate }
+{
     let mut bytes = Vec::new(alloc);
     for number in 0..entry_count(inode) {
         let entry = entry(image, inode, number);
-        if is_free(entry, number) {
+        if is_free(&entry, number) {
             continue;
         }
         if bytes.len() >= MOST_BYTES {
             return Err(MigrateRefusal::DoesNotFit);
         }
-        bytes.extend_from_slice(&widened(entry))?;
+        bytes.extend_from_slice(&entry)?;
     }
     Ok(bytes)
 }

@@ -8,9 +8,13 @@ mod refusal;
 mod volume_blocks;
 mod write;
 
+ghost use Rattle.std.specs.Prelude.{IfOk, IfErr};
+ghost use Rattle.migrate.specs.Migrated.{IsMigrated, IsRefused};
+
 use compare::same_nodes;
 use fsck::Verdict;
-use old_volume::{check, parse, stamped};
+use layout::Geometry;
+use old_volume::{finding, parse, stamped};
 pub use refusal::MigrateRefusal;
 use std::alloc::Global;
 use volume_blocks::VolumeBlocks;
@@ -23,7 +27,10 @@ const MOST_BLOCKS: u32 = 65536;
 /// numbers, names, attributes, bytes and held pages. It has as many inodes as the old one.
 ///
 /// Refused for the first of `MigrateRefusal` that holds; no memory may be found at any time.
-pub fn migrate(alloc: Global, old: &[u8], blocks: u32) -> Result<Vec<u8>, MigrateRefusal> {
+pub fn migrate(alloc: Global, old: &[u8], blocks: u32) -> Result<Vec<u8>, MigrateRefusal>
+    ensures migrated { IfOk result (λ image. IsMigrated old.now blocks image.items) }
+    ensures refused { IfErr result (IsRefused old.now blocks) }
+{
     let geometry = match parse(old) {
         Ok(geometry) => geometry,
         Err(refusal) => return Err(MigrateRefusal::OldLayout(refusal)),
@@ -32,25 +39,33 @@ pub fn migrate(alloc: Global, old: &[u8], blocks: u32) -> Result<Vec<u8>, Migrat
     let Some(volume) = VolumeBlocks::of(&old_blocks) else {
         return Err(MigrateRefusal::Mismatch);
     };
-    if let Some(finding) = check(alloc, &volume.image())? {
-        return Err(MigrateRefusal::Found(finding));
+    if let Some(found) = finding(alloc, &volume.image())? {
+        return Err(MigrateRefusal::Found(found));
     }
     if blocks > MOST_BLOCKS {
         return Err(MigrateRefusal::TooManyBlocks);
     }
-    let image = written(alloc, &volume, blocks)?;
-    confirm(alloc, &volume, &image)?;
+    let (sizes, image) = written(alloc, &volume, blocks)?;
+    confirm(alloc, &volume, &sizes, &image)?;
     Ok(image)
 }
 
-/// Reads the new volume back: it is clean, and its nodes are the old one's.
-fn confirm(alloc: Global, old: &VolumeBlocks, image: &[u8]) -> Result<(), MigrateRefusal> {
+/// Reads the new volume back: it has these sizes, it is clean, and its nodes are the old one's.
+fn confirm(
+    alloc: Global,
+    old: &VolumeBlocks,
+    sizes: &Geometry,
+    image: &[u8],
+) -> Result<(), MigrateRefusal> {
     let Verdict::Clean(_) = fsck::check(alloc, image)? else {
         return Err(MigrateRefusal::Mismatch);
     };
     let Some(new) = VolumeBlocks::of(image) else {
         return Err(MigrateRefusal::Mismatch);
     };
+    if new.image().geometry() != *sizes {
+        return Err(MigrateRefusal::Mismatch);
+    }
     if !same_nodes(old, &new) {
         return Err(MigrateRefusal::Mismatch);
     }

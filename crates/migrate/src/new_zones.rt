@@ -1,5 +1,9 @@
 //! The data zones of a new volume, taken one after the other.
 
+ghost use Rattle.std.specs.Prelude.{◌≡◌, ◌≤◌, ◌<◌, ◌*◌, ◌%◌, ◌^◌, IfErr, length};
+ghost use Rattle.migrate.specs.Zones.{Grows};
+ghost use Rattle.migrate.specs.Migrated.{IsLate};
+
 use crate::refusal::MigrateRefusal;
 use crate::volume_blocks::{BLOCK, VolumeBlocks};
 use byteorder::{ByteOrder, LittleEndian};
@@ -14,11 +18,19 @@ pub(crate) struct NewZones {
     pub(crate) image: Vec<u8>,
     /// How many bytes the whole image has, at most 67108864.
     pub(crate) limit: usize,
+    ghost few: { limit ≤ 67108864 },
+    ghost blocks: { limit % 1024 ≡ 0 },
+    ghost whole: { length image.items % 1024 ≡ 0 },
+    ghost within: { length image.items ≤ limit },
 }
 
 impl NewZones {
     /// Takes the next zone for a block of bytes, and gives its number.
-    pub(crate) fn append(&mut self, block: &[u8]) -> Result<u32, MigrateRefusal> {
+    pub(crate) fn append(&mut self, block: &[u8]) -> Result<u32, MigrateRefusal>
+        requires { length block.now ≡ 1024 }
+        ensures grows { Grows self.old self.new }
+        ensures refused { IfErr result IsLate }
+    {
         let at = self.image.len();
         if at >= self.limit {
             return Err(MigrateRefusal::DoesNotFit);
@@ -34,7 +46,11 @@ impl NewZones {
         old: &VolumeBlocks,
         zone: u32,
         level: usize,
-    ) -> Result<u32, MigrateRefusal> {
+    ) -> Result<u32, MigrateRefusal>
+        requires { level < 4 }
+        ensures grows { Grows self.old self.new }
+        ensures refused { IfErr result IsLate }
+    {
         if zone == 0 {
             return Ok(0);
         }
@@ -56,7 +72,13 @@ impl NewZones {
         bytes: &[u8],
         page: usize,
         level: usize,
-    ) -> Result<u32, MigrateRefusal> {
+    ) -> Result<u32, MigrateRefusal>
+        requires low { level < 4 }
+        requires short { length bytes.now < 2 ^ 32 }
+        requires near { page < 2 ^ 32 }
+        ensures grows { Grows self.old self.new }
+        ensures refused { IfErr result IsLate }
+    {
         if BLOCK * page >= bytes.len() {
             return Ok(0);
         }
@@ -73,7 +95,9 @@ impl NewZones {
 }
 
 /// How many pages a number of a level leads to.
-fn pages_below(level: usize) -> usize {
+fn pages_below(level: usize) -> usize
+    ensures { result ≤ 65536 }
+{
     match level {
         0 => 1,
         1 => NUMBERS,
@@ -82,7 +106,10 @@ fn pages_below(level: usize) -> usize {
 }
 
 /// A page of a file, with zeros after its end.
-fn page_of(bytes: &[u8], page: usize) -> [u8; BLOCK] {
+fn page_of(bytes: &[u8], page: usize) -> [u8; BLOCK]
+    requires short { length bytes.now < 2 ^ 32 }
+    requires there { 1024 * page < length bytes.now }
+{
     let mut block = [0; BLOCK];
     let rest = &bytes[BLOCK * page..];
     let size = if rest.len() < BLOCK {

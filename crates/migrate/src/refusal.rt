@@ -1,5 +1,9 @@
 //! Why a volume isn't migrated.
 
+ghost use Rattle.std.specs.Prelude.{◌≡◌, Some};
+ghost use Rattle.migrate.specs.Migrated.{refusal_text};
+ghost use Rattle.migrate.specs.declared.refusal.MigrateRefusal.TheVariants.{OutOfMemory as NoMemory};
+
 use fsck::OutOfMemory;
 use old_volume::OldRefusal;
 use std::alloc::AllocError;
@@ -24,29 +28,20 @@ pub enum MigrateRefusal {
     Mismatch,
 }
 
-impl MigrateRefusal {
-    /// The refusal's place in their order, 1 to 6.
-    pub fn number(&self) -> u32 {
-        match self {
-            MigrateRefusal::OldLayout(_) => 1,
-            MigrateRefusal::Found(_) => 2,
-            MigrateRefusal::TooManyBlocks => 3,
-            MigrateRefusal::DoesNotFit => 4,
-            MigrateRefusal::OutOfMemory => 5,
-            MigrateRefusal::Mismatch => 6,
-        }
-    }
-}
-
 /// Writes `migrate refusal 1 at N`, `migrate refusal 2 finding N at P`, or the number alone.
 impl fmt::Display for MigrateRefusal {
+    ghost output = { λ refusal. Some (refusal_text refusal) };
+
     fn fmt<W: fmt::Write>(&self, f: &mut fmt::Formatter<W>) -> fmt::Result {
         match self {
             MigrateRefusal::OldLayout(refusal) => {
                 write!(f, "migrate refusal 1 at {}", refusal.number())
             }
             MigrateRefusal::Found(finding) => write!(f, "migrate refusal 2 {finding}"),
-            _ => write!(f, "migrate refusal {}", self.number()),
+            MigrateRefusal::TooManyBlocks => f.write_str("migrate refusal 3"),
+            MigrateRefusal::DoesNotFit => f.write_str("migrate refusal 4"),
+            MigrateRefusal::OutOfMemory => f.write_str("migrate refusal 5"),
+            MigrateRefusal::Mismatch => f.write_str("migrate refusal 6"),
         }
     }
 }
@@ -54,12 +49,16 @@ impl fmt::Display for MigrateRefusal {
 impl Error for MigrateRefusal {}
 
 impl From<AllocError> for MigrateRefusal {
+    ghost from_gives = { λ _ e. e ≡ NoMemory };
+
     fn from(_error: AllocError) -> MigrateRefusal {
         MigrateRefusal::OutOfMemory
     }
 }
 
 impl From<OutOfMemory> for MigrateRefusal {
+    ghost from_gives = { λ _ e. e ≡ NoMemory };
+
     fn from(_error: OutOfMemory) -> MigrateRefusal {
         MigrateRefusal::OutOfMemory
     }

@@ -1,5 +1,9 @@
 //! A volume in an image, with the bytes of its blocks.
 
+ghost use Rattle.std.specs.Prelude.{◌≡◌, ◌<◌, ℕ, IfSome, length, slice_index};
+ghost use Rattle.volume.specs.Nodes.{page_byte};
+ghost use Rattle.image.specs.Contents.{contents};
+
 use image::Image;
 
 /// How many bytes a block has, in the old volume and in the new one.
@@ -13,12 +17,19 @@ static ZEROS: [u8; BLOCK] = [0; BLOCK];
 pub(crate) struct VolumeBlocks<'a> {
     bytes: &'a [u8],
     image: Image<'a>,
+    ghost same: { image.bytes.now ≡ bytes.now },
+    ghost sized: { image.geometry.block_size ≡ 1024 },
 }
 
 impl<'a> VolumeBlocks<'a> {
     /// The volume that the bytes begin with; none where they are read as no volume with blocks of 1024 bytes.
-    pub(crate) fn of(bytes: &'a [u8]) -> Option<VolumeBlocks<'a>> {
-        let image = Image::parse(bytes).ok()?;
+    pub(crate) fn of(bytes: &'a [u8]) -> Option<VolumeBlocks<'a>>
+        ensures { IfSome result (λ v. v.image.bytes.now ≡ bytes.now) }
+    {
+        let image = match Image::parse(bytes) {
+            Ok(image) => image,
+            Err(_) => return None,
+        };
         if image.geometry().block_size != 1024 {
             return None;
         }
@@ -26,16 +37,21 @@ impl<'a> VolumeBlocks<'a> {
     }
 
     /// The volume as the check reads it.
-    pub(crate) fn image(&self) -> Image<'a> {
+    pub(crate) fn image(&self) -> Image<'a>
+        ensures { result ≡ self.now.image }
+    {
         self.image
     }
 
     /// The 1024 bytes of a data zone; of what is none, zeros.
-    pub(crate) fn block(&self, zone: u32) -> &'a [u8] {
+    pub(crate) fn block(&self, zone: u32) -> &'a [u8]
+        ensures len { length result.now ≡ 1024 }
+        ensures bytes { (o : ℕ) → o < 1024 → slice_index result.now o ≡ page_byte (contents self.now.image) zone o }
+    {
         if !self.image.is_data_zone(zone) {
             return &ZEROS;
         }
-        let at = BLOCK * zone as usize;
+        let at = zone as usize * BLOCK;
         &self.bytes[at..at + BLOCK]
     }
 }

@@ -8,11 +8,11 @@ use Rattle.volume.specs.Nodes.{file_byte}
 use Rattle.old_volume.specs.Form.{EntryForm}
 use Rattle.old_volume.specs.Nodes.{entry_inode, entry_name, entry_count_of, is_dropped}
 
-module _ (form : EntryForm) (g : Geometry) (v : Pieces) where
-  -- how many entries directory n has, free ones among them
-  abbrev pub entry_count : ℕ → ℕ
-  entry_count n = entry_count_of form (v.inodes n)
+-- how many entries directory n has, free ones among them
+abbrev pub entry_count : EntryForm → Pieces → ℕ → ℕ
+entry_count form v n = entry_count_of form (v.inodes n)
 
+module _ (form : EntryForm) (g : Geometry) (v : Pieces) where
   -- the inode number of entry e of directory n
   abbrev pub target_at : ℕ → ℕ → ℕ
   target_at n e = entry_inode form (file_byte g v (v.inodes n)) e

@@ -36,7 +36,7 @@ module _ (form : EntryForm) (g : Geometry) (v : Pieces) where
 
   -- 13, at a directory: one of its entries is such
   abbrev pub has_bad_entry : ℕ → Bool
-  has_bad_entry n = is_directory_inode g v n && some_below (is_bad_entry n) (entry_count form g v n)
+  has_bad_entry n = is_directory_inode g v n && some_below (is_bad_entry n) (entry_count form v n)
 
   -- entry e isn't free where it may be, and leads to no marked inode
   abbrev pub is_lost : ℕ → ℕ → Bool
@@ -44,15 +44,11 @@ module _ (form : EntryForm) (g : Geometry) (v : Pieces) where
 
   -- 14, at a directory: one of its entries is such
   abbrev pub has_bad_target : ℕ → Bool
-  has_bad_target n = is_directory_inode g v n && some_below (is_lost n) (entry_count form g v n)
+  has_bad_target n = is_directory_inode g v n && some_below (is_lost n) (entry_count form v n)
 
-  -- entry e of directory n isn't free where it may be, and leads to inode m
-  abbrev pub leads_to : ℕ → ℕ → ℕ → Bool
-  leads_to n m e = not (is_free_at form g v n e) && (target_at form g v n e == m)
-
-  -- how many names of directory n lead to inode m
+  -- how many names of directory n lead to inode m; free entries lead to 0, which is no inode's number
   abbrev pub names_in_of : ℕ → ℕ → ℕ
-  names_in_of n m = if is_directory_inode g v n then count_below (λ e. leads_to n m (e + 2)) (entry_count form g v n - 2) else 0
+  names_in_of n m = if is_directory_inode g v n then count_below (λ e. target_at form g v n (e + 2) == m) (entry_count form v n - 2) else 0
 
   -- how many names of all directories lead to inode m
   abbrev pub all_names_of : ℕ → ℕ
@@ -72,13 +68,9 @@ module _ (form : EntryForm) (g : Geometry) (v : Pieces) where
   is_misplaced n = is_directory_inode g v n
       && (not (is_reached g.inodes n) || not (all_names_of n == one_if (not (n == 1))) || not (is_parent n (target_at form g v n 1)))
 
-  -- entry e of directory n isn't free where it may be, and leads to a directory
-  abbrev pub leads_down : ℕ → ℕ → Bool
-  leads_down n e = not (is_free_at form g v n e) && is_directory_inode g v (target_at form g v n e)
-
   -- how many names of directory n lead to directories
   abbrev pub subdirectories_of : ℕ → ℕ
-  subdirectories_of n = count_below (λ e. leads_down n (e + 2)) (entry_count form g v n - 2)
+  subdirectories_of n = count_below (λ e. is_directory_inode g v (target_at form g v n (e + 2))) (entry_count form v n - 2)
 
   -- the link count that inode n should have
   abbrev pub links_of : ℕ → ℕ

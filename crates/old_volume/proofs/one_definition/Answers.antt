@@ -1,4 +1,4 @@
-use Rattle.old_volume.proofs.Same.{one_definition}
+use Rattle.old_volume.proofs.Version3.{one_definition}
 use Rattle.old_volume.proofs.one_definition.Goals as goal
 
 pub returns : goal.returns
