@@ -8,8 +8,11 @@ mod refusal;
 mod volume_blocks;
 mod write;
 
-ghost use Rattle.std.specs.Prelude.{IfOk, IfErr};
-ghost use Rattle.migrate.specs.Migrated.{IsMigrated, IsRefused};
+ghost use Rattle.std.specs.Prelude.{◌≡◌, ℕ, IfOk, IfErr, OnOk, false};
+ghost use Rattle.image.specs.Contents.{contents};
+ghost use Rattle.old_volume.specs.Form.{version_2};
+ghost use Rattle.old_volume.specs.Findings.{has_bad_size};
+ghost use Rattle.migrate.specs.Migrated.{IsConfirmed, IsLate, IsMigrated, IsRefused};
 
 use compare::same_nodes;
 use fsck::Verdict;
@@ -36,8 +39,9 @@ pub fn migrate(alloc: Global, old: &[u8], blocks: u32) -> Result<Vec<u8>, Migrat
         Err(refusal) => return Err(MigrateRefusal::OldLayout(refusal)),
     };
     let old_blocks = stamped(alloc, &geometry, old)?;
-    let Some(volume) = VolumeBlocks::of(&old_blocks) else {
-        return Err(MigrateRefusal::Mismatch);
+    let volume = match VolumeBlocks::of(&old_blocks) {
+        Some(volume) => volume,
+        None => unreachable!(),
     };
     if let Some(found) = finding(alloc, &volume.image())? {
         return Err(MigrateRefusal::Found(found));
@@ -56,7 +60,11 @@ fn confirm(
     old: &VolumeBlocks,
     sizes: &Geometry,
     image: &[u8],
-) -> Result<(), MigrateRefusal> {
+) -> Result<(), MigrateRefusal>
+    requires { (n : ℕ) → has_bad_size version_2 old.now.image.geometry (contents old.now.image) n ≡ false }
+    ensures confirmed { OnOk result (IsConfirmed old.now.image sizes.now image.now) }
+    ensures refused { IfErr result IsLate }
+{
     let Verdict::Clean(_) = fsck::check(alloc, image)? else {
         return Err(MigrateRefusal::Mismatch);
     };

@@ -1,6 +1,8 @@
 //! A volume in an image, with the bytes of its blocks.
 
-ghost use Rattle.std.specs.Prelude.{◌≡◌, ◌<◌, ℕ, IfSome, length, slice_index};
+ghost use Rattle.std.specs.Prelude.{◌≡◌, ◌≢◌, ◌<◌, ℕ, IfNone, IfSome, Ok, length, slice_index};
+ghost use Rattle.layout.specs.declared.Geometry.{Geometry};
+ghost use Rattle.layout.specs.Places.{geometry_of};
 ghost use Rattle.volume.specs.Nodes.{page_byte};
 ghost use Rattle.image.specs.Contents.{contents};
 
@@ -24,7 +26,8 @@ pub(crate) struct VolumeBlocks<'a> {
 impl<'a> VolumeBlocks<'a> {
     /// The volume that the bytes begin with; none where they are read as no volume with blocks of 1024 bytes.
     pub(crate) fn of(bytes: &'a [u8]) -> Option<VolumeBlocks<'a>>
-        ensures { IfSome result (λ v. v.image.bytes.now ≡ bytes.now) }
+        ensures volume { IfSome result (λ v. v.image.bytes.now ≡ bytes.now) }
+        ensures none { IfNone result ((g : Geometry) → geometry_of bytes.now ≡ Ok g → g.block_size ≢ 1024) }
     {
         let image = match Image::parse(bytes) {
             Ok(image) => image,

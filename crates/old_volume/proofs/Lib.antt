@@ -4,4 +4,4 @@ pub mod EntryBytes
 pub mod Standing
 pub mod Walks
 pub mod Firsts
-pub mod Stamp
+pub mod SuperblockPut

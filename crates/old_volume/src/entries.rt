@@ -43,8 +43,11 @@ pub fn entry(image: &Image, inode: &Inode, number: u32) -> [u8; 64]
 {
     let raw = raw_entry(image, inode, number);
     let mut wide = [0; 64];
-    wide[..2].copy_from_slice(&raw[..2]);
-    wide[4..18].copy_from_slice(&raw[2..]);
+    wide[0] = raw[0];
+    wide[1] = raw[1];
+    for a in 0..14 {
+        wide[4 + a] = raw[2 + a];
+    }
     wide
 }
 

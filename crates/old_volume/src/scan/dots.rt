@@ -48,6 +48,7 @@ fn has_bad_dots(image: &Image, n: u32) -> bool
 
 /// The least directory with an entry that leads to no marked inode.
 pub(crate) fn bad_target(image: &Image) -> Option<u32>
+    requires { (n : ℕ) → has_bad_size version_2 image.now.geometry (contents image.now) n ≡ false }
     ensures { result ≡ least_of (has_bad_target version_2 image.now.geometry (contents image.now)) (place_limit image.now.geometry) }
 {
     least_passing(image.geometry().inodes + 1, |n| has_bad_target(image, n))
@@ -55,6 +56,7 @@ pub(crate) fn bad_target(image: &Image) -> Option<u32>
 
 /// Whether n is a directory with such an entry.
 fn has_bad_target(image: &Image, n: u32) -> bool
+    requires { (n : ℕ) → has_bad_size version_2 image.now.geometry (contents image.now) n ≡ false }
     ensures { result ≡ has_bad_target version_2 image.now.geometry (contents image.now) n }
 {
     if !image.is_directory(n) {

@@ -104,7 +104,7 @@ fn subdirectories(image: &Image, n: u32) -> u32
     requires sizes { (n : ℕ) → has_bad_size version_2 image.now.geometry (contents image.now) n ≡ false }
     requires directory { is_directory_inode image.now.geometry (contents image.now) n ≡ true }
     ensures value { result ≡ subdirectories_of version_2 image.now.geometry (contents image.now) n }
-    ensures most { result ≤ 67108864 }
+    ensures most { result ≤ 268435456 }
 {
     let inode = image.inode(n);
     let mut count = 0;

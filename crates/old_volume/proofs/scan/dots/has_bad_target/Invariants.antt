@@ -1,9 +1,8 @@
-use Rattle.std.proofs.Common.{◌≡◌, ◌<◌, ℕ, true}
-use Rattle.volume.specs.Nodes.{file_byte, is_marked}
-use Rattle.old_volume.specs.Nodes.{entry_inode}
+use Rattle.std.proofs.Common.{◌≡◌, ◌<◌, ℕ, false}
 use Rattle.image.specs.Contents.{contents}
-use Rattle.old_volume.proofs.scan.dots.has_bad_target.Given as goal
 use Rattle.old_volume.specs.Form.{version_2}
+use Rattle.old_volume.specs.Findings.{is_lost}
+use Rattle.old_volume.proofs.scan.dots.has_bad_target.Given as goal
 
 abbrev pub invariant-loop-number : goal.invariant-loop-number
-invariant-loop-number l = (e : ℕ) → e < l.number → is_marked l.image.geometry (contents l.image) (entry_inode version_2 (file_byte l.image.geometry (contents l.image) l.inode) e) ≡ true
+invariant-loop-number l = (e : ℕ) → e < l.number → is_lost version_2 l.image.geometry (contents l.image) l.n e ≡ false

@@ -38,7 +38,7 @@ returns-then-is_directory c =
     (ap (λ k. ((contents i).inodes n).links == k) wanted)
 
 pub bounds-named-n : goal.bounds-named-n
-bounds-named-n c = let low = inside c.args.image.now c.args.n (sym c.is_marked.ensures ∙ c.if-not-is_marked.false) in let size = c.requires.named_size in omega arith
+bounds-named-n c = let low = inside c.args.image.now c.args.n (sym c.is_marked.ensures ∙ c.if-not-is_marked.false) in let size = c.requires.named.named_size in omega arith
 
 pub returns : goal.returns
 returns c =
@@ -53,6 +53,6 @@ returns c =
     = cond-false (is_directory_inode i.geometry (contents i) n) (2 + subdirectories_of version_2 i.geometry (contents i) n) _ (sym c.is_directory.ensures ∙ c.if-is_directory.false) in
     ap (λ l. not (l == c.from.result)) is
     ∙ other_links i n marked (λ e. some (is ∙ e)) low c.from.result
-    (ap (λ k. ((contents i).inodes n).links == k) (c.from.ensures ∙ c.requires.counted n (inside i n marked))
+    (ap (λ k. ((contents i).inodes n).links == k) (c.from.ensures ∙ c.requires.named.counted n (inside i n marked))
     ∙ capped i ((contents i).inodes n).links (all_names_of version_2 i.geometry (contents i) n) low
     ∙ ap (λ k. ((contents i).inodes n).links == k) (sym wanted))

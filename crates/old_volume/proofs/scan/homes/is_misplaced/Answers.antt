@@ -8,7 +8,7 @@ use Rattle.old_volume.specs.Findings.{all_names_of, is_reached}
 use Rattle.image.specs.Contents.{contents}
 use Rattle.volume.proofs.Sums.{one_most}
 use Rattle.fsck.proofs.Entries.{no_directory, directory_low}
-use Rattle.old_volume.proofs.EntryBytes.{two_entries}
+use Rattle.old_volume.proofs.EntryBytes.{two_entries, small}
 use Rattle.old_volume.proofs.Standing.{unreached, not_once, by_home}
 use Rattle.old_volume.proofs.scan.homes.is_misplaced.Goals as goal
 use Rattle.old_volume.specs.Form.{version_2}
@@ -32,11 +32,15 @@ bounds-named-place c = let low = directory_low c.args.image.now c.args.n (sym c.
 pub bounds-namer-place : goal.bounds-namer-place
 bounds-namer-place c = let low = directory_low c.args.image.now c.args.n (sym c.is_directory.ensures ∙ c.if-not-is_directory.false) in let size = c.requires.named.namer_size in omega arith
 
-pub target-requires : goal.target-requires
-target-requires c =
+pub target-requires-clause-there : goal.target-requires-clause-there
+target-requires-clause-there c =
     let size = ap (λ x. x.size) c.inode-inode.ensures in
     let two = two_entries c.args.image.now c.args.n (sym c.is_directory.ensures ∙ c.if-not-is_directory.false) (c.requires.sizes c.args.n) in
     omega arith
+
+pub target-requires-clause-small : goal.target-requires-clause-small
+target-requires-clause-small c =
+    small c.args.image.now c.args.n c.inode-inode.result c.inode-inode.ensures (sym c.is_directory.ensures ∙ c.if-not-is_directory.false) (c.requires.sizes c.args.n)
 
 pub returns : goal.returns
 returns c =

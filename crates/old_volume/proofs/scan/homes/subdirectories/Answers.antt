@@ -7,6 +7,7 @@ use Rattle.old_volume.specs.Entries.{entry_count, target_at}
 use Rattle.volume.proofs.Sums.{one_most}
 use Rattle.image.specs.Contents.{contents}
 use Rattle.fsck.proofs.Counts.{sum_more, no_sum}
+use Rattle.old_volume.proofs.EntryBytes.{small}
 use Rattle.old_volume.proofs.scan.homes.subdirectories.Goals as goal
 use Rattle.old_volume.specs.Form.{version_2}
 
@@ -42,3 +43,6 @@ returns-clause-value c =
     let near = c.loop-number.invariant.near in
     let all : c.loop-number.number - 2 ≡ entry_count version_2 (contents i) n - 2 = omega arith in
     c.loop-number.invariant.value ∙ ap (count_below (λ e. is_directory_inode i.geometry (contents i) (target_at version_2 i.geometry (contents i) n (e + 2)))) all
+
+pub target-requires-clause-small : goal.target-requires-clause-small
+target-requires-clause-small c = small c.args.image.now c.args.n c.inode-inode.result c.inode-inode.ensures c.requires.directory (c.requires.sizes c.args.n)

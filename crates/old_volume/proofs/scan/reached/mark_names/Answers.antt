@@ -10,6 +10,7 @@ use Rattle.old_volume.specs.Findings.{names_in_of}
 use Rattle.image.specs.Contents.{contents}
 use Rattle.fsck.proofs.Counts.{sum_more, no_sum}
 use Rattle.old_volume.proofs.Walks.{goes_none, goes_more, goes_same}
+use Rattle.old_volume.proofs.EntryBytes.{small}
 use Rattle.old_volume.proofs.scan.reached.mark_names.Goals as goal
 use Rattle.old_volume.specs.Form.{version_2}
 
@@ -57,3 +58,7 @@ returns c =
     (λ m. cond-true (is_directory_inode i.geometry (contents i) n) _ 0 (sym c.is_directory.ensures ∙ c.if-not-is_directory.false)
     ∙ ap (count_below (λ e. target (e + 2) == m)) all)
     c.loop-number.invariant.go
+
+pub target-requires-clause-small : goal.target-requires-clause-small
+target-requires-clause-small c =
+    small c.args.image.now c.args.n c.inode-inode.result c.inode-inode.ensures (sym c.is_directory.ensures ∙ c.if-not-is_directory.false) (c.requires c.args.n)

@@ -10,6 +10,7 @@ use Rattle.old_volume.specs.Findings.{names_in_of}
 use Rattle.image.specs.Contents.{contents}
 use Rattle.image.proofs.Contents.{is_geometry}
 use Rattle.fsck.proofs.Counts.{named_none, named_more, named_same, sum_more, no_sum}
+use Rattle.old_volume.proofs.EntryBytes.{small}
 use Rattle.old_volume.proofs.scan.tables.count_names_in.Goals as goal
 use Rattle.old_volume.specs.Form.{version_2}
 
@@ -64,3 +65,7 @@ returns-clause-more c =
 
 pub count_name-requires-clause-inode : goal.count_name-requires-clause-inode
 count_name-requires-clause-inode c = let few = (is_geometry c.args.image.now).inodes in let low = c.requires.inode in omega arith
+
+pub target-requires-clause-small : goal.target-requires-clause-small
+target-requires-clause-small c =
+    small c.args.image.now c.args.n c.inode-inode.result c.inode-inode.ensures (sym c.is_directory.ensures ∙ c.if-not-is_directory.false) (c.requires.good c.args.n)

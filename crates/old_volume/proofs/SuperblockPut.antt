@@ -1,10 +1,10 @@
 -- A version 2 image with version 3's superblock says the same pieces.
-use Rattle.std.proofs.Common.{◌≡◌, ◌≤◌, ◌<◌, ◌+◌, ◌-◌, ◌*◌, ◌/◌, ◌%◌, ◌++◌, ℕ, List, Bool, true, false, length, take, drop, refl, sym, ap, subst, ◌∙◌, arith, get_or}
+use Rattle.std.proofs.Common.{◌≡◌, ◌≤◌, ◌<◌, ◌+◌, ◌-◌, ◌*◌, ◌/◌, ◌%◌, ◌++◌, ℕ, List, [], Bool, true, false, length, take, drop, refl, sym, ap, subst, ◌∙◌, arith, get_or}
 use mathlib.Core.Logic.{inl, inr}
 use Rattle.std.specs.Prelude.{nat_le, nat_lt, ◌&&◌, ◌==◌, T, not, is_ok, Result, Ok, Err, if◌then◌else◌, slice_index}
 use Rattle.std.proofs.Math.Nat.{mul_comm}
 use Rattle.std.proofs.lemmas.Nat.{div_below, mul-add-lt}
-use Rattle.std.proofs.lemmas.List.{get_or-append_right, get_or-take, get_or-drop, length-take-le}
+use Rattle.std.proofs.lemmas.List.{get_or-append_right, get_or-take, get_or-drop, length-take-le, length-append, length-drop, take_all, drop_all, append-nil}
 use Rattle.std.proofs.lemmas.Bool.{and_parts, eqb-true, leb-true, ltb-true, ltb-false, lt-leb, lt-ltb, le-ltb, cond-true, cond-false, cases_lt, cases_Bool}
 use Rattle.lemmas.proofs.Bools.{not_false}
 use Rattle.layout.specs.declared.Geometry.{Geometry}
@@ -63,6 +63,7 @@ pub record OldFits (image : List ℕ) (g : Geometry) : Type 0 where
   pub sizes : IsGeometry g
   pub block : g.block_size ≡ 1024
   pub room : 1024 * g.zones ≤ length image
+  pub flat : g.zones * g.block_size ≡ 1024 * g.zones
 
 pub old_fits : (image : List ℕ) (g : Geometry) → old_geometry_of image ≡ Ok g → OldFits image g
 old_fits image g h =
@@ -73,7 +74,7 @@ old_fits image g h =
     let counts = passed (not (counts_agree s)) BadCounts _ g size.1 in
     let fits = passed (nat_lt (length image) (1024 * s.zones)) DoesNotFit (Ok s) g counts.1 in
     let room : 1024 * s.zones ≤ length image = ltb-false _ _ fits.0 in
-    subst (OldFits image) (read_is s g fits.1) (record { sizes = counts_fit s refl refl (not_false _ counts.0); block = refl; room = room })
+    subst (OldFits image) (read_is s g fits.1) (record { sizes = counts_fit s refl refl (not_false _ counts.0); block = refl; room = room; flat = omega arith })
 
 -- the inodes' blocks come before the data zones
 before_zones : (g : Geometry) → IsGeometry g → (n : ℕ) → 1 ≤ n → n ≤ g.inodes → inode_block g n < g.first_zone
@@ -155,6 +156,17 @@ module _ (g : Geometry) (geometry : IsGeometry g) (d e : Disk) (same : (b : ℕ)
     zones = λ z. zones z i;
   }
 
+-- what was lent whole comes back whole
+pub put_back : (len : ℕ) (new old : List ℕ) → length new ≡ length old → length old ≤ len → take len (new ++ drop (length new) old) ≡ new
+put_back len new old same long =
+    let none : drop (length new) old ≡ [] = drop_all (length new) old (omega arith) in
+    ap (λ l. take len (new ++ l)) none ∙ ap (take len) (append-nil new) ∙ take_all len new (omega arith)
+
+-- a superblock leaves the length
+pub put_length : (g : Geometry) (xs : List ℕ) → 1055 ≤ length xs → length (with_superblock g xs) ≡ length xs
+put_length g xs long =
+    let bytes : length (superblock_bytes g) ≡ 31 = refl in
+    omega (arith, length-append (take 1024 xs) (superblock_bytes g ++ drop 1055 xs), length-append (superblock_bytes g) (drop 1055 xs), length-take-le 1024 xs (omega arith), length-drop 1055 xs)
 
 -- the bytes behind the superblock stay
 behind : (g : Geometry) (b : List ℕ) (k : ℕ) → 1055 ≤ length b → 1055 ≤ k → get_or (with_superblock g b) k 0 ≡ get_or b k 0
@@ -172,13 +184,15 @@ module _ (image : List ℕ) (g : Geometry) (h : old_geometry_of image ≡ Ok g) 
 
   -- they are as many as they should be
   size : length blocks ≡ n
-  size = let fits = old_fits image g h in let block = fits.block in let room = fits.room in length-take-le n image (omega arith)
+  size = let fits = old_fits image g h in let room = fits.room in let flat = fits.flat in length-take-le n image (omega arith)
 
   -- a byte from block 2 on
   byte : (b o : ℕ) → 2 ≤ b → b < g.zones → o < g.block_size → get_or (with_superblock g blocks) (b * g.block_size + o) 0 ≡ get_or image (b * g.block_size + o) 0
   byte b o two low h' =
       let fits = old_fits image g h in
       let block = fits.block in
+      let flat = fits.flat in
+      let two_blocks : 2048 ≤ b * g.block_size = let m : b * g.block_size ≡ b * 1024 = ap (λ k. b * k) block in omega arith in
       let s = size in
       let inside = mul-add-lt b g.block_size o g.zones low h' in
       behind g blocks (b * g.block_size + o) (omega arith) (omega arith) ∙ get_or-take n image (b * g.block_size + o) 0 (omega arith)
@@ -207,7 +221,7 @@ module _ (image : List ℕ) (g : Geometry) (h : old_geometry_of image ≡ Ok g) 
       let sizes = fits.sizes in
       let first = sizes.first in
       let some = sizes.some_zone in
-      let block = fits.block in
+      let flat = fits.flat in
       let s = size in
       record {
         parsed = reads_back blocks g sizes (omega arith) (omega arith);
