@@ -1,3 +1,4 @@
 pub mod Below
 pub mod Nodes
 pub mod Verdicts
+pub mod TreeSizes

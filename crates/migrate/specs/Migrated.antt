@@ -3,8 +3,6 @@ use Rattle.std.specs.Prelude.{◌≡◌, ◌<◌, ◌≤◌, ℕ, List, ◌++◌
 use Rattle.layout.specs.declared.Geometry.{Geometry}
 use Rattle.layout.specs.Places.{geometry_of}
 use Rattle.tree.specs.Tree.{Tree}
-use Rattle.volume.specs.Reading.{disk_of}
-use Rattle.volume.specs.Pieces.{pieces}
 use Rattle.volume.specs.Text.{finding_text}
 use Rattle.volume.specs.Verdict.{Verdict, Clean, Found, verdict_of, HoldsClosed}
 use Rattle.image.specs.declared.Image.{Image}
@@ -13,12 +11,13 @@ use Rattle.new_volume.specs.Sizes.{sizes_of}
 use Rattle.old_volume.specs.Superblock.{old_geometry_of, old_refusal_number}
 use Rattle.old_volume.specs.Form.{version_2}
 use Rattle.old_volume.specs.Nodes.{nodes_of}
+use Rattle.old_volume.specs.Holds.{HoldsOld}
 use Rattle.old_volume.specs.Verdict.{old_verdict_of}
 use Rattle.migrate.specs.declared.refusal.MigrateRefusal.{MigrateRefusal}
 use Rattle.migrate.specs.declared.refusal.MigrateRefusal.TheVariants.{OldLayout, Found as FoundOld, TooManyBlocks, DoesNotFit, OutOfMemory, Mismatch}
 
 -- The old image is clean, read as version 2. The new one has the sizes of a new volume of so many blocks of 1024 bytes with the old one's
--- inodes, it is clean, and it holds a tree without open files, whose nodes are those that the old image says.
+-- inodes, and it is clean. One tree without open files is held by both, each read as its version.
 pub record IsMigrated (old : List ℕ) (blocks : ℕ) (image : List ℕ) : Type 0 where
   pub old_geometry : Geometry
   pub parsed : old_geometry_of old ≡ Ok old_geometry
@@ -27,8 +26,8 @@ pub record IsMigrated (old : List ℕ) (blocks : ℕ) (image : List ℕ) : Type 
   pub sizes : sizes_of blocks 1024 old_geometry.inodes ≡ Ok geometry
   pub read : geometry_of image ≡ Ok geometry
   pub tree : Tree
+  pub held_old : HoldsOld old tree
   pub held : HoldsClosed image tree
-  pub nodes : tree.nodes ≡ nodes_of version_2 old_geometry (pieces old_geometry (disk_of old_geometry old))
   pub clean : verdict_of image ≡ Clean
 
 -- The new image has these sizes, is clean, holds a tree without open files, and says the old one's nodes.

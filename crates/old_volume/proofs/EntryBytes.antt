@@ -165,7 +165,7 @@ pub record IsWide (raw wide : List ℕ) (n : ℕ) : Type 0 where
 zero_at : (n k : ℕ) → slice_index (replicate n 0) k ≡ 0
 zero_at n k = elim (cases_lt k n) [
   | inl low ↦ get_or-replicate n k 0 0 low
-  | inr far ↦ let size = length-replicate n 0 in get_or_past (replicate n 0) k 0 (omega arith)
+  | inr far ↦ let size : length (replicate {A = ℕ} n 0) ≡ n = length-replicate {A = ℕ} n 0 in get_or_past (replicate {A = ℕ} n 0) k 0 (omega arith)
 ]
 
 -- the number is written
@@ -183,7 +183,7 @@ wide_begins raw =
       low = λ k h. elim (cases_eq k 0) [
         | inl e ↦
             ap (λ k. get_or two k 0) e ∙ get_or-set_other one 1 0 (get_or raw 1 0) 0 (λ e. absurd (omega arith))
-            ∙ get_or-set_same (replicate 64 0) 0 (get_or raw 0 0) 0 (let z = length-replicate 64 0 in omega arith) ∙ ap (λ k. get_or raw k 0) (sym e)
+            ∙ get_or-set_same (replicate 64 0) 0 (get_or raw 0 0) 0 (let z : length (replicate {A = ℕ} 64 0) ≡ 64 = length-replicate {A = ℕ} 64 0 in omega arith) ∙ ap (λ k. get_or raw k 0) (sym e)
         | inr d ↦
             let e : k ≡ 1 = omega arith in
             ap (λ k. get_or two k 0) e ∙ get_or-set_same one 1 (get_or raw 1 0) 0 (omega arith) ∙ ap (λ k. get_or raw k 0) (sym e)

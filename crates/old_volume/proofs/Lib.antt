@@ -5,3 +5,6 @@ pub mod Standing
 pub mod Walks
 pub mod Firsts
 pub mod SuperblockPut
+pub mod Quiet
+pub mod SoundZones
+pub mod SoundDirectories

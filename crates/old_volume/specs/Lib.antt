@@ -12,3 +12,4 @@ pub mod Holds
 pub mod Findings
 pub mod Verdict
 pub mod OneDefinition
+pub mod Laws

@@ -20,6 +20,7 @@ ghost use Rattle.fsck.specs.Parts.{first_of};
 ghost use Rattle.old_volume.specs.Form.{version_2};
 ghost use Rattle.old_volume.specs.Verdict.{tests};
 ghost use Rattle.old_volume.specs.OneDefinition.{OneDefinition};
+ghost use Rattle.old_volume.specs.Laws.{CleanIsSound};
 
 use image::Image;
 pub use stamp::stamped;
@@ -49,4 +50,9 @@ pub fn finding(alloc: Global, image: &Image) -> Result<Option<Finding>, AllocErr
 /// What is said of a volume by the form of its entries is, with version 3's form, what is said of version 3 volumes.
 pub fn one_definition()
     ensures { OneDefinition }
+{}
+
+/// A volume in which the check finds nothing keeps the rules of the format that a tree doesn't show.
+pub fn clean_is_sound()
+    ensures { CleanIsSound }
 {}
