@@ -2,7 +2,7 @@
 use Rattle.std.proofs.Common.{◌≡◌, ◌<◌, ◌≤◌, ◌+◌, ℕ, Bool, true, false, refl, sym, ap, ◌∙◌, arith}
 use mathlib.Core.Logic.{inl, inr}
 use Rattle.std.specs.Prelude.{◌&&◌, nat_le, Option, Some, None, if◌then◌else◌}
-use Rattle.std.proofs.lemmas.Bool.{cases_Bool, cases_lt, cond-true, cond-false, and_left, and_right, lt-leb}
+use Rattle.std.proofs.lemmas.Bool.{cases_Bool, and_parts, eqb-true, cases_lt, cond-true, cond-false, and_left, and_right, lt-leb}
 use Rattle.layout.specs.declared.Geometry.{Geometry}
 use Rattle.tree.specs.Tree.{Body, Node, is_file, is_directory}
 use Rattle.volume.specs.declared.Inode.{Inode}
@@ -15,7 +15,26 @@ use Rattle.image.specs.Contents.{contents}
 use Rattle.image.proofs.Contents.{out_of_range}
 use Rattle.old_volume.specs.Form.{version_2}
 use Rattle.old_volume.specs.Nodes as nodes_2
-use Rattle.migrate.specs.Same.{SameAttributes, SameDirectory, SameNode, SameNodes}
+use Rattle.migrate.specs.Same.{SameAttributes, same_attributes, SameDirectory, SameNode, SameNodes}
+
+-- inodes that were found to agree do
+pub attributes_from : (x y : Inode) → same_attributes x y ≡ true → SameAttributes x y
+attributes_from x y h =
+    let a = and_parts _ _ h in
+    let b = and_parts _ _ a.0 in
+    let c = and_parts _ _ b.0 in
+    let d = and_parts _ _ c.0 in
+    let e = and_parts _ _ d.0 in
+    let f = and_parts _ _ e.0 in
+    record {
+      mode = eqb-true _ _ f.0;
+      links = eqb-true _ _ f.1;
+      uid = eqb-true _ _ e.1;
+      gid = eqb-true _ _ d.1;
+      atime = eqb-true _ _ c.1;
+      mtime = eqb-true _ _ b.1;
+      ctime = eqb-true _ _ a.1;
+    }
 
 module _ (old new : Image) where
   -- the nodes of two inodes that agree and have the same body

@@ -1,5 +1,5 @@
 -- When an old volume and a new one, both with blocks of 1024 bytes, say the same.
-use Rattle.std.specs.Prelude.{◌≡◌, ◌<◌, ◌-◌, ℕ, zero, suc, Bool, ◌==◌}
+use Rattle.std.specs.Prelude.{◌≡◌, ◌<◌, ◌-◌, ℕ, zero, suc, Bool, ◌==◌, ◌&&◌}
 use Rattle.image.specs.declared.Image.{Image}
 use Rattle.image.specs.Contents.{contents}
 use Rattle.image.specs.Entered.{level_of}
@@ -23,6 +23,12 @@ SameBelow v w (suc l) x y = (j : ℕ) → j < 256 → SameBelow v w l (number v 
 -- the ten numbers of two inodes do
 abbrev pub SameFile : Pieces → Pieces → Inode → Inode → Type 0
 SameFile v w x y = (s : ℕ) → s < 10 → SameBelow v w (level_of s) (slot x s) (slot y s)
+
+-- whether two inodes agree but for their sizes and zones
+abbrev pub same_attributes : Inode → Inode → Bool
+same_attributes x y =
+    (x.mode == y.mode) && (x.links == y.links) && (x.uid == y.uid) && (x.gid == y.gid) && (x.atime == y.atime)
+    && (x.mtime == y.mtime) && (x.ctime == y.ctime)
 
 -- two inodes agree but for their sizes and zones
 pub record SameAttributes (x y : Inode) : Type 0 where

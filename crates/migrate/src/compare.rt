@@ -5,7 +5,7 @@ ghost use Rattle.tree.specs.Tree.{most_size};
 ghost use Rattle.image.specs.Contents.{contents};
 ghost use Rattle.old_volume.specs.Form.{version_2};
 ghost use Rattle.old_volume.specs.Findings.{has_bad_size};
-ghost use Rattle.migrate.specs.Same.{SameAttributes, SameBelow, SameDirectory, SameFile, SameNames, SameNode, SameNodes};
+ghost use Rattle.migrate.specs.Same.{SameBelow, SameDirectory, SameFile, SameNames, SameNode, SameNodes, same_attributes};
 
 use crate::new_zones::NUMBERS;
 use crate::volume_blocks::VolumeBlocks;
@@ -57,7 +57,7 @@ fn same_node(old: &VolumeBlocks, new: &VolumeBlocks, n: u32) -> bool
 
 /// Whether two inodes agree in what doesn't depend on their zones.
 fn same_attributes(x: &Inode, y: &Inode) -> bool
-    ensures { result ≡ true → SameAttributes x.now y.now }
+    ensures { result ≡ same_attributes x.now y.now }
 {
     x.mode == y.mode
         && x.links == y.links

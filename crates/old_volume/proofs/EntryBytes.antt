@@ -171,19 +171,21 @@ zero_at n k = elim (cases_lt k n) [
 -- the number is written
 pub wide_begins : (raw : List ℕ) → IsWide raw (set (set (replicate 64 0) 0 (get_or raw 0 0)) 1 (get_or raw 1 0)) 0
 wide_begins raw =
-    let one = set (replicate 64 0) 0 (get_or raw 0 0) in
-    let two = set one 1 (get_or raw 1 0) in
-    let size_one : length one ≡ 64 = length-set (replicate 64 0) 0 (get_or raw 0 0) ∙ length-replicate 64 0 in
+    let zeros : List ℕ = replicate 64 0 in
+    let none : length zeros ≡ 64 = length-replicate {A = ℕ} 64 0 in
+    let one : List ℕ = set zeros 0 (get_or raw 0 0) in
+    let two : List ℕ = set one 1 (get_or raw 1 0) in
+    let size_one : length one ≡ 64 = length-set zeros 0 (get_or raw 0 0) ∙ none in
     let size : length two ≡ 64 = length-set one 1 (get_or raw 1 0) ∙ size_one in
     let other : (k : ℕ) → 2 ≤ k → get_or two k 0 ≡ 0 = λ k far.
     get_or-set_other one 1 k (get_or raw 1 0) 0 (λ e. absurd (omega arith))
-    ∙ get_or-set_other (replicate 64 0) 0 k (get_or raw 0 0) 0 (λ e. absurd (omega arith)) ∙ zero_at 64 k in
+    ∙ get_or-set_other zeros 0 k (get_or raw 0 0) 0 (λ e. absurd (omega arith)) ∙ zero_at 64 k in
     record {
       size = size;
       low = λ k h. elim (cases_eq k 0) [
         | inl e ↦
             ap (λ k. get_or two k 0) e ∙ get_or-set_other one 1 0 (get_or raw 1 0) 0 (λ e. absurd (omega arith))
-            ∙ get_or-set_same (replicate 64 0) 0 (get_or raw 0 0) 0 (let z : length (replicate {A = ℕ} 64 0) ≡ 64 = length-replicate {A = ℕ} 64 0 in omega arith) ∙ ap (λ k. get_or raw k 0) (sym e)
+            ∙ get_or-set_same zeros 0 (get_or raw 0 0) 0 (omega arith) ∙ ap (λ k. get_or raw k 0) (sym e)
         | inr d ↦
             let e : k ≡ 1 = omega arith in
             ap (λ k. get_or two k 0) e ∙ get_or-set_same one 1 (get_or raw 1 0) 0 (omega arith) ∙ ap (λ k. get_or raw k 0) (sym e)
