@@ -1,5 +1,5 @@
 -- Two files whose ten numbers lead to the same pages are the same.
-use Rattle.std.proofs.Common.{◌≡◌, ◌<◌, ◌≤◌, ◌+◌, ◌-◌, ◌/◌, ◌%◌, ℕ, zero, suc, Bool, true, false, refl, sym, ap, ◌∙◌, cond, subst, arith}
+use Rattle.std.proofs.Common.{◌≡◌, ◌≢◌, ◌<◌, ◌≤◌, ◌+◌, ◌-◌, ◌/◌, ◌%◌, ℕ, zero, suc, List, slice_index, Bool, true, false, refl, sym, ap, ◌∙◌, cond, subst, arith}
 use mathlib.Core.Logic.{inl, inr}
 use Rattle.std.specs.Prelude.{not, ◌==◌, nat_lt, nat_le}
 use Rattle.std.proofs.lemmas.Bool.{cases_eq, cases_lt, cases_Bool, cond-true, cond-false, eq-eqb, ne_eqb, lt-ltb, le-ltb, leb-true, le-leb, lt-leb}
@@ -19,6 +19,21 @@ no_numbers v w zero x y e d = record {
 }
 no_numbers v w (suc l) x y e d = λ j h. no_numbers v w l (number v x j) (number w y j)
     (cond-true (x == 0) 0 _ (eq-eqb x 0 e)) (cond-true (y == 0) 0 _ (eq-eqb y 0 d))
+
+-- there are four levels
+pub level_low : (s : ℕ) → s < 10 → level_of s < 4
+level_low s h = elim (cases_lt s 7) [
+  | inl low ↦ let e : level_of s ≡ 0 = cond-true (nat_lt s 7) 0 (s - 6) (lt-ltb s 7 low) in omega arith
+  | inr far ↦ let e : level_of s ≡ s - 6 = cond-false (nat_lt s 7) 0 (s - 6) (le-ltb s 7 far) in omega arith
+]
+
+-- two zones with the same block are the same page
+pub page_from : (v w : Pieces) (x y : ℕ) (xs ys : List ℕ) → xs ≡ ys → x ≢ 0 → y ≢ 0
+    → ((o : ℕ) → o < 1024 → slice_index xs o ≡ page_byte v x o) → ((o : ℕ) → o < 1024 → slice_index ys o ≡ page_byte w y o) → SamePage v w x y
+page_from v w x y xs ys same some some' left right = record {
+  held = ne_eqb x 0 some ∙ sym (ne_eqb y 0 some');
+  bytes = λ o h. sym (left o h) ∙ ap (λ l. slice_index l o) same ∙ right o h;
+}
 
 module _ (v w : Pieces) (x y : Inode) (same : SameFile v w x y) where
   -- the blocks that name blocks

@@ -2,3 +2,4 @@ pub mod Below
 pub mod Nodes
 pub mod Verdicts
 pub mod TreeSizes
+pub mod Names

@@ -85,8 +85,11 @@ fn same_below(old: &VolumeBlocks, x: u32, new: &VolumeBlocks, y: u32, level: usi
     requires { level < 4 }
     ensures { result ≡ true → SameBelow (contents old.now.image) (contents new.now.image) level x y }
 {
-    if x == 0 || y == 0 {
-        return x == y;
+    if x == 0 {
+        return y == 0;
+    }
+    if y == 0 {
+        return false;
     }
     if level == 0 {
         return old.block(x) == new.block(y);
@@ -110,7 +113,8 @@ fn same_directory(old: &VolumeBlocks, x: &Inode, new: &VolumeBlocks, y: &Inode) 
         return false;
     }
     let parent = entry(&old.image(), x, 1);
-    if u32_at(&parent, 0) != u32_at(new.image().entry(y, 1), 0) {
+    let wanted = new.image().entry(y, 1);
+    if u32_at(&parent, 0) != u32_at(wanted, 0) {
         return false;
     }
     same_names(old, x, new, y)
@@ -131,7 +135,9 @@ fn same_names(old: &VolumeBlocks, x: &Inode, new: &VolumeBlocks, y: &Inode) -> b
         if place >= most {
             return false;
         }
-        if entry.as_slice() != new.image().entry(y, place) {
+        let wanted = new.image().entry(y, place);
+        let same = entry.as_slice() == wanted;
+        if !same {
             return false;
         }
         place += 1;
