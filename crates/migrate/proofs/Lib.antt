@@ -3,3 +3,4 @@ pub mod Nodes
 pub mod Verdicts
 pub mod TreeSizes
 pub mod Names
+pub mod Blocks
