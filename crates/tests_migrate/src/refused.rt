@@ -94,7 +94,7 @@ fn short_images(rt: HostRuntime) -> Result<(), Fail> {
         (1047, "migrate refusal 1 at 1"),
         (1048, "migrate refusal 1 at 5"),
         (65535, "migrate refusal 1 at 5"),
-        ];
+    ];
     for (row, (length, wanted)) in rows.iter().enumerate() {
         let image = old.get(..*length).unwrap_or(&[]);
         let text = answer(alloc, image, 64)?;
