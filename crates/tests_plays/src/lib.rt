@@ -33,6 +33,8 @@ mod partitions;
 #[cfg(test)]
 mod places;
 #[cfg(test)]
+mod recalled;
+#[cfg(test)]
 mod renames;
 #[cfg(test)]
 mod table;

@@ -3,6 +3,7 @@
 ghost use Rattle.std.specs.Prelude.{◌≡◌, ◌≢◌, ◌<◌, ◌+◌, ◌^◌, false};
 
 use crate::answer;
+use client_calls::calls_open::path::NameCache;
 use descriptors::Descriptors;
 use layout::Geometry;
 use message::Incoming;
@@ -19,6 +20,7 @@ use tree::{Call, Outcome, Who};
 pub struct Server<B> {
     pub(crate) alloc: Global,
     pub(crate) blocks: B,
+    pub(crate) names: NameCache,
     pub(crate) geometry: Geometry,
     pub(crate) opens: Descriptors,
     // How many messages it was handed between two calls.
@@ -36,6 +38,7 @@ impl<B> Server<B> {
         Server {
             alloc,
             blocks,
+            names: NameCache::new(alloc),
             geometry,
             opens,
             absorbed: 0,
@@ -66,6 +69,7 @@ impl<B: Caches> Server<B> {
         answer(
             self.alloc,
             &mut self.blocks,
+            &mut self.names,
             &mut self.opens,
             &self.geometry,
             who,
