@@ -6,8 +6,7 @@ ghost use Rattle.file_server.specs.Over.{CallsOver, outcome_of};
 ghost use Rattle.vfs.specs.Outcomes.{OnAnswered, stopped};
 ghost use Rattle.vfs.specs.Serving.{MayServe, Spends, server_of};
 
-use client_calls::body;
-use client_calls::calls_open::path::NameCache;
+use client_calls::{NameCache, body};
 use descriptors::Descriptors;
 use errno::Errno;
 use layout::Geometry;

@@ -3,7 +3,7 @@
 ghost use Rattle.std.specs.Prelude.{◌≡◌, ◌≢◌, ◌<◌, ◌+◌, ◌^◌, false};
 
 use crate::answer;
-use client_calls::calls_open::path::NameCache;
+use client_calls::NameCache;
 use descriptors::Descriptors;
 use layout::Geometry;
 use message::Incoming;
