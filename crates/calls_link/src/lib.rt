@@ -1,5 +1,5 @@
 //! The client calls `unlink`, `rmdir` and `link`, over any blocks: what each asks of its paths, whether there is room for the name, and
-//! the call. No memory is taken.
+//! the call.
 #![tactic(auto)]
 
 mod linking;

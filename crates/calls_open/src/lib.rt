@@ -1,5 +1,5 @@
 //! The client calls `open`, `mkdir` and `symlink`, over any blocks: a descriptor more, for a node that is there or for a file that is
-//! made; a new directory; a new symbolic link. No memory is taken.
+//! made; a new directory; a new symbolic link.
 #![tactic(auto)]
 
 mod asking;

@@ -1,5 +1,4 @@
-//! The client call `rename`, over any blocks: what its two paths name, what bars the move, whether there is room, and the move. No memory
-//! is taken.
+//! The client call `rename`, over any blocks: what its two paths name, what bars the move, whether there is room, and the move.
 #![tactic(auto)]
 
 pub mod ancestors;

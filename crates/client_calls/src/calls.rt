@@ -98,7 +98,8 @@ fn perform<B: Blocks>(
 
 /// Does a client call. EINVAL where the session isn't one that may be, before anything else is looked at. EIO is never answered, and
 /// after a sync that succeeded all that was changed is written. A volume that turns out not to be sound holds no tree; the call is
-/// refused with EINVAL then. Read and readdir take memory for their answer, and no other call takes any.
+/// refused with EINVAL then. Read and readdir take memory for their answer; of the other calls those with paths may take some for the cache
+/// of names, and do without it.
 #[inline(always)]
 pub fn body<B: Blocks>(
     alloc: Global,

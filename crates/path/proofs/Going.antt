@@ -83,6 +83,18 @@ has_parent g v n i directory =
     let counted : i.size / 64 ≡ entry_count v n = ap (λ (j : Inode). j.size / 64) directory.loaded in
     omega (arith, two, counted)
 
+-- where a part leads that is `..`, and one that is a name
+module _ (here parent : ℕ) (names : Names) (part : Name) (no_dot : same_name part dot ≡ false) where
+  pub to_parent : same_name part dot_dot ≡ true → next here parent names part ≡ Ok parent
+  to_parent dots = cond-false (same_name part dot) (Ok here)
+      (if same_name part dot_dot then Ok parent else or_refuse (inode_of names part) ENOENT) no_dot
+      ∙ cond-true (same_name part dot_dot) (Ok parent) (or_refuse (inode_of names part) ENOENT) dots
+
+  pub to_name : same_name part dot_dot ≡ false → next here parent names part ≡ or_refuse (inode_of names part) ENOENT
+  to_name no_dots = cond-false (same_name part dot) (Ok here)
+      (if same_name part dot_dot then Ok parent else or_refuse (inode_of names part) ENOENT) no_dot
+      ∙ cond-false (same_name part dot_dot) (Ok parent) (or_refuse (inode_of names part) ENOENT) no_dots
+
 -- a name leads to a node, the parent is one, and so is the directory itself
 next_is_there : (g : Geometry) (d : Disk) (t : Tree) (n : ℕ) (i : Inode) (part : Name) → Holds g d t → IsTrue (is_some (t.nodes n)) → HasEntries g d t n i
     → let dir = directory_of g (pieces g d) i in IsThere t (next n dir.parent dir.names part)

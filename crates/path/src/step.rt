@@ -89,10 +89,11 @@ fn known<B: Blocks>(
     let Some(known) = names.get(here, name) else {
         return Ok(None);
     };
-    if stands_at(blocks, geometry, inode, name, known)? {
-        return Ok(Some(known.number));
+    let stands = stands_at(blocks, geometry, inode, name, known)?;
+    if !stands {
+        return Ok(None);
     }
-    Ok(None)
+    Ok(Some(known.number))
 }
 
 /// The inode to which a name leads from a directory. Where the cache doesn't tell it, all entries are searched.

@@ -1,4 +1,4 @@
-use Rattle.std.proofs.Common.{◌≡◌, ◌∙◌, sym, true}
+use Rattle.std.proofs.Common.{◌≡◌, ◌∙◌, sym}
 use Rattle.store.proofs.Turns.{reads_as, reads_none}
 use Rattle.directory.proofs.Known.{known_leads}
 use Rattle.volume.specs.Pieces.{pieces}
@@ -7,13 +7,10 @@ use Rattle.path.proofs.step.known.Goals as goal
 pub returns-in_default-clause-reads : goal.returns-in_default-clause-reads
 returns-in_default-clause-reads g c = reads_none _ g.met.B.Blocks.lawful _ _ c.requires.on.ready (λ d directory. tt)
 
-pub returns-then-stands_at-clause-reads : goal.returns-then-stands_at-clause-reads
-returns-then-stands_at-clause-reads g c =
+pub returns-clause-reads : goal.returns-clause-reads
+returns-clause-reads g c =
     let a = c.args in
     reads_as _ _ _ _ _
-    (λ d p directory. known_leads a.geometry.now (pieces a.geometry.now d) a.here a.inode.now a.name.now c.in_default.known
-    directory.sound directory.loaded (sym p ∙ c.if-stands_at.true))
-    c.in_ok-stands_at.ensures.reads
-
-pub returns-clause-reads : goal.returns-clause-reads
-returns-clause-reads g c = reads_as _ _ _ _ _ (λ d p directory. tt) c.in_ok-stands_at.ensures.reads
+    (λ d p directory. known_leads a.geometry.now (pieces a.geometry.now d) a.here a.inode.now a.name.now c.in-Some.known
+    directory.sound directory.loaded (sym p ∙ c.if-not-stands.false))
+    c.in_ok-stands.ensures.reads
