@@ -51,12 +51,7 @@ fn digit(number: usize) -> u8 {
 
 /// The path of a number's name.
 fn path_of(number: usize) -> [u8; 4] {
-    [
-        b'/',
-        digit(number / 100),
-        digit(number / 10),
-        digit(number),
-    ]
+    [b'/', digit(number / 100), digit(number / 10), digit(number)]
 }
 
 #[test]
@@ -71,6 +66,9 @@ fn at_most_256_names_are_kept(rt: HostRuntime) -> Result<(), Fail> {
         ];
         tree.gives("a name more", &steps)?;
     }
-    tree.gives("the name that was let go", &[(Call::Walk(ROOT, b"/000"), Ok(Seen::There(1)))])?;
+    tree.gives(
+        "the name that was let go",
+        &[(Call::Walk(ROOT, b"/000"), Ok(Seen::There(1)))],
+    )?;
     tree.gives("as many names", &[(Call::Kept, Ok(Seen::Kept(256)))])
 }

@@ -181,14 +181,26 @@ impl Volume {
     /// The inode to which a path leads.
     fn walk(&mut self, user: User, path: &[u8]) -> Result<Seen, Stop> {
         let path = Path::parse(path)?;
-        let number = walk(&mut self.blocks, &mut self.names, &self.geometry, user, path.parts())?;
+        let number = walk(
+            &mut self.blocks,
+            &mut self.names,
+            &self.geometry,
+            user,
+            path.parts(),
+        )?;
         Ok(Seen::There(number))
     }
 
     /// What a path finds.
     fn look_up(&mut self, user: User, path: &[u8]) -> Result<Seen, Stop> {
         let path = Path::parse(path)?;
-        match look_up(&mut self.blocks, &mut self.names, &self.geometry, user, &path)? {
+        match look_up(
+            &mut self.blocks,
+            &mut self.names,
+            &self.geometry,
+            user,
+            &path,
+        )? {
             Found::There(number) => Ok(Seen::There(number)),
             Found::Missing(place) => Ok(Seen::MissingIn(place.directory)),
         }
@@ -198,7 +210,13 @@ impl Volume {
     fn place(&mut self, path: &[u8]) -> Result<Seen, Stop> {
         let path = Path::parse(path)?;
         let user = User { uid: 0, gid: 0 };
-        let place = find_place(&mut self.blocks, &mut self.names, &self.geometry, user, &path)?;
+        let place = find_place(
+            &mut self.blocks,
+            &mut self.names,
+            &self.geometry,
+            user,
+            &path,
+        )?;
         Ok(Seen::At(place.directory, place.name.len(), place.there))
     }
 }
