@@ -4,3 +4,4 @@ pub mod Wishes
 pub mod Stops
 pub mod Walking
 pub mod Places
+pub mod Kept

@@ -1,10 +1,12 @@
 //! A cache of names: where they were last seen to lead.
 
-ghost use Rattle.std.specs.Prelude.{◌≤◌};
+ghost use Rattle.std.specs.Prelude.{◌≡◌, ◌≤◌, [], IfSome};
+ghost use Rattle.lru.specs.LruCache.{lru_cache};
 
 use directory::Placed;
 use lru::LruCache;
 use std::alloc::Global;
+use std::marker::Model;
 use std::num::NonZeroUsize;
 use tree::MAX_NAME;
 
@@ -18,14 +20,25 @@ struct Key {
     name: [u8; 60],
 }
 
-/// At most 256 names of directories, the ones last used, with the entries that had them. A walk looks whether the entry that it finds
-/// here still stands in its directory, so nothing in a cache changes what a walk answers. Memory is taken for names that are put; a put
-/// that is refused memory is ignored.
+/// At most 256 names of directories, the ones last used, with the entries that had them: contracts see how many. A walk looks whether the
+/// entry that it finds here still stands in its directory, so nothing in a cache changes what a walk answers. Memory is taken for names
+/// that are put; a put that is refused memory is ignored.
 #[derive(Drop)]
 pub struct NameCache {
     alloc: Global,
     // None before the first name was put.
     kept: Option<LruCache<Key, Placed>>,
+}
+
+impl Model for NameCache {
+    ghost use Rattle.std.specs.Prelude.{ℕ};
+    ghost use Rattle.path.specs.Kept.{IsFew, kept_in};
+
+    ghost Value = { ℕ };
+
+    ghost view = { λ c. kept_in c.kept };
+
+    ghost invariant = { λ c. IsFew c.kept };
 }
 
 /// The key of a name of a directory; a name that is longer than it may be has none.
@@ -41,14 +54,27 @@ fn key_of(parent: u32, name: &[u8]) -> Option<Key> {
     })
 }
 
+/// Room for as many names as are kept, if there is memory for it.
+fn room(alloc: Global) -> Option<LruCache<Key, Placed>>
+    ensures { IfSome result (λ room. room ≡ lru_cache [] 256) }
+{
+    let most = NonZeroUsize::new(MOST_KEPT)?;
+    LruCache::sparse(alloc, most).ok()
+}
+
 impl NameCache {
     /// A cache without names. It takes no memory yet.
-    pub fn new(alloc: Global) -> NameCache {
+    pub fn new(alloc: Global) -> NameCache
+        ensures { result ≡ 0 }
+    {
         NameCache { alloc, kept: None }
     }
 
     /// How many names it keeps.
-    pub fn len(&self) -> usize {
+    pub fn len(&self) -> usize
+        ensures count { result ≡ self.now }
+        ensures few { result ≤ 256 }
+    {
         match &self.kept {
             Some(kept) => kept.len(),
             None => 0,
@@ -69,7 +95,7 @@ impl NameCache {
             return;
         };
         if self.kept.is_none() {
-            self.kept = NonZeroUsize::new(MOST_KEPT).and_then(|most| LruCache::sparse(self.alloc, most).ok());
+            self.kept = room(self.alloc);
         }
         if let Some(kept) = &mut self.kept {
             let _ = kept.put(key, placed);

@@ -11,9 +11,9 @@ ghost use Rattle.path.specs.Stops.{Answers, IsStop, IfRefused};
 ghost use Rattle.path.specs.Places.{Finds, FindsPlace, last_leads_to};
 ghost use Rattle.path.specs.Walking.{IsDirectoryAt};
 
-use crate::{NameCache, Path};
 use crate::step::{enter, named, walk};
 use crate::stop::Stop;
+use crate::{NameCache, Path};
 use errno::Errno;
 use layout::Geometry;
 use store::{Blocks, Cut};
