@@ -11,6 +11,8 @@ pub(crate) enum Work {
     Volumes,
     /// Looking names up in a directory.
     Names,
+    /// Walking a path of eight names.
+    Paths,
     /// Reading and writing the bytes of a file.
     Bytes,
     /// Round trips between threads, and ticks.
@@ -20,10 +22,11 @@ pub(crate) enum Work {
 }
 
 /// All of it, in turn.
-const ALL: [Work; 6] = [
+const ALL: [Work; 7] = [
     Work::Drivers,
     Work::Volumes,
     Work::Names,
+    Work::Paths,
     Work::Bytes,
     Work::Threads,
     Work::Calls,
@@ -36,6 +39,7 @@ impl Work {
             Work::Drivers => "drivers",
             Work::Volumes => "volumes",
             Work::Names => "names",
+            Work::Paths => "paths",
             Work::Bytes => "bytes",
             Work::Threads => "threads",
             Work::Calls => "calls",

@@ -1,7 +1,7 @@
 //! Measures look-ups in a directory of 1000 names whose blocks are in memory, beside plain scans of the same bytes.
 
-mod directories;
-mod scans;
+pub(crate) mod directories;
+pub(crate) mod scans;
 
 ghost use Rattle.layout.specs.Places.{IsGeometry};
 

@@ -3,6 +3,7 @@
 
 pub mod bench_bytes;
 pub mod bench_names;
+pub mod bench_paths;
 pub mod bench_volumes;
 pub mod sizes;
 pub mod timing;

@@ -11,10 +11,15 @@ use Rattle.cache.specs.declared.refusals.Cut.{Cut}
 use Rattle.cache.specs.Slots.{held}
 use Rattle.cache.specs.Uses.{IsUsedLast}
 use Rattle.cache.specs.Order.{IsVictim}
-use Rattle.cache.specs.Edits.{IsFilledAt, IsFreeAt, StayBut}
+use Rattle.cache.specs.Edits.{IsAt, IsFilledAt, IsFreeAt, StayBut}
+use Rattle.cache.specs.Calls.{IsFrameOf}
 use Rattle.cache.specs.Fetches.{Misses}
 use Rattle.cache.proofs.Filling.{filled_held, filled_slot}
 use Rattle.cache.proofs.Staying.{put_others, others_then}
+
+-- the block of a frame that was found stands there
+pub found_there : {L : Type 0} (cache : Cache L) (frame : Frame) (b : ℕ) → IsFrameOf cache (Some frame) b → IsAt cache.slots.items.items frame.at b
+found_there cache frame b x = subst (λ (n : ℕ). IsAt cache.slots.items.items frame.at n) x.0 x.1
 
 -- a cut gives no place
 pub no_place : {X : Type 0} (r : Result X Cut) (P : X → Type 0) → IsErr r → IfOk r P

@@ -1,5 +1,7 @@
 pub mod Held
 mod Places
+mod Entries
+mod Halves
 pub mod Edits
 pub mod Staying
 pub mod Filling
@@ -7,6 +9,7 @@ pub mod Issuing
 mod Order
 mod Choosing
 mod Making
+mod Indexed
 mod Settled
 mod Copying
 pub mod Begun

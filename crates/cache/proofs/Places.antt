@@ -1,12 +1,10 @@
--- Where slots stand.
-use Rattle.std.proofs.Common.{◌≡◌, ℕ, zero, suc, ◌+◌, List, [], ◌∷◌, refl, sym, ap, ◌∙◌, arith, Bool, true, false, Option, Some, None}
+-- Where the first slot that passes a test stands.
+use Rattle.std.proofs.Common.{◌≡◌, ℕ, zero, suc, ◌+◌, List, [], ◌∷◌, refl, sym, ap, ◌∙◌, arith, Bool, true, false, Some, None}
 use Rattle.std.specs.Prelude.{cond, slice_get, position}
 use Rattle.std.specs.List.{position_from}
 use Rattle.std.proofs.lemmas.Iterator.Adapters.{position_from-zero}
 use Rattle.cache.specs.declared.slot.Slot.{Slot}
-use Rattle.cache.specs.Slots.{is_number, held}
-use Rattle.cache.specs.Edits.{IsSlotAt, IsAt, IsPlaceOf}
-use Rattle.cache.proofs.Held.{place_of, block_is, is_its_number}
+use Rattle.cache.specs.Edits.{IsSlotAt}
 
 -- where none is found, counted from n on, each fails the test
 none_from : (p : Slot → Bool) (n : ℕ) (xs : List Slot) → position_from p n xs ≡ None
@@ -45,26 +43,3 @@ some_at p xs at h =
     let r = some_from p 0 xs at (sym (position_from-zero p xs) ∙ h) in
     let same : r.0 ≡ at = (let a = r.2 in omega arith) in
     record { slot = r.1; is = ap (slice_get xs) (sym same) ∙ r.3; passes = r.4 }
-
--- no slot of a block is found only where it has none
-none_held : (items : List Slot) (b : ℕ) → position (λ (s : Slot). is_number s.block b) items ≡ None → held items b ≡ None
-none_held items b h = by_held (held items b) refl
-  where
-    by_held : (x : Option Slot) → held items b ≡ x → held items b ≡ None
-    by_held None k = k
-    by_held (Some s) k =
-        let p = place_of items b s k in
-        let z = none_at (λ (t : Slot). is_number t.block b) items h p.index s p.is in
-        let y = is_its_number s.block b p.block in
-        absurd (let q : true ≡ false = sym y ∙ z in cc)
-
--- the slot that is found is the block's
-found_at : (items : List Slot) (at b : ℕ) → position (λ (s : Slot). is_number s.block b) items ≡ Some at → IsAt items at b
-found_at items at b h =
-    let x = some_at (λ (s : Slot). is_number s.block b) items at h in
-    record { slot = x.slot; is = x.is; block_is = block_is x.slot.block b x.passes }
-
--- where a block stands
-pub placed_at : (o : Option ℕ) (items : List Slot) (b : ℕ) → o ≡ position (λ (s : Slot). is_number s.block b) items → IsPlaceOf o items b
-placed_at None items b h = none_held items b (sym h)
-placed_at (Some at) items b h = found_at items at b (sym h)

@@ -182,6 +182,11 @@ pub record IsLive (c : Caching) : Type 0 where
 abbrev pub IsFrame : {L : Type 0} → Cache L → Frame → Type 0
 IsFrame cache frame = IsAt cache.slots.items.items frame.at frame.block
 
+-- the frame of a block, or that it has none
+abbrev pub IsFrameOf : {L : Type 0} → Cache L → Option Frame → ℕ → Type 0
+IsFrameOf cache None block = held_by cache block ≡ None
+IsFrameOf cache (Some frame) block = (frame.block ≡ block) × IsFrame cache frame
+
 -- a clean slot is given up, another one stays
 abbrev pub unless_clean : Option Slot → Option Slot
 unless_clean None = None

@@ -2,6 +2,7 @@
 -- Requests for blocks, and what becomes of them.
 -- Frames of a volume's blocks.
 pub mod Slots
+pub mod Index
 pub mod Edits
 pub mod Uses
 pub mod Order

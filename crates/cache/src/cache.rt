@@ -18,6 +18,7 @@ use layout::Geometry;
 use message::Incoming;
 use reissue::{Link, Ticket, Transfers};
 use std::alloc::Global;
+use step_count::Steps;
 
 /// A read of a block that isn't settled.
 #[derive(Clone, Copy)]
@@ -48,7 +49,7 @@ impl<L: Link> Cache<L> {
     ghost use Rattle.cache.specs.Edits.{AllClean, SomeUnclean, IsIssued, IssuesLowest, IsWritten, IsSlotAt, IsFreeAt, IsAt, Leaves};
     ghost use Rattle.cache.specs.Edits.{AllStay, StayBut, IsChangedAt, AreDirty};
     ghost use Rattle.cache.specs.Frames.{frames_of, view, with_bytes};
-    ghost use Rattle.cache.specs.Calls.{caching, held_by, frame_count, IsReady, IsIdle, IsLive, IsWhyCut, IsFrame, IsMade, IsStuck};
+    ghost use Rattle.cache.specs.Calls.{caching, held_by, frame_count, IsReady, IsIdle, IsLive, IsWhyCut, IsFrame, IsFrameOf, IsMade, IsStuck};
     ghost use Rattle.cache.specs.Calls.{IsRefusing, PostsAlone, messages_left, Does, Keeps, HandsOver, Blanks, Rewrites, LinkGoesOn};
     ghost use Rattle.cache.specs.Calls.{WantsFlush, forgotten, with_cache_link, without_flush};
     ghost use Rattle.cache.specs.Settling.{IsWantedFor};
@@ -385,6 +386,18 @@ impl<L: Link> Cache<L> {
         self.wait(reading)
     }
 
+    /// The frame of a block, if it has one. No frame is used by it. A step is an entry of the index that is compared: 13 at most.
+    #[inline]
+    pub fn find(&self, block: u32, steps: &mut Steps) -> Option<Frame>
+        ensures frame { IsFrameOf self.now result block }
+        ensures cost { steps.new ≤ steps.old + 13 }
+    {
+        match self.slots.find(block, steps) {
+            Some(at) => Some(Frame { block, at }),
+            None => None,
+        }
+    }
+
     /// The frame of a block, which is read if it has none: what would be read back stays as it is. Where the call is
     /// cut the block gets none; the frame that was to go may be gone.
     pub fn fetch(&mut self, block: u32) -> Result<Frame, Cut>
@@ -398,10 +411,10 @@ impl<L: Link> Cache<L> {
         ensures cut { IfErr result (λ cut. IsWhyCut (caching L.Link self.new) cut) }
         ensures flush { WantsFlush L.Link self.old self.new }
     {
-        match self.slots.find(block) {
-            Some(at) => {
-                self.slots.touch(at, block);
-                Ok(Frame { block, at })
+        match self.find(block, &mut Steps::new()) {
+            Some(frame) => {
+                self.slots.touch(frame.at);
+                Ok(frame)
             }
             None => self.fetch_missing(block),
         }
@@ -439,10 +452,10 @@ impl<L: Link> Cache<L> {
         ensures flush { WantsFlush L.Link self.old self.new }
         ensures at_once { held self.old.slots.items.items block ≡ None → IsAtOnce result self.old self.new }
     {
-        match self.slots.find(block) {
-            Some(at) => {
-                self.slots.blank(at, block);
-                Ok(Frame { block, at })
+        match self.find(block, &mut Steps::new()) {
+            Some(frame) => {
+                self.slots.blank(frame.at);
+                Ok(frame)
             }
             None => self.fresh_missing(block),
         }
@@ -511,10 +524,10 @@ impl<L: Link> Cache<L> {
         ensures uses { self.new.slots.uses ≡ self.old.slots.uses }
         ensures frames { (f : FrameValue) → f.block ≢ block → IsFrame self.old f → IsFrame self.new f }
     {
-        match self.slots.find(block) {
-            Some(at) => {
-                if self.slots.get(at).state.is_clean() {
-                    self.slots.vacate(at);
+        match self.find(block, &mut Steps::new()) {
+            Some(frame) => {
+                if self.slots.get(frame.at).state.is_clean() {
+                    self.slots.vacate(frame.at);
                 }
             }
             None => {}

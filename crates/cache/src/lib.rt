@@ -6,7 +6,7 @@
 
 pub mod cache;
 mod frame;
-mod hints;
+mod index;
 pub mod laws;
 pub mod refusals;
 mod settling;

@@ -2,14 +2,17 @@
 
 ghost use Rattle.std.specs.Prelude.{◌≡◌, ◌⊎◌, ◌<◌, ◌≤◌, ◌+◌, ◌*◌, ◌^◌, ℕ, true, IfOk, IfSome, Option, Some, None, slice_get, position, length, if◌then◌else◌};
 ghost use Rattle.std.specs.Bool.{OnTrue, OnFalse};
-ghost use Rattle.cache.specs.Slots.{is_number, held, is_dirty_held, is_unclean_slot, IsDistinct};
+ghost use Rattle.std.specs.Vec.{vec_capacity};
+ghost use Rattle.cache.specs.Slots.{held, is_dirty_held, is_unclean_slot, IsDistinct};
+ghost use Rattle.cache.specs.Index.{IsIndexOf};
 
-use crate::hints::Hints;
+use crate::index::Index;
 use crate::slot::{Slot, put, zeros};
 use crate::state::State;
 use crate::uses::Uses;
 use reissue::Ticket;
 use std::alloc::{AllocError, Global};
+use step_count::Steps;
 
 /// Which slots are looked among, and in which order.
 #[derive(Clone, Copy)]
@@ -24,15 +27,19 @@ enum Among {
     Dirty,
 }
 
-/// All slots; no block has two. Their memory is taken when they are made.
+/// All slots, 4096 at most; no block has two. Their memory is taken when they are made.
 #[derive(Drop)]
 pub struct Slots {
     items: Vec<Slot>,
     // When each was used last.
     uses: Uses,
-    hints: Hints,
+    // Where each block stands.
+    index: Index,
     pub ghost distinct: { IsDistinct items.items },
     pub ghost some: { 0 < length items.items },
+    pub ghost few: { length items.items ≤ 4096 },
+    pub ghost indexed: { IsIndexOf index.entries.items items.items },
+    pub ghost room: { vec_capacity index.entries ≡ length items.items },
     pub ghost paired: { length uses.numbers.items ≡ length items.items },
 }
 
@@ -52,7 +59,8 @@ impl Slots {
 
     /// So many slots, all free.
     pub fn new(alloc: Global, count: usize) -> Result<Slots, AllocError>
-        requires { 0 < count }
+        requires some { 0 < count }
+        requires few { count ≤ 4096 }
         ensures free { IfOk result (λ s. (b : ℕ) → held s.items.items b ≡ None) }
         ensures count { IfOk result (λ s. length s.items.items ≡ count) }
     {
@@ -63,46 +71,17 @@ impl Slots {
         Ok(Slots {
             items,
             uses: Uses::new(alloc, count)?,
-            hints: Hints::new(alloc)?,
+            index: Index::new(alloc, count)?,
         })
     }
 
-    /// Where this block stands, if it stands where one with its remainder was seen last.
+    /// Where this block stands. A step is an entry of the index that is compared.
     #[inline]
-    fn guess(&self, block: u32) -> Option<usize>
-        ensures { IfSome result (λ at. IsAt self.now.items.items at block) }
+    pub fn find(&self, block: u32, steps: &mut Steps) -> Option<usize>
+        ensures place { IsPlaceOf result self.now.items.items block }
+        ensures cost { steps.new ≤ steps.old + 13 }
     {
-        let at = self.hints.get(block);
-        match self.items.get(at) {
-            Some(slot) if slot.holds(block) => Some(at),
-            _ => None,
-        }
-    }
-
-    /// The first place where this block stands.
-    fn place(&self, block: u32) -> Option<usize>
-        ensures { result ≡ position (λ s. is_number s.block block) self.now.items.items }
-    {
-        self.items.iter().position(|s| s.holds(block))
-    }
-
-    /// Where this block stands, looked for from the front.
-    #[inline(never)]
-    fn search(&self, block: u32) -> Option<usize>
-        ensures { IsPlaceOf result self.now.items.items block }
-    {
-        self.place(block)
-    }
-
-    /// Where this block stands.
-    #[inline]
-    pub fn find(&self, block: u32) -> Option<usize>
-        ensures { IsPlaceOf result self.now.items.items block }
-    {
-        match self.guess(block) {
-            Some(at) => Some(at),
-            None => self.search(block),
-        }
+        self.index.find(block, steps)
     }
 
     /// The first slot whose bytes may not be the disk's.
@@ -213,7 +192,7 @@ impl Slots {
         let Some(next) = block.checked_add(past) else {
             return false;
         };
-        match self.find(next) {
+        match self.find(next, &mut Steps::new()) {
             Some(at) => self.get(at).state.is_dirty(),
             None => false,
         }
@@ -243,7 +222,7 @@ impl Slots {
         requires { is_dirty_held (held self.now.items.items block) ≡ true }
         ensures { IsAt self.now.items.items result block }
     {
-        match self.find(block) {
+        match self.find(block, &mut Steps::new()) {
             Some(at) => at,
             None => unreachable!(),
         }
@@ -289,14 +268,13 @@ impl Slots {
         }
     }
 
-    /// The slot of a block is used now.
+    /// A slot is used now.
     #[inline]
-    pub fn touch(&mut self, at: usize, block: u32)
+    pub fn touch(&mut self, at: usize)
         requires { at < length self.old.items.items }
         ensures items { self.new.items.items ≡ self.old.items.items }
         ensures used { IsUsedLast self.old.uses.numbers.items self.new.uses.numbers.items at }
     {
-        self.hints.set(block, at);
         self.uses.touch(at);
     }
 
@@ -350,7 +328,11 @@ impl Slots {
         ensures count { length self.new.items.items ≡ length self.old.items.items }
     {
         let slot = &mut self.items[at];
+        let Some(block) = slot.block else {
+            return;
+        };
         slot.block = None;
+        self.index.remove(block);
     }
 
     /// Gives a slot to a block that has none.
@@ -361,13 +343,15 @@ impl Slots {
         ensures used { IsUsedLast self.old.uses.numbers.items self.new.uses.numbers.items at }
         ensures count { length self.new.items.items ≡ length self.old.items.items }
     {
+        self.vacate(at);
+        self.index.insert(block, at);
         let slot = &mut self.items[at];
         slot.hold(block, bytes, state);
-        self.touch(at, block);
+        self.touch(at);
     }
 
     /// Gives a slot zero bytes.
-    pub fn blank(&mut self, at: usize, block: u32)
+    pub fn blank(&mut self, at: usize)
         requires { at < length self.old.items.items }
         ensures blanked { IsBlankedAt self.old.items.items self.new.items.items at }
         ensures used { IsUsedLast self.old.uses.numbers.items self.new.uses.numbers.items at }
@@ -375,7 +359,7 @@ impl Slots {
     {
         let slot = &mut self.items[at];
         slot.clear();
-        self.touch(at, block);
+        self.touch(at);
     }
 
     /// Changes some bytes of a slot.

@@ -15,13 +15,14 @@ use errno::Errno;
 use inode::attributes;
 use inode::inode_table::store;
 use layout::Geometry;
-use path::is_owner;
+use path::{NameCache, is_owner};
 use store::{Blocks, Halt};
 use tree::{MAX_PERMISSIONS, Reply, User};
 
 /// stat: the attributes of the node to which a path leads.
 pub fn stat<B: Blocks>(
     blocks: &mut B,
+    names: &mut NameCache,
     geometry: &Geometry,
     user: User,
     path: &[u8],
@@ -32,7 +33,7 @@ pub fn stat<B: Blocks>(
     ensures halt { IfErr result (λ h. IsHalt B.world blocks.new h) }
     ensures proper { IfOk result (λ r. answer_of r ≢ refused Errno.EIO) }
 {
-    match find_node(blocks, geometry, user, path)? {
+    match find_node(blocks, names, geometry, user, path)? {
         Ok((number, inode)) => {
             if number > 65535 {
                 return Err(Halt::Unsound);
@@ -46,6 +47,7 @@ pub fn stat<B: Blocks>(
 /// chmod: the permissions of a node, whose type stays. EINVAL of other bits, EPERM of a user who neither owns the node nor is user 0.
 pub fn chmod<B: Blocks>(
     blocks: &mut B,
+    names: &mut NameCache,
     geometry: &Geometry,
     user: User,
     now: u32,
@@ -61,7 +63,7 @@ pub fn chmod<B: Blocks>(
     if mode > MAX_PERMISSIONS {
         return Ok(Reply::Refused(Errno::EINVAL));
     }
-    match find_node(blocks, geometry, user, path)? {
+    match find_node(blocks, names, geometry, user, path)? {
         Ok((number, mut inode)) => {
             if !is_owner(user, inode.uid) {
                 return Ok(Reply::Refused(Errno::EPERM));
@@ -78,6 +80,7 @@ pub fn chmod<B: Blocks>(
 /// chown: the owner and the group of a node. EPERM of any user but 0.
 pub fn chown<B: Blocks>(
     blocks: &mut B,
+    names: &mut NameCache,
     geometry: &Geometry,
     user: User,
     now: u32,
@@ -91,7 +94,7 @@ pub fn chown<B: Blocks>(
     ensures halt { IfErr result (λ h. IsHalt B.world blocks.new h) }
     ensures proper { IfOk result (λ r. answer_of r ≢ refused Errno.EIO) }
 {
-    match find_node(blocks, geometry, user, path)? {
+    match find_node(blocks, names, geometry, user, path)? {
         Ok((number, mut inode)) => {
             if user.uid != 0 {
                 return Ok(Reply::Refused(Errno::EPERM));
@@ -109,6 +112,7 @@ pub fn chown<B: Blocks>(
 /// utime: the times of a node as given, and that of its attributes `now`. EPERM of a user who neither owns the node nor is user 0.
 pub fn utime<B: Blocks>(
     blocks: &mut B,
+    names: &mut NameCache,
     geometry: &Geometry,
     user: User,
     now: u32,
@@ -122,7 +126,7 @@ pub fn utime<B: Blocks>(
     ensures halt { IfErr result (λ h. IsHalt B.world blocks.new h) }
     ensures proper { IfOk result (λ r. answer_of r ≢ refused Errno.EIO) }
 {
-    match find_node(blocks, geometry, user, path)? {
+    match find_node(blocks, names, geometry, user, path)? {
         Ok((number, mut inode)) => {
             if !is_owner(user, inode.uid) {
                 return Ok(Reply::Refused(Errno::EPERM));

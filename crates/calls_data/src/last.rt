@@ -9,7 +9,7 @@ ghost use Rattle.calls_data.specs.Named.{IsVolume, LeadsTo, NamesLast, FindsLast
 use errno::Errno;
 use inode::inode_table::load;
 use layout::Geometry;
-use path::{Found, Path, Stop, look_up};
+use path::{Found, NameCache, Path, Stop, look_up};
 use store::{Blocks, Halt};
 use tree::User;
 use volume::Inode;
@@ -18,6 +18,7 @@ use volume::Inode;
 /// where the last name is missing. Nothing is changed. Unsound only where the volume holds no tree.
 pub fn walk_to_last<B: Blocks>(
     blocks: &mut B,
+    names: &mut NameCache,
     geometry: &Geometry,
     user: User,
     path: &Path,
@@ -28,7 +29,7 @@ pub fn walk_to_last<B: Blocks>(
     ensures halt { IfErr result (λ h. IsHalt B.world blocks.new h) }
     ensures proper { IfOk result (λ r. IfErr r (λ e. e ≢ Errno.EIO)) }
 {
-    match look_up(blocks, geometry, user, path) {
+    match look_up(blocks, names, geometry, user, path) {
         Ok(Found::There(number)) => Ok(Ok(number)),
         Ok(Found::Missing(_)) => Ok(Err(Errno::ENOENT)),
         Err(Stop::Refused(errno)) => Ok(Err(errno)),
@@ -39,6 +40,7 @@ pub fn walk_to_last<B: Blocks>(
 /// The same, from the bytes of the path, and with the refusals of the path.
 fn named_last<B: Blocks>(
     blocks: &mut B,
+    names: &mut NameCache,
     geometry: &Geometry,
     user: User,
     path: &[u8],
@@ -50,7 +52,7 @@ fn named_last<B: Blocks>(
     ensures proper { IfOk result (λ r. IfErr r (λ e. e ≢ Errno.EIO)) }
 {
     match Path::parse(path) {
-        Ok(path) => walk_to_last(blocks, geometry, user, &path),
+        Ok(path) => walk_to_last(blocks, names, geometry, user, &path),
         Err(errno) => Ok(Err(errno)),
     }
 }
@@ -59,6 +61,7 @@ fn named_last<B: Blocks>(
 /// of the walk. Nothing is changed. Unsound only where the volume holds no tree.
 pub fn find_last<B: Blocks>(
     blocks: &mut B,
+    names: &mut NameCache,
     geometry: &Geometry,
     user: User,
     path: &[u8],
@@ -69,7 +72,7 @@ pub fn find_last<B: Blocks>(
     ensures halt { IfErr result (λ h. IsHalt B.world blocks.new h) }
     ensures proper { IfOk result (λ r. IfErr r (λ e. e ≢ Errno.EIO)) }
 {
-    match named_last(blocks, geometry, user, path)? {
+    match named_last(blocks, names, geometry, user, path)? {
         Ok(number) => Ok(Ok((number, load(blocks, geometry, number)?))),
         Err(errno) => Ok(Err(errno)),
     }

@@ -19,6 +19,7 @@ use errno::Errno;
 use file::file_pages::reading::read_at;
 use inode::attributes;
 use layout::Geometry;
+use path::NameCache;
 use store::{Blocks, Cut, Halt};
 use tree::{LinkTarget, MAX_TARGET, Reply, User};
 use volume::Inode;
@@ -26,6 +27,7 @@ use volume::Inode;
 /// lstat: the attributes of the node to which a path leads, of a symbolic link that stands last its own.
 pub fn lstat<B: Blocks>(
     blocks: &mut B,
+    names: &mut NameCache,
     geometry: &Geometry,
     user: User,
     path: &[u8],
@@ -36,7 +38,7 @@ pub fn lstat<B: Blocks>(
     ensures halt { IfErr result (λ h. IsHalt B.world blocks.new h) }
     ensures proper { IfOk result (λ r. answer_of r ≢ refused Errno.EIO) }
 {
-    match find_last(blocks, geometry, user, path)? {
+    match find_last(blocks, names, geometry, user, path)? {
         Ok((number, inode)) => {
             if number > 65535 {
                 return Err(Halt::Unsound);
@@ -64,6 +66,7 @@ fn target<B: Blocks>(blocks: &mut B, geometry: &Geometry, inode: &Inode) -> Resu
 /// readlink: the target of the symbolic link to which a path leads. The refusals of the path, else EINVAL of what is no link.
 pub fn readlink<B: Blocks>(
     blocks: &mut B,
+    names: &mut NameCache,
     geometry: &Geometry,
     user: User,
     path: &[u8],
@@ -74,7 +77,7 @@ pub fn readlink<B: Blocks>(
     ensures halt { IfErr result (λ h. IsHalt B.world blocks.new h) }
     ensures proper { IfOk result (λ r. answer_of r ≢ refused Errno.EIO) }
 {
-    match find_last(blocks, geometry, user, path)? {
+    match find_last(blocks, names, geometry, user, path)? {
         Ok((_, inode)) => {
             if !is_link(&inode) {
                 return Ok(Reply::Refused(Errno::EINVAL));

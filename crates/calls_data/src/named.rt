@@ -9,7 +9,7 @@ ghost use Rattle.calls_data.specs.Named.{IsVolume, Names, Finds};
 use errno::Errno;
 use inode::inode_table::load;
 use layout::Geometry;
-use path::{Path, Stop, walk};
+use path::{NameCache, Path, Stop, walk};
 use store::{Blocks, Halt};
 use tree::User;
 use volume::Inode;
@@ -17,6 +17,7 @@ use volume::Inode;
 /// The number of the inode to which a path leads, or the refusal of the path or of the walk.
 fn named<B: Blocks>(
     blocks: &mut B,
+    names: &mut NameCache,
     geometry: &Geometry,
     user: User,
     path: &[u8],
@@ -31,7 +32,7 @@ fn named<B: Blocks>(
         Ok(path) => path,
         Err(errno) => return Ok(Err(errno)),
     };
-    match walk(blocks, geometry, user, path.parts()) {
+    match walk(blocks, names, geometry, user, path.parts()) {
         Ok(number) => Ok(Ok(number)),
         Err(Stop::Refused(errno)) => Ok(Err(errno)),
         Err(Stop::Halted(halt)) => Err(halt),
@@ -42,6 +43,7 @@ fn named<B: Blocks>(
 /// volume holds no tree.
 pub fn find_node<B: Blocks>(
     blocks: &mut B,
+    names: &mut NameCache,
     geometry: &Geometry,
     user: User,
     path: &[u8],
@@ -52,7 +54,7 @@ pub fn find_node<B: Blocks>(
     ensures halt { IfErr result (λ h. IsHalt B.world blocks.new h) }
     ensures proper { IfOk result (λ r. IfErr r (λ e. e ≢ Errno.EIO)) }
 {
-    match named(blocks, geometry, user, path)? {
+    match named(blocks, names, geometry, user, path)? {
         Ok(number) => Ok(Ok((number, load(blocks, geometry, number)?))),
         Err(errno) => Ok(Err(errno)),
     }

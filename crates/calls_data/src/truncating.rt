@@ -14,7 +14,7 @@ use crate::found::is_directory;
 use crate::named::find_node;
 use errno::Errno;
 use layout::Geometry;
-use path::{Wish, may};
+use path::{NameCache, Wish, may};
 use store::{Blocks, Halt};
 use tree::{MAX_SIZE, Reply, User};
 
@@ -22,6 +22,7 @@ use tree::{MAX_SIZE, Reply, User};
 /// refusals of the path, else EISDIR of a directory, else EACCES where the user may not write the file.
 pub fn truncate<B: Blocks>(
     blocks: &mut B,
+    names: &mut NameCache,
     geometry: &Geometry,
     user: User,
     now: u32,
@@ -37,7 +38,7 @@ pub fn truncate<B: Blocks>(
     if size > MAX_SIZE {
         return Ok(Reply::Refused(Errno::EFBIG));
     }
-    match find_node(blocks, geometry, user, path)? {
+    match find_node(blocks, names, geometry, user, path)? {
         Ok((number, inode)) => {
             if is_directory(&inode) {
                 return Ok(Reply::Refused(Errno::EISDIR));

@@ -23,7 +23,7 @@ use file::file_room::has_room;
 use inode::inode_table::load;
 use layout::Geometry;
 use node_steps::add_link;
-use path::Path;
+use path::{NameCache, Path};
 use store::{Blocks, Halt};
 use tree::{MAX_LINKS, MAX_SIZE, Reply, User};
 
@@ -41,6 +41,7 @@ pub(crate) struct Free<'a> {
 /// the refusals of the walk, ENOENT where the last name is missing, EPERM of a directory, EMLINK.
 fn find_file<B: Blocks>(
     blocks: &mut B,
+    names: &mut NameCache,
     geometry: &Geometry,
     user: User,
     path: &Path,
@@ -51,7 +52,7 @@ fn find_file<B: Blocks>(
     ensures halt { IfErr result (λ h. IsHalt B.world blocks.new h) }
     ensures proper { IfOk result (λ r. IfErr r (λ e. e ≢ Errno.EIO)) }
 {
-    let number = match walk_to_last(blocks, geometry, user, path)? {
+    let number = match walk_to_last(blocks, names, geometry, user, path)? {
         Ok(number) => number,
         Err(errno) => return Ok(Err(errno)),
     };
@@ -69,6 +70,7 @@ fn find_file<B: Blocks>(
 /// directory that the user may not write.
 fn find_free<'a, B: Blocks>(
     blocks: &mut B,
+    names: &mut NameCache,
     geometry: &Geometry,
     user: User,
     path: &Path<'a>,
@@ -80,7 +82,7 @@ fn find_free<'a, B: Blocks>(
     ensures halt { IfErr result (λ h. IsHalt B.world blocks.new h) }
     ensures proper { IfOk result (λ r. IfErr r (λ e. e ≢ Errno.EIO)) }
 {
-    let place = match place_of(blocks, geometry, user, path)? {
+    let place = match place_of(blocks, names, geometry, user, path)? {
         Ok(place) => place,
         Err(errno) => return Ok(Err(errno)),
     };
@@ -117,6 +119,7 @@ fn has_room_for<B: Blocks>(blocks: &mut B, geometry: &Geometry, free: &Free) -> 
 /// directory, EMLINK, those of the walk to the place, EEXIST where it is taken, EACCES of a directory that the user may not write, ENOSPC.
 pub fn link<B: Blocks>(
     blocks: &mut B,
+    names: &mut NameCache,
     geometry: &Geometry,
     user: User,
     now: u32,
@@ -137,11 +140,11 @@ pub fn link<B: Blocks>(
         Ok(path) => path,
         Err(errno) => return Ok(Reply::Refused(errno)),
     };
-    let number = match find_file(blocks, geometry, user, &from)? {
+    let number = match find_file(blocks, names, geometry, user, &from)? {
         Ok(number) => number,
         Err(errno) => return Ok(Reply::Refused(errno)),
     };
-    let free = match find_free(blocks, geometry, user, &to)? {
+    let free = match find_free(blocks, names, geometry, user, &to)? {
         Ok(free) => free,
         Err(errno) => return Ok(Reply::Refused(errno)),
     };

@@ -11,7 +11,7 @@ ghost use Rattle.calls_link.specs.Names.{FindsName, IsOfInode, IsVolume, MeansPl
 use errno::Errno;
 use inode::inode_table::load;
 use layout::Geometry;
-use path::{Path, Place, Stop, Wish, find_place, may};
+use path::{NameCache, Path, Place, Stop, Wish, find_place, may};
 use store::{Blocks, Halt};
 use tree::User;
 use volume::Inode;
@@ -38,6 +38,7 @@ pub fn may_write(user: User, inode: &Inode) -> bool
 /// The place that a path means, or the refusal of the walk there.
 pub fn place_of<'a, B: Blocks>(
     blocks: &mut B,
+    names: &mut NameCache,
     geometry: &Geometry,
     user: User,
     path: &Path<'a>,
@@ -48,7 +49,7 @@ pub fn place_of<'a, B: Blocks>(
     ensures proper { IfOk result (λ r. IfErr r (λ e. e ≢ Errno.EIO)) }
     ensures halt { IfErr result (λ h. IsHalt B.world blocks.new h) }
 {
-    match find_place(blocks, geometry, user, path) {
+    match find_place(blocks, names, geometry, user, path) {
         Ok(place) => Ok(Ok(place)),
         Err(Stop::Refused(errno)) => Ok(Err(errno)),
         Err(Stop::Halted(halt)) => Err(halt),
@@ -59,6 +60,7 @@ pub fn place_of<'a, B: Blocks>(
 /// In this order: the refusals of the path, EINVAL where it has no last name, those of the walk, ENOENT where there is none, EACCES.
 pub(crate) fn find_name<'a, B: Blocks>(
     blocks: &mut B,
+    names: &mut NameCache,
     geometry: &Geometry,
     user: User,
     path: &'a [u8],
@@ -77,7 +79,7 @@ pub(crate) fn find_name<'a, B: Blocks>(
     if !parts.has_last_name() {
         return Ok(Err(Errno::EINVAL));
     }
-    let place = match place_of(blocks, geometry, user, &parts)? {
+    let place = match place_of(blocks, names, geometry, user, &parts)? {
         Ok(place) => place,
         Err(errno) => return Ok(Err(errno)),
     };

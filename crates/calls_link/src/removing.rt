@@ -18,6 +18,7 @@ use directory::remove;
 use errno::Errno;
 use layout::Geometry;
 use node_steps::{drop_link, free_node, lose_name};
+use path::NameCache;
 use store::{Blocks, Halt};
 use tree::{Reply, User};
 
@@ -26,6 +27,7 @@ use tree::{Reply, User};
 /// may not write, EPERM of a directory.
 pub fn unlink<B: Blocks>(
     blocks: &mut B,
+    names: &mut NameCache,
     opens: &Descriptors,
     geometry: &Geometry,
     user: User,
@@ -38,7 +40,7 @@ pub fn unlink<B: Blocks>(
     ensures halt { IfErr result (λ h. IsHalt B.world blocks.new h) }
     ensures proper { IfOk result (λ r. answer_of r ≢ refused Errno.EIO) }
 {
-    match find_name(blocks, geometry, user, path)? {
+    match find_name(blocks, names, geometry, user, path)? {
         Ok(named) => {
             if is_directory(&named.inode) {
                 return Ok(Reply::Refused(Errno::EPERM));
@@ -73,6 +75,7 @@ fn why_kept(opens: &Descriptors, named: &Named) -> Option<Errno>
 /// is open.
 pub fn rmdir<B: Blocks>(
     blocks: &mut B,
+    names: &mut NameCache,
     opens: &Descriptors,
     geometry: &Geometry,
     user: User,
@@ -85,7 +88,7 @@ pub fn rmdir<B: Blocks>(
     ensures halt { IfErr result (λ h. IsHalt B.world blocks.new h) }
     ensures proper { IfOk result (λ r. answer_of r ≢ refused Errno.EIO) }
 {
-    match find_name(blocks, geometry, user, path)? {
+    match find_name(blocks, names, geometry, user, path)? {
         Ok(named) => {
             if let Some(errno) = why_kept(opens, &named) {
                 return Ok(Reply::Refused(errno));

@@ -18,7 +18,7 @@ use directory::insert;
 use errno::Errno;
 use layout::Geometry;
 use node_steps::{add_link, new_directory};
-use path::{Place, Stop};
+use path::{NameCache, Place, Stop};
 use store::{Blocks, Halt};
 use tree::{MAX_LINKS, MAX_NAME, MAX_PERMISSIONS, Reply, User};
 
@@ -50,6 +50,7 @@ fn put_directory<B: Blocks>(
 /// Makes a directory, or says why not.
 fn make<B: Blocks>(
     blocks: &mut B,
+    names: &mut NameCache,
     geometry: &Geometry,
     user: User,
     now: u32,
@@ -65,7 +66,7 @@ fn make<B: Blocks>(
     if mode > MAX_PERMISSIONS {
         return Err(Stop::Refused(Errno::EINVAL));
     }
-    let place = vacant_place(blocks, geometry, user, path)?;
+    let place = vacant_place(blocks, names, geometry, user, path)?;
     if place.inode.links >= MAX_LINKS {
         return Err(Stop::Refused(Errno::EMLINK));
     }
@@ -79,6 +80,7 @@ fn make<B: Blocks>(
 /// many links as may be, ENOSPC where no inode is free or there aren't zones enough.
 pub fn mkdir<B: Blocks>(
     blocks: &mut B,
+    names: &mut NameCache,
     geometry: &Geometry,
     user: User,
     now: u32,
@@ -91,7 +93,7 @@ pub fn mkdir<B: Blocks>(
     ensures halt { IfErr result (λ h. IsHalt B.world blocks.new h) }
     ensures proper { IfOk result (λ r. answer_of r ≢ refused Errno.EIO) }
 {
-    match make(blocks, geometry, user, now, path, mode) {
+    match make(blocks, names, geometry, user, now, path, mode) {
         Ok(()) => Ok(Reply::Done),
         Err(Stop::Refused(errno)) => Ok(Reply::Refused(errno)),
         Err(Stop::Halted(halt)) => Err(halt),

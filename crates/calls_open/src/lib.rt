@@ -15,3 +15,6 @@ pub use files::{make_file, put_file};
 pub use opening::open;
 pub use symlinks::symlink;
 pub use vacant::{free_number, may_write};
+
+// passed on, for who hands one in
+pub use path::NameCache;

@@ -17,7 +17,7 @@ use crate::readying::ready;
 use descriptors::Descriptors;
 use errno::Errno;
 use layout::Geometry;
-use path::Stop;
+use path::{NameCache, Stop};
 use store::{Blocks, Halt};
 use tree::{OpenFlags, Reply, User};
 
@@ -43,6 +43,7 @@ fn put(opens: &mut Descriptors, session: u8, inode: u16, flags: OpenFlags) -> Re
 /// ENOSPC where no inode is free or there are too few zones.
 pub fn open<B: Blocks>(
     blocks: &mut B,
+    names: &mut NameCache,
     opens: &mut Descriptors,
     geometry: &Geometry,
     user: User,
@@ -63,7 +64,7 @@ pub fn open<B: Blocks>(
     if let Err(errno) = may_begin(opens, session, flags, mode) {
         return Ok(Reply::Refused(errno));
     }
-    match ready(blocks, geometry, user, now, path, flags, mode) {
+    match ready(blocks, names, geometry, user, now, path, flags, mode) {
         Ok(number) => match u16::try_from(number) {
             Ok(inode) => Ok(put(opens, session, inode, flags)),
             Err(_) => Err(Halt::Unsound),

@@ -16,7 +16,7 @@ use calls_data::set_size_at;
 use errno::Errno;
 use inode::inode_table::load;
 use layout::Geometry;
-use path::{Found, Path, Stop, look_up, walk};
+use path::{Found, NameCache, Path, Stop, look_up, walk};
 use store::Blocks;
 use tree::{OpenFlags, User};
 
@@ -52,6 +52,7 @@ fn ready_there<B: Blocks>(
 /// is. The refusals of the walk come first; of a link those of the whole path's walk come then, ENOENT and ELOOP among them.
 fn find<'a, B: Blocks>(
     blocks: &mut B,
+    names: &mut NameCache,
     geometry: &Geometry,
     user: User,
     path: &Path<'a>,
@@ -63,7 +64,7 @@ fn find<'a, B: Blocks>(
     ensures stop { IfErr result (λ s. IsStop B.world blocks.new s) }
     ensures proper { IfErr result (λ s. IfRefused s (λ e. e ≢ Errno.EIO)) }
 {
-    let number = match look_up(blocks, geometry, user, path)? {
+    let number = match look_up(blocks, names, geometry, user, path)? {
         Found::There(number) => number,
         Found::Missing(place) => return Ok(Found::Missing(place)),
     };
@@ -74,7 +75,7 @@ fn find<'a, B: Blocks>(
     if !is_link(&inode) {
         return Ok(Found::There(number));
     }
-    let end = walk(blocks, geometry, user, path.parts())?;
+    let end = walk(blocks, names, geometry, user, path.parts())?;
     Ok(Found::There(end))
 }
 
@@ -82,6 +83,7 @@ fn find<'a, B: Blocks>(
 /// a node that is there, or of a missing name: ENOENT where the call doesn't create, EACCES, ENOSPC. A refused call has changed nothing.
 pub(crate) fn ready<B: Blocks>(
     blocks: &mut B,
+    names: &mut NameCache,
     geometry: &Geometry,
     user: User,
     now: u32,
@@ -97,7 +99,7 @@ pub(crate) fn ready<B: Blocks>(
     ensures proper { IfErr result (λ s. IfRefused s (λ e. e ≢ Errno.EIO)) }
 {
     let path = Path::parse(path)?;
-    match find(blocks, geometry, user, &path, only_makes(flags))? {
+    match find(blocks, names, geometry, user, &path, only_makes(flags))? {
         Found::There(number) => {
             ready_there(blocks, geometry, user, now, number, flags)?;
             Ok(number)

@@ -20,7 +20,7 @@ use directory::insert;
 use errno::Errno;
 use layout::Geometry;
 use node_steps::new_link;
-use path::{Place, Stop};
+use path::{NameCache, Place, Stop};
 use store::{Blocks, Halt};
 use tree::{MAX_NAME, MAX_TARGET, Reply, User};
 
@@ -78,6 +78,7 @@ fn put_link<B: Blocks>(
 /// Makes a symbolic link, or says why not.
 fn make<B: Blocks>(
     blocks: &mut B,
+    names: &mut NameCache,
     geometry: &Geometry,
     user: User,
     now: u32,
@@ -92,7 +93,7 @@ fn make<B: Blocks>(
     ensures proper { IfErr result (λ s. IfRefused s (λ e. e ≢ Errno.EIO)) }
 {
     may_be_target(target)?;
-    let place = vacant_place(blocks, geometry, user, path)?;
+    let place = vacant_place(blocks, names, geometry, user, path)?;
     let number = free_number(blocks, geometry, &place, 1)?;
     put_link(blocks, geometry, &place, number, user, now, target)?;
     Ok(())
@@ -103,6 +104,7 @@ fn make<B: Blocks>(
 /// not change the parent's names, ENOSPC where no inode is free or there aren't zones enough.
 pub fn symlink<B: Blocks>(
     blocks: &mut B,
+    names: &mut NameCache,
     geometry: &Geometry,
     user: User,
     now: u32,
@@ -115,7 +117,7 @@ pub fn symlink<B: Blocks>(
     ensures halt { IfErr result (λ h. IsHalt B.world blocks.new h) }
     ensures proper { IfOk result (λ r. answer_of r ≢ refused Errno.EIO) }
 {
-    match make(blocks, geometry, user, now, target, path) {
+    match make(blocks, names, geometry, user, now, target, path) {
         Ok(()) => Ok(Reply::Done),
         Err(Stop::Refused(errno)) => Ok(Reply::Refused(errno)),
         Err(Stop::Halted(halt)) => Err(halt),

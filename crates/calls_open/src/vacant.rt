@@ -14,7 +14,7 @@ use errno::Errno;
 use file::file_room::has_room_beside;
 use layout::Geometry;
 use node_steps::free_inode;
-use path::{Path, Place, Stop, Wish, find_place, may};
+use path::{NameCache, Path, Place, Stop, Wish, find_place, may};
 use store::{Blocks, Halt};
 use tree::{MAX_SIZE, User};
 use volume::Inode;
@@ -31,6 +31,7 @@ pub fn may_write(user: User, inode: &Inode) -> bool
 /// there or the path has none, then EACCES where the user may not change the directory's names.
 pub(crate) fn vacant_place<'a, B: Blocks>(
     blocks: &mut B,
+    names: &mut NameCache,
     geometry: &Geometry,
     user: User,
     path: &'a [u8],
@@ -42,7 +43,7 @@ pub(crate) fn vacant_place<'a, B: Blocks>(
     ensures proper { IfErr result (λ s. IfRefused s (λ e. e ≢ Errno.EIO)) }
 {
     let path = Path::parse(path)?;
-    let place = find_place(blocks, geometry, user, &path)?;
+    let place = find_place(blocks, names, geometry, user, &path)?;
     if !path.has_last_name() || place.there.is_some() {
         return Err(Stop::Refused(Errno::EEXIST));
     }

@@ -14,7 +14,7 @@ use errno::Errno;
 use inode::inode_table::load;
 use layout::Geometry;
 use node_steps::Move;
-use path::Path;
+use path::{NameCache, Path};
 use store::{Blocks, Halt};
 use tree::User;
 use volume::Inode;
@@ -36,6 +36,7 @@ pub struct Asked<'a> {
 /// there, those of the walk to the new one, EACCES of an old directory that the user may not write, EACCES of a new one.
 fn find_both<'a, B: Blocks>(
     blocks: &mut B,
+    names: &mut NameCache,
     geometry: &Geometry,
     user: User,
     now: u32,
@@ -51,14 +52,14 @@ fn find_both<'a, B: Blocks>(
     ensures proper { IfOk result (λ r. IfErr r (λ e. e ≢ Errno.EIO)) }
     ensures halt { IfErr result (λ h. IsHalt B.world blocks.new h) }
 {
-    let old = match place_of(blocks, geometry, user, from)? {
+    let old = match place_of(blocks, names, geometry, user, from)? {
         Ok(place) => place,
         Err(errno) => return Ok(Err(errno)),
     };
     let Some(number) = old.there else {
         return Ok(Err(Errno::ENOENT));
     };
-    let new = match place_of(blocks, geometry, user, to)? {
+    let new = match place_of(blocks, names, geometry, user, to)? {
         Ok(place) => place,
         Err(errno) => return Ok(Err(errno)),
     };
@@ -90,6 +91,7 @@ fn find_both<'a, B: Blocks>(
 /// that the user may not write, EACCES of a new one.
 pub fn find_asked<'a, B: Blocks>(
     blocks: &mut B,
+    names: &mut NameCache,
     geometry: &Geometry,
     user: User,
     now: u32,
@@ -117,5 +119,5 @@ pub fn find_asked<'a, B: Blocks>(
     if !to.has_last_name() {
         return Ok(Err(Errno::EINVAL));
     }
-    find_both(blocks, geometry, user, now, &from, &to)
+    find_both(blocks, names, geometry, user, now, &from, &to)
 }

@@ -15,6 +15,7 @@ use crate::{Asked, find_asked, why_barred};
 use descriptors::Descriptors;
 use errno::Errno;
 use layout::Geometry;
+use path::NameCache;
 use store::{Blocks, Halt};
 use tree::{Reply, User};
 
@@ -36,6 +37,7 @@ fn is_same(asked: &Asked) -> bool
 /// directory, ENOTEMPTY over a directory with names, EBUSY over one that is open; ENOSPC. What is refused changes nothing.
 pub fn rename<B: Blocks>(
     blocks: &mut B,
+    names: &mut NameCache,
     opens: &Descriptors,
     geometry: &Geometry,
     user: User,
@@ -49,7 +51,7 @@ pub fn rename<B: Blocks>(
     ensures halt { IfErr result (λ h. IsHalt B.world blocks.new h) }
     ensures proper { IfOk result (λ r. answer_of r ≢ refused Errno.EIO) }
 {
-    let asked = match find_asked(blocks, geometry, user, now, old, new)? {
+    let asked = match find_asked(blocks, names, geometry, user, now, old, new)? {
         Ok(asked) => asked,
         Err(errno) => return Ok(Reply::Refused(errno)),
     };

@@ -1,5 +1,5 @@
 //! Bounded channels. Their rule says nothing of the messages; it lets them do without a lock, and without memory once they are made.
-ghost use Rattle.std.specs.Prelude.{◌≡◌, ◌<◌};
+ghost use Rattle.std.specs.Prelude.{◌≡◌, ◌<◌, OnErr};
 ghost use Rattle.crossbeam_channel.specs.Claims.{IsSeatAt};
 ghost use Rattle.crossbeam_channel.specs.Ends.{sends_on, receives_on};
 
@@ -7,6 +7,11 @@ use crossbeam_channel::protocol::{Free, Split};
 use crossbeam_channel::{Pass, RuledReceiver, RuledSender, TrySendError, bounded_with};
 use std::alloc::{AllocError, Global};
 use std::sync::Wait;
+use std::thread;
+
+/// How often a receiver looks for a message that is about to come before it sleeps (own). A look and a turn for other threads take about
+/// half a microsecond, and to wake a sleeping thread takes five and more.
+pub(crate) const LOOKS: u32 = 32;
 
 /// Why a message wasn't sent. It is let go.
 #[derive(Clone, Copy, Debug, PartialEq, Eq)]
@@ -58,8 +63,10 @@ pub fn bounded<T: Drop>(alloc: Global, room: usize) -> Result<(Sender<T>, Receiv
 }
 
 impl<T: Drop> Sender<T> {
-    /// A further sending end.
-    pub fn another(&mut self) -> Result<Sender<T>, AllocError> {
+    /// A further sending end. An error: no memory was found, and this one is as it was.
+    pub fn another(&mut self) -> Result<Sender<T>, AllocError>
+        ensures { OnErr result (self.new ≡ self.old) }
+    {
         let sender = self.sender.try_clone()?;
         let pass = self.sender.another::<Same>(&mut self.pass);
         Ok(Sender { sender, pass })
@@ -89,6 +96,19 @@ impl<T: Drop> Receiver<T> {
     /// The next message, for which it waits; none where nobody sends any more.
     pub fn receive<R: Wait>(&mut self, rt: &R) -> Option<T> {
         self.receiver.recv_as::<Free, R>(rt, &mut self.pass).ok()
+    }
+
+    /// The next message, which is about to come; none where nobody sends any more. It looks for it some times, and lets other threads run
+    /// between two looks, before it sleeps.
+    pub fn receive_soon<R: Wait>(&mut self, rt: &R) -> Option<T> {
+        for _ in 0..LOOKS {
+            let message = self.try_receive(rt);
+            if message.is_some() {
+                return message;
+            }
+            thread::yield_now();
+        }
+        self.receive(rt)
     }
 
     /// The next message, if there is one.

@@ -4,7 +4,7 @@ ghost use Rattle.crossbeam_channel.specs.Claims.{view, IsSeatAt};
 ghost use Rattle.crossbeam_channel.specs.Ends.{sends_on};
 ghost use Rattle.channel_link.specs.News.{reader, driver, Bears, incoming_of};
 
-use crate::channel::Sender;
+use crate::channel::{LOOKS, Sender};
 use crate::messages::{News, NewsView, Order};
 use crossbeam_channel::protocol::{Lesson, Outcome, Protocol, Split};
 use crossbeam_channel::{Pass, RuledReceiver, RuledSender, bounded_with};
@@ -222,10 +222,38 @@ impl NewsReceiver {
         self.receiver.recv_as::<Getting, R>(rt, &mut self.pass).ok()
     }
 
-    /// The next of what is sent, for which it waits. A failed receive is tried again: where no sending end is left, for ever.
+    // The next of what is sent, if there is something.
+    fn try_receive<R: Wait>(&mut self, rt: &R) -> Option<News>
+        ensures some { IfSome result (λ news. self.new ≡ news ∷ self.old) }
+        ensures none { IfNone result (self.new ≡ self.old) }
+    {
+        self.receiver
+            .try_recv_as::<Getting, R>(rt, &mut self.pass)
+            .ok()
+    }
+
+    // The next of what is sent, if it comes while it is looked for some times. Other threads may run between two looks.
+    fn look<R: Wait>(&mut self, rt: &R) -> Option<News>
+        ensures some { IfSome result (λ news. self.new ≡ news ∷ self.old) }
+        ensures none { IfNone result (self.new ≡ self.old) }
+    {
+        for _ in 0..LOOKS {
+            if let Some(news) = self.try_receive(rt) {
+                return Some(news);
+            }
+            thread::yield_now();
+        }
+        None
+    }
+
+    /// The next of what is sent, for which it waits; it looks for it some times before it sleeps. A failed receive is tried again: where no
+    /// sending end is left, for ever.
     pub fn next<R: Wait>(&mut self, rt: &R) -> News
         ensures { self.new ≡ result ∷ self.old }
     {
+        if let Some(news) = self.look(rt) {
+            return news;
+        }
         for _ in rt.forever() {
             if let Some(news) = self.receive(rt) {
                 return news;

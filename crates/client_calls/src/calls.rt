@@ -17,7 +17,7 @@ use calls_data::reading::read;
 use calls_data::seeking::seek;
 use calls_data::whole::{statfs, sync};
 use calls_data::{chmod, chown, lstat, readlink, stat, truncate, utime, write};
-use calls_open::{mkdir, open, symlink};
+use calls_open::{NameCache, mkdir, open, symlink};
 use calls_rename::calls_link::{link, rmdir, unlink};
 use calls_rename::rename;
 use descriptors::Descriptors;
@@ -42,6 +42,7 @@ fn user_of(who: Who) -> User
 fn perform<B: Blocks>(
     alloc: Global,
     blocks: &mut B,
+    names: &mut NameCache,
     opens: &mut Descriptors,
     geometry: &Geometry,
     who: Who,
@@ -63,7 +64,7 @@ fn perform<B: Blocks>(
     match *call {
         Call::Open { path, flags, mode } => {
             open(
-                blocks, opens, geometry, user, now, session, path, flags, mode,
+                blocks, names, opens, geometry, user, now, session, path, flags, mode,
             )
         }
         Call::Close { fd } => close(blocks, opens, geometry, session, fd),
@@ -72,26 +73,26 @@ fn perform<B: Blocks>(
         Call::Seek { fd, whence, offset } => {
             seek(blocks, opens, geometry, session, fd, whence, offset)
         }
-        Call::Stat { path } => stat(blocks, geometry, user, path),
+        Call::Stat { path } => stat(blocks, names, geometry, user, path),
         Call::Fstat { fd } => fstat(blocks, opens, geometry, session, fd),
-        Call::Unlink { path } => unlink(blocks, opens, geometry, user, now, path),
-        Call::Rmdir { path } => rmdir(blocks, opens, geometry, user, now, path),
-        Call::Chmod { path, mode } => chmod(blocks, geometry, user, now, path, mode),
-        Call::Chown { path, uid, gid } => chown(blocks, geometry, user, now, path, uid, gid),
+        Call::Unlink { path } => unlink(blocks, names, opens, geometry, user, now, path),
+        Call::Rmdir { path } => rmdir(blocks, names, opens, geometry, user, now, path),
+        Call::Chmod { path, mode } => chmod(blocks, names, geometry, user, now, path, mode),
+        Call::Chown { path, uid, gid } => chown(blocks, names, geometry, user, now, path, uid, gid),
         Call::Utime { path, atime, mtime } => {
-            utime(blocks, geometry, user, now, path, atime, mtime)
+            utime(blocks, names, geometry, user, now, path, atime, mtime)
         }
         Call::Readdir { fd } => readdir(alloc, blocks, opens, geometry, session, fd),
         Call::Sync => sync(blocks, geometry),
         Call::Statfs => statfs(blocks, geometry),
         Call::Write { fd, bytes } => write(blocks, opens, geometry, now, session, fd, bytes),
-        Call::Truncate { path, size } => truncate(blocks, geometry, user, now, path, size),
-        Call::Link { old, new } => link(blocks, geometry, user, now, old, new),
-        Call::Mkdir { path, mode } => mkdir(blocks, geometry, user, now, path, mode),
-        Call::Rename { old, new } => rename(blocks, opens, geometry, user, now, old, new),
-        Call::Symlink { target, path } => symlink(blocks, geometry, user, now, target, path),
-        Call::Readlink { path } => readlink(blocks, geometry, user, path),
-        Call::Lstat { path } => lstat(blocks, geometry, user, path),
+        Call::Truncate { path, size } => truncate(blocks, names, geometry, user, now, path, size),
+        Call::Link { old, new } => link(blocks, names, geometry, user, now, old, new),
+        Call::Mkdir { path, mode } => mkdir(blocks, names, geometry, user, now, path, mode),
+        Call::Rename { old, new } => rename(blocks, names, opens, geometry, user, now, old, new),
+        Call::Symlink { target, path } => symlink(blocks, names, geometry, user, now, target, path),
+        Call::Readlink { path } => readlink(blocks, names, geometry, user, path),
+        Call::Lstat { path } => lstat(blocks, names, geometry, user, path),
     }
 }
 
@@ -102,6 +103,7 @@ fn perform<B: Blocks>(
 pub fn body<B: Blocks>(
     alloc: Global,
     blocks: &mut B,
+    names: &mut NameCache,
     opens: &mut Descriptors,
     geometry: &Geometry,
     who: Who,
@@ -115,7 +117,7 @@ pub fn body<B: Blocks>(
     ensures cut { IfErr result (λ c. B.world.over blocks.new c) }
     ensures proper { IfOk result (λ r. answer_of r ≢ refused Errno.EIO) }
 {
-    match perform(alloc, blocks, opens, geometry, who, now, call) {
+    match perform(alloc, blocks, names, opens, geometry, who, now, call) {
         Ok(reply) => Ok(reply),
         Err(Halt::Cut(cut)) => Err(cut),
         Err(Halt::Unsound) => Ok(Reply::Refused(Errno::EINVAL)),

@@ -6,3 +6,6 @@ pub mod closing;
 pub mod listing;
 
 pub use calls::body;
+
+// passed on, for who hands one in
+pub use calls_open::NameCache;

@@ -15,3 +15,4 @@ pub mod Becoming
 pub mod Placing
 pub mod Renaming
 pub mod Removing
+pub mod Known

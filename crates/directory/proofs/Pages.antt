@@ -1,6 +1,6 @@
 -- The entries of a page, in the bytes of its block.
 use Rattle.std.proofs.Common.{◌≡◌, ◌≢◌, ◌<◌, ◌≤◌, ◌+◌, ◌-◌, ◌*◌, ◌/◌, ◌%◌, ℕ, false, List, length, None, sym, ap, subst, ◌∙◌, arith, inl, inr}
-use Rattle.std.specs.Prelude.{◌==◌, ◌||◌, IsTrue, nat_lt, nat_le, slice_index}
+use Rattle.std.specs.Prelude.{◌==◌, ◌||◌, IsTrue, nat_lt, nat_le, option_map, slice_index}
 use Rattle.std.proofs.lemmas.Bool.{cond-true, cond-false, cases_Bool, or_cases, and_parts, eqb-true, ne_eqb, leb-true, lt-ltb}
 use Rattle.layout.specs.declared.Geometry.{Geometry}
 use Rattle.layout.specs.Places.{IsGeometry, is_block_size}
@@ -10,7 +10,7 @@ use Rattle.volume.specs.Reading.{Disk, is_data_zone}
 use Rattle.volume.specs.Pieces.{Pieces, pieces}
 use Rattle.volume.specs.Nodes.{page_zone, page_byte, file_byte}
 use Rattle.store.specs.Rows.{HasBytes}
-use Rattle.directory.specs.Scan.{last_named}
+use Rattle.directory.specs.Scan.{last_named, last_placed, placed}
 use Rattle.directory.proofs.Scans.{scan_moved, scan_zeros}
 
 -- what holds of the three sizes of a block holds of each
@@ -75,14 +75,15 @@ byte_nowhere g d i page zone q geometry is holds low = elim (cases_Bool (nat_lt 
 pub page_seen : (g : Geometry) (d : Disk) (i : Inode) (page zone from to : ℕ) (bytes : List ℕ) (name : Name) → IsGeometry g → IsTrue (is_data_zone g zone)
     → page * (g.block_size / 64) ≤ from → from ≤ to → to ≤ page * (g.block_size / 64) + g.block_size / 64 → 64 * to ≤ i.size
     → zone ≡ page_zone g (pieces g d) i page → d zone ≡ slice_index bytes
-    → last_named (slice_index bytes) name (from - page * (g.block_size / 64)) (to - page * (g.block_size / 64) - (from - page * (g.block_size / 64)))
+    → option_map (λ (e : ℕ). page * (g.block_size / 64) + e) (last_named (slice_index bytes) name (from - page * (g.block_size / 64))
+    (to - page * (g.block_size / 64) - (from - page * (g.block_size / 64))))
     ≡ last_named (file_byte g (pieces g d) i) name from (to - from)
 page_seen g d i page zone from to bytes name geometry holds begins order ends size is there =
     let first = page * (g.block_size / 64) in
     let place = in_page page 0 g.block_size geometry.block_size in
     let many : to - first - (from - first) ≡ to - from = omega (arith, begins, order) in
     let at : first + (from - first) ≡ from = omega (arith, begins) in
-    ap (last_named (slice_index bytes) name (from - first)) many
+    ap (λ (k : ℕ). option_map (λ (e : ℕ). first + e) (last_named (slice_index bytes) name (from - first) k)) many
     ∙ scan_moved (file_byte g (pieces g d) i) (slice_index bytes) name first (from - first) (to - from) (λ q low.
     ap (λ (f : ℕ → ℕ). f q) (sym there)
     ∙ byte_there g d i page zone q geometry is holds (omega (arith, low, begins, order, ends, place.whole)) (omega (arith, low, begins, order, size, place.entries))
@@ -92,13 +93,13 @@ page_seen g d i page zone from to bytes name geometry holds begins order ends si
 -- in a page without a data zone no entry has a name
 pub page_missing : (g : Geometry) (d : Disk) (i : Inode) (page zone from to : ℕ) (name : Name) → IsGeometry g → is_data_zone g zone ≡ false
     → page * (g.block_size / 64) ≤ from → from ≤ to → to ≤ page * (g.block_size / 64) + g.block_size / 64 → 0 < length name
-    → zone ≡ page_zone g (pieces g d) i page → None ≡ last_named (file_byte g (pieces g d) i) name from (to - from)
+    → zone ≡ page_zone g (pieces g d) i page → None ≡ last_placed (file_byte g (pieces g d) i) name from (to - from)
 page_missing g d i page zone from to name geometry holds begins order ends named is =
     let place = in_page page 0 g.block_size geometry.block_size in
-    sym (scan_zeros (file_byte g (pieces g d) i) name from (to - from) named (λ q low high.
+    sym (ap (option_map (placed (file_byte g (pieces g d) i))) (scan_zeros (file_byte g (pieces g d) i) name from (to - from) named (λ q low high.
     let at : page * g.block_size + (q - page * g.block_size) ≡ q = omega (arith, low, begins, place.entries) in
     ap (file_byte g (pieces g d) i) (sym at)
-    ∙ byte_nowhere g d i page zone (q - page * g.block_size) geometry is holds (omega (arith, low, high, begins, order, ends, place.entries, place.whole))))
+    ∙ byte_nowhere g d i page zone (q - page * g.block_size) geometry is holds (omega (arith, low, high, begins, order, ends, place.entries, place.whole)))))
 
 -- an entry in a page
 record InEntry (k b : ℕ) : Type 0 where

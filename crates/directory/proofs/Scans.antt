@@ -1,6 +1,6 @@
 -- Scans of entries for a name.
 use Rattle.std.proofs.Common.{◌≡◌, ◌≢◌, ◌<◌, ◌≤◌, ◌+◌, ◌-◌, ◌*◌, ℕ, zero, suc, Bool, true, false, [], length, Option, Some, None, refl, ap, ◌∙◌, arith}
-use Rattle.std.specs.Prelude.{◌==◌, if◌then◌else◌}
+use Rattle.std.specs.Prelude.{◌==◌, option_map, if◌then◌else◌}
 use Rattle.std.specs.Option.{option_or}
 use Rattle.std.specs.Ordering.{eq_by_cmp}
 use Rattle.std.proofs.lemmas.Bool.{cond-true, cond-false}
@@ -9,22 +9,22 @@ use Rattle.tree.proofs.Names.{inode_of-with_name}
 use Rattle.volume.specs.Nodes.{entry_name, entry_inode, names_in}
 use Rattle.volume.proofs.Entries.{cmp_apart}
 use Rattle.directory.specs.Rows.{SameEntry}
-use Rattle.directory.proofs.Rows.{same_target, same_name_there}
+use Rattle.directory.proofs.Rows.{same_name_there}
 use Rattle.directory.specs.Scan.{last_named}
 
 -- one entry of a scan, by the number of the entry
 step_is : (f : ℕ → ℕ) (name : Name) (from left : ℕ) → from < left
     → last_named f name from (left - from)
-    ≡ (if eq_by_cmp name_cmp name (entry_name f (left - 1)) then Some (entry_inode f (left - 1)) else last_named f name from (left - 1 - from))
+    ≡ (if eq_by_cmp name_cmp name (entry_name f (left - 1)) then Some (left - 1) else last_named f name from (left - 1 - from))
 step_is f name from left l =
     let more : left - from ≡ suc (left - 1 - from) = omega (arith, l) in
     let at : from + (left - 1 - from) ≡ left - 1 = omega (arith, l) in
     ap (last_named f name from) more
-    ∙ ap (λ (e : ℕ). if eq_by_cmp name_cmp name (entry_name f e) then Some (entry_inode f e) else last_named f name from (left - 1 - from)) at
+    ∙ ap (λ (e : ℕ). if eq_by_cmp name_cmp name (entry_name f e) then Some e else last_named f name from (left - 1 - from)) at
 
 -- the last entry has the name
 pub one_found : (f : ℕ → ℕ) (name : Name) (from left : ℕ) → from < left → eq_by_cmp name_cmp name (entry_name f (left - 1)) ≡ true
-    → last_named f name from (left - from) ≡ Some (entry_inode f (left - 1))
+    → last_named f name from (left - from) ≡ Some (left - 1)
 one_found f name from left l e = step_is f name from left l ∙ cond-true _ _ _ e
 
 -- or it hasn't
@@ -32,8 +32,14 @@ pub one_less : (f : ℕ → ℕ) (name : Name) (from left : ℕ) → from < left
     → last_named f name from (left - from) ≡ last_named f name from (left - 1 - from)
 one_less f name from left l e = step_is f name from left l ∙ cond-false _ _ _ e
 
+-- what is told of the entry, or of those before it
+map_if : (f : ℕ → ℕ) (b : Bool) (e : ℕ) (o : Option ℕ)
+    → (if b then Some (entry_inode f e) else option_map (entry_inode f) o) ≡ option_map (entry_inode f) (if b then Some e else o)
+map_if f true e o = refl
+map_if f false e o = refl
+
 -- The look-up in a row's names is the scan of its entries for the last that has the name.
-pub look_up_is : (f : ℕ → ℕ) (k : ℕ) (name : Name) → inode_of (names_in f k) name ≡ last_named f name 2 k
+pub look_up_is : (f : ℕ → ℕ) (k : ℕ) (name : Name) → inode_of (names_in f k) name ≡ option_map (entry_inode f) (last_named f name 2 k)
 unfolding names_in
 look_up_is f zero name = refl
 look_up_is f (suc k) name =
@@ -41,6 +47,7 @@ look_up_is f (suc k) name =
     inode_of-with_name (names_in f k) (entry_name f (k + 2)) (entry_inode f (k + 2)) name
     ∙ ap (λ (e : ℕ). if eq_by_cmp name_cmp name (entry_name f e) then Some (entry_inode f e) else inode_of (names_in f k) name) at
     ∙ ap (λ (o : Option ℕ). if eq_by_cmp name_cmp name (entry_name f (2 + k)) then Some (entry_inode f (2 + k)) else o) (look_up_is f k name)
+    ∙ map_if f (eq_by_cmp name_cmp name (entry_name f (2 + k))) (2 + k) (last_named f name 2 k)
 
 -- a scan of entries is one of those behind, and then of those before
 scan_join : (f : ℕ → ℕ) (name : Name) (first j k : ℕ) → last_named f name first (j + k) ≡ option_or (last_named f name (first + j) k) (last_named f name first j)
@@ -52,9 +59,11 @@ scan_join f name first j (suc k) =
     let more : j + suc k ≡ suc (j + k) = omega arith in
     let at : first + (j + k) ≡ first + j + k = omega arith in
     ap (last_named f name first) more
-    ∙ ap (λ (e : ℕ). if eq_by_cmp name_cmp name (entry_name f e) then Some (entry_inode f e) else last_named f name first (j + k)) at
-    ∙ ap (λ (o : Option ℕ). if eq_by_cmp name_cmp name (entry_name f (first + j + k)) then Some (entry_inode f (first + j + k)) else o) (scan_join f name first j k)
-    ∙ spread (eq_by_cmp name_cmp name (entry_name f (first + j + k))) (entry_inode f (first + j + k)) (last_named f name (first + j) k) (last_named f name first j)
+    ∙ ap (λ (e : ℕ). if eq_by_cmp name_cmp name (entry_name f e) then Some e else last_named f name first (j + k)) at
+    ∙ ap (λ (o : Option ℕ). if eq_by_cmp name_cmp name (entry_name f (first + j + k)) then Some (first + j + k) else o)
+    (scan_join f name first j k)
+    ∙ spread (eq_by_cmp name_cmp name (entry_name f (first + j + k))) (first + j + k) (last_named f name (first + j) k)
+    (last_named f name first j)
   where
     spread : (b : Bool) (x : ℕ) (o p : Option ℕ) → (if b then Some x else option_or o p) ≡ option_or (if b then Some x else o) p
     spread true x o p = refl
@@ -80,17 +89,27 @@ scan_ends f name from left x low l some =
     ∙ ap (λ (e : ℕ). option_or (last_named f name e (left - from)) (last_named f name 2 (from - 2))) at
     ∙ ap (λ (o : Option ℕ). option_or o (last_named f name 2 (from - 2))) some
 
+-- so many entries further on
+moved_if : (first : ℕ) (b : Bool) (e : ℕ) (o : Option ℕ)
+    → option_map (λ (x : ℕ). first + x) (if b then Some e else o) ≡ (if b then Some (first + e) else option_map (λ (x : ℕ). first + x) o)
+moved_if first true e o = refl
+moved_if first false e o = refl
+
 -- a scan of entries that stand elsewhere
 pub scan_moved : (f h : ℕ → ℕ) (name : Name) (first from k : ℕ) → ((q : ℕ) → q < 64 * (from + k) → h q ≡ f (64 * first + q))
-    → last_named h name from k ≡ last_named f name (first + from) k
+    → option_map (λ (e : ℕ). first + e) (last_named h name from k) ≡ last_named f name (first + from) k
 scan_moved f h name first from zero same = refl
 scan_moved f h name first from (suc k) same =
     let there : SameEntry f h (first + from + k) (from + k) = λ o low.
     let p : 64 * first + (64 * (from + k) + o) ≡ 64 * (first + from + k) + o = omega arith in
     same (64 * (from + k) + o) (omega (arith, low)) ∙ ap f p in
-    ap (λ (n : Name). if eq_by_cmp name_cmp name n then Some (entry_inode h (from + k)) else last_named h name from k) (same_name_there f h (first + from + k) (from + k) there)
-    ∙ ap (λ (n : ℕ). if eq_by_cmp name_cmp name (entry_name f (first + from + k)) then Some n else last_named h name from k) (same_target f h (first + from + k) (from + k) there)
-    ∙ ap (λ (o : Option ℕ). if eq_by_cmp name_cmp name (entry_name f (first + from + k)) then Some (entry_inode f (first + from + k)) else o)
+    let at : first + (from + k) ≡ first + from + k = omega arith in
+    moved_if first (eq_by_cmp name_cmp name (entry_name h (from + k))) (from + k) (last_named h name from k)
+    ∙ ap (λ (n : Name). if eq_by_cmp name_cmp name n then Some (first + (from + k)) else option_map (λ (e : ℕ). first + e)
+    (last_named h name from k)) (same_name_there f h (first + from + k) (from + k) there)
+    ∙ ap (λ (e : ℕ). if eq_by_cmp name_cmp name (entry_name f (first + from + k)) then Some e else option_map (λ (x : ℕ). first + x)
+    (last_named h name from k)) at
+    ∙ ap (λ (o : Option ℕ). if eq_by_cmp name_cmp name (entry_name f (first + from + k)) then Some (first + from + k) else o)
     (scan_moved f h name first from k (λ q low. same q (omega (arith, low))))
 
 -- a scan of zeros finds no name

@@ -8,25 +8,30 @@ use Rattle.tree.specs.Names.{Name}
 use Rattle.volume.specs.declared.Inode.{Inode}
 use Rattle.volume.specs.Reading.{Disk, is_data_zone}
 use Rattle.volume.specs.Pieces.{pieces}
-use Rattle.volume.specs.Nodes.{page_zone, file_byte, entry_name}
+use Rattle.volume.specs.Nodes.{page_zone, file_byte, entry_inode, entry_name}
 use Rattle.directory.specs.Rows.{SameEntry}
-use Rattle.directory.proofs.Rows.{same_name_there}
+use Rattle.directory.proofs.Rows.{same_name_there, same_target}
 use Rattle.directory.specs.Standing.{NoneNamed, IsNamed, StandsAt}
 use Rattle.directory.proofs.Pages.{page_same, page_zeros, entries_whole, entries_begin}
 
 -- an entry of a page is one of its block
-entry_same : (g : Geometry) (d : Disk) (i : Inode) (page zone e : ℕ) (bytes : List ℕ) → IsGeometry g → IsTrue (is_data_zone g zone) → e < g.block_size / 64
-    → 64 * (page * (g.block_size / 64) + e) + 64 ≤ i.size → zone ≡ page_zone g (pieces g d) i page → d zone ≡ slice_index bytes
-    → entry_name (slice_index bytes) e ≡ entry_name (file_byte g (pieces g d) i) (page * (g.block_size / 64) + e)
-entry_same g d i page zone e bytes geometry holds low size is there =
-    let first = page * (g.block_size / 64) in
-    let whole = entries_whole g.block_size geometry.block_size in
-    let begins = entries_begin page g.block_size geometry.block_size in
-    let same : SameEntry (file_byte g (pieces g d) i) (slice_index bytes) (first + e) e = λ o few.
-    let at : 64 * first + (64 * e + o) ≡ 64 * (first + e) + o = omega arith in
-    page_same g d i page zone (64 * e + o) bytes geometry holds (omega (arith, whole, low, few)) (omega (arith, size, begins, few)) is there
-    ∙ ap (file_byte g (pieces g d) i) at in
-    same_name_there (file_byte g (pieces g d) i) (slice_index bytes) (first + e) e same
+module _ (g : Geometry) (d : Disk) (i : Inode) (page zone e : ℕ) (bytes : List ℕ) (geometry : IsGeometry g)
+    (holds : IsTrue (is_data_zone g zone)) (low : e < g.block_size / 64) (size : 64 * (page * (g.block_size / 64) + e) + 64 ≤ i.size)
+    (is : zone ≡ page_zone g (pieces g d) i page) (there : d zone ≡ slice_index bytes) where
+  in_block : SameEntry (file_byte g (pieces g d) i) (slice_index bytes) (page * (g.block_size / 64) + e) e
+  in_block o few =
+      let first = page * (g.block_size / 64) in
+      let whole = entries_whole g.block_size geometry.block_size in
+      let begins = entries_begin page g.block_size geometry.block_size in
+      let at : 64 * first + (64 * e + o) ≡ 64 * (first + e) + o = omega arith in
+      page_same g d i page zone (64 * e + o) bytes geometry holds (omega (arith, whole, low, few)) (omega (arith, size, begins, few)) is there
+      ∙ ap (file_byte g (pieces g d) i) at
+
+  entry_same : entry_name (slice_index bytes) e ≡ entry_name (file_byte g (pieces g d) i) (page * (g.block_size / 64) + e)
+  entry_same = same_name_there (file_byte g (pieces g d) i) (slice_index bytes) (page * (g.block_size / 64) + e) e in_block
+
+  pub number_same : entry_inode (slice_index bytes) e ≡ entry_inode (file_byte g (pieces g d) i) (page * (g.block_size / 64) + e)
+  number_same = same_target (file_byte g (pieces g d) i) (slice_index bytes) (page * (g.block_size / 64) + e) e in_block
 
 -- a name that stands in a page's block stands in the page
 pub stands_there : (g : Geometry) (d : Disk) (i : Inode) (page zone from to at : ℕ) (bytes : List ℕ) (name : Name) → IsGeometry g → IsTrue (is_data_zone g zone)

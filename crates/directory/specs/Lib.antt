@@ -4,6 +4,7 @@ pub mod Directories
 pub mod Files
 pub mod Writes
 pub mod Scan
+pub mod Finding
 pub mod Standing
 pub mod Places
 pub mod First

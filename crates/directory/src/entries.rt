@@ -1,6 +1,6 @@
 //! Entries in the bytes of a block: an inode number of four bytes, and 60 of name, filled with zeros.
 
-ghost use Rattle.std.specs.Prelude.{◌≡◌, ◌<◌, ◌≤◌, ◌+◌, ◌-◌, ◌*◌, drop, length, slice_index, take};
+ghost use Rattle.std.specs.Prelude.{◌≡◌, ◌<◌, ◌≤◌, ◌+◌, ◌-◌, ◌*◌, ◌&&◌, ◌==◌, IfSome, drop, length, slice_index, take};
 ghost use Rattle.std.specs.Ordering.{eq_by_cmp};
 ghost use Rattle.tree.specs.Names.{name_cmp};
 ghost use Rattle.volume.specs.Nodes.{entry_inode, entry_name, text_in};
@@ -63,17 +63,36 @@ pub(crate) fn is_named(bytes: &[u8], e: usize, name: &[u8]) -> bool
     is_same(name, entry_name(bytes, e))
 }
 
-/// The inode number of the last of the entries from one on to another that has a name.
-pub(crate) fn last_named(bytes: &[u8], from: usize, to: usize, name: &[u8]) -> Option<u32>
+/// Whether entry e of some bytes has a name and leads to an inode.
+pub(crate) fn leads_to(bytes: &[u8], e: usize, name: &[u8], number: u32) -> bool
+    requires { 64 * e + 64 ≤ length bytes.now }
+    ensures { result ≡ (eq_by_cmp name_cmp name.now (entry_name (slice_index bytes.now) e)
+        && (entry_inode (slice_index bytes.now) e == number)) }
+{
+    is_named(bytes, e, name) && entry_inode(bytes, e) == number
+}
+
+/// An entry of a directory: where it stands, and the inode to which it leads.
+#[derive(Clone, Copy, Debug, PartialEq, Eq)]
+pub struct Placed {
+    /// How many entries stand before it.
+    pub place: u32,
+    /// The inode's number.
+    pub number: u32,
+}
+
+/// The last of the entries from one on to another that has a name.
+pub(crate) fn last_named(bytes: &[u8], from: usize, to: usize, name: &[u8]) -> Option<usize>
     requires order { from ≤ to }
     requires within { 64 * to ≤ length bytes.now }
-    ensures { result ≡ last_named (slice_index bytes.now) name.now from (to - from) }
+    ensures last { result ≡ last_named (slice_index bytes.now) name.now from (to - from) }
+    ensures within { IfSome result (λ e. (from ≤ e) × (e < to)) }
 {
     let mut left = to;
     while left > from {
         left -= 1;
         if is_named(bytes, left, name) {
-            return Some(entry_inode(bytes, left));
+            return Some(left);
         }
     }
     None

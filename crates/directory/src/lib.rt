@@ -12,7 +12,7 @@ mod removal;
 
 pub use bytes::first_entries;
 pub use changes::{insert, rename, replace, set_parent};
-pub use entries::{ENTRY_SIZE, entry_inode, entry_name};
-pub use look_up::{entry, find, parent};
+pub use entries::{ENTRY_SIZE, Placed, entry_inode, entry_name};
+pub use look_up::{entry, find, parent, stands_at};
 pub use positions::position;
 pub use removal::remove;

@@ -2,15 +2,15 @@
 
 ghost use Rattle.std.specs.Prelude.{◌≡◌, ◌<◌, ◌≤◌, ◌+◌, ◌-◌, ◌*◌, ◌/◌, ℕ, IfErr, IfOk, length, slice_index};
 ghost use Rattle.store.specs.Rows.{HasBytes};
-ghost use Rattle.directory.specs.Scan.{last_named};
+ghost use Rattle.directory.specs.Scan.{last_placed};
+ghost use Rattle.directory.specs.Finding.{FindsEntry, stands_at};
 ghost use Rattle.store.specs.Halts.{Ends, IsHalt};
 ghost use Rattle.store.specs.Volume.{IsOn};
 ghost use Rattle.store.specs.World.{Reads};
-ghost use Rattle.tree.specs.Names.{inode_of};
 ghost use Rattle.volume.specs.Nodes.{directory_of, file_byte};
 ghost use Rattle.volume.specs.Pieces.{pieces};
 
-use crate::entries::{entry_inode, last_named};
+use crate::entries::{Placed, entry_inode, last_named, leads_to};
 use layout::Geometry;
 use store::words::read_bytes;
 use store::{Blocks, Cut, Halt};
@@ -18,8 +18,7 @@ use volume::Inode;
 use zone::numbers::is_data_zone;
 use zone::places::lookup;
 
-/// The inode number of the last entry of a page, from one entry on to another, that has a name. In a page without a data zone no entry
-/// has one.
+/// The last entry of a page, from one entry on to another, that has a name. In a page without a data zone no entry has one.
 fn find_in_page<B: Blocks>(
     blocks: &mut B,
     geometry: &Geometry,
@@ -28,7 +27,7 @@ fn find_in_page<B: Blocks>(
     from: u32,
     to: u32,
     name: &[u8],
-) -> Result<Option<u32>, Cut>
+) -> Result<Option<Placed>, Cut>
     requires on { IsOn B.world geometry.now blocks.old }
     requires begins { page * (geometry.now.block_size / 64) ≤ from }
     requires order { from ≤ to }
@@ -36,7 +35,7 @@ fn find_in_page<B: Blocks>(
     requires size { 64 * to ≤ inode.now.size }
     requires named { 0 < length name.now }
     ensures reads { Reads B.world blocks.old blocks.new (λ d. IfOk result (λ x.
-        x ≡ last_named (file_byte geometry.now (pieces geometry.now d) inode.now) name.now from (to - from))) }
+        x ≡ last_placed (file_byte geometry.now (pieces geometry.now d) inode.now) name.now from (to - from))) }
     ensures cut { IfErr result (λ c. B.world.over blocks.new c) }
 {
     let zone = lookup(blocks, geometry, inode, page)?;
@@ -46,22 +45,28 @@ fn find_in_page<B: Blocks>(
     let frame = blocks.fetch(zone)?;
     let first = page * (geometry.block_size / 64);
     let bytes = blocks.bytes(frame);
-    Ok(last_named(bytes, (from - first) as usize, (to - first) as usize, name))
+    match last_named(bytes, (from - first) as usize, (to - first) as usize, name) {
+        Some(at) => Ok(Some(Placed {
+            place: first + at as u32,
+            number: entry_inode(bytes, at),
+        })),
+        None => Ok(None),
+    }
 }
 
-/// The inode to which a name of a directory leads, if it has the name; where a name stands twice, the one that stands last. Neither `.`
-/// nor `..` is asked for here: the first two entries aren't looked at. Any bytes may stand in the directory: each page's zone is looked
-/// up once and its block fetched once, from the last page to the first, and no memory is taken.
+/// The entry of a directory that has a name, if one has it; where a name stands twice, the one that stands last. Neither `.` nor `..` is
+/// asked for here: the first two entries aren't looked at. Any bytes may stand in the directory: each page's zone is looked up once and
+/// its block fetched once, from the last page to the first, and no memory is taken.
 pub fn find<B: Blocks>(
     blocks: &mut B,
     geometry: &Geometry,
     inode: &Inode,
     name: &[u8],
-) -> Result<Option<u32>, Cut>
+) -> Result<Option<Placed>, Cut>
     requires on { IsOn B.world geometry.now blocks.old }
     requires named { 0 < length name.now }
     ensures reads { Reads B.world blocks.old blocks.new (λ d. IfOk result (λ x.
-        x ≡ inode_of (directory_of geometry.now (pieces geometry.now d) inode.now).names name.now)) }
+        FindsEntry geometry.now (pieces geometry.now d) inode.now name.now x)) }
     ensures cut { IfErr result (λ c. B.world.over blocks.new c) }
 {
     let each = geometry.block_size / 64;
@@ -69,8 +74,8 @@ pub fn find<B: Blocks>(
     while left > 2 {
         let page = (left - 1) / each;
         let from = (page * each).max(2);
-        if let Some(number) = find_in_page(blocks, geometry, inode, page, from, left, name)? {
-            return Ok(Some(number));
+        if let Some(found) = find_in_page(blocks, geometry, inode, page, from, left, name)? {
+            return Ok(Some(found));
         }
         left = from;
     }
@@ -106,6 +111,27 @@ pub fn entry<B: Blocks>(
     }
     read_bytes(blocks, zone, 64 * (k % each) as usize, &mut bytes)?;
     Ok(bytes)
+}
+
+/// Whether an entry of a directory after its first two still has a name and leads to an inode: as `find` would tell of a directory that
+/// has each name once. One block is fetched, beside those in which its number stands.
+pub fn stands_at<B: Blocks>(
+    blocks: &mut B,
+    geometry: &Geometry,
+    inode: &Inode,
+    name: &[u8],
+    known: Placed,
+) -> Result<bool, Cut>
+    requires on { IsOn B.world geometry.now blocks.old }
+    ensures reads { Reads B.world blocks.old blocks.new (λ d. IfOk result (λ x.
+        x ≡ stands_at geometry.now (pieces geometry.now d) inode.now name.now known)) }
+    ensures cut { IfErr result (λ c. B.world.over blocks.new c) }
+{
+    if known.place < 2 || known.place >= inode.size / 64 {
+        return Ok(false);
+    }
+    let bytes = entry(blocks, geometry, inode, known.place)?;
+    Ok(leads_to(&bytes, 0, name, known.number))
 }
 
 /// The directory that holds a directory, which its entry `..` names. Unsound where the directory is shorter than two entries.

@@ -1,6 +1,7 @@
 -- What drivers of one volume leave of the media.
-use Rattle.std.specs.Prelude.{◌≡◌, ℕ, ◌≤◌, ◌<◌, ◌+◌, length, IfSome}
-use Rattle.media.specs.Contents.{MediaState}
+use Rattle.std.specs.Prelude.{◌≡◌, ℕ, ◌≤◌, ◌<◌, ◌+◌, List, length, IfSome}
+use Rattle.std.specs.List.{concat}
+use Rattle.media.specs.Contents.{IsWhole, MediaState}
 use Rattle.records.specs.Opening.{Opening}
 use Rattle.bdev.specs.DriverState.{DriverState}
 use Rattle.true_replies.specs.State.{OutsideHolds}
@@ -10,6 +11,13 @@ use Rattle.true_replies.specs.Events.{opening_media}
 pub record KeepsOutside (v : Opening) (media : MediaState) : Type 0 where
   pub number : length media.sectors ≡ length (opening_media v).sectors
   pub outside : OutsideHolds v (opening_media v) media
+
+-- the bytes of media that have as many sectors as were handed in, each of 512 bytes, and outside of the volume each as it was handed in
+pub record IsImageOutside (v : Opening) (image : List ℕ) : Type 0 where
+  pub media : MediaState
+  pub bytes : image ≡ concat media.sectors
+  pub whole : IsWhole media.sectors
+  pub outside : KeepsOutside v media
 
 -- sector s of the media is one of the volume's
 abbrev pub IsInVolume : Opening → ℕ → Type 0

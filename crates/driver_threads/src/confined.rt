@@ -1,14 +1,16 @@
 //! The media that drivers share, on which they write in the range of one volume alone.
 
-ghost use Rattle.std.specs.Prelude.{◌≡◌, ◌≤◌, ◌<◌, ◌+◌, ◌↔◌, IsTrue};
+ghost use Rattle.std.specs.Prelude.{◌≡◌, ◌≤◌, ◌<◌, ◌+◌, ◌↔◌, IfOk, IsTrue};
+ghost use Rattle.std.specs.List.{concat};
 ghost use Rattle.media.specs.Contents.{adopted};
 ghost use Rattle.true_replies.specs.Events.{opening_media};
 ghost use Rattle.bdev.specs.Promises.{StepKeeps};
-ghost use Rattle.driver_threads.specs.Confined.{KeepsOutside, IsInVolume, StaysInVolume};
+ghost use Rattle.driver_threads.specs.Confined.{KeepsOutside, IsImageOutside, IsInVolume, StaysInVolume};
 
 use bdev::{BlockDriver, Step};
 use counting_link::room::Room;
 use media::Media;
+use std::alloc::{AllocError, Global};
 use std::marker::{Model, PhantomData};
 
 /// Media on which drivers write in a volume's range alone: they have as many sectors as were handed in, and outside of the range each
@@ -72,6 +74,18 @@ impl<N: Room> Confined<N> {
             return Step::Failed;
         }
         driver.step(&mut self.media, generation)
+    }
+
+    /// The image of the media: the bytes of all sectors, in order, as they stand. Refused where no memory was found for it.
+    pub fn image(&self, alloc: Global) -> Result<Vec<u8>, AllocError>
+        ensures bytes { IfOk result (λ image. image.items ≡ concat self.now.sectors) }
+        ensures outside { IfOk result (λ image. IsImageOutside N.opening image.items) }
+    {
+        let _ = self.media.sectors();
+        match self.media.image(alloc) {
+            Ok(image) => Ok(image),
+            Err(_) => Err(AllocError),
+        }
     }
 
     /// The media, with no drivers on them.

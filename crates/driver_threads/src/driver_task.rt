@@ -30,6 +30,8 @@ pub(crate) struct DriverTask<N: Room, D: BlockDriver, G: Gate> {
     shared: Shared<N, G>,
     seat: Seat,
     beats: u32,
+    // Whether the last order was a request.
+    has_served: bool,
     ghost seated: { seat.table ≡ arc_value shared.board },
 }
 
@@ -68,6 +70,7 @@ impl<N: Room, D: BlockDriver, G: Gate> DriverTask<N, D, G> {
             shared,
             seat,
             beats: 0,
+            has_served: false,
         }
     }
 
@@ -117,9 +120,20 @@ impl<N: Room, D: BlockDriver, G: Gate> DriverTask<N, D, G> {
         unreachable!()
     }
 
+    // The next order. One often follows right behind a request, so it is looked for before the thread sleeps.
+    fn order<R: Wait>(&mut self, rt: &R) -> Option<Order> {
+        if self.has_served {
+            self.orders.receive_soon(rt)
+        } else {
+            self.orders.receive(rt)
+        }
+    }
+
     // Takes one order, and does it. Whether the driver goes on.
     fn turn<R: Wait>(&mut self, rt: &R) -> bool {
-        match self.orders.receive(rt) {
+        let order = self.order(rt);
+        self.has_served = matches!(order, Some(Order::Ask(_)));
+        match order {
             None | Some(Order::Stop) => false,
             Some(Order::Ping) => {
                 self.pinged.store(false, Ordering::SeqCst);

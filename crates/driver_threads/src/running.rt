@@ -4,7 +4,7 @@ ghost use Rattle.std.specs.Prelude.{◌≡◌, [], IfOk, IfSome};
 ghost use Rattle.std.specs.Arc.{arc_value};
 ghost use Rattle.records.specs.Opening.{Opening};
 ghost use Rattle.true_replies.specs.Events.{opening_media};
-ghost use Rattle.driver_threads.specs.Confined.{KeepsOutside};
+ghost use Rattle.driver_threads.specs.Confined.{IsImageOutside, KeepsOutside};
 
 use crate::confined::Confined;
 use crate::shared::Shared;
@@ -103,6 +103,16 @@ pub fn start_drivers<
 }
 
 impl<N: Room> Running<N> {
+    /// The image of the media as they stand while the threads run: the bytes of as many sectors as were handed in, each of 512 bytes, and
+    /// outside of the volume's range each as it was handed in. It waits for the step of a driver, and drivers wait for it: no step is taken
+    /// while the bytes are copied. Refused where no memory was found for it.
+    pub fn image<R: Wait>(&self, rt: &R, alloc: Global) -> Result<Vec<u8>, AllocError>
+        ensures { IfOk result (λ image. IsImageOutside N.opening image.items) }
+    {
+        let media = self.media.lock(rt);
+        (&*media).image(alloc)
+    }
+
     /// Ends all drivers, joins all threads, and gives the media back: as many sectors as were handed in, and outside of the volume's range
     /// each as it was handed in. The link has to be let go of before, since else a driver may wait for room in it.
     ///

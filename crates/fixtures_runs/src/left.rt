@@ -3,7 +3,7 @@
 ghost use Rattle.std.specs.Prelude.{◌<◌, ◌^◌, length};
 
 use crate::places::{Place, misheld};
-use bdev::Driver;
+use bdev::{BlockDriver, Driver};
 use fixtures::{new_volume, whole};
 use fsck::{Verdict, check};
 use modeldisk::supply::{drivers_for, table_in};
@@ -18,15 +18,18 @@ use std::test::Fail;
 pub type Left = (usize, &'static [&'static str], &'static [Place], bool);
 
 /// The bytes of the media after a run.
-fn bytes_after(alloc: Global, transcript: &Transcript<'_, Driver>) -> Result<Vec<u8>, AllocError> {
+fn bytes_after<D: BlockDriver>(
+    alloc: Global,
+    transcript: &Transcript<'_, D>,
+) -> Result<Vec<u8>, AllocError> {
     transcript.image(alloc)
 }
 
 /// The bytes of the media after a run of these events on an image, with these drivers under the default policy.
-fn image_of(
+fn image_of<D: BlockDriver>(
     alloc: Global,
     image: &[u8],
-    supply: Vec<Driver>,
+    supply: Vec<D>,
     events: &[Event<'_>],
 ) -> Result<Vec<u8>, Fail>
     requires few { length events.now < 2 ^ 32 }

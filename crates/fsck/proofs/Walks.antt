@@ -1,11 +1,12 @@
 -- A walk along the names, step by step.
-use Rattle.std.proofs.Common.{◌≡◌, ◌≢◌, ◌⊎◌, ◌<◌, ◌≤◌, ◌+◌, ◌-◌, ◌*◌, ◌++◌, ℕ, zero, suc, List, [], ◌∷◌, length, take, set, get_or, slice_index, slice_index_or, Bool, true, false, refl, sym, ap, subst, ◌∙◌, cond, arith}
+use Rattle.std.proofs.Common.{◌≡◌, ◌⊎◌, ◌<◌, ◌≤◌, ◌+◌, ◌++◌, ℕ, zero, suc, List, [], ◌∷◌, length, set, get_or, slice_index, Bool, true}
+use Rattle.std.proofs.Common.{false, refl, sym, ap, subst, ◌∙◌, cond, arith}
 use mathlib.Core.Logic.{inl, inr}
 use Rattle.std.specs.Prelude.{◌&&◌, ◌||◌, ◌==◌, nat_lt}
-use Rattle.std.proofs.lemmas.Bool.{cases_eq, cases_lt, cases_Bool, both_ways, eq-eqb, ne_eqb, eqb-true, lt-ltb, ltb-true, or_cases, or_left, or_right, and_from, and_parts}
+use Rattle.std.proofs.lemmas.Bool.{cases_eq, cases_lt, cases_Bool, both_ways, eq-eqb, ne_eqb, eqb-true, lt-ltb, ltb-true, or_cases}
+use Rattle.std.proofs.lemmas.Bool.{or_right, and_from, and_parts}
 use Rattle.std.proofs.lemmas.List.{length-set, get_or-set_same, get_or-set_other, get_or_append_left, get_or_push, length_push, get_or_past}
-use Rattle.std.proofs.lemmas.List.Sums.{sum_by-set}
-use Rattle.std.specs.List.{sum_by}
+use Rattle.std.proofs.lemmas.List.Sums.{sum_by-cons, sum_by-set}
 use Rattle.tree.specs.Sums.{some_below, one_if}
 use Rattle.volume.specs.Findings.{names_in_of, is_reached}
 use Rattle.volume.proofs.Sums.{some_from, some_witness}
@@ -107,6 +108,16 @@ goes_one m a w x h out is =
       marked = λ j far l. let e : j ≡ length w = omega arith in ap (λ j. is_seen (set a m true) (slice_index x j)) e ∙ ap (is_seen (set a m true)) last ∙ there;
       less = omega arith;
     }
+
+-- at most all aren't marked
+pub few_unseen : (a : List Bool) → unseen a ≤ length a
+few_unseen [] = omega arith
+few_unseen (b ∷ bs) =
+    let part : Bool → ℕ = λ b. cond b 0 1 in
+    let rest = few_unseen bs in
+    let both : unseen (b ∷ bs) ≡ part b + unseen bs = sum_by-cons part b bs in
+    let one : part b ≤ 1 = elim b as (λ v. part v ≤ 1) [ true ↦ omega arith | false ↦ omega arith ] in
+    omega (arith, both, rest, one)
 
 -- What holds while the walk goes on: who is marked is reached, and waits or has all that it names marked.
 pub record IsWalk (i : Image) (seen : List Bool) (waiting : List ℕ) : Type 0 where

@@ -1,5 +1,6 @@
-//! The words of the programs that make and check a volume, and what they say: a module for each program.
+//! The words of the programs that make, check and migrate a volume, and what they say: a module for each program.
 
+pub mod mfmig;
 pub mod mfsck;
 pub mod mkmfs;
 
@@ -22,5 +23,10 @@ pub(crate) fn number<'a>(
 
 /// The word that names the image's file.
 pub(crate) fn image<'a>(alloc: Global, help: &'static str) -> Arg<'a> {
-    Arg::new(alloc, "IMAGE").required(true).help(help)
+    file(alloc, "IMAGE", help)
+}
+
+/// A word that names a file and has to be there.
+pub(crate) fn file<'a>(alloc: Global, name: &'static str, help: &'static str) -> Arg<'a> {
+    Arg::new(alloc, name).required(true).help(help)
 }

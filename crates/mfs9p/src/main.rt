@@ -1,17 +1,22 @@
 //! Serves the image of a volume by 9P, so that Linux mounts it, while its drivers may die.
 #![tactic(auto)]
 
+mod image_file;
+
+use crate::image_file::ImageFile;
 use gate::paced_gate::Paced;
 use host::command_line::{line_of, status_for};
 use host::play_words::mfs9p::{Words, read as read_words};
-use host::whole_file::{read, replace};
+use host::whole_file::read;
 use modeldisk::supply::table_in;
+use mount_service::archive::Archive;
 use mount_service::mortal::{Mortality, mortal_drivers, mortal_setup};
-use mount_service::mount::{finish, mount};
-use mount_service::program::Streams;
+use mount_service::mount::{Ended, Status, finish, mount};
+use mount_service::program::{Came, Streams};
 use mount_service::telling_gate::Telling;
+use std::alloc::Global;
 use std::io;
-use std::io::BufReader;
+use std::io::{BufReader, Write};
 use std::process::ExitCode;
 use std::sync::{Arc, Wait};
 use std::thread::Threads;
@@ -27,8 +32,29 @@ fn mortality(die_every: u32) -> Mortality {
     }
 }
 
-/// Mounts the volume in the image that the words name, and writes the image that is left, where they name a file for it. The service has
-/// threads of its own, and a tick of it takes a tenth of a second.
+/// How a mount ended, once the image that is left is written to the file of this name, if there is one.
+fn finished<I: Drop, O: Drop, C: Drop, A: Archive + Drop, E: Write>(
+    alloc: Global,
+    mounted: Ended<I, O, C, A>,
+    name: Option<&str>,
+    err: &mut E,
+) -> Status {
+    let Ended { status, came } = mounted;
+    if let (Some(came), Some(name)) = (came, name) {
+        let Came {
+            mut streams,
+            image,
+            ..
+        } = came;
+        if let Some(archive) = &mut streams.archive {
+            return finish(alloc, status, name, archive.put(&image).is_ok(), err);
+        }
+    }
+    status
+}
+
+/// Mounts the volume in the image that the words name, and writes the image that is left, where they name a file for it, which also has the
+/// image of each sync. The service has threads of its own, and a tick of it takes a tenth of a second.
 fn mount_file<W: Threads + Wait + Copy + Send + Sync + 'static>(
     rt: HostRuntime,
     waits: W,
@@ -45,6 +71,7 @@ fn mount_file<W: Threads + Wait + Copy + Send + Sync + 'static>(
         input: BufReader::with_capacity(alloc, ROOM, rt.reader())?,
         output: rt.stdout(),
         clock: rt,
+        archive: words.out.map(|name| ImageFile::new(rt, name)),
     };
     let mut err = rt.stderr();
     let mounted = mount(
@@ -58,13 +85,7 @@ fn mount_file<W: Threads + Wait + Copy + Send + Sync + 'static>(
         streams,
         &mut err,
     );
-    let status = match (mounted.came, words.out) {
-        (Some(came), Some(name)) => {
-            let written = replace(&rt, name, &came.image).is_ok();
-            finish(alloc, mounted.status, name, written, &mut err)
-        }
-        _ => mounted.status,
-    };
+    let status = finished(alloc, mounted, words.out, &mut err);
     Ok(ExitCode::from(status.number()))
 }
 

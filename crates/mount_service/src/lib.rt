@@ -1,6 +1,7 @@
 //! A volume that is mounted by 9P: a service on it, whose sessions answer the messages of a stream.
 #![tactic(auto)]
 
+pub mod archive;
 pub mod mortal;
 pub mod mount;
 pub mod program;

@@ -4,6 +4,7 @@ ghost use Rattle.std.specs.Prelude.{◌≡◌, IfErr, IfNone, IfOk, IfSome, map}
 ghost use Rattle.std.specs.Bool.{OnTrue, OnFalse};
 ghost use Rattle.mount_service.specs.Mounted.{IsMounted, IsRefused, IsStatus, IsUnmounted, status_number};
 
+use crate::archive::Archive;
 use crate::program::{Came, Streams};
 use crate::starting::answer_messages;
 use bdev::BlockDriver;
@@ -50,11 +51,11 @@ impl Status {
 
 /// What came of a mount.
 #[derive(Drop)]
-pub struct Ended<I, O, C> {
+pub struct Ended<I, O, C, A> {
     /// How it ended.
     pub status: Status,
     /// What the service left, also where not all messages were answered; none where no service started, or it left no image.
-    pub came: Option<Came<I, O, C>>,
+    pub came: Option<Came<I, O, C, A>>,
 }
 
 /// Why a volume isn't mounted, or what ended it.
@@ -99,6 +100,7 @@ pub fn mount<
     I: BufRead + Drop,
     O: Write + Drop,
     C: Clock + Drop,
+    A: Archive + Drop,
     E: Write,
 >(
     alloc: Global,
@@ -108,11 +110,12 @@ pub fn mount<
     setup: &Setup,
     supply: Vec<D>,
     gate: Arc<G>,
-    streams: Streams<I, O, C>,
+    streams: Streams<I, O, C, A>,
     err: &mut E,
-) -> Ended<I, O, C>
-    ensures mounted { IfSome result.came (λ came. IsMounted image.entry setup.now (map D.state supply.items)
-        (I.Read.remaining streams.input) (O.contents streams.output) (O.contents came.streams.output) came.answered came.image.items) }
+) -> Ended<I, O, C, A>
+    ensures mounted { IfSome result.came (λ came. IsMounted A.puts image.entry setup.now (map D.state supply.items)
+        (I.Read.remaining streams.input) (O.contents streams.output) (O.contents came.streams.output) streams.archive came.streams.archive
+        came.answered came.image.items) }
     ensures status { IfSome result.came (λ came. IsStatus came.answered came.last_sync result.status) }
     ensures unmounted { IfNone result.came ((refusal : MountRefusal)
         × IsUnmounted image.entry name.entry setup.now (map D.state supply.items) refusal) }
@@ -157,6 +160,7 @@ fn run<
     I: BufRead + Drop,
     O: Write + Drop,
     C: Clock + Drop,
+    A: Archive + Drop,
 >(
     alloc: Global,
     rt: R,
@@ -165,10 +169,10 @@ fn run<
     setup: &Setup,
     supply: Vec<D>,
     gate: Arc<G>,
-    streams: Streams<I, O, C>,
-) -> Result<Came<I, O, C>, MountRefusal<'n>>
-    ensures mounted { IfOk result (λ came. IsMounted image.entry setup.now (map D.state supply.items) (I.Read.remaining streams.input)
-        (O.contents streams.output) (O.contents came.streams.output) came.answered came.image.items) }
+    streams: Streams<I, O, C, A>,
+) -> Result<Came<I, O, C, A>, MountRefusal<'n>>
+    ensures mounted { IfOk result (λ came. IsMounted A.puts image.entry setup.now (map D.state supply.items) (I.Read.remaining streams.input)
+        (O.contents streams.output) (O.contents came.streams.output) streams.archive came.streams.archive came.answered came.image.items) }
     ensures unmounted { IfErr result (IsUnmounted image.entry name.entry setup.now (map D.state supply.items)) }
 {
     let Some(bytes) = image else {

@@ -4,11 +4,11 @@ ghost use Rattle.std.specs.Prelude.{IfOk, OnOk};
 ghost use Rattle.mount_service.specs.Left.{IsLeftBy};
 ghost use Rattle.mount_service.specs.Spoken.{IsSpoken};
 
+use crate::archive::Archive;
 use crate::sessions::ServiceSessions;
 use counting_link::recorder::Recorder;
 use counting_link::room::Room;
 use file_server::FileServer;
-use ninep_server::sessions::Sessions;
 use ninep_stream::answering::{StreamRefusal, answer_all};
 use serve::service::Service;
 use serve::stopping::{NoImage, image_left};
@@ -19,22 +19,24 @@ use std::sync::Wait;
 use std::thread::Threads;
 use std::time::Clock;
 
-/// The streams of messages and answers, and the clock that says when calls are made.
+/// The streams of messages and answers, the clock that says when calls are made, and where images are put.
 #[derive(Drop)]
-pub struct Streams<I, O, C> {
+pub struct Streams<I, O, C, A> {
     /// Where messages come from.
     pub input: I,
     /// Where answers go.
     pub output: O,
     /// What the time of a call is.
     pub clock: C,
+    /// Where the image is put behind each sync that was done, if anywhere.
+    pub archive: Option<A>,
 }
 
 /// What came of the messages of a stream.
 #[derive(Drop)]
-pub struct Came<I, O, C> {
+pub struct Came<I, O, C, A> {
     /// The streams, as far as they were read and written.
-    pub streams: Streams<I, O, C>,
+    pub streams: Streams<I, O, C, A>,
     /// Whether all messages were answered, and why not.
     pub answered: Result<(), StreamRefusal>,
     /// How the last sync went.
@@ -52,13 +54,14 @@ pub(crate) fn answer_on<
     I: BufRead + Drop,
     O: Write + Drop,
     C: Clock + Drop,
+    A: Archive + Drop,
 >(
     alloc: Global,
     service: Service<N, R, L, S>,
-    streams: Streams<I, O, C>,
-) -> Result<Came<I, O, C>, NoImage>
-    ensures { IfOk result (λ came. IsLeftBy N.geometry N.opening (I.Read.remaining streams.input)
-        (O.contents streams.output) (O.contents came.streams.output) came.answered came.image.items) }
+    streams: Streams<I, O, C, A>,
+) -> Result<Came<I, O, C, A>, NoImage>
+    ensures { IfOk result (λ came. IsLeftBy A.puts N.geometry N.opening (I.Read.remaining streams.input) (O.contents streams.output)
+        (O.contents came.streams.output) streams.archive came.streams.archive came.answered came.image.items) }
 {
     let mut streams = streams;
     let answered = answer_by(alloc, &service, &mut streams);
@@ -80,15 +83,16 @@ fn answer_by<
     I: BufRead,
     O: Write,
     C: Clock,
+    A: Archive + Drop,
 >(
     alloc: Global,
     service: &Service<N, R, L, S>,
-    streams: &mut Streams<I, O, C>,
+    streams: &mut Streams<I, O, C, A>,
 ) -> Result<(), StreamRefusal>
-    ensures { OnOk result (IsSpoken N.geometry N.opening (I.Read.remaining streams.old.input) (O.contents streams.old.output)
-        (O.contents streams.new.output)) }
+    ensures { OnOk result (IsSpoken A.puts N.geometry N.opening (I.Read.remaining streams.old.input) (O.contents streams.old.output)
+        (O.contents streams.new.output) streams.old.archive streams.new.archive) }
 {
-    let mut sessions = ServiceSessions::new(alloc, service);
+    let mut sessions = ServiceSessions::new(alloc, service, streams.archive.take());
     let answered = answer_all(
         alloc,
         &mut streams.input,
@@ -96,6 +100,6 @@ fn answer_by<
         &streams.clock,
         &mut sessions,
     );
-    sessions.leave();
+    streams.archive = sessions.end();
     answered
 }

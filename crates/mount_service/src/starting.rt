@@ -14,6 +14,7 @@ ghost use Rattle.launch.specs.Stopped.{IsMountedTruly, IsStopped};
 ghost use Rattle.launch.specs.Ran.{HasRun, IsNotStarted};
 ghost use Rattle.mount_service.specs.Left.{IsLeftBy};
 
+use crate::archive::Archive;
 use crate::program::{Came, Streams, answer_on};
 use bdev::BlockDriver;
 use board::{Board, Seat};
@@ -46,6 +47,7 @@ fn mount_and_answer<
     I: BufRead + Drop,
     O: Write + Drop,
     C: Clock + Drop,
+    A: Archive + Drop,
 >(
     alloc: Global,
     rt: R,
@@ -55,8 +57,8 @@ fn mount_and_answer<
     frames: u32,
     running: Running<N>,
     gate: Arc<G>,
-    streams: Streams<I, O, C>,
-) -> Result<Result<Came<I, O, C>, NoImage>, StartRefusal>
+    streams: Streams<I, O, C, A>,
+) -> Result<Result<Came<I, O, C, A>, NoImage>, StartRefusal>
     requires board { arc_value board ≡ N.table }
     requires marks { L.marks link ≡ [] }
     requires told { L.Link.history link ≡ [] }
@@ -67,8 +69,8 @@ fn mount_and_answer<
     requires truth { L.Link.truth link N.opening [] }
     requires drivers { L.runs_on link N.policy N.supply }
     ensures played { IfOk result (λ o. IfOk o (λ came.
-        IsLeftBy N.geometry N.opening (I.Read.remaining streams.input) (O.contents streams.output)
-        (O.contents came.streams.output) came.answered came.image.items)) }
+        IsLeftBy A.puts N.geometry N.opening (I.Read.remaining streams.input) (O.contents streams.output)
+        (O.contents came.streams.output) streams.archive came.streams.archive came.answered came.image.items)) }
     ensures holds { OnOk result (IsMountedTruly L.truth N.geometry N.opening) }
     ensures refused { IfErr result (IsStopped N.opening frames) }
 {
@@ -93,6 +95,7 @@ fn start_and_answer<
     I: BufRead + Drop,
     O: Write + Drop,
     C: Clock + Drop,
+    A: Archive + Drop,
 >(
     alloc: Global,
     rt: R,
@@ -103,8 +106,8 @@ fn start_and_answer<
     setup: &Setup,
     supply: Vec<D>,
     gate: Arc<G>,
-    streams: Streams<I, O, C>,
-) -> Result<Result<Came<I, O, C>, NoImage>, StartRefusal>
+    streams: Streams<I, O, C, A>,
+) -> Result<Result<Came<I, O, C, A>, NoImage>, StartRefusal>
     requires board { board ≡ N.table }
     requires seat { IsKeeper N.table seat × (seat.view ≡ opener) }
     requires opening { N.opening ≡ opening_of image.now setup.now.minor prepared.range }
@@ -112,8 +115,8 @@ fn start_and_answer<
     requires prepared { IsPrepared image.now setup.now (map D.state supply.items) prepared.range }
     requires contents { prepared.media ≡ opening_media N.opening }
     ensures played { IfOk result (λ o. HasRun image.now setup.now (map D.state supply.items) (λ g v. IfOk o (λ came.
-        IsLeftBy g v (I.Read.remaining streams.input) (O.contents streams.output)
-        (O.contents came.streams.output) came.answered came.image.items))) }
+        IsLeftBy A.puts g v (I.Read.remaining streams.input) (O.contents streams.output)
+        (O.contents came.streams.output) streams.archive came.streams.archive came.answered came.image.items))) }
     ensures refused { IfErr result (IsStopped (opening_of image.now setup.now.minor prepared.range) setup.now.frames) }
 {
     let Prepared { media, range } = prepared;
@@ -153,6 +156,7 @@ pub fn answer_messages<
     I: BufRead + Drop,
     O: Write + Drop,
     C: Clock + Drop,
+    A: Archive + Drop,
 >(
     alloc: Global,
     rt: R,
@@ -160,16 +164,16 @@ pub fn answer_messages<
     setup: &Setup,
     supply: Vec<D>,
     gate: Arc<G>,
-    streams: Streams<I, O, C>,
-) -> Result<Result<Came<I, O, C>, NoImage>, StartRefusal>
+    streams: Streams<I, O, C, A>,
+) -> Result<Result<Came<I, O, C, A>, NoImage>, StartRefusal>
     ensures refusal { IfErr result (IsNotStarted image.now setup.now (map D.state supply.items)) }
     ensures played { IfOk result (λ o. HasRun image.now setup.now (map D.state supply.items) (λ g v. IfOk o (λ came.
-        IsLeftBy g v (I.Read.remaining streams.input) (O.contents streams.output)
-        (O.contents came.streams.output) came.answered came.image.items))) }
+        IsLeftBy A.puts g v (I.Read.remaining streams.input) (O.contents streams.output)
+        (O.contents came.streams.output) streams.archive came.streams.archive came.answered came.image.items))) }
 {
     let prepared = prepare(alloc, image, setup, &supply)?;
     let (board, seat) = Board::new(alloc)?;
-    start_and_answer::<Brand, R, D, G, I, O, C>(
+    start_and_answer::<Brand, R, D, G, I, O, C, A>(
         alloc, rt, board, seat, prepared, image, setup, supply, gate, streams,
     )
 }

@@ -1,5 +1,5 @@
 -- How reading a volume and checking it ends.
-use Rattle.std.proofs.Common.{◌≡◌, ◌≢◌, ◌≤◌, ◌+◌, ◌-◌, ◌*◌, ℕ, List, ◌++◌, length, ◌<◌, false, sym, ap, ◌∙◌, subst, arith}
+use Rattle.std.proofs.Common.{◌≡◌, ◌≢◌, ◌≤◌, ◌+◌, ◌-◌, ◌*◌, ℕ, List, ◌++◌, length, ◌<◌, false, refl, sym, ap, ◌∙◌, subst, arith}
 use Rattle.std.specs.Prelude.{Result, Ok, Err, slice_index}
 use Rattle.std.proofs.Math.ListN.{take}
 use Rattle.std.proofs.Math.Seq.{take-append_seam}
@@ -12,14 +12,31 @@ use Rattle.records.specs.Told.{Told, took_end}
 use Rattle.reissue.specs.declared.table.Table.{Table}
 use Rattle.reissue.specs.Calls.{Truth}
 use Rattle.fsck.specs.declared.verdict.Clean.{Clean}
+use Rattle.reissue.specs.declared.link.Link.{Ghosts as LinkWords}
+use Rattle.reissue.specs.declared.transfers.Transfers.{Transfers}
 use Rattle.mounting.specs.declared.reading.Stop.{Stop}
+use Rattle.mounting.specs.declared.reading.Stop.TheVariants.{OutOfMemory, GaveUp, Ended}
 use Rattle.mounting.specs.declared.whole.MountRefusal.{MountRefusal}
 use Rattle.mounting.specs.declared.whole.MountRefusal.TheVariants as refusal
 use Rattle.mounting.specs.Whole.{IsHeadFit, refusal_by}
 use Rattle.mounting.specs.Reading.{ReadsRange}
-use Rattle.mounting.specs.Mounts.{IsChecked, ReadsRest, ReadsVolume}
+use Rattle.mounting.specs.Mounts.{IsChecked, ReadsRest, ReadsVolume, StandsIdle}
 use Rattle.mounting.proofs.Parts.{index_before, index_inside, length_kept}
 use Rattle.mounting.proofs.Ending.{went_both, head_refused, head_stopped, rest_stopped, volume_clean, volume_refused}
+
+-- a refusal for want of memory is one of a reading that stopped so
+pub wanting : (s : Stop) (e : MountRefusal) → e ≡ refusal_by s → ◌≡◌ {A = Result Clean MountRefusal} (Err e) (Err refusal.OutOfMemory)
+    → s ≡ OutOfMemory
+wanting OutOfMemory e is same = refl
+wanting GaveUp e is same = absurd cc
+wanting Ended e is same = absurd cc
+
+-- what is as it was stands as it stood
+pub stands_same : {L : Type 0} (words : LinkWords L) (ids budget : ℕ) (old new : Transfers L) → new ≡ old → StandsIdle words ids budget old
+    → StandsIdle words ids budget new
+stands_same {L} words ids budget old new same stands =
+    let P : Transfers L → Type 0 = λ t. StandsIdle words ids budget t in
+    subst P (sym same) stands
 
 -- the head wasn't read
 pub stops_at_head : (minor : ℕ) (old mid : Table) (before between : List Told) (was is : Truth) (head : List ℕ) (stop : Stop) (e : MountRefusal)

@@ -1,5 +1,5 @@
 -- Reading a volume through a link and checking it.
-use Rattle.std.specs.Prelude.{◌≡◌, ◌<◌, ◌+◌, ℕ, List, [], length, slice_index, Bool, true, false, Result, Ok, Err}
+use Rattle.std.specs.Prelude.{◌≡◌, ◌<◌, ◌≤◌, ◌+◌, ◌*◌, ◌^◌, ℕ, List, [], length, slice_index, Bool, true, false, Result, Ok, Err}
 use Rattle.tree.specs.Tree.{Tree}
 use Rattle.volume.specs.Verdict.{verdict_of, HoldsClosed}
 use Rattle.volume.specs.Verdict as volume
@@ -13,6 +13,10 @@ use Rattle.records.specs.Mount as words
 use Rattle.layout.specs.Places.{IsGeometry, geometry_of}
 use Rattle.reissue.specs.declared.table.Table.{Table}
 use Rattle.reissue.specs.Agrees.{Agrees}
+use Rattle.reissue.specs.Posts.{HasRoom}
+use Rattle.reissue.specs.Transfers.{table_of, link_of}
+use Rattle.reissue.specs.declared.link.Link.{Ghosts as LinkWords}
+use Rattle.reissue.specs.declared.transfers.Transfers.{Transfers}
 use Rattle.reissue.specs.Calls.{Truth}
 use Rattle.fsck.specs.declared.verdict.Clean.{Clean}
 use Rattle.mounting.specs.declared.whole.MountRefusal.{MountRefusal}
@@ -69,3 +73,12 @@ IsVolumeEnd (Err e) marks t ended = (frames : ℕ) → is_frame_count frames ≡
 pub record ReadsVolume (result : Result Clean MountRefusal) (minor : ℕ) (old new : Table) (before after : List Told) (was is : Truth) : Type 0 where
   pub went : Went minor old new before after was is
   pub end : Agrees old [] → IsVolumeEnd result (marks_after went.acts []) new (took_end (told_of went.acts))
+
+-- Nothing is pending, the device wasn't given up, and the link hasn't ended and has room. With so many ids given and messages left before,
+-- so many are left: at most 2^28 ids more were given.
+pub record StandsIdle {L : Type 0} (words : LinkWords L) (ids budget : ℕ) (t : Transfers L) : Type 0 where
+  pub idle : (table_of t).pending ≡ []
+  pub live : (table_of t).given_up ≡ false
+  pub unended : took_end (words.history (link_of t)) ≡ false
+  pub room : HasRoom (table_of t) (words.room (link_of t))
+  pub left : (table_of t).ids + 2 * words.budget_left (link_of t) ≤ ids + 2 * budget + 2 ^ 28

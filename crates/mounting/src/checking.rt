@@ -1,11 +1,11 @@
 //! Reading a whole volume through a link, and checking it.
 
-ghost use Rattle.std.specs.Prelude.{◌≡◌, ◌+◌, ◌-◌, ◌*◌, ◌<◌, ◌≤◌, ◌^◌, ◌%◌, ℕ, [], false, length, slice_index, OnOk};
+ghost use Rattle.std.specs.Prelude.{◌≡◌, ◌+◌, ◌-◌, ◌*◌, ◌<◌, ◌≤◌, ◌^◌, ◌%◌, ℕ, [], false, length, slice_index, OnOk, Err};
 ghost use Rattle.records.specs.Told.{took_end};
 ghost use Rattle.reissue.specs.Posts.{HasRoom};
 ghost use Rattle.reissue.specs.Transfers.{link_of, table_of};
 ghost use Rattle.mounting.specs.Whole.{HasSizes};
-ghost use Rattle.mounting.specs.Mounts.{IsChecked, ReadsRest, ReadsVolume};
+ghost use Rattle.mounting.specs.Mounts.{IsChecked, ReadsRest, ReadsVolume, StandsIdle};
 
 use crate::reading::{Stop, read_range};
 use crate::whole::{MountRefusal, sizes};
@@ -68,6 +68,7 @@ fn read_rest<L: Link>(
     ensures room { OnOk result (HasRoom (table_of transfers.new) (L.room (link_of transfers.new))) }
     ensures ids { OnOk result ((table_of transfers.new).ids + 2 * L.budget_left (link_of transfers.new)
         ≤ (table_of transfers.old).ids + 2 * L.budget_left (link_of transfers.old) + (length bytes.old - 2048)) }
+    ensures refused { result ≡ Err Stop.OutOfMemory → transfers.new ≡ transfers.old }
 {
     let size = bytes.len();
     read_range(alloc, transfers, minor, 2048, &mut bytes[2048..size])
@@ -97,6 +98,7 @@ fn read_behind<L: Link>(
     ensures room { OnOk result (HasRoom (table_of transfers.new) (L.room (link_of transfers.new))) }
     ensures ids { OnOk result ((table_of transfers.new).ids + 2 * L.budget_left (link_of transfers.new)
         ≤ (table_of transfers.old).ids + 2 * L.budget_left (link_of transfers.old) + (length bytes.old - 2048)) }
+    ensures refused { result ≡ Err Stop.OutOfMemory → transfers.new ≡ transfers.old }
 {
     put_head(bytes, head);
     read_rest(alloc, transfers, minor, bytes)
@@ -104,7 +106,8 @@ fn read_behind<L: Link>(
 
 /// Reads the boot block and the superblock of a volume, then all its other bytes, and checks what was read: it is clean, or why not. It
 /// takes messages until all has come. `Layout` where the superblock is refused, which is looked at before the rest is read;
-/// `Inconsistent` with the check's finding; `Eio` and `LinkEnded` where not all was read; `OutOfMemory`.
+/// `Inconsistent` with the check's finding; `Eio` and `LinkEnded` where not all was read; `OutOfMemory`, and then nothing is pending, the
+/// device wasn't given up, and the link hasn't ended and has room: so the volume may be read again.
 pub fn read_volume<L: Link>(
     alloc: Global,
     transfers: &mut Transfers<L>,
@@ -122,6 +125,8 @@ pub fn read_volume<L: Link>(
     ensures room { OnOk result (HasRoom (table_of transfers.new) (L.room (link_of transfers.new))) }
     ensures ids { OnOk result ((table_of transfers.new).ids + 2 * L.budget_left (link_of transfers.new)
         ≤ (table_of transfers.old).ids + 2 * L.budget_left (link_of transfers.old) + 2 ^ 28) }
+    ensures refused { result ≡ Err MountRefusal.OutOfMemory → StandsIdle L.Link (table_of transfers.old).ids
+        (L.budget_left (link_of transfers.old)) transfers.new }
 {
     let mut head = [0; 2048];
     if let Err(stop) = read_range(alloc, transfers, minor, 0, &mut head) {

@@ -1,6 +1,6 @@
 //! Reading a range of a volume through a link.
 
-ghost use Rattle.std.specs.Prelude.{◌≡◌, ◌+◌, ◌-◌, ◌*◌, ◌<◌, ◌≤◌, ◌^◌, ◌%◌, [], false, length, vec_capacity, IfSome, IfNone, OnOk};
+ghost use Rattle.std.specs.Prelude.{◌≡◌, ◌+◌, ◌-◌, ◌*◌, ◌<◌, ◌≤◌, ◌^◌, ◌%◌, [], false, length, vec_capacity, IfSome, IfNone, OnOk, Err};
 ghost use Rattle.records.specs.Told.{took_end};
 ghost use Rattle.reissue.specs.Posts.{HasRoom};
 ghost use Rattle.reissue.specs.Transfers.{link_of, table_of};
@@ -80,7 +80,7 @@ fn begin_next<L: Link>(
 
 /// Reads the bytes of a range of the media that begins at `start`, as many as there is room for, a multiple of 512: so many reads are
 /// pending at once as may be, each of at most 4096 bytes. It takes messages until all have come, the device is given up or the link ends. A
-/// Flush asks for nothing here. Where it stops early, some byte of the range wasn't read.
+/// Flush asks for nothing here. Where it stops early, some byte of the range wasn't read. Where no memory was found, all is as it was.
 pub fn read_range<L: Link>(
     alloc: Global,
     transfers: &mut Transfers<L>,
@@ -104,6 +104,7 @@ pub fn read_range<L: Link>(
     ensures room { OnOk result (HasRoom (table_of transfers.new) (L.room (link_of transfers.new))) }
     ensures ids { OnOk result ((table_of transfers.new).ids + 2 * L.budget_left (link_of transfers.new)
         ≤ (table_of transfers.old).ids + 2 * L.budget_left (link_of transfers.old) + length into.old) }
+    ensures refused { result ≡ Err Stop.OutOfMemory → (transfers.new ≡ transfers.old) × (into.new ≡ into.old) }
 {
     let mut asked = match Vec::with_capacity(alloc, AT_ONCE) {
         Ok(asked) => asked,

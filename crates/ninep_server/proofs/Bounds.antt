@@ -1,6 +1,6 @@
 -- No message asks more than sixteen things.
-use Rattle.std.proofs.Common.{ℕ, zero, suc, ◌-◌, ◌%◌, min, take, pos, Bool, true, false, ℤ, List, [], ◌∷◌, ◌++◌, Option, Some, None, Result, Ok, Err}
-use Rattle.std.proofs.Common.{if◌then◌else◌, nat_lt, length, ◌≡◌, ◌⊎◌, ◌≤◌, ◌+◌, inl, inr, sym, subst, arith}
+use Rattle.std.proofs.Common.{ℕ, zero, suc, ◌-◌, ◌%◌, min, take, pos, drop, Bool, true, false, ℤ, List, [], ◌∷◌, ◌++◌, Option, Some, None, Result, Ok, Err}
+use Rattle.std.proofs.Common.{if◌then◌else◌, nat_lt, length, ◌≡◌, ◌⊎◌, ◌≤◌, ◌+◌, inl, inr, subst, arith}
 use Rattle.std.proofs.lemmas.List.{length-append}
 use Rattle.std.specs.Option.{option_map, option_to_list}
 use Rattle.ninep.specs.Requests.{Body, names_in}
@@ -13,7 +13,7 @@ use Rattle.ninep.specs.declared.request.Request.TheVariants as request
 use Rattle.ninep_server.specs.Paths.{below, checked, stepped}
 use Rattle.ninep_server.specs.Knowledge.{Known, File, found, named, opened, new_fid, user_of, closed}
 use Rattle.ninep_server.specs.Hearing.{done_in, attributes_in, position_in, bytes_in, count_in, room_in, target_in, descriptor_in, session_in, names_heard}
-use Rattle.ninep_server.specs.Plans.{Plan, Follows, closing, with_it, at}
+use Rattle.ninep_server.specs.Plans.{Plan, closing, with_it, at}
 use Rattle.ninep_server.specs.Nodes.{node_of, qid_of}
 use Rattle.ninep_server.specs.Attaching.{begins, entering, looking_at_root, attaching_as, user_number}
 use Rattle.ninep_server.specs.Walks.{with_name, enters, walking, place}
@@ -21,9 +21,9 @@ use Rattle.ninep_server.specs.Opens.{opening, opens, open_bits, flags_by, not_li
 use Rattle.ninep_server.specs.Opens.{was_made, making, group_of, is_set, flag_for}
 use Rattle.ninep_server.specs.Naming.{linking, renaming, unlinking, removed, removing_file}
 use Rattle.ninep_server.specs.Settings.{changing, in_order, looking_first, changes_wanted, changeable}
-use Rattle.ninep_server.specs.Listings.{listing}
+use Rattle.ninep_server.specs.Listings.{any_long, entries_of, listing, listing_names}
 use Rattle.ninep_server.specs.Messages.{moving, transferring, looking, attributes_of, of_file, of_name, of_node, of_fid, plan_of}
-use Rattle.ninep_server.specs.Progress.{Within, IsLoose, IsCarriedOn, left_of, left_of_turn, left_at_stage, left_at_change}
+use Rattle.ninep_server.specs.Progress.{Within, left_of, left_of_turn, left_at_stage, left_at_change}
 use Rattle.ninep_server.specs.declared.refused.Refused.{Refused}
 use Rattle.ninep_server.specs.declared.transfer.Moved.{Moved}
 use Rattle.ninep_server.specs.declared.transfer.Moved.TheVariants as moved
@@ -46,9 +46,6 @@ use Rattle.ninep_server.specs.declared.answer.Answer.{Answer}
 use Rattle.ninep_server.specs.declared.answer.Answer.TheVariants as answer
 use Rattle.ninep_server.specs.declared.work.Work.{Work}
 use Rattle.ninep_server.specs.declared.work.Work.TheVariants as work
-use Rattle.ninep_server.specs.declared.ask.Ask.{Ask}
-use Rattle.ninep_server.specs.declared.heard.Heard.{Heard}
-use Rattle.ninep_server.specs.declared.answer.Said.{Said}
 use Rattle.ninep_server.specs.declared.turn.Turn.{Turn}
 use Rattle.ninep_server.specs.declared.turn.Turn.TheVariants as turn
 
@@ -189,10 +186,15 @@ setting_within : (session : ℕ) (path : List ℕ) (wanted : Wanted) → Within 
 setting_within session path wanted = λ h. it_within 15 (attributes_in h) _ (λ a. it_within 15 (changes_wanted wanted a) _
     (λ c. changing_within 15 session path (in_order c) (omega (arith, few_changes c))))
 
-listing_within : (n session : ℕ) (path : List ℕ) (fd : ℕ) (above : Option ℕ) → Within (listing session path fd above) (suc (suc n))
-listing_within n session path fd None =
-    λ h. it_within (suc n) (attributes_in h) _ (λ a i. it_within n (names_heard i) _ (λ names. tt))
-listing_within n session path fd (Some above) = λ h. it_within (suc n) (names_heard h) _ (λ names. tt)
+names_within : (n session fd own offset limit above : ℕ) → Within (listing_names session fd own offset limit above) (suc n)
+names_within n session fd own offset limit above = λ h. it_within n (names_heard h) _
+    (λ names. either_within n (any_long (drop offset (entries_of own above names))) _ _ tt tt)
+
+listing_within : (n session : ℕ) (path : List ℕ) (fd own offset limit : ℕ) (above : Option ℕ)
+    → Within (listing session path fd own offset limit above) (suc (suc n))
+listing_within n session path fd own offset limit None =
+    λ h. it_within (suc n) (attributes_in h) _ (λ a. names_within n session fd own offset limit a.inode)
+listing_within n session path fd own offset limit (Some above) = names_within (suc n) session fd own offset limit above
 
 opens_within : (k : Known) (fid flags : ℕ) → Within (opens k fid flags) 16
 opens_within k fid flags = it_within 16 (named k.fids fid) _ (λ file. it_within 16 (closed file.descriptor) _
@@ -214,7 +216,8 @@ file_within k (request.Write fid offset bytes) = it_within 16 (opened k.fids fid
     (λ file. either_within 16 (nat_lt 2147483647 offset) _ _ tt
     (transferring_within 14 file.0 file.1 (Some (pos offset)) (moved.Write (at (take 65536 bytes.now)))))
 file_within k (request.Readdir fid offset count) = it_within 16 (opened k.fids fid) _ (λ used. it_within 16 (named k.fids fid) _
-    (λ file. either_within 16 (nat_lt (min count (k.message_size - 24)) 84) _ _ tt (listing_within 14 used.0 file.path used.1 _)))
+    (λ file. either_within 16 (nat_lt (min count (k.message_size - 24)) 84) _ _ tt
+    (listing_within 14 used.0 file.path used.1 file.node.inode offset (min count (k.message_size - 24)) _)))
 file_within k (request.Lock fid kind flags start length process client) = it_within 16 (opened k.fids fid) _ (λ file. tt)
 file_within k (request.Getlock fid kind start length process client) = it_within 16 (opened k.fids fid) _ (λ file. tt)
 file_within k r = tt
@@ -299,46 +302,40 @@ asks_setting : (x : Setattr) (change : Option Change) → Within (left_at_change
 asks_setting x None few = few
 asks_setting x (Some c) few = few
 
-asks_listing : (l : Listing) (above : Option ℕ) → Within (listing l.session l.path.items l.fd above) 0 → ⊥
+asks_listing : (l : Listing) (above : Option ℕ) → Within (listing l.session l.path.items l.fd l.inode l.offset l.limit above) 0 → ⊥
 asks_listing l None few = few
 asks_listing l (Some above) few = few
 
--- what may ask nothing more has nothing that is asked next
-pub none_left : {S : Type 0} (may : S → Ask → Heard → S → Type 0) (w : Work) (s : S) (k : Known) → Within (left_of w) 0
-    → IsLoose may (left_of w) s k
-none_left may (work.Transfer t) s k few = absurd (asks_transferring t.session t.fd t.seek t.moved few)
-none_left may (work.Getattr g) s k few = absurd (asks_looking g.session g.path.items g.descriptor few)
-none_left may (work.Readlink r) s k few = absurd few
-none_left may (work.Close c) s k few = absurd few
-none_left may (work.Statfs session) s k few = absurd few
-none_left may (work.Version v) s k few = absurd few
-none_left may (work.Attach (attach.Enter fid uid)) s k few = absurd few
-none_left may (work.Attach (attach.Root fid user)) s k few = absurd few
-none_left may (work.Walk w) s k few = absurd few
-none_left may (work.Open o) s k few = absurd few
-none_left may (work.Create (creation.Open file flags mode group)) s k few = absurd few
-none_left may (work.Create (creation.Chown file fd gid)) s k few = absurd few
-none_left may (work.Create (creation.Look file fd)) s k few = absurd few
-none_left may (work.Make m) s k few = absurd (asks_making m m.stage few)
-none_left may (work.Link l) s k few = absurd few
-none_left may (work.Rename r) s k few = absurd few
-none_left may (work.Unlink u) s k few = absurd few
-none_left may (work.Remove r) s k few = absurd few
-none_left may (work.Setattr x) s k few = absurd (asks_setting x x.change few)
-none_left may (work.List l) s k few = absurd (asks_listing l l.above few)
+-- what may ask nothing more waits for nothing
+none_left : (w : Work) → Within (left_of w) 0 → ⊥
+none_left (work.Transfer t) few = asks_transferring t.session t.fd t.seek t.moved few
+none_left (work.Getattr g) few = asks_looking g.session g.path.items g.descriptor few
+none_left (work.Readlink r) few = few
+none_left (work.Close c) few = few
+none_left (work.Statfs session) few = few
+none_left (work.Version v) few = few
+none_left (work.Attach (attach.Enter fid uid)) few = few
+none_left (work.Attach (attach.Root fid user)) few = few
+none_left (work.Walk w) few = few
+none_left (work.Open o) few = few
+none_left (work.Create (creation.Open file flags mode group)) few = few
+none_left (work.Create (creation.Chown file fd gid)) few = few
+none_left (work.Create (creation.Look file fd)) few = few
+none_left (work.Make m) few = asks_making m m.stage few
+none_left (work.Link l) few = few
+none_left (work.Rename r) few = few
+none_left (work.Unlink u) few = few
+none_left (work.Remove r) few = few
+none_left (work.Setattr x) few = asks_setting x x.change few
+none_left (work.List l) few = asks_listing l l.above few
 
--- A turn that still waits when sixteen things were asked has a plan that leaves open what is said.
-pub runs_out : {S : Type 0} (may : S → Ask → Heard → S → Type 0) (p : Plan) (s t : S) (k l : Known) (here : Turn) (asked : ℕ) (it : Said)
-    → 16 ≤ asked → asked ≤ 16 → ((session : ℕ) × (here ≡ turn.Sync session)) ⊎ ((w : Work) × (here ≡ turn.Go w))
-    → ((n : ℕ) → n + asked ≡ 16 → Within (left_of_turn here) n ⊎ IsLoose may p s k) → IsCarriedOn may p s k (left_of_turn here) t l
-    → Follows may p s k it t l
-runs_out may p s t k l here asked it low high is few carries =
+-- a turn that still waits when sixteen things were asked would ask more than any plan does
+pub runs_out : (here : Turn) (asked : ℕ) → 16 ≤ asked → asked ≤ 16
+    → ((session : ℕ) × (here ≡ turn.Sync session)) ⊎ ((w : Work) × (here ≡ turn.Go w))
+    → ((n : ℕ) → n + asked ≡ 16 → Within (left_of_turn here) n) → ⊥
+runs_out here asked low high is few =
     let done : 0 + asked ≡ 16 = omega (arith, low, high) in
-    elim (few 0 done) [
-      | inl none ↦ elim is [
-        | inl sync ↦ absurd (subst (λ (x : Turn). Within (left_of_turn x) 0) sync.1 none)
-        | inr go ↦ carries it t l (subst (λ (x : Turn). IsLoose may (left_of_turn x) t l) (sym go.1)
-            (none_left may go.0 t l (subst (λ (x : Turn). Within (left_of_turn x) 0) go.1 none)) it t l)
-      ]
-      | inr loose ↦ loose it t l
+    elim is [
+      | inl sync ↦ subst (λ (x : Turn). Within (left_of_turn x) 0) sync.1 (few 0 done)
+      | inr go ↦ none_left go.0 (subst (λ (x : Turn). Within (left_of_turn x) 0) go.1 (few 0 done))
     ]

@@ -1,14 +1,14 @@
 -- How plans are followed.
-use Rattle.std.proofs.Common.{◌≡◌, ◌⊎◌, ◌∙◌, ◌+◌, ℕ, suc, List, Option, Some, None, Result, Ok, inl, inr, refl, sym, subst, arith}
+use Rattle.std.proofs.Common.{◌≡◌, ◌∙◌, ◌+◌, ℕ, suc, List, Option, Some, None, Result, Ok, inl, inr, refl, sym, subst, arith}
 use Rattle.errno.specs.declared.Errno.TheVariants.{ENOMEM}
 use Rattle.ninep.specs.Requests.{Body}
 use Rattle.tree.specs.declared.Reply.{Reply}
 use Rattle.ninep_server.specs.Fids.{EachBecomes, IsUnlinked}
 use Rattle.ninep_server.specs.Knowledge.{Known, File}
-use Rattle.ninep_server.specs.Plans.{Plan, Open, Says, Asks, Changes, OrNoMemory, IsSaid, Follows, closing, error}
+use Rattle.ninep_server.specs.Plans.{Plan, Says, Asks, Changes, OrNoMemory, IsSaid, Follows, closing, error}
 use Rattle.ninep_server.specs.Nodes.{said_of}
 use Rattle.ninep_server.specs.Naming.{removed}
-use Rattle.ninep_server.specs.Progress.{left_of, left_of_turn, AsksNext, behind, SaysSame, Leaves, IsCarriedOn, Within, IsLoose}
+use Rattle.ninep_server.specs.Progress.{left_of, left_of_turn, AsksNext, behind, SaysSame, Leaves, IsCarriedOn, Within}
 use Rattle.ninep_server.specs.Messages.{syncing, synced}
 use Rattle.tree.specs.declared.Call.TheVariants as call
 use Rattle.ninep_server.specs.declared.refused.Refused.{Refused}
@@ -25,7 +25,6 @@ use Rattle.ninep_server.specs.declared.turn.Turn.TheVariants as turn
 -- what says the same is followed by saying it
 says_it : {S : Type 0} (may : S → Ask → Heard → S → Type 0) (q : Plan) (body : ℕ → Body) (s u : S) (l m : Known) (it : Said)
     → SaysSame q body → Follows may q s l it u m → IsSaid it body × (u ≡ s) × (m ≡ l)
-says_it may Open body s u l m it h f = absurd h
 says_it may (Says other) body s u l m it h f = ((λ most. f.0 most ∙ h most), f.1, f.2)
 says_it may (Asks asked next) body s u l m it h f = absurd h
 says_it may (Changes change next) body s u l m it h f = absurd h
@@ -40,7 +39,6 @@ says_alone may q body s u k l m it h same f =
 -- what is left of a plan carries it on
 pub carried : {S : Type 0} (may : S → Ask → Heard → S → Type 0) (p q : Plan) (s : S) (k l : Known) → Leaves p k q l
     → IsCarriedOn may p s k q s l
-carried may Open q s k l h it u m f = tt
 carried may (Says body) q s k l h it u m f = says_alone may q body s u k l m it h.0 h.1 f
 carried may (Asks asked next) q s k l h it u m f =
     subst (λ (n : Known). Follows may (Asks asked next) s n it u m) h.1 (subst (λ (r : Plan). Follows may r s l it u m) h.0 f)
@@ -50,7 +48,6 @@ carried may (OrNoMemory next) q s k l (inr h) it u m f = inr (says_alone may q (
 
 exchanged : {S : Type 0} (may : S → Ask → Heard → S → Type 0) (p q : Plan) (a : Ask) (h : Heard) (s t : S) (k l : Known) → AsksNext p a
     → may s a h t → Leaves (behind p h) k q l → IsCarriedOn may p s k q t l
-exchanged may Open q a h s t k l asks heard left it u m f = tt
 exchanged may (Says body) q a h s t k l asks heard left it u m f = absurd asks
 exchanged may (Asks asked next) q a h s t k l asks heard left it u m f =
     (a, h, t, asks, heard, carried may (next h) q t k l left it u m f)
@@ -69,65 +66,37 @@ pub carried_further : {S : Type 0} (may : S → Ask → Heard → S → Type 0) 
 carried_further may p q r s t u k l m first second it v n f = first it v n (second it v n f)
 
 says_few : (n : ℕ) (q : Plan) (body : ℕ → Body) → SaysSame q body → Within q n
-says_few n Open body h = absurd h
 says_few n (Says other) body h = tt
 says_few n (Asks asked next) body h = absurd h
 says_few n (Changes change next) body h = absurd h
 says_few n (OrNoMemory next) body h = absurd h
 
 -- what is left of a plan asks no more than it
-pub left_few : {S : Type 0} (may : S → Ask → Heard → S → Type 0) (n : ℕ) (p q : Plan) (s : S) (k l : Known) → Within p n → Leaves p k q l
-    → Within q n ⊎ IsLoose may p s k
-left_few may n Open q s k l few h = inr (λ it u m. tt)
-left_few may n (Says body) q s k l few h = inl (says_few n q body h.0)
-left_few may n (Asks asked next) q s k l few h = inl (subst (λ (r : Plan). Within r n) (sym h.0) few)
-left_few may n (Changes change next) q s k l few h = elim (left_few may n next q s h.0 l few h.2) [
-  | inl fewer ↦ inl fewer
-  | inr loose ↦ inr (λ it u m. (h.0, h.1, loose it u m))
-]
-left_few may n (OrNoMemory next) q s k l few (inl h) = elim (left_few may n next q s k l few h) [
-  | inl fewer ↦ inl fewer
-  | inr loose ↦ inr (λ it u m. inl (loose it u m))
-]
-left_few may n (OrNoMemory next) q s k l few (inr h) = inl (says_few n q (error (By ENOMEM)) h.0)
+pub left_few : (n : ℕ) (p q : Plan) (k l : Known) → Within p n → Leaves p k q l → Within q n
+left_few n (Says body) q k l few h = says_few n q body h.0
+left_few n (Asks asked next) q k l few h = subst (λ (r : Plan). Within r n) (sym h.0) few
+left_few n (Changes change next) q k l few h = left_few n next q h.0 l few h.2
+left_few n (OrNoMemory next) q k l few (inl h) = left_few n next q k l few h
+left_few n (OrNoMemory next) q k l few (inr h) = says_few n q (error (By ENOMEM)) h.0
 
-fewer : {S : Type 0} (may : S → Ask → Heard → S → Type 0) (n : ℕ) (p q : Plan) (a : Ask) (h : Heard) (s t : S) (k l : Known) → AsksNext p a
-    → may s a h t → Leaves (behind p h) k q l → Within p (suc n) → Within q n ⊎ IsLoose may p s k
-fewer may n Open q a h s t k l asks heard left few = inr (λ it u m. tt)
-fewer may n (Says body) q a h s t k l asks heard left few = absurd asks
-fewer may n (Asks asked next) q a h s t k l asks heard left few = elim (left_few may n (next h) q t k l (few h) left) [
-  | inl less ↦ inl less
-  | inr loose ↦ inr (λ it u m. (a, h, t, asks, heard, loose it u m))
-]
-fewer may n (Changes change next) q a h s t k l asks heard left few = absurd asks
-fewer may n (OrNoMemory next) q a h s t k l asks heard left few = absurd asks
-
--- behind an exchange there is one less
-pub asks_less : {S : Type 0} (may : S → Ask → Heard → S → Type 0) (n : ℕ) (p q r : Plan) (a : Ask) (h : Heard) (s t : S) (k l : Known)
-    → AsksNext p a → may s a h t → Leaves (behind p h) k q l → r ≡ q → Within p (suc n) → Within r n ⊎ IsLoose may p s k
-asks_less may n p q r a h s t k l asks heard left same few =
-    subst (λ (x : Plan). Within x n ⊎ IsLoose may p s k) (sym same) (fewer may n p q a h s t k l asks heard left few)
+fewer : (n : ℕ) (p q : Plan) (a : Ask) (h : Heard) (k l : Known) → AsksNext p a → Leaves (behind p h) k q l → Within p (suc n) → Within q n
+fewer n (Says body) q a h k l asks left few = absurd asks
+fewer n (Asks asked next) q a h k l asks left few = left_few n (next h) q k l (few h) left
+fewer n (Changes change next) q a h k l asks left few = absurd asks
+fewer n (OrNoMemory next) q a h k l asks left few = absurd asks
 
 -- how few things a plan still asks, where its answer begins
-pub begins_few : {S : Type 0} (may : S → Ask → Heard → S → Type 0) (n : ℕ) (p q : Plan) (s : S) (k l : Known) → n + 0 ≡ 16 → Within p 16
-    → Leaves p k q l → Within q n ⊎ IsLoose may p s k
-begins_few may n p q s k l e few h =
+pub begins_few : (n : ℕ) (p q : Plan) (k l : Known) → n + 0 ≡ 16 → Within p 16 → Leaves p k q l → Within q n
+begins_few n p q k l e few h =
     let same : 16 ≡ n = omega (arith, e) in
-    subst (λ (m : ℕ). Within q m ⊎ IsLoose may p s k) same (left_few may 16 p q s k l few h)
+    subst (λ (m : ℕ). Within q m) same (left_few 16 p q k l few h)
 
 -- and behind one thing more
-pub goes_few : {S : Type 0} (may : S → Ask → Heard → S → Type 0) (n i : ℕ) (p q r : Plan) (s t : S) (k l : Known) → n + (i + 1) ≡ 16
-    → ((m : ℕ) → m + i ≡ 16 → Within q m ⊎ IsLoose may p s k) → IsCarriedOn may p s k q t l
-    → (Within q (suc n) → Within r n ⊎ IsLoose may q t l) → Within r n ⊎ IsLoose may p s k
-goes_few may n i p q r s t k l e before carries step =
+pub goes_few : (n i : ℕ) (q r : Plan) → n + (i + 1) ≡ 16 → ((m : ℕ) → m + i ≡ 16 → Within q m) → (Within q (suc n) → Within r n)
+    → Within r n
+goes_few n i q r e before step =
     let same : suc n + i ≡ 16 = omega (arith, e) in
-    elim (before (suc n) same) [
-      | inl few ↦ elim (step few) [
-        | inl less ↦ inl less
-        | inr loose ↦ inr (λ it u m. carries it u m (loose it u m))
-      ]
-      | inr loose ↦ inr loose
-    ]
+    step (before (suc n) same)
 
 -- what is said is followed
 pub ends : {S : Type 0} (may : S → Ask → Heard → S → Type 0) (p : Plan) (s t : S) (k l : Known) (here : Turn) (it : Said)
@@ -143,12 +112,11 @@ work_carried {S} may here w q r a h s t k l e asks heard left same =
     let P : Turn → Type 0 = λ x. IsCarriedOn may (left_of_turn x) s k r t l in
     subst P (sym e) (carried_on may (left_of w) q r a h s t k l asks heard left same)
 
-pub work_few : {S : Type 0} (may : S → Ask → Heard → S → Type 0) (n : ℕ) (here : Turn) (w : Work) (q r : Plan) (a : Ask) (h : Heard)
-    (s t : S) (k l : Known) → here ≡ turn.Go w → AsksNext (left_of w) a → may s a h t → Leaves (behind (left_of w) h) k q l → r ≡ q
-    → Within (left_of_turn here) (suc n) → Within r n ⊎ IsLoose may (left_of_turn here) s k
-work_few {S} may n here w q r a h s t k l e asks heard left same =
-    let P : Turn → Type 0 = λ x. Within (left_of_turn x) (suc n) → Within r n ⊎ IsLoose may (left_of_turn x) s k in
-    subst P (sym e) (asks_less may n (left_of w) q r a h s t k l asks heard left same)
+pub work_few : (n : ℕ) (here : Turn) (w : Work) (q r : Plan) (a : Ask) (h : Heard) (k l : Known) → here ≡ turn.Go w
+    → AsksNext (left_of w) a → Leaves (behind (left_of w) h) k q l → r ≡ q → Within (left_of_turn here) (suc n) → Within r n
+work_few n here w q r a h k l e asks left same =
+    let P : Turn → Type 0 = λ x. Within (left_of_turn x) (suc n) → Within r n in
+    subst P (sym e) (λ few. subst (λ (x : Plan). Within x n) (sym same) (fewer n (left_of w) q a h k l asks left few))
 
 pub sync_carried : {S : Type 0} (may : S → Ask → Heard → S → Type 0) (here : Turn) (session : ℕ) (r : Plan) (h : Heard) (s t : S)
     (k : Known)
@@ -158,12 +126,11 @@ sync_carried {S} may here session r h s t k e heard left =
     let P : Turn → Type 0 = λ x. IsCarriedOn may (left_of_turn x) s k r t k in
     subst P (sym e) (exchanged may (syncing session) r (ask.Call session call.Sync) h s t k k refl heard left)
 
-pub sync_few : {S : Type 0} (may : S → Ask → Heard → S → Type 0) (n : ℕ) (here : Turn) (session : ℕ) (r : Plan) (h : Heard) (s t : S)
-    (k : Known) → here ≡ turn.Sync session → may s (ask.Call session call.Sync) h t → Leaves (synced h) k r k
-    → Within (left_of_turn here) (suc n) → Within r n ⊎ IsLoose may (left_of_turn here) s k
-sync_few {S} may n here session r h s t k e heard left =
-    let P : Turn → Type 0 = λ x. Within (left_of_turn x) (suc n) → Within r n ⊎ IsLoose may (left_of_turn x) s k in
-    subst P (sym e) (fewer may n (syncing session) r (ask.Call session call.Sync) h s t k k refl heard left)
+pub sync_few : (n : ℕ) (here : Turn) (session : ℕ) (r : Plan) (h : Heard) (k : Known) → here ≡ turn.Sync session
+    → Leaves (synced h) k r k → Within (left_of_turn here) (suc n) → Within r n
+sync_few n here session r h k e left =
+    let P : Turn → Type 0 = λ x. Within (left_of_turn x) (suc n) → Within r n in
+    subst P (sym e) (fewer n (syncing session) r (ask.Call session call.Sync) h k k refl left)
 
 -- the same is left
 closes : (session : ℕ) (d : Option ℕ) (body : ℕ → Body) (k : Known) → Leaves (closing session d body) k (closing session d body) k

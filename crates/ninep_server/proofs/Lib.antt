@@ -5,3 +5,4 @@ pub mod SendLaws
 pub mod Tables
 pub mod Following
 pub mod Bounds
+pub mod Entries

@@ -1,13 +1,12 @@
 -- What each message asks, and what is answered.
-use Rattle.std.specs.Prelude.{ℕ, ◌-◌, ◌/◌, min, pos, ℤ, Bool, true, false, List, [], ◌∷◌, take, nat_lt, Option, Some, None}
-use Rattle.std.specs.Prelude.{if◌then◌else◌, ◌==◌}
+use Rattle.std.specs.Prelude.{ℕ, ◌-◌, min, pos, ℤ, Bool, true, false, List, [], ◌∷◌, take, nat_lt, Option, Some, None}
+use Rattle.std.specs.Prelude.{if◌then◌else◌}
 use Rattle.std.specs.Int.{div_ceil}
 use Rattle.errno.specs.declared.Errno.TheVariants.{EFBIG, EINVAL}
 use Rattle.ninep.specs.Fields.{Text, Data}
 use Rattle.ninep.specs.Requests.{names_in}
 use Rattle.ninep.specs.declared.fault.Fault.{Fault}
 use Rattle.ninep.specs.declared.fault.Fault.TheVariants as fault
-use Rattle.ninep.specs.declared.reply.Qid.{Qid}
 use Rattle.ninep.specs.declared.reply.Room.{Room as RoomTold}
 use Rattle.ninep.specs.declared.reply.Attributes.{Attributes as AttributesTold}
 use Rattle.ninep.specs.declared.request.Request.{Request}
@@ -30,13 +29,9 @@ use Rattle.ninep_server.specs.Settings.{sets}
 use Rattle.ninep_server.specs.Listings.{lists}
 use Rattle.ninep_server.specs.declared.refused.Refused.{Refused}
 use Rattle.ninep_server.specs.declared.refused.Refused.TheVariants.{By, Stale, Unsupported}
-use Rattle.ninep_server.specs.declared.fid.Kind.{Kind}
-use Rattle.ninep_server.specs.declared.fid.Kind.TheVariants as kind
-use Rattle.ninep_server.specs.declared.fid.Node.{Node}
 use Rattle.ninep_server.specs.declared.transfer.Moved.{Moved}
 use Rattle.ninep_server.specs.declared.transfer.Moved.TheVariants as moved
 use Rattle.ninep_server.specs.declared.heard.Heard.{Heard}
-use Rattle.ninep_server.specs.declared.answer.Answer.{Answer}
 use Rattle.ninep_server.specs.declared.answer.Answer.TheVariants as answer
 use Rattle.ninep_server.specs.declared.answer.Said.TheVariants as said
 

@@ -1,6 +1,5 @@
 -- Names: further ones, changed ones, and ones that are taken away.
 use Rattle.std.specs.Prelude.{ℕ, Bool, true, false, List, Option, Result, Ok, Err}
-use Rattle.ninep.specs.Requests.{Body}
 use Rattle.tree.specs.declared.Call.{Call}
 use Rattle.tree.specs.declared.Call.TheVariants as call
 use Rattle.tree.specs.declared.Reply.{Reply}

@@ -2,7 +2,6 @@
 use Rattle.std.specs.Prelude.{⊤, ◌+◌, ◌%◌, ℕ, Bool, not, List, nat_lt, Option, Some, None, Result, Ok, Err, if◌then◌else◌, ◌==◌, ◌&&◌}
 use Rattle.std.specs.Int.RustNames.{bit_and}
 use Rattle.errno.specs.declared.Errno.TheVariants.{EINVAL, ELOOP}
-use Rattle.ninep.specs.Requests.{Body}
 use Rattle.ninep.specs.declared.reply.Qid.{Qid}
 use Rattle.tree.specs.declared.OpenFlags.{OpenFlags}
 use Rattle.tree.specs.declared.Call.{Call}

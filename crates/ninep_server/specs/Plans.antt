@@ -1,6 +1,6 @@
 -- How a message is answered: what is asked of the sessions, one thing after the other, and what is said in the end, as a function of what
 -- was heard.
-use Rattle.std.specs.Prelude.{⊤, ◌≡◌, ◌⊎◌, ℕ, List, [], ◌∷◌, ◌++◌, Option, Some, None, Result, Ok, Err}
+use Rattle.std.specs.Prelude.{◌≡◌, ◌⊎◌, ℕ, List, [], ◌∷◌, ◌++◌, Option, Some, None, Result, Ok, Err}
 use Rattle.std.specs.Borrow.{Bor}
 use Rattle.std.specs.Ordering.{nat_cmp}
 use Rattle.std.specs.BTreeMap.{is_at, insert_entry}
@@ -78,8 +78,6 @@ IsChanged (Renames old new) k l =
 IsChanged (Unlinks path) k l = (fids : List (ℕ × File)) × EachBecomes (IsUnlinked path) k.fids fids × (l ≡ record k { fids = fids })
 
 pub data Plan : Type 0 where
-  -- not said here
-  Open : Plan
   -- this is said, where data and texts have at most so many bytes
   Says : (ℕ → Body) → Plan
   -- this is asked, and it goes on by what is heard
@@ -121,7 +119,6 @@ IsSaid it body = (most : ℕ) → body_said it most ≡ body most
 -- A plan is followed: the sessions come from one state to another by what it asks, and by nothing else; this is said in the end, and what
 -- is known has become this. The first argument says what the sessions may answer.
 abbrev pub Follows : {S : Type 0} → (S → Ask → Heard → S → Type 0) → Plan → S → Known → Said → S → Known → Type 0
-Follows may Open s k it t l = ⊤
 Follows may (Says body) s k it t l = IsSaid it body × (t ≡ s) × (l ≡ k)
 Follows {S} may (Asks asked next) s k it t l =
     (a : Ask) × (h : Heard) × (u : S) × (plain a ≡ asked) × may s a h u × Follows may (next h) u k it t l

@@ -4,7 +4,7 @@ use Rattle.ninep.specs.Requests.{Body, names_in}
 use Rattle.errno.specs.declared.Errno.TheVariants.{ENOMEM}
 use Rattle.tree.specs.declared.Call.TheVariants as call
 use Rattle.ninep_server.specs.Knowledge.{Known, known_of}
-use Rattle.ninep_server.specs.Plans.{Plan, Open, Says, Asks, Changes, OrNoMemory, IsChanged, Follows, body_said, error, refuses}
+use Rattle.ninep_server.specs.Plans.{Plan, Says, Asks, Changes, OrNoMemory, IsChanged, Follows, body_said, error, refuses}
 use Rattle.ninep_server.specs.Plans.{calls, plain}
 use Rattle.ninep_server.specs.Nodes.{says}
 use Rattle.ninep_server.specs.Attaching.{beginning, entering, looking_at_root}
@@ -107,7 +107,7 @@ abbrev pub left_of_setattr : Setattr → Plan
 left_of_setattr s = left_at_change s s.change
 
 abbrev pub left_of_listing : Listing → Plan
-left_of_listing l = listing l.session l.path.items l.fd l.above
+left_of_listing l = listing l.session l.path.items l.fd l.inode l.offset l.limit l.above
 
 -- what is left of a work
 abbrev pub left_of : Work → Plan
@@ -141,7 +141,6 @@ left_of_turn (turn.Said it) = Says (body_said it)
 
 -- a plan asks this next
 abbrev pub AsksNext : Plan → Ask → Type 0
-AsksNext Open a = ⊤
 AsksNext (Says body) a = ⊥
 AsksNext (Asks asked next) a = plain a ≡ asked
 AsksNext (Changes change next) a = ⊥
@@ -159,7 +158,6 @@ SaysSame p body = ⊥
 
 -- Without asking anything, so much is left of a plan, and so has become what is known.
 abbrev pub Leaves : Plan → Known → Plan → Known → Type 0
-Leaves Open k q l = ⊤
 Leaves (Says body) k q l = SaysSame q body × (l ≡ k)
 Leaves (Asks asked next) k q l = (q ≡ Asks asked next) × (l ≡ k)
 Leaves (Changes change next) k q l = (m : Known) × IsChanged change k m × Leaves next m q l
@@ -179,13 +177,8 @@ IsCarriedOn {S} may p s k q t l = (it : Said) (u : S) (m : Known) → Follows ma
 
 -- a plan asks at most so many things
 abbrev pub Within : Plan → ℕ → Type 0
-Within Open n = ⊤
 Within (Says body) n = ⊤
 Within (Asks asked next) zero = ⊥
 Within (Asks asked next) (suc n) = (h : Heard) → Within (next h) n
 Within (Changes change next) n = Within next n
 Within (OrNoMemory next) n = Within next n
-
--- a plan is followed, whatever is said
-abbrev pub IsLoose : {S : Type 0} → (S → Ask → Heard → S → Type 0) → Plan → S → Known → Type 0
-IsLoose {S} may p s k = (it : Said) (u : S) (m : Known) → Follows may p s k it u m

@@ -1,13 +1,13 @@
 //! A connection, which answers messages.
 
-ghost use Rattle.std.specs.Prelude.{◌≡◌, ◌<◌, ◌+◌, ◌⊎◌, ℕ, suc, [], length, vec_len, vec_capacity, IfOk, IfErr, IsErr, OnOk, OnErr, ◌↔◌, Err};
+ghost use Rattle.std.specs.Prelude.{◌≡◌, ◌<◌, ◌+◌, ℕ, suc, [], length, vec_len, vec_capacity, IfOk, IfErr, IsErr, OnOk, OnErr, ◌↔◌, Err};
 ghost use Rattle.ninep_server.specs.Talks.{MayHear, Reaches, HasAsked};
 ghost use Rattle.ninep_server.specs.Written.{tag_in};
 ghost use Rattle.ninep_server.specs.Knowledge.{known_of};
 ghost use Rattle.ninep_server.specs.Plans.{Follows};
 ghost use Rattle.ninep_server.specs.Answering.{IsAnswered};
 ghost use Rattle.ninep_server.specs.Messages.{plan_of, refusal_for};
-ghost use Rattle.ninep_server.specs.Progress.{IsCarriedOn, IsLoose, Within, left_of_turn};
+ghost use Rattle.ninep_server.specs.Progress.{IsCarriedOn, Within, left_of_turn};
 
 use crate::answer::{Answer, Said};
 use crate::ask::Ask;
@@ -79,8 +79,7 @@ fn step<'m, S: Sessions>(knows: &mut Knows, sessions: &mut S, now: u32, turn: Tu
         → Reaches (MayHear S.called S.entered S.left now) start result sessions.new }
     ensures carried { IsCarriedOn (MayHear S.called S.entered S.left now) (left_of_turn turn.entry) sessions.old (known_of knows.old)
         (left_of_turn result) sessions.new (known_of knows.new) }
-    ensures few { (n : ℕ) → Within (left_of_turn turn.entry) (suc n) → Within (left_of_turn result) n
-        ⊎ IsLoose (MayHear S.called S.entered S.left now) (left_of_turn turn.entry) sessions.old (known_of knows.old) }
+    ensures few { (n : ℕ) → Within (left_of_turn turn.entry) (suc n) → Within (left_of_turn result) n }
 {
     match turn {
         Turn::Said(said) => Turn::Said(said),
@@ -111,7 +110,7 @@ fn serve<S: Sessions>(knows: &mut Knows, sessions: &mut S, now: u32, request: &R
     }
     match turn {
         Turn::Said(said) => said,
-        Turn::Sync(_) | Turn::Go(_) => Said::Plain(Answer::Refused(Refused::By(Errno::EIO))),
+        Turn::Sync(_) | Turn::Go(_) => unreachable!(),
     }
 }
 

@@ -13,6 +13,7 @@ mod fid;
 mod fids;
 pub mod heard;
 mod knows;
+pub mod laws;
 mod listing;
 mod making;
 mod naming;

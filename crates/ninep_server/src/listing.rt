@@ -1,8 +1,9 @@
 //! The entries of a directory: `.`, `..`, and the names in the order of their bytes. An offset counts them.
 
-ghost use Rattle.std.specs.Prelude.{◌≡◌, min};
+ghost use Rattle.std.specs.Prelude.{◌≡◌, ◌<◌, ◌+◌, ◌⊎◌, ◌∷◌, ℕ, List, drop, length, min, nat_lt, true, false, OnOk, IfErr};
 ghost use Rattle.ninep_server.specs.Knowledge.{known_of};
-ghost use Rattle.ninep_server.specs.Listings.{lists};
+ghost use Rattle.ninep_server.specs.Hearing.{eio};
+ghost use Rattle.ninep_server.specs.Listings.{AreTold, entries_of, entry_bytes, lists, stands};
 ghost use Rattle.ninep_server.specs.Progress.{AsksNext, BeginsAs, GoesOnAs, left_of_listing};
 
 use crate::answer::Answer;
@@ -33,11 +34,19 @@ struct Entries {
 impl Entries {
     /// An entry more, if it has room and none before it hadn't. Its qid has the number alone, and its type isn't told: the client asks for
     /// attributes.
-    fn put(&mut self, inode: u16, next: u64, name: &[u8]) -> Result<(), Refused> {
+    fn put(&mut self, inode: u16, next: u64, name: &[u8]) -> Result<(), Refused>
+        ensures told { OnOk result ((rest : List (List ℕ))
+            → stands self.new rest ≡ stands self.old (entry_bytes inode next name.now ∷ rest)) }
+        ensures short { OnOk result (nat_lt 60 (length name.now) ≡ false) }
+        ensures long { IfErr result (λ e. ((e ≡ eio) × (nat_lt 60 (length name.now) ≡ true)) ⊎ (e ≡ Refused.By Errno.ENOMEM)) }
+    {
         if name.len() > MAX_NAME {
             return Err(Refused::By(Errno::EIO));
         }
-        if self.full || self.bytes.len() + ENTRY_HEAD + name.len() > self.limit {
+        if self.full {
+            return Ok(());
+        }
+        if self.bytes.len() + ENTRY_HEAD + name.len() > self.limit {
             self.full = true;
             return Ok(());
         }
@@ -56,7 +65,24 @@ impl Entries {
     }
 }
 
+/// The entry of a directory that stands at an offset: its inode, and its name.
+fn entry_at(own: u16, above: u16, names: &[tree::Entry], at: usize) -> (u16, &[u8])
+    requires { at < length names.now + 2 }
+    ensures { drop at (entries_of own above names.now) ≡ (result.0, result.1.now) ∷ drop (at + 1) (entries_of own above names.now) }
+{
+    match at {
+        0 => (own, b"."),
+        1 => (above, b".."),
+        _ => {
+            let entry = &names[at - 2];
+            (entry.inode, &entry.name)
+        }
+    }
+}
+
 /// The entries of a directory from an offset on, in at most so many bytes.
+///
+/// EIO where one of them has a longer name than names of the server are.
 fn entries_from(
     alloc: Global,
     own: u16,
@@ -64,22 +90,19 @@ fn entries_from(
     names: &[tree::Entry],
     offset: u64,
     limit: usize,
-) -> Result<Vec<u8>, Refused> {
+) -> Result<Vec<u8>, Refused>
+    ensures { AreTold offset limit (drop offset (entries_of own above names.now)) result }
+{
     let mut entries = Entries {
         bytes: Vec::new(alloc),
         limit,
         full: false,
     };
-    if offset == 0 {
-        entries.put(own, 1, b".")?;
-    }
-    if offset <= 1 {
-        entries.put(above, 2, b"..")?;
-    }
-    let first = offset.saturating_sub(2).min(names.len() as u64) as usize;
-    for at in first..names.len() {
-        let entry = &names[at];
-        entries.put(entry.inode, at as u64 + 3, &entry.name)?;
+    let len = names.len() + 2;
+    let first = offset.min(len as u64) as usize;
+    for at in first..len {
+        let (inode, name) = entry_at(own, above, names, at);
+        entries.put(inode, at as u64 + 1, name)?;
     }
     Ok(entries.bytes)
 }

@@ -1,8 +1,8 @@
 //! Answers, as they are written.
 
-ghost use Rattle.std.specs.Prelude.{◌≡◌, ◌∷◌, ◌≤◌, ◌<◌, ◌+◌, length, take, vec_capacity, OnOk, OnErr, IfErr, nat_lt, not};
+ghost use Rattle.std.specs.Prelude.{◌≡◌, [], ◌∷◌, ◌≤◌, ◌<◌, ◌+◌, length, take, vec_capacity, OnOk, OnErr, IfErr, nat_lt, not};
 ghost use Rattle.std.specs.List.{AllByRecursion, flat_map};
-ghost use Rattle.ninep.specs.Fields.{Two, Number, Fits};
+ghost use Rattle.ninep.specs.Fields.{Two, Number, Text, Data, Fits};
 ghost use Rattle.ninep.specs.Replies.{qid_fields, reply_fields};
 ghost use Rattle.ninep.specs.declared.reply.Reply.{Reply as ToClient};
 ghost use Rattle.ninep_server.specs.Written.{answer_number, answer_fields, said_number, said_fields, too_long, IsWritten, IsSaidIn};
@@ -11,6 +11,7 @@ ghost use Rattle.ninep_server.specs.Sending.{IsSent};
 use crate::answer::{Answer, Said};
 use crate::end::End;
 use crate::knows::HEAD;
+use crate::refused::Refused;
 use errno::Errno;
 use ninep::names::MAX_NAMES;
 use ninep::reply::{Attributes, Held, Qid, Reply, Room};
@@ -102,33 +103,81 @@ fn unlocked<'a>(start: u64, length: u64, process: u32) -> Reply<'a>
     Reply::Getlock { held }
 }
 
+/// The reply of a refusal.
+fn error<'a>(refused: Refused) -> Reply<'a>
+    ensures { IsSent 7 (answer_fields 0 (Answer.Refused refused)) result }
+{
+    Reply::Error {
+        number: refused.number(),
+    }
+}
+
+/// The reply of a fid that is open.
+fn opened<'a>(qid: Qid) -> Reply<'a>
+    ensures { IsSent 13 (answer_fields 0 (Answer.Open qid)) result }
+{
+    Reply::Open { qid, unit: 0 }
+}
+
+/// The reply of a file that was made, and is open.
+fn created<'a>(qid: Qid) -> Reply<'a>
+    ensures { IsSent 15 (answer_fields 0 (Answer.Create qid)) result }
+{
+    Reply::Create { qid, unit: 0 }
+}
+
+/// The reply of a link's target.
+fn link_reply(target: &[u8]) -> Reply<'_>
+    ensures { IsSent 23 (Text (take 1023 target.now) ∷ []) result }
+{
+    Reply::Readlink {
+        target: within(target, MAX_TARGET as u32),
+    }
+}
+
+/// The reply of a directory's entries.
+fn entries_reply(entries: &[u8], most: u32) -> Reply<'_>
+    ensures { IsSent 41 (Data (take most entries.now) ∷ []) result }
+{
+    Reply::Readdir {
+        entries: within(entries, most),
+    }
+}
+
+/// The reply of a file's bytes.
+fn bytes_reply(bytes: &[u8], most: u32) -> Reply<'_>
+    ensures { IsSent 117 (Data (take most bytes.now) ∷ []) result }
+{
+    Reply::Read {
+        bytes: within(bytes, most),
+    }
+}
+
+/// The reply of a version, and of how many bytes a message has at most.
+fn version_reply<'a>(message_size: u32, known: bool) -> Reply<'a>
+    ensures { IsSent 101 (answer_fields 0 (Answer.Version message_size known)) result }
+{
+    Reply::Version {
+        message_size,
+        version: if known { SPOKEN } else { b"unknown" },
+    }
+}
+
 /// The reply of an answer, where data have at most so many bytes.
 fn reply_of(answer: &Answer, most: u32) -> Reply<'_>
     ensures { IsSent (answer_number answer.now) (answer_fields most answer.now) result }
 {
     match answer {
-        Answer::Refused(refused) => Reply::Error {
-            number: refused.number(),
-        },
+        Answer::Refused(refused) => error(*refused),
         Answer::Statfs(room) => room_reply(*room),
-        Answer::Open(qid) => Reply::Open {
-            qid: own(qid),
-            unit: 0,
-        },
-        Answer::Create(qid) => Reply::Create {
-            qid: own(qid),
-            unit: 0,
-        },
+        Answer::Open(qid) => opened(own(qid)),
+        Answer::Create(qid) => created(own(qid)),
         Answer::Symlink(qid) => Reply::Symlink { qid: own(qid) },
         Answer::Rename => Reply::Rename,
-        Answer::Readlink(target) => Reply::Readlink {
-            target: within(target, MAX_TARGET as u32),
-        },
+        Answer::Readlink(target) => link_reply(target),
         Answer::Getattr(attributes) => attributes_reply(*attributes),
         Answer::Setattr => Reply::Setattr,
-        Answer::Readdir(entries) => Reply::Readdir {
-            entries: within(entries, most),
-        },
+        Answer::Readdir(entries) => entries_reply(entries, most),
         Answer::Lock => Reply::Lock { status: 0 },
         Answer::Getlock {
             start,
@@ -142,16 +191,11 @@ fn reply_of(answer: &Answer, most: u32) -> Reply<'_>
         Answer::Version {
             message_size,
             known,
-        } => Reply::Version {
-            message_size: *message_size,
-            version: if *known { SPOKEN } else { b"unknown" },
-        },
+        } => version_reply(*message_size, *known),
         Answer::Attach(qid) => Reply::Attach { qid: own(qid) },
         Answer::Flush => Reply::Flush,
         Answer::Walk(qids) => walk_reply(walked(qids)),
-        Answer::Read(bytes) => Reply::Read {
-            bytes: within(bytes, most),
-        },
+        Answer::Read(bytes) => bytes_reply(bytes, most),
         Answer::Write(count) => Reply::Write { count: *count },
         Answer::Clunk => Reply::Clunk,
         Answer::Remove => Reply::Remove,

@@ -5,11 +5,12 @@ use Rattle.std.proofs.lemmas.List.{append-nil, length-append, length-take-le, ta
 use Rattle.std.proofs.lemmas.List.Elements.{All-nil, All-cons, All-append}
 use Rattle.std.proofs.lemmas.List.Folds.{concat-append}
 use Rattle.std.specs.Prelude.{Option, Some, None, Result, Ok, Err, OnOk, IfErr}
+use Rattle.std.specs.Result.{IsErrAnd}
 use Rattle.std.specs.List.{concat}
 use Rattle.std.specs.Io.KnownBytes.{Consumes, Appends, Keeps, IsAtEnd}
 use Rattle.ninep_stream.specs.Messages.{IsMessage, TakesMore}
 use Rattle.ninep_stream.specs.Answered.{IsAnswered, AreAnswered, AppendsSome, IsAllOf, IsAnsweredAll, IsAnsweredWhole, Lead}
-use Rattle.ninep_stream.specs.Stopped.{Stops, StopsSilent, IsStopped, IsUnread, Responds, RespondsNot}
+use Rattle.ninep_stream.specs.Stopped.{Stops, IsStopped, IsUnread, Responds, RespondsNot}
 use Rattle.ninep_stream.specs.declared.answering.StreamRefusal.{StreamRefusal}
 use Rattle.ninep_stream.specs.declared.answering.StreamRefusal.TheVariants.{Input, OutOfMemory, NotWritten, TooMany}
 
@@ -228,3 +229,8 @@ pub responds_not : {S A : Type 0} (R : List ℕ → List ℕ → S → S → Typ
 responds_not R (Ok a) message answer p q s t given leads = tt
 responds_not R (Err e) message answer p q s t given leads =
     subst (λ (x : StreamRefusal). RespondsNot R x message p q s t) (sym given.0) (answer, given.1, leads)
+
+-- a refusal that is handed on
+pub if_err : {A E : Type 0} (r : Result A E) (P : E → Type 0) (e : E) → IsErrAnd r (λ x. x ≡ e) → P e → IfErr r P
+if_err (Ok a) P e is h = tt
+if_err (Err x) P e is h = subst P (sym is) h

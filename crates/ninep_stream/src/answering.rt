@@ -84,14 +84,11 @@ impl Answerer {
             (O.contents output.old) (O.contents output.new) (sessions.old, known self.old.connection)
             (sessions.new, known self.new.connection)) }
     {
-        match self.read(input) {
-            Ok(true) => match self.respond(output, clock, sessions) {
-                Ok(()) => Ok(true),
-                Err(refusal) => Err(refusal),
-            },
-            Ok(false) => Ok(false),
-            Err(refusal) => Err(refusal),
+        if !self.read(input)? {
+            return Ok(false);
         }
+        self.respond(output, clock, sessions)?;
+        Ok(true)
     }
 
     /// Answers the message that was read.
@@ -153,10 +150,8 @@ pub fn answer_all<I: BufRead, O: Write, C: Clock, S: Sessions>(
 {
     let mut answerer = Answerer::new(alloc);
     for _ in 0..u64::MAX {
-        match answerer.next(input, output, clock, sessions) {
-            Ok(true) => {}
-            Ok(false) => return Ok(()),
-            Err(refusal) => return Err(refusal),
+        if !answerer.next(input, output, clock, sessions)? {
+            return Ok(());
         }
     }
     Err(StreamRefusal::TooMany)

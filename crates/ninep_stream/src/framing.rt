@@ -88,14 +88,10 @@ fn take_more<I: Read>(input: &mut I, message: &mut Vec<u8>, size: usize) -> Resu
     ensures size { (size : ℕ) → result ≢ Err (InputRefusal.BadSize size) }
 {
     let at = message.len();
-    match make_room(message, size) {
-        Ok(()) => {
-            let (count, read) = read_into(input, &mut message[at..]);
-            message.truncate(at + count);
-            read
-        }
-        Err(refusal) => Err(refusal),
-    }
+    make_room(message, size)?;
+    let (count, read) = read_into(input, &mut message[at..]);
+    message.truncate(at + count);
+    read
 }
 
 /// Makes a message as long as this, by zeros behind what it has.
@@ -144,11 +140,8 @@ fn read_some<I: Read>(input: &mut I, bytes: &mut [u8]) -> Result<usize, InputRef
         match input.read(bytes) {
             Ok(0) => return Err(InputRefusal::CutShort),
             Ok(count) => return Ok(count),
-            Err(error) => {
-                if error.kind() != ErrorKind::Interrupted {
-                    return Err(InputRefusal::NotRead);
-                }
-            }
+            Err(error) if error.kind() == ErrorKind::Interrupted => {}
+            Err(_) => return Err(InputRefusal::NotRead),
         }
     }
     Err(InputRefusal::NotRead)

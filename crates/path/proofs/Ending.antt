@@ -4,8 +4,9 @@ use Rattle.std.specs.Prelude.{Result, Ok, Err, IsErrAnd}
 use Rattle.std.proofs.lemmas.Result.{err_from_is_err_and}
 use Rattle.errno.specs.declared.Errno.{Errno}
 use Rattle.store.specs.declared.Cut.{Cut}
+use Rattle.store.specs.declared.Halt.{Halt}
 use Rattle.store.specs.declared.Halt.TheVariants as halt
-use Rattle.store.specs.Halts.{cut_off}
+use Rattle.store.specs.Halts.{Ends, cut_off}
 use Rattle.path.specs.declared.stop.Stop.{Stop}
 use Rattle.path.specs.declared.stop.Stop.TheVariants as stop
 use Rattle.path.specs.Stops.{Answers, halted}
@@ -30,3 +31,13 @@ answers_exit s why P Q left h p = let e = err_from_is_err_and s left in subst (�
 -- nothing is said of a call that was cut
 pub answers_cut : {Y : Type 0} (s : Result Y Stop) (c : Cut) (Q : Result Y Errno → Type 0) → IsErrAnd s (λ y. y ≡ halted (cut_off c)) → Answers s Q
 answers_cut s c Q left = let e = err_from_is_err_and s left in subst (λ y. Answers y Q) (sym (e.1 ∙ ap (λ y. Err y) e.2)) tt
+
+-- and one that is left because a call on the volume was halted says what that did
+pub answers_halted : {X Y : Type 0} (s : Result Y Stop) (h : Halt) (P : X → Type 0) (S : Type 0) (Q : Result Y Errno → Type 0)
+    → IsErrAnd s (λ y. y ≡ halted h) → S → Ends {X = X} (Err h) P S → Answers s Q
+answers_halted {X = X} s h P S Q left sound ends = let e = err_from_is_err_and s left in
+    subst (λ y. Answers y Q) (sym (e.1 ∙ ap (λ y. Err y) e.2)) (by h ends)
+  where
+    by : (h : Halt) → Ends {X = X} (Err h) P S → Answers (Err (halted h)) Q
+    by (halt.Cut c) ends = tt
+    by halt.Unsound ends = ends sound

@@ -15,9 +15,9 @@ use Rattle.volume.specs.declared.Inode.{Inode}
 use Rattle.volume.specs.Entries.{is_directory_inode, entry_count}
 use Rattle.volume.specs.Holds.{Holds}
 use Rattle.volume.specs.Nodes.{directory_of, file_of, is_directory_mode, is_marked, node_of}
-use Rattle.volume.specs.Pieces.{pieces}
+use Rattle.volume.specs.Pieces.{Pieces, pieces}
 use Rattle.volume.specs.Reading.{Disk}
-use Rattle.path.specs.Walking.{Entered, step, StepsTo, IsThere}
+use Rattle.path.specs.Walking.{Entered, IsDirectoryAt, step, StepsTo, IsThere}
 
 -- a directory is there
 pub dir_is_there : (o : Option Node) → IsTrue (elim o [ None ↦ false | Some node ↦ is_dir node ]) → IsTrue (is_some o)
@@ -70,6 +70,30 @@ has_entries g d t n i holds kind loaded =
       names = ap names_of is ∙ same_names (node_of g v i) dir.parent dir.names body;
       entries = omega (arith, two, counted);
     }
+
+-- a directory that was entered is in order
+pub directory_at : (g : Geometry) (d : Disk) (t : Tree) (user : User) (n : ℕ) (i : Inode) → Holds g d t → Entered g d t user n i
+    → IsDirectoryAt g (pieces g d) n i
+directory_at g d t user n i holds entered = record { loaded = entered.loaded; sound = holds.sound.directories n entered.directory }
+
+-- so it has an entry for its parent
+pub has_parent : (g : Geometry) (v : Pieces) (n : ℕ) (i : Inode) → IsDirectoryAt g v n i → 128 ≤ i.size
+has_parent g v n i directory =
+    let two : 2 ≤ entry_count v n = directory.sound.two in
+    let counted : i.size / 64 ≡ entry_count v n = ap (λ (j : Inode). j.size / 64) directory.loaded in
+    omega (arith, two, counted)
+
+-- where a part leads that is `..`, and one that is a name
+module _ (here parent : ℕ) (names : Names) (part : Name) (no_dot : same_name part dot ≡ false) where
+  pub to_parent : same_name part dot_dot ≡ true → next here parent names part ≡ Ok parent
+  to_parent dots = cond-false (same_name part dot) (Ok here)
+      (if same_name part dot_dot then Ok parent else or_refuse (inode_of names part) ENOENT) no_dot
+      ∙ cond-true (same_name part dot_dot) (Ok parent) (or_refuse (inode_of names part) ENOENT) dots
+
+  pub to_name : same_name part dot_dot ≡ false → next here parent names part ≡ or_refuse (inode_of names part) ENOENT
+  to_name no_dots = cond-false (same_name part dot) (Ok here)
+      (if same_name part dot_dot then Ok parent else or_refuse (inode_of names part) ENOENT) no_dot
+      ∙ cond-false (same_name part dot_dot) (Ok parent) (or_refuse (inode_of names part) ENOENT) no_dots
 
 -- a name leads to a node, the parent is one, and so is the directory itself
 next_is_there : (g : Geometry) (d : Disk) (t : Tree) (n : ℕ) (i : Inode) (part : Name) → Holds g d t → IsTrue (is_some (t.nodes n)) → HasEntries g d t n i

@@ -11,12 +11,18 @@ use Rattle.path.specs.declared.step.Stand.{Stand}
 use Rattle.volume.specs.declared.Inode.{Inode}
 use Rattle.volume.specs.Entries.{is_directory_inode}
 use Rattle.volume.specs.Nodes.{directory_of}
-use Rattle.volume.specs.Pieces.{pieces}
+use Rattle.volume.specs.Holds.{IsSoundDirectory}
+use Rattle.volume.specs.Pieces.{Pieces, pieces}
 use Rattle.volume.specs.Reading.{Disk}
 
 -- the parent and the names that an inode says
 abbrev pub entries_in : Geometry → Disk → Inode → ℕ × Names
 entries_in g d i = let dir = directory_of g (pieces g d) i in (dir.parent, dir.names)
+
+-- This is the inode of a directory in order.
+pub record IsDirectoryAt (g : Geometry) (v : Pieces) (n : ℕ) (i : Inode) : Type 0 where
+  pub loaded : i ≡ v.inodes n
+  pub sound : IsSoundDirectory g v n
 
 -- This is the inode of a directory that the user may enter.
 pub record Entered (g : Geometry) (d : Disk) (t : Tree) (user : User) (here : ℕ) (i : Inode) : Type 0 where

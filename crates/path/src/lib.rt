@@ -1,8 +1,9 @@
 //! Paths, read once; access by permissions; and the walk from a path to an inode, or to the place that a path means for a name, over any
-//! blocks. No memory is taken.
+//! blocks. Memory is taken where a cache of names is made, and nowhere else.
 #![tactic(auto)]
 
 mod access;
+mod names;
 mod parts;
 mod place;
 mod read;
@@ -10,6 +11,7 @@ mod step;
 mod stop;
 
 pub use access::{Wish, is_owner, may};
+pub use names::NameCache;
 pub use parts::Parts;
 pub use place::{Found, Place, find_place, look_up};
 pub use read::{Path, is_dot, is_dot_dot};

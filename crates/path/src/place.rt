@@ -9,11 +9,11 @@ ghost use Rattle.volume.specs.Nodes.{directory_of};
 ghost use Rattle.volume.specs.Pieces.{pieces};
 ghost use Rattle.path.specs.Stops.{Answers, IsStop, IfRefused};
 ghost use Rattle.path.specs.Places.{Finds, FindsPlace, last_leads_to};
+ghost use Rattle.path.specs.Walking.{IsDirectoryAt};
 
-use crate::Path;
-use crate::step::{enter, walk};
+use crate::step::{enter, named, walk};
 use crate::stop::Stop;
-use directory::find;
+use crate::{NameCache, Path};
 use errno::Errno;
 use layout::Geometry;
 use store::{Blocks, Cut};
@@ -46,25 +46,28 @@ pub enum Found<'a> {
 /// The inode to which the last name of a path leads from a directory. None where there is none, or the path has no last name.
 fn there<B: Blocks>(
     blocks: &mut B,
+    names: &mut NameCache,
     geometry: &Geometry,
+    here: u32,
     inode: &Inode,
     path: &Path,
 ) -> Result<Option<u32>, Cut>
     requires on { IsOn B.world geometry.now blocks.old }
-    ensures reads { Reads B.world blocks.old blocks.new (λ d. IfOk result (λ x.
-        x ≡ last_leads_to (directory_of geometry.now (pieces geometry.now d) inode.now).names path.now)) }
+    ensures reads { Reads B.world blocks.old blocks.new (λ d. IsDirectoryAt geometry.now (pieces geometry.now d) here inode.now
+        → IfOk result (λ x. x ≡ last_leads_to (directory_of geometry.now (pieces geometry.now d) inode.now).names path.now)) }
     ensures cut { IfErr result (λ c. B.world.over blocks.new c) }
 {
     if !path.has_last_name() {
         return Ok(None);
     }
-    find(blocks, geometry, inode, path.last())
+    named(blocks, names, geometry, here, inode, path.last())
 }
 
 /// The place that a path means: the directory to which all parts but the last lead. Refused as the walk there is, and then ENOTDIR
 /// where it leads to a file, EACCES where the user may not search the directory.
 pub fn find_place<'a, B: Blocks>(
     blocks: &mut B,
+    names: &mut NameCache,
     geometry: &Geometry,
     user: User,
     path: &Path<'a>,
@@ -75,9 +78,9 @@ pub fn find_place<'a, B: Blocks>(
     ensures stop { IfErr result (λ s. IsStop B.world blocks.new s) }
     ensures proper { IfErr result (λ s. IfRefused s (λ e. e ≢ Errno.EIO)) }
 {
-    let directory = walk(blocks, geometry, user, path.parent())?;
+    let directory = walk(blocks, names, geometry, user, path.parent())?;
     let inode = enter(blocks, geometry, user, directory)?;
-    let there = there(blocks, geometry, &inode, path)?;
+    let there = there(blocks, names, geometry, directory, &inode, path)?;
     Ok(Place {
         directory,
         inode,
@@ -90,6 +93,7 @@ pub fn find_place<'a, B: Blocks>(
 /// last name leads to an inode. The walk's refusals come first.
 pub fn look_up<'a, B: Blocks>(
     blocks: &mut B,
+    names: &mut NameCache,
     geometry: &Geometry,
     user: User,
     path: &Path<'a>,
@@ -101,9 +105,9 @@ pub fn look_up<'a, B: Blocks>(
     ensures proper { IfErr result (λ s. IfRefused s (λ e. e ≢ Errno.EIO)) }
 {
     if !path.has_last_name() {
-        return Ok(Found::There(walk(blocks, geometry, user, path.parts())?));
+        return Ok(Found::There(walk(blocks, names, geometry, user, path.parts())?));
     }
-    let place = find_place(blocks, geometry, user, path)?;
+    let place = find_place(blocks, names, geometry, user, path)?;
     match place.there {
         Some(number) => Ok(Found::There(number)),
         None => Ok(Found::Missing(place)),

@@ -1,23 +1,25 @@
 //! The walk of a path's parts.
 
-ghost use Rattle.std.specs.Prelude.{◌≡◌, ◌≢◌, ◌<◌, ◌≤◌, ◌/◌, ◌%◌, ◌==◌, ◌∷◌, [], IfErr, IfOk, IfSome, IsTrue, is_some, length};
+ghost use Rattle.std.specs.Prelude.{◌≡◌, ◌≢◌, ◌<◌, ◌≤◌, ◌/◌, ◌%◌, ◌==◌, ◌∷◌, [], IfErr, IfOk, IfSome, IsTrue, Some, is_some, length};
 ghost use Rattle.store.specs.Volume.{IsOn};
 ghost use Rattle.store.specs.World.{Reads};
+ghost use Rattle.tree.specs.Names.{inode_of};
 ghost use Rattle.tree.specs.Tree.{Tree};
 ghost use Rattle.tree.specs.Walk.{next, start_of};
 ghost use Rattle.volume.specs.Holds.{Holds};
-ghost use Rattle.volume.specs.Nodes.{is_directory_mode, is_link_mode, permissions_in};
+ghost use Rattle.volume.specs.Nodes.{directory_of, is_directory_mode, is_link_mode, permissions_in};
+ghost use Rattle.volume.specs.Pieces.{pieces};
 ghost use Rattle.path.specs.Stops.{Answers, IsStop, IfRefused};
-ghost use Rattle.path.specs.Walking.{entries_in, Arrives, Enters, StepsTo, TellsTarget, Walks};
+ghost use Rattle.path.specs.Walking.{entries_in, Arrives, Enters, IsDirectoryAt, StepsTo, TellsTarget, Walks};
 
 use crate::stop::Stop;
-use crate::{Parts, Wish, is_dot, is_dot_dot, may};
-use directory::{find, parent};
+use crate::{NameCache, Parts, Wish, is_dot, is_dot_dot, may};
+use directory::{find, parent, stands_at};
 use errno::Errno;
 use file::file_pages::reading::read_at;
 use inode::inode_table::load;
 use layout::Geometry;
-use store::Blocks;
+use store::{Blocks, Cut};
 use tree::{MAX_TARGET, User};
 use volume::Inode;
 
@@ -70,9 +72,61 @@ pub(crate) fn enter<B: Blocks>(
     Ok(inode)
 }
 
+/// The inode to which a name leads from a directory, if the cache has an entry that the name still has.
+fn known<B: Blocks>(
+    blocks: &mut B,
+    names: &mut NameCache,
+    geometry: &Geometry,
+    here: u32,
+    inode: &Inode,
+    name: &[u8],
+) -> Result<Option<u32>, Cut>
+    requires on { IsOn B.world geometry.now blocks.old }
+    ensures reads { Reads B.world blocks.old blocks.new (λ d. IsDirectoryAt geometry.now (pieces geometry.now d) here inode.now
+        → IfOk result (λ x. IfSome x (λ n. inode_of (directory_of geometry.now (pieces geometry.now d) inode.now).names name.now ≡ Some n))) }
+    ensures cut { IfErr result (λ c. B.world.over blocks.new c) }
+{
+    let Some(known) = names.get(here, name) else {
+        return Ok(None);
+    };
+    let stands = stands_at(blocks, geometry, inode, name, known)?;
+    if !stands {
+        return Ok(None);
+    }
+    Ok(Some(known.number))
+}
+
+/// The inode to which a name leads from a directory. Where the cache doesn't tell it, all entries are searched.
+pub(crate) fn named<B: Blocks>(
+    blocks: &mut B,
+    names: &mut NameCache,
+    geometry: &Geometry,
+    here: u32,
+    inode: &Inode,
+    name: &[u8],
+) -> Result<Option<u32>, Cut>
+    requires on { IsOn B.world geometry.now blocks.old }
+    requires named { 0 < length name.now }
+    ensures reads { Reads B.world blocks.old blocks.new (λ d. IsDirectoryAt geometry.now (pieces geometry.now d) here inode.now
+        → IfOk result (λ x. x ≡ inode_of (directory_of geometry.now (pieces geometry.now d) inode.now).names name.now)) }
+    ensures cut { IfErr result (λ c. B.world.over blocks.new c) }
+{
+    if let Some(number) = known(blocks, names, geometry, here, inode, name)? {
+        return Ok(Some(number));
+    }
+    match find(blocks, geometry, inode, name)? {
+        Some(found) => {
+            names.put(here, name, found);
+            Ok(Some(found.number))
+        }
+        None => Ok(None),
+    }
+}
+
 /// Where a part leads from a directory: `.` stays, `..` goes to the parent, and a name to its inode; ENOENT where there is none.
 fn next<B: Blocks>(
     blocks: &mut B,
+    names: &mut NameCache,
     geometry: &Geometry,
     here: u32,
     inode: &Inode,
@@ -80,7 +134,7 @@ fn next<B: Blocks>(
 ) -> Result<u32, Stop>
     requires on { IsOn B.world geometry.now blocks.old }
     requires part { 0 < length part.now }
-    ensures reads { Reads B.world blocks.old blocks.new (λ d. 128 ≤ inode.now.size
+    ensures reads { Reads B.world blocks.old blocks.new (λ d. IsDirectoryAt geometry.now (pieces geometry.now d) here inode.now
         → let dir = entries_in geometry.now d inode.now in Answers result (λ r. r ≡ next here dir.0 dir.1 part.now)) }
     ensures stop { IfErr result (λ s. IsStop B.world blocks.new s) }
     ensures proper { IfErr result (λ s. IfRefused s (λ e. e ≢ Errno.EIO)) }
@@ -91,7 +145,7 @@ fn next<B: Blocks>(
     if is_dot_dot(part) {
         return Ok(parent(blocks, geometry, inode)?);
     }
-    match find(blocks, geometry, inode, part)? {
+    match named(blocks, names, geometry, here, inode, part)? {
         Some(there) => Ok(there),
         None => Err(Stop::Refused(Errno::ENOENT)),
     }
@@ -100,6 +154,7 @@ fn next<B: Blocks>(
 /// Where a part leads from a node.
 fn step<B: Blocks>(
     blocks: &mut B,
+    names: &mut NameCache,
     geometry: &Geometry,
     user: User,
     here: u32,
@@ -113,7 +168,7 @@ fn step<B: Blocks>(
     ensures proper { IfErr result (λ s. IfRefused s (λ e. e ≢ Errno.EIO)) }
 {
     let inode = enter(blocks, geometry, user, here)?;
-    next(blocks, geometry, here, &inode, part)
+    next(blocks, names, geometry, here, &inode, part)
 }
 
 /// Whether the mode's type is that of symbolic links.
@@ -167,6 +222,7 @@ pub struct Stand {
 #[cycle(links)]
 fn lead<B: Blocks>(
     blocks: &mut B,
+    names: &mut NameCache,
     geometry: &Geometry,
     user: User,
     first: Stand,
@@ -182,7 +238,7 @@ fn lead<B: Blocks>(
     let mut parts = parts;
     let mut at = first;
     while let Some(part) = parts.next() {
-        at = follow(blocks, geometry, user, at, part)?;
+        at = follow(blocks, names, geometry, user, at, part)?;
     }
     Ok(at)
 }
@@ -191,6 +247,7 @@ fn lead<B: Blocks>(
 #[cycle(links)]
 fn follow<B: Blocks>(
     blocks: &mut B,
+    names: &mut NameCache,
     geometry: &Geometry,
     user: User,
     at: Stand,
@@ -204,7 +261,7 @@ fn follow<B: Blocks>(
     ensures stop { IfErr result (λ s. IsStop B.world blocks.new s) }
     ensures proper { IfErr result (λ s. IfRefused s (λ e. e ≢ Errno.EIO)) }
 {
-    let there = step(blocks, geometry, user, at.here, part)?;
+    let there = step(blocks, names, geometry, user, at.here, part)?;
     let mut room = [0; MAX_TARGET];
     let Some(count) = target(blocks, geometry, there, &mut room)? else {
         return Ok(Stand {
@@ -223,7 +280,7 @@ fn follow<B: Blocks>(
         here: start(at.here, bytes),
         links: at.links - 1,
     };
-    lead(blocks, geometry, user, next, parts)
+    lead(blocks, names, geometry, user, next, parts)
 }
 
 /// The inode to which parts of a path lead from the root: the tree's walk, with its refusals in their order. From each part but the
@@ -231,6 +288,7 @@ fn follow<B: Blocks>(
 /// missing. Where the volume isn't sound, any inode may be answered, any refusal but EIO, or Unsound; each part is read once.
 pub fn walk<B: Blocks>(
     blocks: &mut B,
+    names: &mut NameCache,
     geometry: &Geometry,
     user: User,
     parts: Parts,
@@ -245,6 +303,6 @@ pub fn walk<B: Blocks>(
         here: ROOT,
         links: MOST_LINKS,
     };
-    let end = lead(blocks, geometry, user, root, parts)?;
+    let end = lead(blocks, names, geometry, user, root, parts)?;
     Ok(end.here)
 }

@@ -15,3 +15,14 @@ pub record HasRoom {D : Type 0} (d : Drivers D) : Type 0 where
   pub driver : vec_len d.older < vec_capacity d.older
   pub empty : d.next_line.items ≡ []
   pub line : 32 ≤ deque_capacity d.next_line
+
+-- all is as it was, but that there may be more room for replies and drivers
+pub record IsAsBefore {D : Type 0} (old new : Drivers D) : Type 0 where
+  pub media : new.media ≡ old.media
+  pub generation : new.generation ≡ old.generation
+  pub current : new.current ≡ old.current
+  pub older : new.older.items ≡ old.older.items
+  pub sent : new.sent.items ≡ old.sent.items
+  pub next_line : new.next_line ≡ old.next_line
+  pub replies : vec_capacity old.sent ≤ vec_capacity new.sent
+  pub drivers : vec_capacity old.older ≤ vec_capacity new.older

@@ -36,7 +36,7 @@ pub struct Drivers<D> {
 
 impl<D: LocalDriver> Drivers<D> {
     ghost use Rattle.run_drivers.specs.Disks.{Steps, Dies, Hangs, LinesUpAgain, is_at, lined_up, started, opened_disks};
-    ghost use Rattle.run_drivers.specs.View.{disks_of, HasRoom};
+    ghost use Rattle.run_drivers.specs.View.{disks_of, HasRoom, IsAsBefore};
 
     /// The first driver, on media that had none: it runs, as generation 1. An error: no memory was found.
     pub fn first(alloc: Global, media: Media, driver: D) -> Result<Drivers<D>, AllocError>
@@ -262,11 +262,13 @@ impl<D: LocalDriver> Drivers<D> {
         self.older.push_reserved(before);
     }
 
-    /// Makes room for a reply, and for a driver more with its line; an error where no memory was found.
+    /// Makes room for a reply, and for a driver more with its line. An error: no memory was found, and nothing changed but that there may
+    /// be more room for a reply or a driver.
     pub fn make_room(&mut self, alloc: Global) -> Result<(), AllocError>
         ensures same { disks_of D.state self.new ≡ disks_of D.state self.old }
         ensures room { OnOk result (HasRoom self.new) }
         ensures media { self.new.media ≡ self.old.media }
+        ensures refused { OnErr result (IsAsBefore self.old self.new) }
     {
         self.sent.reserve(1)?;
         self.older.reserve(1)?;

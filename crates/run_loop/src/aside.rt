@@ -1,13 +1,13 @@
 //! What is done at the link between two calls.
 
-ghost use Rattle.std.specs.Prelude.{◌≡◌, ◌⊎◌, ◌<◌, ◌≤◌, ◌-◌, ◌∷◌, List, IfOk, OnOk, length, true, false};
+ghost use Rattle.std.specs.Prelude.{◌≡◌, ◌⊎◌, ◌<◌, ◌≤◌, ◌-◌, ◌∷◌, List, IfOk, OnOk, OnErr, length, true, false};
 ghost use Rattle.records.specs.Opening.{Opening};
 ghost use Rattle.records.specs.Marks.{Mark, Took};
 ghost use Rattle.tree.specs.Answers.{answer_of};
 ghost use Rattle.schedule.specs.LogView.{said, room_in};
 ghost use Rattle.driver_events.specs.StageView.{scene_of};
 ghost use Rattle.driver_events.specs.Kept.{with_next};
-ghost use Rattle.run_link.specs.StateView.{run_of, RunTruth, Asides, Answers, HandsOut, left_of};
+ghost use Rattle.run_link.specs.StateView.{run_of, RunTruth, Asides, Answers, HandsOut, left_of, starving};
 
 use inline::local::LocalDriver;
 use message::Incoming;
@@ -19,7 +19,7 @@ use std::alloc::AllocError;
 use tree::Reply;
 
 /// Runs the next event between two calls, or tells that a complaint gave the device up, if that is owed: the message that the server
-/// is to be handed, if there is one. An error: no memory was found, and nothing was done.
+/// is to be handed, if there is one. An error: no memory was found, and nothing was done but to mark the run so.
 pub fn aside<D: LocalDriver>(link: &mut RunLink<'_, D>) -> Result<Option<Incoming>, AllocError>
     requires left { (link.old.owed ≡ true) ⊎ (link.old.next < length link.old.events.now) }
     requires live { link.old.log.over ≡ false }
@@ -27,6 +27,9 @@ pub fn aside<D: LocalDriver>(link: &mut RunLink<'_, D>) -> Result<Option<Incomin
     ensures history { (said link.new.log).history ≡ (said link.old.log).history }
     ensures truth { (v : Opening) (marks : List Mark) → RunTruth v (scene_of D.state link.old.stage (said link.old.log)) marks
         → IfOk result (λ m. RunTruth v (scene_of D.state link.new.stage (said link.new.log)) (with_next m marks)) }
+    ensures refused { OnErr result (run_of D.state link.new ≡ starving (run_of D.state link.old)) }
+    ensures kept { (v : Opening) (marks : List Mark) → RunTruth v (scene_of D.state link.old.stage (said link.old.log)) marks
+        → OnErr result (RunTruth v (scene_of D.state link.new.stage (said link.new.log)) marks) }
     ensures room { OnOk result (33 ≤ room_in link.new.log) }
     ensures budget { left_of link.new.log.over (length link.new.events.now - link.new.next) link.new.told
         ≤ left_of link.old.log.over (length link.old.events.now - link.old.next) link.old.told }
@@ -48,7 +51,7 @@ pub fn aside<D: LocalDriver>(link: &mut RunLink<'_, D>) -> Result<Option<Incomin
     Ok(message)
 }
 
-/// A call was answered. An error: no memory was found, and nothing was noted.
+/// A call was answered. An error: no memory was found, and nothing was done but to mark the run so.
 pub fn took<'a, D: LocalDriver>(
     link: &mut RunLink<'a, D>,
     arrived: Arrived<'a>,
@@ -60,6 +63,9 @@ pub fn took<'a, D: LocalDriver>(
     ensures truth { (v : Opening) (marks : List Mark) → RunTruth v (scene_of D.state link.old.stage (said link.old.log)) marks
         → OnOk result (RunTruth v (scene_of D.state link.new.stage (said link.new.log))
         (Took arrived.entry.who arrived.entry.now arrived.entry.call (answer_of reply) ∷ marks)) }
+    ensures refused { OnErr result (run_of D.state link.new ≡ starving (run_of D.state link.old)) }
+    ensures kept { (v : Opening) (marks : List Mark) → RunTruth v (scene_of D.state link.old.stage (said link.old.log)) marks
+        → OnErr result (RunTruth v (scene_of D.state link.new.stage (said link.new.log)) marks) }
     ensures room { OnOk result (33 ≤ room_in link.new.log) }
     ensures budget { left_of link.new.log.over (length link.new.events.now - link.new.next) link.new.told
         ≤ left_of link.old.log.over (length link.old.events.now - link.old.next) link.old.told }

@@ -1,11 +1,11 @@
 //! A link that a schedule moves: what is done at it between two calls.
 
-ghost use Rattle.std.specs.Prelude.{◌≡◌, ◌⊎◌, ◌↔◌, ◌≤◌, ◌<◌, ◌∷◌, List, IfOk, OnOk, length, option_map, true, false};
+ghost use Rattle.std.specs.Prelude.{◌≡◌, ◌⊎◌, ◌↔◌, ◌≤◌, ◌<◌, ◌∷◌, List, IfOk, OnOk, OnErr, length, option_map, true, false};
 ghost use Rattle.records.specs.Marks.{Mark, Took};
 ghost use Rattle.records.specs.Opening.{Opening};
 ghost use Rattle.tree.specs.Answers.{answer_of};
 ghost use Rattle.driver_events.specs.Kept.{with_next};
-ghost use Rattle.run_link.specs.StateView.{RunState, RunTruth, GoesOn, Asides, HandsOut, Answers};
+ghost use Rattle.run_link.specs.StateView.{RunState, RunTruth, GoesOn, Asides, HandsOut, Answers, starving};
 ghost use Rattle.schedule.specs.declared.arrived.Arrived.{Arrived as OfCall};
 
 use crate::aside;
@@ -60,7 +60,7 @@ pub trait WorldLink: Ran + Drop {
         ensures { result ≡ length (Self.Ran.run self.now).queue };
 
     /// Runs the next event between two calls, or tells that a complaint gave the device up, if that is owed: the message that the server
-    /// is to be handed, if there is one. An error: no memory was found, and nothing was done.
+    /// is to be handed, if there is one. An error: no memory was found, and nothing was done but to mark the run so.
     fn aside(&mut self) -> Result<Option<Incoming>, AllocError>
         requires left { ((Self.Ran.run self.old).owed ≡ true)
             ⊎ ((Self.Ran.run self.old).next < length (Self.Ran.run self.old).events) }
@@ -69,6 +69,9 @@ pub trait WorldLink: Ran + Drop {
         ensures history { Self.Link.history self.new ≡ Self.Link.history self.old }
         ensures truth { (v : Opening) (marks : List Mark) → Self.Link.truth self.old v marks
             → IfOk result (λ m. Self.Link.truth self.new v (with_next m marks)) }
+        ensures refused { OnErr result (Self.Ran.run self.new ≡ starving (Self.Ran.run self.old)) }
+        ensures kept { (v : Opening) (marks : List Mark) → Self.Link.truth self.old v marks
+            → OnErr result (Self.Link.truth self.new v marks) }
         ensures room { OnOk result (33 ≤ Self.Link.room self.new) }
         ensures budget { Self.Link.budget_left self.new ≤ Self.Link.budget_left self.old };
 
@@ -80,7 +83,7 @@ pub trait WorldLink: Ran + Drop {
         ensures room { Self.Link.room self.old ≤ Self.Link.room self.new }
         ensures budget { Self.Link.budget_left self.new ≤ Self.Link.budget_left self.old };
 
-    /// A call was answered. An error: no memory was found, and nothing was noted.
+    /// A call was answered. An error: no memory was found, and nothing was done but to mark the run so.
     fn took(&mut self, arrived: Self::Waiting, reply: Reply) -> Result<(), AllocError>
         requires { (Self.Ran.run self.old).over ≡ false }
         ensures answers { Answers (Self.Ran.run self.old) (Self.Waiting.Arrival.arrived arrived) reply result
@@ -89,6 +92,9 @@ pub trait WorldLink: Ran + Drop {
         ensures truth { (v : Opening) (marks : List Mark) → Self.Link.truth self.old v marks
             → let call = Self.Waiting.Arrival.arrived arrived in OnOk result (Self.Link.truth self.new v
             (Took call.who call.now call.call (answer_of reply) ∷ marks)) }
+        ensures refused { OnErr result (Self.Ran.run self.new ≡ starving (Self.Ran.run self.old)) }
+        ensures kept { (v : Opening) (marks : List Mark) → Self.Link.truth self.old v marks
+            → OnErr result (Self.Link.truth self.new v marks) }
         ensures room { OnOk result (33 ≤ Self.Link.room self.new) }
         ensures budget { Self.Link.budget_left self.new ≤ Self.Link.budget_left self.old };
 }

@@ -13,7 +13,8 @@ use Rattle.shared_server.specs.Finishing.{sync_of}
 use Rattle.shared_server.specs.declared.locked.LastSync.{LastSync}
 use Rattle.shared_server.specs.declared.locked.LastSync.TheVariants as sync
 use Rattle.shared_server.specs.declared.refusal.SessionRefusal.TheVariants.{Stopped}
-use Rattle.serve.specs.Stopping.{IsImageOutside, no_image_name}
+use Rattle.driver_threads.specs.Confined.{IsImageOutside}
+use Rattle.serve.specs.Stopping.{no_image_name}
 use Rattle.script_text.specs.declared.timed.TimedCall.{TimedCall}
 use Rattle.reply_text.specs.declared.answers.Played.{Played}
 use Rattle.script_play.specs.Turns.{ArePlayed}

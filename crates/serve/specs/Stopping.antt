@@ -1,27 +1,18 @@
 -- What a service that is stopped leaves.
 use Rattle.std.specs.Prelude.{◌≡◌, ℕ, List, Result, Ok, Err, IfSome, codes}
 use Rattle.std.specs.Global.{Vec}
-use Rattle.std.specs.List.{concat}
 use Rattle.layout.specs.declared.Geometry.{Geometry}
-use Rattle.media.specs.Contents.{IsWhole, MediaState}
 use Rattle.records.specs.Marks.{Mark}
 use Rattle.records.specs.Opening.{Opening}
 use Rattle.reissue.specs.declared.link.Link.{Ghosts as LinkWords}
 use Rattle.shared_server.specs.Stopping.{IsLastLine, SyncEnd, WasGivenUp, WasCut}
 use Rattle.shared_server.specs.declared.locked.LastSync.{LastSync}
 use Rattle.shared_server.specs.declared.locked.LastSync.TheVariants as sync
-use Rattle.driver_threads.specs.Confined.{KeepsOutside}
+use Rattle.driver_threads.specs.Confined.{IsImageOutside, KeepsOutside}
 use Rattle.serve.specs.declared.stopping.StopRefusal.{StopRefusal}
 use Rattle.serve.specs.declared.stopping.StopRefusal.TheVariants.{SessionsLeft, GivenUp, OutOfMemory, LinkEnded}
 use Rattle.serve.specs.declared.stopping.NoImage.{NoImage}
 use Rattle.serve.specs.declared.stopping.NoImage.TheVariants as none
-
--- the bytes of media that have as many sectors as were handed in, each of 512 bytes, and outside of the volume each as it was handed in
-pub record IsImageOutside (v : Opening) (image : List ℕ) : Type 0 where
-  pub media : MediaState
-  pub bytes : image ≡ concat media.sectors
-  pub whole : IsWhole media.sectors
-  pub outside : KeepsOutside v media
 
 -- why no image of a synced volume is left of the media, after a last sync that went so
 abbrev pub IsLeftAfter : {T : Type 0} → Opening → LastSync → StopRefusal T → Type 0

@@ -7,6 +7,7 @@ ghost use Rattle.tree.specs.Tree.{Tree};
 ghost use Rattle.records.specs.Legal.{IsAtFirst};
 ghost use Rattle.shared_server.specs.Stopping.{Went};
 ghost use Rattle.records.specs.Session.{SessionState};
+ghost use Rattle.driver_threads.specs.Confined.{IsImageOutside};
 ghost use Rattle.serve.specs.Closing.{HasClosed};
 ghost use Rattle.serve.specs.Stopping.{IsLastImage, WhyNotSynced};
 ghost use Rattle.shared_server.specs.Held.{HoldsIfTrue, IsAdmitted, IsGood, IsGuaranteed, IsHeld, IsNotAdmitted};
@@ -156,6 +157,15 @@ impl<N: Room, R: Threads + Wait + Copy, L: Recorder<N>, S: FileServer<L>> Servic
             shared,
             of: PhantomData,
         })
+    }
+
+    /// The image of the media as they stand: the bytes of as many sectors as were handed in, each of 512 bytes, and outside of the volume
+    /// each as it was handed in. Behind a sync that was done, and before a further call is made, that is the volume as it was synced. It
+    /// waits for the step of a driver, and for no call. Refused where no memory was found for it; the service goes on in each case.
+    pub fn image(&self, alloc: Global) -> Result<Vec<u8>, AllocError>
+        ensures { IfOk result (λ image. IsImageOutside N.opening image.items) }
+    {
+        self.running.image(&self.rt, alloc)
     }
 
     /// Whether a session is left.

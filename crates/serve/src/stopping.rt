@@ -2,8 +2,8 @@
 
 ghost use Rattle.std.specs.Prelude.{◌≡◌, IfErr, IfOk, IfSome, Some};
 ghost use Rattle.media.specs.Contents.{IsWhole};
-ghost use Rattle.driver_threads.specs.Confined.{KeepsOutside};
-ghost use Rattle.serve.specs.Stopping.{IsImageOf, IsImageOutside, IsLeftAfter, IsNoImageOf, no_image_name, stop_refusal_number};
+ghost use Rattle.driver_threads.specs.Confined.{IsImageOutside, KeepsOutside};
+ghost use Rattle.serve.specs.Stopping.{IsImageOf, IsLeftAfter, IsNoImageOf, no_image_name, stop_refusal_number};
 
 use counting_link::room::Room;
 use media::Media;

@@ -5,7 +5,7 @@ ghost use Rattle.layout.specs.Places.{IsGeometry};
 ghost use Rattle.store.specs.Volume.{IsOn};
 
 use bitflags::Flags;
-use client_calls::body;
+use client_calls::{NameCache, body};
 use descriptors::Descriptors;
 use errno::Errno;
 use layout::Geometry;
@@ -18,6 +18,7 @@ use tree::{Call, OpenFlags, Reply, Who};
 fn done<B: Blocks>(
     alloc: Global,
     blocks: &mut B,
+    names: &mut NameCache,
     opens: &mut Descriptors,
     geometry: &Geometry,
     who: Who,
@@ -26,7 +27,7 @@ fn done<B: Blocks>(
     requires on { IsOn B.world geometry.now blocks.old }
     ensures { IsOn B.world geometry.now blocks.new }
 {
-    body(alloc, blocks, opens, geometry, who, 60, call)
+    body(alloc, blocks, names, opens, geometry, who, 60, call)
 }
 
 /// 64 blocks of 1024 bytes, with 32 inodes.
@@ -116,6 +117,7 @@ pub(crate) const DONE: u32 = 32;
 pub(crate) struct Volume {
     alloc: Global,
     blocks: Memory,
+    names: NameCache,
     opens: Descriptors,
     geometry: Geometry,
     ghost sizes: { IsGeometry geometry },
@@ -140,6 +142,7 @@ impl Volume {
             alloc,
             blocks: Memory::new(geometry.block_size, image),
             opens: Descriptors::new(alloc)?,
+            names: NameCache::new(alloc),
             geometry,
         })
     }
@@ -157,8 +160,8 @@ impl Volume {
 
     /// Does a call at 60: its reply. A call that is cut, of which there is none here, is EIO.
     pub(crate) fn reply(&mut self, who: Who, call: &Call) -> Reply {
-        let (blocks, opens) = (&mut self.blocks, &mut self.opens);
-        match done(self.alloc, blocks, opens, &self.geometry, who, call) {
+        let (blocks, names, opens) = (&mut self.blocks, &mut self.names, &mut self.opens);
+        match done(self.alloc, blocks, names, opens, &self.geometry, who, call) {
             Ok(reply) => reply,
             Err(_) => Reply::Refused(Errno::EIO),
         }

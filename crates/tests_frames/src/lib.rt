@@ -7,6 +7,8 @@ mod blocks;
 #[cfg(test)]
 mod caches;
 #[cfg(test)]
+mod found;
+#[cfg(test)]
 mod frames;
 #[cfg(test)]
 mod runs;

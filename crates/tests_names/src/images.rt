@@ -127,5 +127,5 @@ pub(crate) fn volume(alloc: Global, image: &Image, others: &[Part]) -> Result<Vo
     }
     let geometry = sizes(&bytes)?;
     bytes.truncate(image.length);
-    Ok(Volume::new(geometry, bytes))
+    Ok(Volume::new(alloc, geometry, bytes))
 }

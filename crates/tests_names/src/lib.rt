@@ -9,6 +9,8 @@ mod links;
 #[cfg(test)]
 mod names;
 #[cfg(test)]
+mod recalled;
+#[cfg(test)]
 mod stops;
 #[cfg(test)]
 mod volumes;

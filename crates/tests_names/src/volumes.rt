@@ -6,7 +6,8 @@ ghost use Rattle.layout.specs.Places.{IsGeometry};
 use directory::{find, insert, parent, remove, replace, set_parent};
 use inode::inode_table::load;
 use layout::Geometry;
-use path::{Found, Path, Stop, find_place, look_up, walk};
+use path::{Found, NameCache, Path, Stop, find_place, look_up, walk};
+use std::alloc::Global;
 use std::test::Fail;
 use store::Halt;
 use store::memory::Memory;
@@ -36,6 +37,8 @@ pub(crate) enum Call<'a> {
     LookUp(User, &'a [u8]),
     /// The place that a path of user 0 means.
     Place(&'a [u8]),
+    /// How many names the cache of names keeps.
+    Kept,
 }
 
 /// What a call gives.
@@ -51,6 +54,8 @@ pub(crate) enum Seen {
     MissingIn(u32),
     /// The directory, how many bytes its name has, and the inode to which that leads.
     At(u32, usize, Option<u32>),
+    /// So many names are kept.
+    Kept(usize),
 }
 
 /// A call, and what it is to give.
@@ -75,6 +80,7 @@ fn is_wanted(got: Result<Seen, Stop>, wanted: Result<Seen, Stop>) -> bool {
 #[derive(Drop)]
 pub(crate) struct Volume {
     blocks: Memory,
+    names: NameCache,
     geometry: Geometry,
     ghost sizes: { IsGeometry geometry },
     ghost same: { blocks.block_size ≡ geometry.block_size },
@@ -82,11 +88,12 @@ pub(crate) struct Volume {
 
 impl Volume {
     /// The volume of these sizes whose bytes the image has.
-    pub(crate) fn new(geometry: Geometry, image: Vec<u8>) -> Volume
+    pub(crate) fn new(alloc: Global, geometry: Geometry, image: Vec<u8>) -> Volume
         requires { IsGeometry geometry }
     {
         Volume {
             blocks: Memory::new(geometry.block_size, image),
+            names: NameCache::new(alloc),
             geometry,
         }
     }
@@ -121,6 +128,7 @@ impl Volume {
             Call::Walk(user, path) => self.walk(*user, path),
             Call::LookUp(user, path) => self.look_up(*user, path),
             Call::Place(path) => self.place(path),
+            Call::Kept => Ok(Seen::Kept(self.names.len())),
         }
     }
 
@@ -158,7 +166,7 @@ impl Volume {
         }
         let inode = load(&mut self.blocks, &self.geometry, ROOT)?;
         match find(&mut self.blocks, &self.geometry, &inode, name)? {
-            Some(number) => Ok(Seen::There(number)),
+            Some(found) => Ok(Seen::There(found.number)),
             None => Ok(Seen::MissingIn(ROOT)),
         }
     }
@@ -173,14 +181,26 @@ impl Volume {
     /// The inode to which a path leads.
     fn walk(&mut self, user: User, path: &[u8]) -> Result<Seen, Stop> {
         let path = Path::parse(path)?;
-        let number = walk(&mut self.blocks, &self.geometry, user, path.parts())?;
+        let number = walk(
+            &mut self.blocks,
+            &mut self.names,
+            &self.geometry,
+            user,
+            path.parts(),
+        )?;
         Ok(Seen::There(number))
     }
 
     /// What a path finds.
     fn look_up(&mut self, user: User, path: &[u8]) -> Result<Seen, Stop> {
         let path = Path::parse(path)?;
-        match look_up(&mut self.blocks, &self.geometry, user, &path)? {
+        match look_up(
+            &mut self.blocks,
+            &mut self.names,
+            &self.geometry,
+            user,
+            &path,
+        )? {
             Found::There(number) => Ok(Seen::There(number)),
             Found::Missing(place) => Ok(Seen::MissingIn(place.directory)),
         }
@@ -190,7 +210,13 @@ impl Volume {
     fn place(&mut self, path: &[u8]) -> Result<Seen, Stop> {
         let path = Path::parse(path)?;
         let user = User { uid: 0, gid: 0 };
-        let place = find_place(&mut self.blocks, &self.geometry, user, &path)?;
+        let place = find_place(
+            &mut self.blocks,
+            &mut self.names,
+            &self.geometry,
+            user,
+            &path,
+        )?;
         Ok(Seen::At(place.directory, place.name.len(), place.there))
     }
 }

@@ -1,10 +1,10 @@
-//! Open files: opening, reading, writing, making, attributes, entries of a directory.
+//! Open files: opening, reading, writing, making, attributes.
 
 use crate::talk::{Talk, descriptor, done, node, refused};
 use errno::Errno;
 use std::alloc::Global;
 use std::test::Fail;
-use tree::{Entry, LinkTarget, MAX_TARGET, Outcome, Reply, Room};
+use tree::{LinkTarget, MAX_TARGET, Outcome, Reply, Room};
 
 /// Fid 2 stands on the file `/f`, inode 3.
 fn with_file(alloc: Global) -> Result<Talk, Fail> {
@@ -188,67 +188,6 @@ fn attributes_are_changed(rt: HostRuntime) -> Result<(), Fail> {
         "0 lstat /f;0 utime /f 10 98;",
         b"\x1b\x01\0",
     )
-}
-
-/// A directory of the names `a` and `bc`, in one answer and from each offset on.
-#[test]
-fn entries_are_told(rt: HostRuntime) -> Result<(), Fail> {
-    let alloc = rt.alloc();
-    let mut talk = Talk::attached(alloc)?;
-    talk.gives(descriptor(0))?;
-    talk.hears(
-        b"\x0c\x01\0\x01\0\0\0\0\0\x01\0",
-        "0 open / 1 0;",
-        b"\x0d\x01\0\x80\0\0\0\0\x01\0\0\0\0\0\0\0\0\0\0\0",
-    )?;
-    talk.gives(node(1, 0o40755))?;
-    talk.gives(names(alloc)?)?;
-    talk.hears(
-        b"\x28\x02\0\x01\0\0\0\0\0\0\0\0\0\0\0\0\x10\0\0",
-        "0 lstat /;0 Readdir { fd: 0 };",
-        b"\x29\x02\0\x66\0\0\0\0\0\0\0\0\x01\0\0\0\0\0\0\0\x01\0\0\0\0\0\0\0\0\x01\0.\0\0\0\0\0\x01\0\0\0\0\0\0\0\x02\
-          \0\0\0\0\0\0\0\0\x02\0..\0\0\0\0\0\x08\0\0\0\0\0\0\0\x03\0\0\0\0\0\0\0\0\x01\0a\0\0\0\0\0\x09\0\0\0\0\0\0\0\
-          \x04\0\0\0\0\0\0\0\0\x02\0bc",
-    )?;
-    talk.gives(names(alloc)?)?;
-    talk.hears(
-        b"\x28\x02\0\x01\0\0\0\x03\0\0\0\0\0\0\0\0\x10\0\0",
-        "0 Readdir { fd: 0 };",
-        b"\x29\x02\0\x1a\0\0\0\0\0\0\0\0\x09\0\0\0\0\0\0\0\x04\0\0\0\0\0\0\0\0\x02\0bc",
-    )?;
-    talk.gives(names(alloc)?)?;
-    talk.hears(
-        b"\x28\x02\0\x01\0\0\0\x04\0\0\0\0\0\0\0\0\x10\0\0",
-        "0 Readdir { fd: 0 };",
-        b"\x29\x02\0\0\0\0\0",
-    )?;
-    talk.gives(node(1, 0o40755))?;
-    talk.gives(names(alloc)?)?;
-    talk.hears(
-        b"\x28\x02\0\x01\0\0\0\x01\0\0\0\0\0\0\0\x54\0\0\0",
-        "0 lstat /;0 Readdir { fd: 0 };",
-        b"\x29\x02\0\x4d\0\0\0\0\0\0\0\0\x01\0\0\0\0\0\0\0\x02\0\0\0\0\0\0\0\0\x02\0..\0\0\0\0\0\x08\0\0\0\0\0\0\0\x03\
-          \0\0\0\0\0\0\0\0\x01\0a\0\0\0\0\0\x09\0\0\0\0\0\0\0\x04\0\0\0\0\0\0\0\0\x02\0bc",
-    )?;
-    talk.hears(
-        b"\x28\x02\0\x01\0\0\0\0\0\0\0\0\0\0\0\x53\0\0\0",
-        "",
-        b"\x07\x02\0\x16\0\0\0",
-    )
-}
-
-/// The names `a`, inode 8, and `bc`, inode 9.
-fn names(alloc: Global) -> Result<Outcome, Fail> {
-    let mut names = Vec::new(alloc);
-    names.push(Entry {
-        name: b"a".to_vec(alloc)?,
-        inode: 8,
-    })?;
-    names.push(Entry {
-        name: b"bc".to_vec(alloc)?,
-        inode: 9,
-    })?;
-    Ok(Outcome::Reply(Reply::Names(names)))
 }
 
 /// The room of the volume.

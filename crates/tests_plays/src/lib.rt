@@ -35,6 +35,8 @@ mod partitions;
 #[cfg(test)]
 mod places;
 #[cfg(test)]
+mod recalled;
+#[cfg(test)]
 mod renames;
 #[cfg(test)]
 mod table;

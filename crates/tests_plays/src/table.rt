@@ -1,7 +1,7 @@
 //! Each play that is written as text.
 use crate::{
     attributes, bytes, calls, followed, full, images, links, moves, opened, opening, places,
-    renames,
+    recalled, renames,
 };
 use fixtures_plays::texts::{all_are_played, both_are_played};
 use std::alloc::Global;
@@ -48,6 +48,11 @@ static NAMES: Plays = [(renames::PLAYS, 9), (moves::PLAYS, 11), (links::PLAYS, 7
 #[test]
 fn calls_on_names_are_answered(rt: HostRuntime) -> Result<(), Fail> {
     are_answered(rt.alloc(), rt, &NAMES)
+}
+
+#[test]
+fn names_that_changed_are_answered(rt: HostRuntime) -> Result<(), Fail> {
+    all_are_played(rt.alloc(), rt, recalled::PLAYS, 6)
 }
 
 static REST: Plays = [

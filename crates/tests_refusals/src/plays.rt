@@ -118,7 +118,7 @@ fn plays_each_refused<R: Threads + Wait + Clock + Copy + Send + Sync + 'static>(
 }
 
 /// Scripts of which each read is made again, from the same place on, so that one that had no memory changes no later reply.
-static SCRIPTS: [&str; 9] = [
+pub(crate) static SCRIPTS: [&str; 9] = [
     "user 0 0
 100 open /f rwc 644
 100 seek 0 set 67378176
@@ -321,7 +321,7 @@ impl Trial for Simulated {
 }
 
 /// A driver dies in the middle of a read; a file is written and read, over two drivers.
-static SCHEDULES: [&str; 2] = [
+pub(crate) static SCHEDULES: [&str; 2] = [
     "call 0 0 0 100 stat /
 step 1
 die 1

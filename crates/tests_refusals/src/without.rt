@@ -115,7 +115,7 @@ struct Calls<'c> {
 }
 
 /// Makes calls, and adds what each comes to; nothing where there is no room for it.
-fn make<N: Room, R: Wait + Copy, L: Recorder<N>, S: FileServer<L>>(
+pub(crate) fn make<N: Room, R: Wait + Copy, L: Recorder<N>, S: FileServer<L>>(
     session: &mut Session<N, Shared<N, R, L, S>>,
     calls: &[TimedCall<'_>],
     outcomes: &mut Vec<Outcome>,

@@ -3,7 +3,7 @@
 use clap::Error;
 use host::command_line::status_for;
 use host::play_words::{mfs, mfssim};
-use host::volume_words::{mfsck, mkmfs};
+use host::volume_words::{mfmig, mfsck, mkmfs};
 use std::alloc::{AllocError, Global};
 use std::test::Fail;
 
@@ -38,6 +38,17 @@ mfsck v.img --spares 5 : status 2
 mfsck : status 2
 mfsck --help : status 0
 mfsck v.img --version : status 0
+mfmig o.img n.img --blocks 64 : o.img to n.img blocks 64
+mfmig --blocks=4294967295 o.img o.img : o.img to o.img blocks 4294967295
+mfmig o.img n.img --blocks 4294967296 : status 2
+mfmig o.img n.img --blocks -1 : status 2
+mfmig o.img n.img : status 2
+mfmig o.img --blocks 64 : status 2
+mfmig o.img n.img v.img --blocks 64 : status 2
+mfmig o.img n.img --blocks 64 --inodes 32 : status 2
+mfmig : status 2
+mfmig --help : status 0
+mfmig o.img n.img --version : status 0
 mfs v.img s.txt : v.img [s.txt] out none minor 0 spares 5
 mfs v.img s.txt --minor 5 : v.img [s.txt] out none minor 5 spares 5
 mfs v.img s.txt --minor 255 : v.img [s.txt] out none minor 255 spares 5
@@ -140,6 +151,14 @@ fn check_said(alloc: Global, words: &[String]) -> Result<String, AllocError> {
     }
 }
 
+/// What these words of `mfmig` say.
+fn migration_said(alloc: Global, words: &[String]) -> Result<String, AllocError> {
+    match mfmig::read(alloc, words) {
+        Ok(words) => format!(in alloc; "{} to {} blocks {}", words.old, words.new, words.blocks),
+        Err(error) => of_others(alloc, &error),
+    }
+}
+
 /// What the words of a line say.
 fn said(alloc: Global, line: &str) -> Result<String, AllocError> {
     let mut words = Vec::new(alloc);
@@ -150,6 +169,8 @@ fn said(alloc: Global, line: &str) -> Result<String, AllocError> {
         schedules_said(alloc, &words)
     } else if line.starts_with("mkmfs") {
         volume_said(alloc, &words)
+    } else if line.starts_with("mfmig") {
+        migration_said(alloc, &words)
     } else if line.starts_with("mfsck") {
         check_said(alloc, &words)
     } else {

@@ -6,7 +6,7 @@ ghost use Rattle.file_server.specs.Over.{CallsOver, outcome_of};
 ghost use Rattle.vfs.specs.Outcomes.{OnAnswered, stopped};
 ghost use Rattle.vfs.specs.Serving.{MayServe, Spends, server_of};
 
-use client_calls::body;
+use client_calls::{NameCache, body};
 use descriptors::Descriptors;
 use errno::Errno;
 use layout::Geometry;
@@ -31,6 +31,7 @@ fn stop(cut: Cut) -> Outcome
 pub fn answer<B: Caches>(
     alloc: Global,
     blocks: &mut B,
+    names: &mut NameCache,
     opens: &mut Descriptors,
     geometry: &Geometry,
     who: Who,
@@ -49,7 +50,7 @@ pub fn answer<B: Caches>(
     if let Err(cut) = blocks.live() {
         return stop(cut);
     }
-    let reply = match body(alloc, blocks, opens, geometry, who, now, call) {
+    let reply = match body(alloc, blocks, names, opens, geometry, who, now, call) {
         Ok(reply) => reply,
         Err(cut) => return stop(cut),
     };

@@ -3,6 +3,7 @@
 ghost use Rattle.std.specs.Prelude.{◌≡◌, ◌≢◌, ◌<◌, ◌+◌, ◌^◌, false};
 
 use crate::answer;
+use client_calls::NameCache;
 use descriptors::Descriptors;
 use layout::Geometry;
 use message::Incoming;
@@ -19,6 +20,7 @@ use tree::{Call, Outcome, Who};
 pub struct Server<B> {
     pub(crate) alloc: Global,
     pub(crate) blocks: B,
+    pub(crate) names: NameCache,
     pub(crate) geometry: Geometry,
     pub(crate) opens: Descriptors,
     // How many messages it was handed between two calls.
@@ -26,7 +28,8 @@ pub struct Server<B> {
 }
 
 impl<B> Server<B> {
-    /// A server over these blocks, with these open files, for a volume of these sizes: it was handed no message yet.
+    /// A server over these blocks, with these open files, for a volume of these sizes: it was handed no message yet. It takes memory to keep
+    /// names, and keeps none where that is refused.
     pub fn new(alloc: Global, blocks: B, geometry: Geometry, opens: Descriptors) -> Server<B>
         ensures blocks { result.blocks ≡ blocks }
         ensures geometry { result.geometry ≡ geometry }
@@ -36,6 +39,7 @@ impl<B> Server<B> {
         Server {
             alloc,
             blocks,
+            names: NameCache::new(alloc),
             geometry,
             opens,
             absorbed: 0,
@@ -66,6 +70,7 @@ impl<B: Caches> Server<B> {
         answer(
             self.alloc,
             &mut self.blocks,
+            &mut self.names,
             &mut self.opens,
             &self.geometry,
             who,

@@ -21,7 +21,7 @@ pub(crate) struct Directory {
 }
 
 /// Puts bytes at a place of the image.
-fn put(image: &mut Vec<u8>, at: usize, bytes: &[u8]) {
+pub(crate) fn put(image: &mut Vec<u8>, at: usize, bytes: &[u8]) {
     let end = at.saturating_add(bytes.len());
     if end <= image.len() && end - at == bytes.len() {
         image[at..end].copy_from_slice(bytes);
@@ -29,7 +29,7 @@ fn put(image: &mut Vec<u8>, at: usize, bytes: &[u8]) {
 }
 
 /// The size of the directory, in bytes.
-const SIZE: u32 = 64 * (NAMES + 2);
+pub(crate) const SIZE: u32 = 64 * (NAMES + 2);
 
 /// The image of a volume with the directory's entries, and its indirect block, which the zone of a number is.
 fn image_of(alloc: Global, geometry: &Geometry, indirect: u32) -> Result<Vec<u8>, AllocError> {

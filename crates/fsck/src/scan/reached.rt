@@ -1,61 +1,60 @@
 //! The inodes that are reached from the root by names.
 
-ghost use Rattle.std.specs.Prelude.{◌≡◌, ◌<◌, ◌+◌, ◌==◌, ℕ, OnOk, false, length, slice_index_or};
+ghost use Rattle.std.specs.Prelude.{◌≡◌, ◌≤◌, ◌+◌, ◌==◌, ℕ, OnOk, OnErr, false, length, slice_index_or, vec_capacity};
 ghost use Rattle.tree.specs.Sums.{one_if};
 ghost use Rattle.volume.specs.Findings.{names_in_of};
 ghost use Rattle.image.specs.Contents.{contents};
-ghost use Rattle.fsck.specs.Reached.{AreReached, GoesOn};
+ghost use Rattle.fsck.specs.Reached.{AreReached, GoesOn, unseen};
 
 use crate::scan::dots::target;
 use image::Image;
 use std::alloc::{AllocError, Global};
 
-/// Marks the inodes that are reached from the root; none is marked at first. Each directory is read once.
+/// Marks the inodes that are reached from the root; none is marked at first. Each directory is read once. The memory is taken before
+/// anything is marked, so an error leaves all as it was.
 pub fn mark_reached(alloc: Global, image: &Image, seen: &mut [bool]) -> Result<(), AllocError>
     requires size { length seen.old ≡ image.now.geometry.inodes + 1 }
     requires fresh { (n : ℕ) → slice_index_or seen.old n false ≡ false }
-    ensures { OnOk result (AreReached image.now seen.new) }
+    ensures reached { OnOk result (AreReached image.now seen.new) }
+    ensures refused { OnErr result (seen.new ≡ seen.old) }
 {
-    let mut waiting = Vec::new(alloc);
-    mark(1, seen, &mut waiting)?;
+    let mut waiting = Vec::with_capacity(alloc, seen.len())?;
+    mark(1, seen, &mut waiting);
     while let Some(n) = waiting.pop() {
-        mark_names(image, n, seen, &mut waiting)?;
+        mark_names(image, n, seen, &mut waiting);
     }
     Ok(())
 }
 
-/// Marks the inodes that directory n names. Those that weren't marked wait.
-fn mark_names(
-    image: &Image,
-    n: u32,
-    seen: &mut [bool],
-    waiting: &mut Vec<u32>,
-) -> Result<(), AllocError>
-    ensures { OnOk result (GoesOn (names_in_of image.now.geometry (contents image.now) n) seen.old waiting.old.items seen.new
-        waiting.new.items) }
+/// Marks the inodes that directory n names. Those that weren't marked wait: there is room for all that aren't.
+fn mark_names(image: &Image, n: u32, seen: &mut [bool], waiting: &mut Vec<u32>)
+    requires { unseen seen.old + length waiting.old.items ≤ vec_capacity waiting.old }
+    ensures goes { GoesOn (names_in_of image.now.geometry (contents image.now) n) seen.old waiting.old.items seen.new
+        waiting.new.items }
+    ensures capacity { vec_capacity waiting.new ≡ vec_capacity waiting.old }
 {
     if !image.is_directory(n) {
-        return Ok(());
+        return;
     }
     let inode = image.inode(n);
     for number in 2..inode.size / 64 {
-        mark(target(image, &inode, number), seen, waiting)?;
+        mark(target(image, &inode, number), seen, waiting);
     }
-    Ok(())
 }
 
-/// Marks inode m. Where it wasn't marked, it waits.
-fn mark(m: u32, seen: &mut [bool], waiting: &mut Vec<u32>) -> Result<(), AllocError>
-    ensures { OnOk result (GoesOn (λ k. one_if (m == k)) seen.old waiting.old.items seen.new waiting.new.items) }
+/// Marks inode m. Where it wasn't marked, it waits: there is room for all that aren't.
+fn mark(m: u32, seen: &mut [bool], waiting: &mut Vec<u32>)
+    requires { unseen seen.old + length waiting.old.items ≤ vec_capacity waiting.old }
+    ensures goes { GoesOn (λ k. one_if (m == k)) seen.old waiting.old.items seen.new waiting.new.items }
+    ensures capacity { vec_capacity waiting.new ≡ vec_capacity waiting.old }
 {
     let place = m as usize;
     if place >= seen.len() {
-        return Ok(());
+        return;
     }
     if seen[place] {
-        return Ok(());
+        return;
     }
     seen[place] = true;
-    waiting.push(m)?;
-    Ok(())
+    waiting.push_reserved(m);
 }

@@ -28,7 +28,7 @@ fn command<'a>(alloc: Global) -> Result<Command<'a>, AllocError> {
         .arg(image(alloc, file))?
         .arg(out(
             alloc,
-            "Writes the image as it is once the input has ended to this file",
+            "Writes the image to this file at each fsync, and once the input has ended",
         ))?
         .arg(minor(alloc))?
         .arg(spares(alloc))?
@@ -55,7 +55,7 @@ fn die_every<'a>(alloc: Global) -> Arg<'a> {
 pub struct Words<'a> {
     /// The image's file.
     pub image: &'a str,
-    /// The file that the image is written to in the end, if one is named.
+    /// The file that the image is written to at each fsync and in the end, if one is named.
     pub out: Option<&'a str>,
     /// Where the volume lies: 0 is the whole image.
     pub minor: u8,

@@ -1,16 +1,11 @@
-use Rattle.std.proofs.Common.{◌≡◌, ◌≤◌, ◌-◌, ◌*◌}
-use Rattle.tree.specs.Names.{inode_of}
-use Rattle.volume.specs.Nodes.{directory_of, file_byte}
-use Rattle.volume.specs.Pieces.{pieces}
+use Rattle.std.proofs.Common.{◌≤◌, ◌*◌}
 use Rattle.store.specs.World.{Reads}
-use Rattle.directory.specs.Scan.{last_named}
+use Rattle.directory.proofs.Turning.{IsLeft}
 use Rattle.directory.proofs.look_up.find.Given as goal
 
 abbrev pub invariant-loop-left : goal.invariant-loop-left
 invariant-loop-left g l = record {
-  reads : Reads g.B.Blocks.world l.fn.blocks l.blocks (λ d.
-      inode_of (directory_of l.geometry (pieces l.geometry d) l.inode).names l.name
-      ≡ last_named (file_byte l.geometry (pieces l.geometry d) l.inode) l.name 2 (l.left - 2));
+  reads : Reads g.B.Blocks.world l.fn.blocks l.blocks (IsLeft l.geometry l.inode l.name l.left);
   size : 64 * l.left ≤ l.inode.size;
 }
 

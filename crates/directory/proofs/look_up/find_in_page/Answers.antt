@@ -2,7 +2,8 @@ use Rattle.std.proofs.Common.{◌≡◌, ◌∙◌, rules, false}
 use Rattle.std.specs.Prelude.{IsTrue}
 use Rattle.volume.specs.Reading.{is_data_zone}
 use Rattle.store.proofs.Turns.{reads_then, turns_as, turns_seen, turns_then, if_cut}
-use Rattle.directory.proofs.Pages.{page_seen, page_missing}
+use Rattle.directory.proofs.Pages.{page_missing}
+use Rattle.directory.proofs.Turning.{stands_in_page, none_in_page}
 use Rattle.directory.proofs.look_up.find_in_page.Goals as goal
 
 pub returns-then-not-is_data_zone-clause-reads : goal.returns-then-not-is_data_zone-clause-reads
@@ -21,11 +22,24 @@ returns-in_err-frame-clause-reads g c =
     turns_then _ g.met.B.Blocks.lawful _ _ _ _ _ _ (λ d e f x y. (y ∙ x.0, if_cut c.from_residual-in_err-frame.result _ c.from_residual-in_err-frame.ensures.0))
     c.in_ok-zone.ensures.reads c.fetch.ensures.turns
 
-pub returns-clause-reads : goal.returns-clause-reads
-returns-clause-reads g c =
-    let holds : IsTrue (is_data_zone c.args.geometry.now c.in_ok-zone.zone) = search rules in
+pub returns-in-Some-clause-reads : goal.returns-in-Some-clause-reads
+returns-in-Some-clause-reads g c =
+    let a = c.args in
+    let holds : IsTrue (is_data_zone a.geometry.now c.in_ok-zone.zone) = search rules in
     reads_then _ g.met.B.Blocks.lawful _ _ _ _ _ _
-    (λ d p q. c.last_named.ensures ∙ page_seen c.args.geometry.now d c.args.inode.now c.args.page c.in_ok-zone.zone c.args.from c.args.to c.bytes-bytes.result.now c.args.name.now
-    c.requires.on.geometry holds c.requires.begins c.requires.order c.requires.ends c.requires.size p q)
+    (λ d p q. stands_in_page a.geometry.now d a.inode.now a.page c.in_ok-zone.zone a.from a.to c.bytes-bytes.result.now
+    a.name.now c.requires.on.geometry holds c.requires.begins c.requires.order c.requires.ends c.requires.size p q
+    c.in-Some.at c.entry_inode.result c.in-Some.ensures.last c.in-Some.ensures.within c.entry_inode.ensures)
+    c.in_ok-zone.ensures.reads
+    (turns_seen _ g.met.B.Blocks.lawful _ _ c.in_ok-zone.zone c.bytes-bytes.result.now (c.bytes-bytes.ensures.bytes c.in_ok-zone.zone c.in_ok-frame.ensures.frame) c.fetch.ensures.turns)
+
+pub returns-in-None-clause-reads : goal.returns-in-None-clause-reads
+returns-in-None-clause-reads g c =
+    let a = c.args in
+    let holds : IsTrue (is_data_zone a.geometry.now c.in_ok-zone.zone) = search rules in
+    reads_then _ g.met.B.Blocks.lawful _ _ _ _ _ _
+    (λ d p q. none_in_page a.geometry.now d a.inode.now a.page c.in_ok-zone.zone a.from a.to c.bytes-bytes.result.now
+    a.name.now c.requires.on.geometry holds c.requires.begins c.requires.order c.requires.ends c.requires.size p q
+    c.in-None.ensures.last)
     c.in_ok-zone.ensures.reads
     (turns_seen _ g.met.B.Blocks.lawful _ _ c.in_ok-zone.zone c.bytes-bytes.result.now (c.bytes-bytes.ensures.bytes c.in_ok-zone.zone c.in_ok-frame.ensures.frame) c.fetch.ensures.turns)

@@ -16,8 +16,9 @@ pub returns-clause-played : goal.returns-clause-played
 returns-clause-played g c =
     has_run c.args.image.now c.args.setup.now (map g.D.BlockDriver.state c.args.supply.items) c.args.prepared.range g.N.Room.opening
     g.N.Room.geometry
-    (λ h v o. IfOk o (λ came. IsLeftBy h v (g.I.Read.remaining c.args.streams.input) (g.O.Write.contents c.args.streams.output)
-    (g.O.Write.contents came.streams.output) came.answered came.image.items))
+    (λ h v o. IfOk o (λ came. IsLeftBy g.A.Archive.puts h v (g.I.Read.remaining c.args.streams.input)
+    (g.O.Write.contents c.args.streams.output) (g.O.Write.contents came.streams.output) c.args.streams.archive came.streams.archive
+    came.answered came.image.items))
     c.mount_and_answer.result c.requires.opening c.requires.geometry c.requires.prepared _ c.mount_and_answer.ensures.played
     c.mount_and_answer.ensures.holds
 

@@ -9,7 +9,7 @@ use Rattle.mounting.proofs.reading.read_range.Goals as goal
 
 pub returns-in-Err-clause-reads : goal.returns-in-Err-clause-reads
 returns-in-Err-clause-reads g c =
-    range_none c.args.minor c.args.start (length c.args.into.now) c.args.into.now (table_of c.args.transfers.now) _ _ c.requires.idle
+    range_none c.args.minor c.args.start (length c.args.into.now) _ (table_of c.args.transfers.now) _ _ c.requires.idle
 
 pub messages-init : goal.messages-init
 messages-init g c = record {

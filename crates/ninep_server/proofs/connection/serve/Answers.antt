@@ -2,7 +2,7 @@ use Rattle.ninep_server.specs.Talks.{MayHear}
 use Rattle.ninep_server.specs.Knowledge.{known_of}
 use Rattle.ninep_server.specs.Messages.{plan_of}
 use Rattle.ninep_server.specs.Progress.{left_of_turn}
-use Rattle.ninep_server.proofs.Turns.{begins, plainly}
+use Rattle.ninep_server.proofs.Turns.{begins}
 use Rattle.ninep_server.proofs.Bounds.{plan_within, runs_out}
 use Rattle.ninep_server.proofs.Following.{carried, carried_further, begins_few, goes_few}
 use Rattle.ninep_server.proofs.connection.serve.Goals as goal
@@ -14,8 +14,7 @@ turns-init g c = record {
   carried = carried (MayHear g.S.Sessions.called g.S.Sessions.entered g.S.Sessions.left c.args.now)
       (plan_of (known_of c.args.knows.now) c.args.now c.args.request.now) (left_of_turn c.begin-turn.result) c.args.sessions.now
       (known_of c.args.knows.now) (known_of c.begin-turn.new.knows) c.begin-turn.ensures.begun;
-  few = λ n e. begins_few (MayHear g.S.Sessions.called g.S.Sessions.entered g.S.Sessions.left c.args.now) n
-      (plan_of (known_of c.args.knows.now) c.args.now c.args.request.now) (left_of_turn c.begin-turn.result) c.args.sessions.now
+  few = λ n e. begins_few n (plan_of (known_of c.args.knows.now) c.args.now c.args.request.now) (left_of_turn c.begin-turn.result)
       (known_of c.args.knows.now) (known_of c.begin-turn.new.knows) e
       (plan_within (known_of c.args.knows.now) c.args.now c.args.request.now) c.begin-turn.ensures.begun;
 }
@@ -27,18 +26,10 @@ turns-preserved g c = record {
       (plan_of (known_of c.args.knows.now) c.args.now c.args.request.now) (left_of_turn c.turns.turn) (left_of_turn c.step-turn.result)
       c.args.sessions.now c.turns.sessions c.step-turn.new.sessions (known_of c.args.knows.now) (known_of c.turns.knows)
       (known_of c.step-turn.new.knows) c.turns.invariant.carried c.step-turn.ensures.carried;
-  few = λ n e. goes_few (MayHear g.S.Sessions.called g.S.Sessions.entered g.S.Sessions.left c.args.now) n c.turns._asked
-      (plan_of (known_of c.args.knows.now) c.args.now c.args.request.now) (left_of_turn c.turns.turn) (left_of_turn c.step-turn.result)
-      c.args.sessions.now c.turns.sessions (known_of c.args.knows.now) (known_of c.turns.knows) e c.turns.invariant.few
-      c.turns.invariant.carried (c.step-turn.ensures.few n);
+  few = λ n e. goes_few n c.turns._asked (left_of_turn c.turns.turn) (left_of_turn c.step-turn.result) e c.turns.invariant.few
+      (c.step-turn.ensures.few n);
 }
 
-pub returns : goal.returns
-returns g c = record {
-  asked = plainly (MayHear g.S.Sessions.called g.S.Sessions.entered g.S.Sessions.left c.args.now) c.args.sessions.now c.turns.sessions
-      c.turns.turn _ c.turns.invariant.reached;
-  followed = runs_out (MayHear g.S.Sessions.called g.S.Sessions.entered g.S.Sessions.left c.args.now)
-      (plan_of (known_of c.args.knows.now) c.args.now c.args.request.now) c.args.sessions.now c.turns.sessions
-      (known_of c.args.knows.now) (known_of c.turns.knows) c.turns.turn c.turns._asked _ c.turns-test.false c.turns.auto._asked-end
-      c.in-Sync.is c.turns.invariant.few c.turns.invariant.carried;
-}
+pub unreachable-requires : goal.unreachable-requires
+unreachable-requires g c =
+    runs_out c.turns.turn c.turns._asked c.turns-test.false c.turns.auto._asked-end c.in-Sync.is c.turns.invariant.few

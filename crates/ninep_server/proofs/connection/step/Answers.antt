@@ -17,9 +17,8 @@ returns-in-Sync-clause-carried g c =
 
 pub returns-in-Sync-clause-few : goal.returns-in-Sync-clause-few
 returns-in-Sync-clause-few g c n =
-    sync_few (MayHear g.S.Sessions.called g.S.Sessions.entered g.S.Sessions.left c.args.now) n c.args.turn c.in-Sync.session
-    (left_of_turn c.synced.result) c.heard.result c.args.sessions.now c.heard.new.sessions (known_of c.args.knows.now) c.in-Sync.is
-    c.heard.ensures (c.synced.ensures.left (known_of c.args.knows.now))
+    sync_few n c.args.turn c.in-Sync.session (left_of_turn c.synced.result) c.heard.result (known_of c.args.knows.now) c.in-Sync.is
+    (c.synced.ensures.left (known_of c.args.knows.now))
 
 pub returns-in-Go-clause-reaches : goal.returns-in-Go-clause-reaches
 returns-in-Go-clause-reaches g c start reached =
@@ -34,7 +33,5 @@ returns-in-Go-clause-carried g c =
 
 pub returns-in-Go-clause-few : goal.returns-in-Go-clause-few
 returns-in-Go-clause-few g c n =
-    work_few (MayHear g.S.Sessions.called g.S.Sessions.entered g.S.Sessions.left c.args.now) n c.args.turn c.in-Go.work
-    (left_of_next c.hear.result) (left_of_turn c.of.result) c.ask.result c.heard-heard.result c.args.sessions.now
-    c.heard-heard.new.sessions (known_of c.args.knows.now) (known_of c.hear.new.knows) c.in-Go.is c.ask.ensures c.heard-heard.ensures
-    c.hear.ensures c.of.ensures.left
+    work_few n c.args.turn c.in-Go.work (left_of_next c.hear.result) (left_of_turn c.of.result) c.ask.result c.heard-heard.result
+    (known_of c.args.knows.now) (known_of c.hear.new.knows) c.in-Go.is c.ask.ensures c.hear.ensures c.of.ensures.left

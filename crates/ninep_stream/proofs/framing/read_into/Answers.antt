@@ -1,4 +1,4 @@
-use Rattle.std.proofs.Common.{◌≤◌, length, arith}
+use Rattle.std.proofs.Common.{◌≤◌, length}
 use Rattle.ninep_stream.proofs.Streams.{fits_behind, reads_on}
 use Rattle.ninep_stream.proofs.framing.read_into.Goals as goal
 

@@ -2,6 +2,7 @@ use Rattle.store.proofs.Turns.{reads_as, reads_then}
 use Rattle.store.proofs.Ending.{reads_three}
 use Rattle.path.proofs.Ending.{answers_cut, answers_exit}
 use Rattle.path.proofs.Finding.{is_placed, not_entered, not_walked, walks_of}
+use Rattle.path.proofs.Going.{directory_at}
 use Rattle.path.proofs.place.find_place.Goals as goal
 
 pub returns-in_err-directory-clause-reads : goal.returns-in_err-directory-clause-reads
@@ -31,5 +32,7 @@ returns-clause-reads g c =
     reads_three _ g.met.B.Blocks.lawful _ _ _ _ _ _ _ _
     (λ d p q r t holds.
     let walks = walks_of t c.args.user _ _ _ c.parent.ensures (p t holds) in
-    is_placed c.args.geometry.now d t c.args.user c.args.path.now _ walks (q t holds walks.there) c.last.ensures r)
+    let entered = q t holds walks.there in
+    is_placed c.args.geometry.now d t c.args.user c.args.path.now _ walks entered c.last.ensures
+    (r (directory_at c.args.geometry.now d t c.args.user c.in_ok-directory.directory c.in_ok-inode.inode holds entered)))
     c.in_ok-directory.ensures.reads c.in_ok-inode.ensures.reads c.in_ok-there.ensures.reads

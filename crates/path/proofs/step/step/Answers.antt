@@ -3,7 +3,7 @@ use Rattle.tree.specs.Refusals.{◌>>=◌}
 use Rattle.tree.specs.Walk.{next}
 use Rattle.store.proofs.Turns.{reads_as, reads_then}
 use Rattle.path.proofs.Ending.{answers_as, answers_exit}
-use Rattle.path.proofs.Going.{has_entries, stepped}
+use Rattle.path.proofs.Going.{directory_at, stepped}
 use Rattle.path.proofs.step.step.Goals as goal
 
 pub returns-in_err-inode-clause-reads : goal.returns-in_err-inode-clause-reads
@@ -20,5 +20,5 @@ returns-clause-reads g c =
     (λ d p q t holds there.
     let entered = p t holds there in
     answers_as _ _ _ (λ r is. stepped a.geometry.now d t a.user a.here i a.part.now r holds there entered is)
-    (q (has_entries a.geometry.now d t a.here i holds entered.directory entered.loaded).entries))
+    (q (directory_at a.geometry.now d t a.user a.here i holds entered)))
     c.in_ok-inode.ensures.reads c.next.ensures.reads

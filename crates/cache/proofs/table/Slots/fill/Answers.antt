@@ -1,34 +1,61 @@
-use Rattle.std.proofs.Common.{◌<◌, length, refl, sym, ◌∙◌, arith}
-use Rattle.std.proofs.lemmas.Option.{slice_get_read}
+use Rattle.std.proofs.Common.{List, ℕ, sym, ap, subst, ◌∙◌, arith}
 use Rattle.std.proofs.Math.Seq.{lt-length-set}
 use Rattle.std.proofs.lemmas.List.{length-set}
+use Rattle.cache.specs.Uses.{IsUsedLast}
 use Rattle.cache.proofs.Held.{distinct_filled}
+use Rattle.cache.proofs.Filling.{free_at, vacated_none}
+use Rattle.cache.proofs.Indexed.{few_set, has_no_place, count_free, index_filled, set_again}
 use Rattle.cache.proofs.table.Slots.fill.Goals as goal
+
+pub insert-requires-clause-missing : goal.insert-requires-clause-missing
+insert-requires-clause-missing c =
+    let s = c.args.self.now in
+    let v = c.vacate.new.self in
+    let e = c.vacate.ensures.set in
+    has_no_place v.index.entries.items v.items.items c.args.block v.indexed
+    (vacated_none s.items.items v.items.items c.args.at e.slot s.distinct e.is e c.args.block c.requires.free)
+
+pub insert-requires-clause-room : goal.insert-requires-clause-room
+insert-requires-clause-room c =
+    let v = c.vacate.new.self in
+    let f = free_at c.args.self.now.items.items v.items.items c.args.at c.vacate.ensures.set in
+    let less = count_free v.items.items c.args.at f.slot f.is f.none in
+    omega (arith, less, v.indexed.count, v.room)
 
 pub invariant_of-self : goal.invariant_of-self
 invariant_of-self c =
-    let ok = c.args.self.now.items.ok in
-    let lt : c.args.at < length c.args.self.now.items.items = omega arith in
-    let at = slice_get_read c.args.self.now.items.items _ c.args.at c.index_mut-slot.result.now refl lt c.index_mut-slot.ensures.value in
+    let s = c.args.self.now in
+    let v = c.vacate.new.self in
+    let e = c.vacate.ensures.set in
+    let f = free_at s.items.items v.items.items c.args.at e in
+    let free = vacated_none s.items.items v.items.items c.args.at e.slot s.distinct e.is e c.args.block c.requires.free in
+    let i = c.insert.ensures in
     record {
-      distinct = distinct_filled c.args.self.now.items.items c.args.at c.args.block c.index_mut-slot.result.now _ c.args.self.now.distinct at
-          c.hold.ensures.block c.requires.free;
-      paired = c.args.self.now.paired ∙ sym (length-set c.args.self.now.items.items c.args.at _);
-      some = lt-length-set c.args.self.now.items.items c.args.at _ c.args.self.now.some;
+      distinct = distinct_filled v.items.items c.args.at c.args.block f.slot _ v.distinct f.is c.hold.ensures.block free;
+      some = lt-length-set v.items.items c.args.at _ v.some;
+      few = few_set v.items.items c.args.at _ v.few;
+      indexed = index_filled v.index.entries.items c.insert.new.self.entries.items v.items.items c.args.at c.args.block f.slot _ v.indexed f.is f.none
+          c.hold.ensures.block free i.this i.others i.count;
+      room = i.room ∙ v.room ∙ sym (length-set v.items.items c.args.at _);
+      paired = v.paired ∙ sym (length-set v.items.items c.args.at _);
     }
 
 pub returns-clause-filled : goal.returns-clause-filled
 returns-clause-filled c =
-    let ok = c.args.self.now.items.ok in
-    let lt : c.args.at < length c.args.self.now.items.items = omega arith in
-    let at = slice_get_read c.args.self.now.items.items _ c.args.at c.index_mut-slot.result.now refl lt c.index_mut-slot.ensures.value in
-    let e = c.hold.ensures in
+    let s = c.args.self.now in
+    let v = c.vacate.new.self in
+    let e = c.vacate.ensures.set in
+    let h = c.hold.ensures in
     record {
-      slot = c.index_mut-slot.result.now;
+      slot = e.slot;
       after = c.hold.new.self;
-      is = at;
-      all = c.touch.ensures.items;
-      block_is = e.block;
-      bytes_are = e.bytes;
-      state_is = e.state;
+      is = e.is;
+      all = c.touch.ensures.items ∙ set_again s.items.items v.items.items c.args.at _ c.hold.new.self e.all;
+      block_is = h.block;
+      bytes_are = h.bytes;
+      state_is = h.state;
     }
+
+pub returns-clause-used : goal.returns-clause-used
+returns-clause-used c =
+    subst (λ (l : List ℕ). IsUsedLast l c.touch.new.self.uses.numbers.items c.args.at) (ap (λ u. u.numbers.items) c.vacate.ensures.uses) c.touch.ensures.used

@@ -1,6 +1,9 @@
-use Rattle.std.proofs.Common.{List, length, sym, ap, subst}
+use Rattle.std.proofs.Common.{◌≡◌, List, length, sym, ap, subst, ◌∙◌, arith}
+use Rattle.cache.specs.declared.index.Entry.{Entry}
 use Rattle.cache.specs.declared.slot.Slot.{Slot}
-use Rattle.cache.proofs.Making.{AllFree, free_none, free_held}
+use Rattle.cache.specs.Index.{IsIndexOf}
+use Rattle.cache.proofs.Making.{AllFree, free_none, free_held, free_distinct}
+use Rattle.cache.proofs.Indexed.{index_none}
 use Rattle.cache.proofs.table.Slots.new.Goals as goal
 
 pub free-init : goal.free-init
@@ -11,3 +14,18 @@ free-init c = record {
 
 pub returns-clause-free : goal.returns-clause-free
 returns-clause-free c = λ b. free_held c.free.items.items b c.free.invariant.free
+
+pub invariant_of-result : goal.invariant_of-result
+invariant_of-result c =
+    let items = c.free.items.items in
+    let i = c.free.invariant in
+    let index = c.in_ok-new-2.ensures in
+    let count : length items ≡ c.args.count = i.count ∙ omega (arith, c.free-test.false) in
+    record {
+      distinct = free_distinct items i.free;
+      some = omega (arith, count, c.requires.some);
+      few = omega (arith, count, c.requires.few);
+      indexed = subst (λ (l : List Entry). IsIndexOf l items) (sym index.none) (index_none items i.free);
+      room = index.room ∙ sym count;
+      paired = c.in_ok-new.ensures ∙ sym count;
+    }

@@ -3,17 +3,32 @@ use Rattle.std.proofs.lemmas.Option.{slice_get_read}
 use Rattle.std.proofs.Math.Seq.{lt-length-set}
 use Rattle.std.proofs.lemmas.List.{length-set}
 use Rattle.cache.proofs.Held.{distinct_vacated}
+use Rattle.cache.proofs.Indexed.{few_set, has_place, index_vacated}
 use Rattle.cache.proofs.table.Slots.vacate.Goals as goal
 
-pub invariant_of-self : goal.invariant_of-self
-invariant_of-self c =
-    let ok = c.args.self.now.items.ok in
-    let lt : c.args.at < length c.args.self.now.items.items = omega arith in
-    let at = slice_get_read c.args.self.now.items.items _ c.args.at c.index_mut-slot.result.now refl lt c.index_mut-slot.ensures.value in
+pub remove-requires : goal.remove-requires
+remove-requires c =
+    let s = c.args.self.now in
+    let ok = s.items.ok in
+    let lt : c.args.at < length s.items.items = omega arith in
+    let at = slice_get_read s.items.items _ c.args.at c.index_mut-slot.result.now refl lt c.index_mut-slot.ensures.value in
+    has_place s.index.entries.items s.items.items c.args.at c.in-Some.block c.index_mut-slot.result.now s.indexed at c.in-Some.is
+
+pub invariant_of-self-2 : goal.invariant_of-self-2
+invariant_of-self-2 c =
+    let s = c.args.self.now in
+    let ok = s.items.ok in
+    let lt : c.args.at < length s.items.items = omega arith in
+    let at = slice_get_read s.items.items _ c.args.at c.index_mut-slot.result.now refl lt c.index_mut-slot.ensures.value in
+    let e = c.remove.ensures in
     record {
-      distinct = distinct_vacated c.args.self.now.items.items c.args.at c.index_mut-slot.result.now _ c.args.self.now.distinct at refl;
-      paired = c.args.self.now.paired ∙ sym (length-set c.args.self.now.items.items c.args.at _);
-      some = lt-length-set c.args.self.now.items.items c.args.at _ c.args.self.now.some;
+      distinct = distinct_vacated s.items.items c.args.at c.index_mut-slot.result.now _ s.distinct at refl;
+      some = lt-length-set s.items.items c.args.at _ s.some;
+      few = few_set s.items.items c.args.at _ s.few;
+      indexed = index_vacated s.index.entries.items c.remove.new.self.entries.items s.items.items c.args.at c.in-Some.block c.index_mut-slot.result.now _
+          s.indexed at c.in-Some.is refl e.this e.others e.count;
+      room = e.room ∙ s.room ∙ sym (length-set s.items.items c.args.at _);
+      paired = s.paired ∙ sym (length-set s.items.items c.args.at _);
     }
 
 pub returns-clause-set : goal.returns-clause-set

@@ -1,7 +1,7 @@
-use Rattle.std.proofs.Common.{◌≡◌, ◌<◌, ◌≤◌, ◌+◌, ◌-◌, ◌/◌, ℕ, Bool, true, false, refl, sym, ap, ◌∙◌, cond, arith}
+use Rattle.std.proofs.Common.{◌≡◌, ◌≤◌, ◌+◌, ◌-◌, ◌/◌, ℕ, refl, sym, ap, ◌∙◌, arith}
 use Rattle.std.specs.Prelude.{◌==◌}
 use Rattle.std.proofs.lemmas.Bool.{cond-true, cond-false}
-use Rattle.tree.specs.Sums.{sum_below, count_below, one_if}
+use Rattle.tree.specs.Sums.{count_below, one_if}
 use Rattle.volume.specs.Nodes.{entry_inode, file_byte}
 use Rattle.volume.specs.Entries.{is_directory_inode, entry_count, target_at}
 use Rattle.volume.specs.Findings.{names_in_of}
@@ -10,8 +10,11 @@ use Rattle.fsck.proofs.Counts.{sum_more, no_sum}
 use Rattle.fsck.proofs.Walks.{goes_none, goes_more, goes_same}
 use Rattle.fsck.proofs.scan.reached.mark_names.Goals as goal
 
-pub returns-then-not-is_directory : goal.returns-then-not-is_directory
-returns-then-not-is_directory c =
+pub mark-requires : goal.mark-requires
+mark-requires c = omega (arith, c.loop-number.invariant.go.less, c.loop-number.invariant.capacity, c.requires)
+
+pub returns-then-not-is_directory-clause-goes : goal.returns-then-not-is_directory-clause-goes
+returns-then-not-is_directory-clause-goes c =
     let i = c.args.image.now in
     goes_none (names_in_of i.geometry (contents i) c.args.n) c.args.seen.now c.args.waiting.now.items
     (λ k h some. let none : names_in_of i.geometry (contents i) c.args.n k ≡ 0 = cond-false (is_directory_inode i.geometry (contents i) c.args.n) _ 0 (sym c.is_directory.ensures ∙ c.if-not-is_directory.true) in absurd (omega arith))
@@ -20,6 +23,7 @@ pub loop-number-init : goal.loop-number-init
 loop-number-init c = record {
   near = omega arith;
   go = goes_none _ c.args.seen.now c.args.waiting.now.items (λ k h some. let none = no_sum (λ e. one_if (target_at c.args.image.now.geometry (contents c.args.image.now) c.args.n (e + 2) == k)) in absurd (omega arith));
+  capacity = refl;
 }
 
 pub loop-number-preserved : goal.loop-number-preserved
@@ -38,11 +42,12 @@ loop-number-preserved c =
           c.args.seen.now c.args.waiting.now.items c.loop-number.seen c.loop-number.waiting.items c.mark.new.seen c.mark.new.waiting.items
           (λ m. ap (count_below (λ e. target (e + 2) == m)) next ∙ sum_more (λ e. one_if (target (e + 2) == m)) (e - 2)
           ∙ ap (λ t. count_below (λ e. target (e + 2) == m) (e - 2) + one_if (t == m)) here)
-          c.loop-number.invariant.go c.in_ok-mark.ensures;
+          c.loop-number.invariant.go c.mark.ensures.goes;
+      capacity = c.mark.ensures.capacity ∙ c.loop-number.invariant.capacity;
     }
 
-pub returns : goal.returns
-returns c =
+pub returns-clause-goes : goal.returns-clause-goes
+returns-clause-goes c =
     let i = c.args.image.now in
     let n = c.args.n in
     let count : c.inode-inode.result.size / 64 ≡ entry_count (contents i) n = ap (λ x. x.size / 64) c.inode-inode.ensures in

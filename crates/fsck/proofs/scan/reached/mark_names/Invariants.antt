@@ -1,4 +1,4 @@
-use Rattle.std.proofs.Common.{◌≡◌, ◌≤◌, ◌+◌, ◌-◌, ◌/◌, ℕ}
+use Rattle.std.proofs.Common.{◌≡◌, ◌≤◌, ◌+◌, ◌-◌, ◌/◌, vec_capacity}
 use Rattle.std.specs.Prelude.{◌==◌}
 use Rattle.tree.specs.Sums.{count_below}
 use Rattle.volume.specs.Entries.{target_at}
@@ -10,4 +10,5 @@ abbrev pub invariant-loop-number : goal.invariant-loop-number
 invariant-loop-number l = record {
   near : l.number - 2 ≤ l.inode.size / 64 - 2;
   go : GoesOn (λ m. count_below (λ e. target_at l.image.geometry (contents l.image) l.n (e + 2) == m) (l.number - 2)) l.fn.seen l.fn.waiting.items l.seen l.waiting.items;
+  capacity : vec_capacity l.waiting ≡ vec_capacity l.fn.waiting;
 }

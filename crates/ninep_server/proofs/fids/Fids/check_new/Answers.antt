@@ -1,9 +1,4 @@
-use Rattle.std.proofs.Common.{◌≡◌, ◌∙◌, sym, true, false, refl}
-use Rattle.std.specs.BTreeMap.{is_at}
-use Rattle.std.specs.Map.{lookup}
-use Rattle.std.specs.Option.{is_some}
-use Rattle.std.specs.Ordering.{nat_cmp}
-use Rattle.ninep_server.specs.Knowledge.{table_of}
+use Rattle.std.proofs.Common.{◌∙◌, sym}
 use Rattle.ninep_server.proofs.Tables.{is_used, is_full, has_room}
 use Rattle.ninep_server.proofs.fids.Fids.check_new.Goals as goal
 

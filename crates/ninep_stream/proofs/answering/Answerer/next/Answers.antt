@@ -8,13 +8,13 @@ use Rattle.ninep_stream.specs.Stopped.{Responds}
 use Rattle.ninep_stream.proofs.Streams.{is_answered}
 use Rattle.ninep_stream.proofs.answering.Answerer.next.Goals as goal
 
-pub returns-in-Ok-clause-answered : goal.returns-in-Ok-clause-answered
-returns-in-Ok-clause-answered g c =
+pub returns-clause-answered : goal.returns-clause-answered
+returns-clause-answered g c =
     let R = answers g.S.Sessions.called g.S.Sessions.entered g.S.Sessions.left in
     let message = c.read.new.self.message.items in
     is_answered R _ _ _ _ message (c.args.sessions.now, known c.args.self.now.connection)
     (c.respond.new.sessions, known c.respond.new.self.connection)
-    (subst (λ (b : Bool). OnTrue b (IsMessage message)) c.in-Ok-true.field-0-test c.in-Ok-true.ensures.message) c.in-Ok-true.ensures.taken
+    (subst (λ (b : Bool). OnTrue b (IsMessage message)) c.if-not-branch.false c.in_ok-read.ensures.message) c.in_ok-read.ensures.taken
     (subst (λ (x : Connection). Responds R message (g.O.Write.contents c.args.output.now) (g.O.Write.contents c.respond.new.output)
-    (c.args.sessions.now, known x) (c.respond.new.sessions, known c.respond.new.self.connection)) c.in-Ok-true.ensures.connection
-    c.in-Ok.ensures.answered)
+    (c.args.sessions.now, known x) (c.respond.new.sessions, known c.respond.new.self.connection)) c.in_ok-read.ensures.connection
+    c.in_ok-respond.ensures.answered)

@@ -1,0 +1,103 @@
+//! An index of places by their blocks.
+
+ghost use Rattle.std.specs.Prelude.{◌≡◌, ◌≢◌, ◌<◌, ◌≤◌, ◌+◌, ◌^◌, ℕ, IfOk, IfErr, [], Some, None, length};
+ghost use Rattle.std.specs.Vec.{vec_capacity};
+ghost use Rattle.cache.specs.Index.{place_in, IsRising, IsEntryOf, IsGapFor};
+
+use std::alloc::{AllocError, Global};
+use step_count::Steps;
+
+/// A block and its place.
+#[derive(Clone, Copy)]
+pub(crate) struct Entry {
+    block: u32,
+    place: usize,
+}
+
+/// The places of blocks, sorted by block. Their memory is taken when they are made. A step is an entry that is compared.
+#[derive(Drop)]
+pub(crate) struct Index {
+    entries: Vec<Entry>,
+    ghost rising: { IsRising entries.items },
+}
+
+impl Index {
+    /// An index of no block, with room for so many.
+    pub(crate) fn new(alloc: Global, count: usize) -> Result<Index, AllocError>
+        ensures none { IfOk result (λ i. i.entries.items ≡ []) }
+        ensures room { IfOk result (λ i. vec_capacity i.entries ≡ count) }
+    {
+        Ok(Index {
+            entries: Vec::with_capacity(alloc, count)?,
+        })
+    }
+
+    /// Where the entry of a block stands, or else where it would.
+    fn look(&self, block: u32, steps: &mut Steps) -> Result<usize, usize>
+        ensures found { IfOk result (λ at. IsEntryOf self.now.entries.items at block) }
+        ensures missing { IfErr result (λ at. IsGapFor self.now.entries.items at block) }
+        ensures cost { (k : ℕ) → length self.now.entries.items < 2 ^ k → steps.new ≤ steps.old + k }
+    {
+        let mut low = 0;
+        let mut high = self.entries.len();
+        'halves: while low < high {
+            let middle = low + (high - low) / 2;
+            let entry = self.entries[middle];
+            steps.tick();
+            if entry.block == block {
+                return Ok(middle);
+            }
+            if entry.block < block {
+                low = middle + 1;
+            } else {
+                high = middle;
+            }
+        }
+        Err(low)
+    }
+
+    /// The place of a block.
+    pub(crate) fn find(&self, block: u32, steps: &mut Steps) -> Option<usize>
+        ensures place { result ≡ place_in self.now.entries.items block }
+        ensures cost { (k : ℕ) → length self.now.entries.items < 2 ^ k → steps.new ≤ steps.old + k }
+    {
+        match self.look(block, steps) {
+            Ok(at) => Some(self.entries[at].place),
+            Err(_) => None,
+        }
+    }
+
+    /// Gives a block that has none its place.
+    pub(crate) fn insert(&mut self, block: u32, place: usize)
+        requires missing { place_in self.old.entries.items block ≡ None }
+        requires room { length self.old.entries.items < vec_capacity self.old.entries }
+        ensures this { place_in self.new.entries.items block ≡ Some place }
+        ensures others { (b : ℕ) → b ≢ block → place_in self.new.entries.items b ≡ place_in self.old.entries.items b }
+        ensures count { length self.new.entries.items ≡ length self.old.entries.items + 1 }
+        ensures room { vec_capacity self.new.entries ≡ vec_capacity self.old.entries }
+    {
+        let at = match self.look(block, &mut Steps::new()) {
+            Ok(_) => unreachable!(),
+            Err(at) => at,
+        };
+        match self.entries.insert(at, Entry { block, place }) {
+            Ok(()) => {}
+            Err(_) => unreachable!(),
+        }
+    }
+
+    /// Takes the place of a block out.
+    pub(crate) fn remove(&mut self, block: u32)
+        requires { place_in self.old.entries.items block ≢ None }
+        ensures this { place_in self.new.entries.items block ≡ None }
+        ensures others { (b : ℕ) → b ≢ block → place_in self.new.entries.items b ≡ place_in self.old.entries.items b }
+        ensures count { length self.new.entries.items + 1 ≡ length self.old.entries.items }
+        ensures room { vec_capacity self.new.entries ≡ vec_capacity self.old.entries }
+    {
+        let at = match self.look(block, &mut Steps::new()) {
+            Ok(at) => at,
+            Err(_) => unreachable!(),
+        };
+        self.entries.remove(at);
+    }
+}

@@ -1,0 +1,53 @@
+//! The words that `mfmig` takes, and what they say.
+
+use crate::volume_words::{file, number};
+use clap::{ArgMatches, Command, Error};
+use std::alloc::{AllocError, Global};
+
+/// The most that a number of the command line may be.
+const MOST: u64 = 4294967295;
+
+/// The words that `mfmig` knows.
+fn command<'a>(alloc: Global) -> Result<Command<'a>, AllocError> {
+    let old = "The file of a MINIX 2 volume; it is read only";
+    let new = "The file of the new volume; a file that is there is replaced";
+    let blocks = "How many blocks of 1024 bytes the new volume has, at most 65536";
+    Command::new(alloc, "mfmig")
+        .version("0.1.0")
+        .about("Makes the image of a new MINIX 3 volume with the tree of a MINIX 2 volume")
+        .arg(file(alloc, "OLD", old))?
+        .arg(file(alloc, "NEW", new))?
+        .arg(
+            number(alloc, "blocks", "N", MOST)
+                .required(true)
+                .help(blocks),
+        )
+}
+
+/// What the words say.
+#[derive(Clone, Copy)]
+pub struct Words<'a> {
+    /// The old volume's file.
+    pub old: &'a str,
+    /// The new volume's file.
+    pub new: &'a str,
+    /// How many blocks the new volume has.
+    pub blocks: u32,
+}
+
+impl<'a> Words<'a> {
+    /// What words that were taken say.
+    fn of(matches: &ArgMatches<'a>) -> Words<'a> {
+        Words {
+            old: matches.get_str("OLD").unwrap_or(""),
+            new: matches.get_str("NEW").unwrap_or(""),
+            blocks: matches.get_one::<u32>("blocks").unwrap_or(0),
+        }
+    }
+}
+
+/// What the words of a line say, or why they aren't taken.
+pub fn read<'a>(alloc: Global, line: &'a [String]) -> Result<Words<'a>, Error> {
+    let matches = command(alloc)?.try_get_matches_from(line)?;
+    Ok(Words::of(&matches))
+}

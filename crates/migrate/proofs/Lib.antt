@@ -1,0 +1,12 @@
+pub mod Below
+pub mod Nodes
+pub mod Verdicts
+pub mod TreeSizes
+pub mod Names
+pub mod Blocks
+pub mod UsedFiles
+pub mod UsedPages
+pub mod UsedBelow
+pub mod UsedNames
+pub mod UsedNodes
+pub mod RoomLeft

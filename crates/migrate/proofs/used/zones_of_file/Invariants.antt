@@ -1,0 +1,13 @@
+use Rattle.std.proofs.Common.{◌≡◌, ◌≤◌, ◌*◌}
+use Rattle.tree.specs.Sums.{sum_below}
+use Rattle.volume.specs.Nodes.{slot}
+use Rattle.image.specs.Contents.{contents}
+use Rattle.image.specs.Entered.{level_of}
+use Rattle.migrate.specs.Used.{zones_below}
+use Rattle.migrate.proofs.used.zones_of_file.Given as goal
+
+abbrev pub invariant-loop-slot : goal.invariant-loop-slot
+invariant-loop-slot l = record {
+  counted : l.used ≡ sum_below (λ s. zones_below (contents l.old.image) (level_of s) (slot l.inode s)) l.slot;
+  few : l.used ≤ 16843009 * l.slot;
+}

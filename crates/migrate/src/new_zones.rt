@@ -1,0 +1,122 @@
+//! The data zones of a new volume, taken one after the other.
+
+ghost use Rattle.std.specs.Prelude.{◌≡◌, ◌≤◌, ◌<◌, ◌*◌, ◌%◌, ◌^◌, IfErr, length};
+ghost use Rattle.migrate.specs.Zones.{Grows};
+ghost use Rattle.migrate.specs.Migrated.{IsLate};
+
+use crate::refusal::MigrateRefusal;
+use crate::volume_blocks::{BLOCK, VolumeBlocks};
+use byteorder::{ByteOrder, LittleEndian};
+
+/// How many zone numbers a block holds.
+pub(crate) const NUMBERS: usize = 256;
+
+/// The beginning of a new volume's image: its tables, and the data zones that are taken.
+#[derive(Drop)]
+pub(crate) struct NewZones {
+    /// Whole blocks.
+    pub(crate) image: Vec<u8>,
+    /// How many bytes the whole image has, at most 67108864.
+    pub(crate) limit: usize,
+    ghost few: { limit ≤ 67108864 },
+    ghost blocks: { limit % 1024 ≡ 0 },
+    ghost whole: { length image.items % 1024 ≡ 0 },
+    ghost within: { length image.items ≤ limit },
+}
+
+impl NewZones {
+    /// Takes the next zone for a block of bytes, and gives its number.
+    pub(crate) fn append(&mut self, block: &[u8]) -> Result<u32, MigrateRefusal>
+        requires { length block.now ≡ 1024 }
+        ensures grows { Grows self.old.limit self.new.limit self.old.image.items self.new.image.items }
+        ensures refused { IfErr result IsLate }
+    {
+        let at = self.image.len();
+        if at >= self.limit {
+            return Err(MigrateRefusal::Mismatch);
+        }
+        self.image.extend_from_slice(block)?;
+        Ok((at / BLOCK) as u32)
+    }
+
+    /// Copies the old zone of a level, and all that its numbers lead to: 0 is a page, above it stand the indirect blocks. Gives the
+    /// number of the new one; a hole stays a hole.
+    pub(crate) fn copy(
+        &mut self,
+        old: &VolumeBlocks,
+        zone: u32,
+        level: usize,
+    ) -> Result<u32, MigrateRefusal>
+        requires { level < 4 }
+        ensures grows { Grows self.old.limit self.new.limit self.old.image.items self.new.image.items }
+        ensures refused { IfErr result IsLate }
+    {
+        if zone == 0 {
+            return Ok(0);
+        }
+        if level == 0 {
+            return self.append(old.block(zone));
+        }
+        let mut block = [0; BLOCK];
+        for j in 0..NUMBERS {
+            let number = self.copy(old, old.image.number(zone, j), level - 1)?;
+            LittleEndian::write_u32(&mut block[4 * j..], number);
+        }
+        self.append(&block)
+    }
+
+    /// Takes zones for the bytes of a file from a page on, as far as one number of a level leads, and gives that number; 0 where the
+    /// file ends before.
+    pub(crate) fn lay(
+        &mut self,
+        bytes: &[u8],
+        page: usize,
+        level: usize,
+    ) -> Result<u32, MigrateRefusal>
+        requires low { level < 4 }
+        requires short { length bytes.now < 2 ^ 32 }
+        requires near { page < 2 ^ 32 }
+        ensures grows { Grows self.old.limit self.new.limit self.old.image.items self.new.image.items }
+        ensures refused { IfErr result IsLate }
+    {
+        if BLOCK * page >= bytes.len() {
+            return Ok(0);
+        }
+        if level == 0 {
+            return self.append(&page_of(bytes, page));
+        }
+        let mut block = [0; BLOCK];
+        for j in 0..NUMBERS {
+            let number = self.lay(bytes, page + j * pages_below(level - 1), level - 1)?;
+            LittleEndian::write_u32(&mut block[4 * j..], number);
+        }
+        self.append(&block)
+    }
+}
+
+/// How many pages a number of a level leads to.
+fn pages_below(level: usize) -> usize
+    ensures { result ≤ 65536 }
+{
+    match level {
+        0 => 1,
+        1 => NUMBERS,
+        _ => NUMBERS * NUMBERS,
+    }
+}
+
+/// A page of a file, with zeros after its end.
+fn page_of(bytes: &[u8], page: usize) -> [u8; BLOCK]
+    requires short { length bytes.now < 2 ^ 32 }
+    requires there { 1024 * page < length bytes.now }
+{
+    let mut block = [0; BLOCK];
+    let rest = &bytes[BLOCK * page..];
+    let size = if rest.len() < BLOCK {
+        rest.len()
+    } else {
+        BLOCK
+    };
+    block[..size].copy_from_slice(&rest[..size]);
+    block
+}

@@ -1,0 +1,180 @@
+//! Writing the tree of an old volume into a new one.
+
+ghost use Rattle.std.specs.Prelude.{◌≡◌, ◌≤◌, ◌<◌, ◌+◌, ◌*◌, ◌/◌, IfOk, IfErr, length, true, ◌^◌};
+ghost use Rattle.layout.specs.Places.{IsGeometry};
+ghost use Rattle.volume.specs.Nodes.{is_marked};
+ghost use Rattle.image.specs.Contents.{contents};
+ghost use Rattle.image.specs.Entered.{level_of};
+ghost use Rattle.tree.specs.Tree.{most_size};
+ghost use Rattle.migrate.specs.Used.{SizesAreGood};
+ghost use Rattle.migrate.specs.Zones.{Grows};
+ghost use Rattle.migrate.specs.Migrated.{IsLate};
+
+use crate::directory::new_entries;
+use crate::new_zones::{NUMBERS, NewZones};
+use crate::refusal::MigrateRefusal;
+use crate::volume_blocks::{BLOCK, VolumeBlocks};
+use image::is_directory_mode;
+use inode::encode;
+use layout::Geometry;
+use new_volume::NewVolume;
+use std::alloc::Global;
+use volume::Inode;
+
+/// The image of the new volume that is begun, with the old one's inodes. All zones are fresh ones.
+pub(crate) fn written(
+    alloc: Global,
+    old: &VolumeBlocks,
+    empty: NewVolume,
+) -> Result<Vec<u8>, MigrateRefusal>
+    requires good { SizesAreGood old.now.image }
+    requires sizes { IsGeometry empty.volume }
+    requires block { empty.volume.block_size ≡ 1024 }
+    ensures whole { IfOk result (λ image. length image.items ≡ 1024 * empty.volume.zones) }
+    ensures refused { IfErr result IsLate }
+{
+    let geometry = empty.volume;
+    let mut zones = tables_of(empty)?;
+    for n in 1..geometry.inodes + 1 {
+        if !old.image.is_marked(n) {
+            continue;
+        }
+        let inode = moved(alloc, old, n, &mut zones)?;
+        put_inode(&mut zones, &geometry, n, &inode);
+    }
+    finished(zones, &geometry)
+}
+
+/// The tables of a new volume, with no data zone taken.
+fn tables_of(empty: NewVolume) -> Result<NewZones, MigrateRefusal>
+    requires sizes { IsGeometry empty.volume }
+    requires block { empty.volume.block_size ≡ 1024 }
+    ensures limit { IfOk result (λ zones. zones.limit ≡ 1024 * empty.volume.zones) }
+    ensures tables { IfOk result (λ zones. length zones.image.items ≡ 1024 * empty.volume.first_zone) }
+    ensures refused { IfErr result IsLate }
+{
+    let size = BLOCK * empty.volume.first_zone as usize;
+    let limit = BLOCK * empty.volume.zones as usize;
+    let mut image = empty.front;
+    image.truncate(size);
+    image.resize(size, 0)?;
+    Ok(NewZones { image, limit })
+}
+
+/// Inode n with all that it leads to moved to fresh zones; a directory's entries are rewritten.
+fn moved(
+    alloc: Global,
+    old: &VolumeBlocks,
+    n: u32,
+    zones: &mut NewZones,
+) -> Result<Inode, MigrateRefusal>
+    requires marked { is_marked old.now.image.geometry (contents old.now.image) n ≡ true }
+    requires sizes { SizesAreGood old.now.image }
+    ensures grows { Grows zones.old.limit zones.new.limit zones.old.image.items zones.new.image.items }
+    ensures refused { IfErr result IsLate }
+{
+    let inode = old.image.inode(n);
+    if is_directory_mode(inode.mode) {
+        moved_directory(alloc, old, &inode, zones)
+    } else {
+        moved_file(old, &inode, zones)
+    }
+}
+
+/// A directory's inode, with its entries as version 3 has them.
+fn moved_directory(
+    alloc: Global,
+    old: &VolumeBlocks,
+    inode: &Inode,
+    zones: &mut NewZones,
+) -> Result<Inode, MigrateRefusal>
+    requires { inode.now.size ≤ most_size }
+    ensures grows { Grows zones.old.limit zones.new.limit zones.old.image.items zones.new.image.items }
+    ensures refused { IfErr result IsLate }
+{
+    let entries = new_entries(alloc, &old.image, inode)?;
+    let mut moved = *inode;
+    moved.size = entries.len() as u32;
+    for slot in 0..10 {
+        moved.zones[slot] = zones.lay(&entries, first_page(slot), level_of(slot))?;
+    }
+    Ok(moved)
+}
+
+/// The inode of what is no directory, with its zones copied.
+fn moved_file(
+    old: &VolumeBlocks,
+    inode: &Inode,
+    zones: &mut NewZones,
+) -> Result<Inode, MigrateRefusal>
+    ensures grows { Grows zones.old.limit zones.new.limit zones.old.image.items zones.new.image.items }
+    ensures refused { IfErr result IsLate }
+{
+    let mut moved = *inode;
+    for slot in 0..10 {
+        moved.zones[slot] = zones.copy(old, inode.zones[slot], level_of(slot))?;
+    }
+    Ok(moved)
+}
+
+/// The level of a slot's zone: 0 is a page, 1 to 3 are the indirect blocks.
+pub(crate) fn level_of(slot: usize) -> usize
+    ensures { result ≡ level_of slot }
+{
+    if slot < 7 { 0 } else { slot - 6 }
+}
+
+/// The first page to which a slot leads.
+fn first_page(slot: usize) -> usize
+    requires { slot < 10 }
+    ensures { result < 2 ^ 32 }
+{
+    match slot {
+        8 => 7 + NUMBERS,
+        9 => 7 + NUMBERS + NUMBERS * NUMBERS,
+        _ => slot,
+    }
+}
+
+/// Writes inode n, and marks it.
+fn put_inode(zones: &mut NewZones, geometry: &Geometry, n: u32, inode: &Inode)
+    requires sizes { IsGeometry geometry.now }
+    requires block { geometry.now.block_size ≡ 1024 }
+    requires some { 1 ≤ n }
+    requires most { n ≤ geometry.now.inodes }
+    requires tables { 1024 * geometry.now.first_zone ≤ length zones.old.image.items }
+    ensures { Grows zones.old.limit zones.new.limit zones.old.image.items zones.new.image.items }
+{
+    let table = 2 + geometry.inode_map_blocks as usize + geometry.zone_map_blocks as usize;
+    let at = BLOCK * table + 64 * (n as usize - 1);
+    zones.image[at..at + 64].copy_from_slice(&encode(inode));
+    set_bit(&mut zones.image, 2, n);
+}
+
+/// Sets a bit of the map that begins at a block.
+fn set_bit(image: &mut [u8], block: usize, bit: u32)
+    requires low { block ≤ 65536 }
+    requires there { 1024 * block + bit / 8 < length image.old }
+    ensures { length image.new ≡ length image.old }
+{
+    image[BLOCK * block + bit as usize / 8] |= 1 << (bit % 8);
+}
+
+/// The whole image: the zones that were taken are marked, the others are zero.
+fn finished(zones: NewZones, geometry: &Geometry) -> Result<Vec<u8>, MigrateRefusal>
+    requires sizes { IsGeometry geometry.now }
+    requires block { geometry.now.block_size ≡ 1024 }
+    requires limit { zones.limit ≡ 1024 * geometry.now.zones }
+    requires tables { 1024 * geometry.now.first_zone ≤ length zones.image.items }
+    ensures whole { IfOk result (λ image. length image.items ≡ 1024 * geometry.now.zones) }
+    ensures refused { IfErr result IsLate }
+{
+    let mut image = zones.image;
+    let end = (image.len() / BLOCK) as u32;
+    let map = 2 + geometry.inode_map_blocks as usize;
+    for zone in geometry.first_zone..end {
+        set_bit(&mut image, map, zone - geometry.first_zone + 1);
+    }
+    image.resize(zones.limit, 0)?;
+    Ok(image)
+}

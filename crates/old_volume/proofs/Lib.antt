@@ -1,0 +1,10 @@
+pub mod Version3
+pub mod Doubles
+pub mod EntryBytes
+pub mod Standing
+pub mod Walks
+pub mod Firsts
+pub mod SuperblockPut
+pub mod Quiet
+pub mod SoundZones
+pub mod SoundDirectories

@@ -1,0 +1,2 @@
+mod SuperblockRows
+mod OldRows
