@@ -3,7 +3,7 @@
 #![tactic(auto)]
 
 #[cfg(test)]
-mod refusals;
+mod outputs;
 #[cfg(test)]
 mod replies;
 #[cfg(test)]

@@ -1,0 +1,103 @@
+//! Messages that come in pieces, are cut short, or whose answers can't be written.
+
+use crate::streams::{Fixed, Idle, Narrow, Piecemeal};
+use ninep_stream::answering::{StreamRefusal, answer_all};
+use ninep_stream::framing::InputRefusal;
+use std::alloc::Global;
+use std::io::BufReader;
+use std::test::Fail;
+
+/// A version, and its answer; they differ in the type.
+const ASKED: &[u8] = b"\x15\0\0\0\x64\xff\xff\0\0\x01\0\x08\09P2000.L";
+
+const TOLD: &[u8] = b"\x15\0\0\0\x65\xff\xff\0\0\x01\0\x08\09P2000.L";
+
+/// How the messages of these bytes are answered, which come in pieces of so many, where so many bytes of answers are taken: how it ends,
+/// and what went out.
+fn ends(
+    alloc: Global,
+    bytes: &[u8],
+    piece: usize,
+    room: usize,
+) -> Result<(Result<(), StreamRefusal>, Vec<u8>), Fail> {
+    let mut input = BufReader::with_capacity(alloc, 16, Piecemeal { bytes, piece })?;
+    let mut output = Narrow::new(alloc, room);
+    let ended = answer_all(alloc, &mut input, &mut output, &Fixed, &mut Idle);
+    Ok((ended, output.taken))
+}
+
+/// It is an error, with the name of the row, where messages are answered otherwise.
+fn is_answered(
+    alloc: Global,
+    what: &'static str,
+    bytes: &[u8],
+    piece: usize,
+    room: usize,
+    wanted: (Result<(), StreamRefusal>, &[u8]),
+) -> Result<(), Fail> {
+    let (ended, taken) = ends(alloc, bytes, piece, room)?;
+    if ended == wanted.0 && taken.as_slice() == wanted.1 {
+        return Ok(());
+    }
+    Err(Fail::from(what))
+}
+
+/// Two messages are answered, in pieces of any size; without one nothing is.
+#[test]
+fn messages_are_answered(rt: HostRuntime) -> Result<(), Fail> {
+    let alloc = rt.alloc();
+    let (mut two, mut told) = (ASKED.to_vec(alloc)?, TOLD.to_vec(alloc)?);
+    two.extend_from_slice(ASKED)?;
+    told.extend_from_slice(TOLD)?;
+    for piece in [1, 3, 21, 64] {
+        let piece: usize = piece;
+        is_answered(alloc, "two", &two, piece, 1000, (Ok(()), told.as_slice()))?;
+    }
+    is_answered(alloc, "none", b"", 1, 1000, (Ok(()), b""))
+}
+
+/// A stream that ends within a message, after each of its bytes; what came before is answered.
+#[test]
+fn streams_are_cut_short(rt: HostRuntime) -> Result<(), Fail> {
+    let alloc = rt.alloc();
+    let cut = Err(StreamRefusal::Input(InputRefusal::CutShort));
+    for most in 1..21 {
+        let most: usize = most;
+        is_answered(alloc, "first", &ASKED[..most], 5, 1000, (cut, b""))?;
+        let mut bytes = ASKED.to_vec(alloc)?;
+        bytes.extend_from_slice(&ASKED[..most])?;
+        is_answered(alloc, "second", &bytes, 5, 1000, (cut, TOLD))?;
+    }
+    Ok(())
+}
+
+/// Sizes below 7, and above the most that is taken: 65560 at first, what was settled from a version on.
+#[test]
+fn sizes_are_refused(rt: HostRuntime) -> Result<(), Fail> {
+    let alloc = rt.alloc();
+    let bad = |size: u32| Err(StreamRefusal::Input(InputRefusal::BadSize(size)));
+    is_answered(alloc, "six", b"\x06\0\0\0\x64\xff", 9, 1000, (bad(6), b""))?;
+    is_answered(
+        alloc,
+        "large",
+        b"\x19\0\x01\0\x64",
+        9,
+        1000,
+        (bad(65561), b""),
+    )?;
+    let mut bytes = b"\x15\0\0\0\x64\xff\xff\0\x10\0\0\x08\09P2000.L".to_vec(alloc)?;
+    bytes.extend_from_slice(b"\x01\x10\0\0\x64")?;
+    let told = b"\x15\0\0\0\x65\xff\xff\0\x10\0\0\x08\09P2000.L";
+    is_answered(alloc, "settled", &bytes, 9, 1000, (bad(4097), told))
+}
+
+/// Answers that are refused after each of their bytes: a beginning went out.
+#[test]
+fn answers_are_refused(rt: HostRuntime) -> Result<(), Fail> {
+    for room in 0..21 {
+        let room: usize = room;
+        let wanted = (Err(StreamRefusal::NotWritten), &TOLD[..room]);
+        is_answered(rt.alloc(), "refused", ASKED, 64, room, wanted)?;
+    }
+    is_answered(rt.alloc(), "taken", ASKED, 64, 21, (Ok(()), TOLD))
+}
