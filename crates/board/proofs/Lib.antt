@@ -4,3 +4,4 @@ pub mod Moves
 pub mod Joins
 pub mod Steps
 pub mod RuleSays
+pub mod KeeperLaws

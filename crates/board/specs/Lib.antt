@@ -3,3 +3,8 @@ pub mod Words
 pub mod Rule
 pub mod Steps
 pub mod Laws
+pub mod Rooms
+pub mod Root
+pub mod Steady
+pub mod Keeper
+pub mod Recorder

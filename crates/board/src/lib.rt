@@ -7,6 +7,7 @@
 #![tactic(auto)]
 
 mod board;
+pub mod counting;
 pub mod laws;
 mod mark;
 mod rule;

@@ -4,5 +4,6 @@
 
 pub mod bytes;
 pub mod call;
+pub mod scripts;
 pub mod words;
 pub mod written_call;

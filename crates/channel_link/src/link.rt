@@ -6,13 +6,13 @@ ghost use Rattle.records.specs.Marks.{Mark, Took, Flush};
 ghost use Rattle.records.specs.Opening.{Opening};
 ghost use Rattle.records.specs.Told.{Told, heard, received, took_end};
 ghost use Rattle.channel_link.specs.Received.{AreReceived, Other};
-ghost use Rattle.counting_link.specs.Steady.{enough_room};
+ghost use Rattle.board.specs.Steady.{enough_room};
 
 use crate::channel::{NotSent, Sender};
 use crate::messages::{Order, Report};
 use crate::server_line::{NewsReceiver, message_of};
 use board::History;
-use counting_link::steady::{Steady, Supplied};
+use board::counting::steady::{Steady, Supplied};
 use message::endpoint::Endpoint;
 use message::{BlockRequest, Incoming};
 use reissue::link::{Link, LinkRefusal};

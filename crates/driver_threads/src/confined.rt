@@ -8,7 +8,7 @@ ghost use Rattle.bdev.specs.Promises.{StepKeeps};
 ghost use Rattle.driver_threads.specs.Confined.{KeepsOutside, IsImageOutside, IsInVolume, StaysInVolume};
 
 use bdev::{BlockDriver, Step};
-use counting_link::room::Room;
+use board::counting::room::Room;
 use media::Media;
 use std::alloc::{AllocError, Global};
 use std::marker::{Model, PhantomData};

@@ -15,7 +15,7 @@ use channel_link::channel::bounded;
 use channel_link::link::ChannelLink;
 use channel_link::messages::Report;
 use channel_link::server_line::open_line;
-use counting_link::room::Room;
+use board::counting::room::Room;
 use gate::Gate;
 use media::Media;
 use message::endpoint::{DISK_DRIVER, Endpoint};

@@ -5,7 +5,7 @@ ghost use Rattle.std.specs.Arc.{arc_value};
 
 use crate::confined::Confined;
 use board::Board;
-use counting_link::room::Room;
+use board::counting::room::Room;
 use gate::Gate;
 use std::alloc::AllocError;
 use std::sync::atomic::AtomicBool;

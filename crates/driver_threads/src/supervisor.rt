@@ -11,7 +11,7 @@ use board::Seat;
 use channel_link::channel::{Receiver, Sender, bounded};
 use channel_link::messages::{Order, Report};
 use channel_link::server_line::NewsSender;
-use counting_link::room::Room;
+use board::counting::room::Room;
 use gate::{Gate, Point};
 use message::endpoint::Endpoint;
 use reincarnate::policy::Event;

@@ -8,7 +8,7 @@ use fsck::{Verdict, check};
 use gate::Gate;
 use modeldisk::{FaultKind, ScriptedDriver};
 use reincarnate::policy::Setup;
-use script_text::script_files::File;
+use call_text::scripts::script_files::File;
 use std::alloc::{AllocError, Global};
 use std::io::{self, Write};
 use std::sync::{Arc, Wait};

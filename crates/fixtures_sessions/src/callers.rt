@@ -1,8 +1,8 @@
 //! Sessions that call.
 
 use board::Device;
-use counting_link::recorder::Recorder;
-use counting_link::room::Room;
+use board::counting::recorder::Recorder;
+use board::counting::room::Room;
 use file_server::FileServer;
 use reply_text::text::OutcomeText;
 use serve::service::Shared;

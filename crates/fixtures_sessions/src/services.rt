@@ -1,8 +1,8 @@
 //! Services, and what is done in their sessions.
 
 use crate::callers::{in_turn, told};
-use counting_link::recorder::Recorder;
-use counting_link::room::Room;
+use board::counting::recorder::Recorder;
+use board::counting::room::Room;
 use file_server::FileServer;
 use serve::service::{Service, Shared};
 use serve::session::Session;

@@ -1,9 +1,9 @@
 //! A link to no driver.
 ghost use Rattle.std.specs.Prelude.{◌≡◌, [], IfOk};
-ghost use Rattle.counting_link.specs.Steady.{enough_room};
+ghost use Rattle.board.specs.Steady.{enough_room};
 
 use board::History;
-use counting_link::steady::{Steady, Supplied};
+use board::counting::steady::{Steady, Supplied};
 use message::endpoint::Endpoint;
 use message::{BlockRequest, Incoming};
 use reissue::link::{Link, LinkRefusal};

@@ -25,11 +25,11 @@ use Rattle.schedule.specs.Handed.{was_sent, is_handed, is_told, acts_when_handed
 use Rattle.reissue.specs.declared.link.LinkRefusal.{LinkRefusal}
 use Rattle.schedule.specs.Noted.{Noted, marks_in, grouped, with_mark, with_message, with_entry}
 use Rattle.schedule.specs.declared.log.Entry.TheVariants as entry
-use Rattle.driver_events.specs.declared.ruling.Ruling.{Ruling}
-use Rattle.driver_events.specs.declared.ruling.Ruling.TheVariants as ruling
-use Rattle.driver_events.specs.Ruling.{is_fault}
-use Rattle.run_drivers.specs.Disks.{Disks, LinesUp, NoneIsThere, LineIsFull, IsLinedUp}
-use Rattle.driver_events.specs.Scene.{Scene, Occurs, told_of_ruling, told_of_action, delivered, AfterStep, AfterDeath}
+use Rattle.run_link.specs.declared.events.ruling.Ruling.{Ruling}
+use Rattle.run_link.specs.declared.events.ruling.Ruling.TheVariants as ruling
+use Rattle.run_link.specs.Ruling.{is_fault}
+use Rattle.run_link.specs.Disks.{Disks, LinesUp, NoneIsThere, LineIsFull, IsLinedUp}
+use Rattle.run_link.specs.Scene.{Scene, Occurs, told_of_ruling, told_of_action, delivered, AfterStep, AfterDeath}
 use Rattle.schedule.specs.declared.arrived.Arrived.{Arrived}
 use Rattle.run_link.specs.StateView.{RunState, RunsEvent, Advances, Stays, Goes, Turn, Takes, TakesOwed, TakesEnd, Posts, Complains, ComesToEnd, IsRunOut, IsStarved, HandsOut, noting, posted, ruling_at}
 use Rattle.schedule.specs.ArrivingCalls.{calls_of}

@@ -13,7 +13,7 @@ use Rattle.schedule.specs.Groups.{Group}
 use Rattle.schedule.specs.Calls.{Arrival, arrived, taken}
 use Rattle.schedule.specs.Noted.{Noted, marks_in, grouped, with_mark}
 use Rattle.schedule.specs.declared.log.Entry.TheVariants as entry
-use Rattle.driver_events.specs.Scene.{Scene}
+use Rattle.run_link.specs.Scene.{Scene}
 use Rattle.schedule.specs.declared.arrived.Arrived.{Arrived}
 use Rattle.run_link.specs.StateView.{RunState, IsOpened, first_noted, RunsEvent, Further, Still, HandsEvent, HandsNone, HandsOwed, noting, paid}
 use Rattle.run_link.specs.Waiting.{HasCalls, arrival_of}

@@ -30,12 +30,12 @@ use Rattle.reissue.specs.declared.link.LinkRefusal.{LinkRefusal}
 use Rattle.schedule.specs.Noted.{Noted, marks_in, grouped, with_mark, with_entry}
 use Rattle.schedule.specs.declared.log.Entry.{Entry}
 use Rattle.schedule.specs.declared.log.Entry.TheVariants as entry
-use Rattle.driver_events.specs.declared.ruling.Ruling.{Ruling}
-use Rattle.driver_events.specs.Ruling.{is_fault, gives_up}
-use Rattle.run_drivers.specs.Disks.{Disks, LinesUp, NoneIsThere, LineIsFull, IsLinedUp}
-use Rattle.driver_events.specs.Scene.{Scene, ruled}
-use Rattle.driver_events.specs.Kept.{NotesAside}
-use Rattle.driver_events.proofs.Keeping.{events_note_aside}
+use Rattle.run_link.specs.declared.events.ruling.Ruling.{Ruling}
+use Rattle.run_link.specs.Ruling.{is_fault, gives_up}
+use Rattle.run_link.specs.Disks.{Disks, LinesUp, NoneIsThere, LineIsFull, IsLinedUp}
+use Rattle.run_link.specs.Scene.{Scene, ruled}
+use Rattle.run_link.specs.Kept.{NotesAside}
+use Rattle.run_link.proofs.Keeping.{events_note_aside}
 use Rattle.schedule.specs.declared.arrived.Arrived.{Arrived}
 use Rattle.run_link.specs.StateView.{RunState, IsOpened, begun, RunsEvent, Advances, Stays, Goes, Turn, Takes, TakesOwed, TakesEnd, Posts, Complains, ComesToEnd, IsRunOut, IsStarved, HandsOut, noting, paid, ended, starving, posted, complained}
 use Rattle.run_link.specs.Moments.{Doing, Resting, Hearing, Answering, is_busy, Moment, record_of, IsBetween, hearing, at_link, Step, Begins as StepBegins, Tells, Takes as StepTakes, Settles, Brings, BringsNone, Pays as StepPays, HandsCall, Replies as StepReplies, Runs, Starts, Then}

@@ -12,7 +12,7 @@ use Rattle.bdev.specs.DriverState.{DriverState, Work, chunk}
 use Rattle.bdev.specs.Promises.{StepKeeps, StepsAt as DriverStepsAt, MovesAtMostOne, MovesBytes}
 use Rattle.reissue.specs.declared.link.LinkRefusal.{LinkRefusal}
 use Rattle.schedule.specs.declared.log.Post.{Post}
-use Rattle.run_drivers.specs.Disks.{Disks, Slot, torn_media, Steps, NoStep, CurrentSteps, OlderSteps, Dies, NoneDies, CurrentDies, OlderDies, Hangs, NoneHangs, CurrentHangs, OlderHangs, LinesUp, NoneIsThere, LineIsFull, IsLinedUp, LinesUpAgain, NoneLinesUp, CurrentLinesUp, OlderLinesUp, Repeats}
+use Rattle.run_link.specs.Disks.{Disks, Slot, torn_media, Steps, NoStep, CurrentSteps, OlderSteps, Dies, NoneDies, CurrentDies, OlderDies, Hangs, NoneHangs, CurrentHangs, OlderHangs, LinesUp, NoneIsThere, LineIsFull, IsLinedUp, LinesUpAgain, NoneLinesUp, CurrentLinesUp, OlderLinesUp, Repeats}
 use Rattle.justified.specs.Happens.{GoesWell}
 
 written_generation : (m : MediaState) (g n : ℕ) (bytes : List ℕ) → (written m g n bytes).generation ≡ m.generation

@@ -12,7 +12,7 @@ use Rattle.bdev.specs.DriverState.{DriverState}
 use Rattle.schedule.specs.declared.Sent.{Sent}
 use Rattle.schedule.specs.Replies.{has_sent_at}
 use Rattle.reissue.specs.declared.link.LinkRefusal.{LinkRefusal}
-use Rattle.run_drivers.specs.Disks.{Disks, Slot, SlotSteps, IsOlder, sent_at, lined, dead_slot, hung_slot, started, Steps, NoStep, CurrentSteps, OlderSteps, Dies, NoneDies, CurrentDies, OlderDies, Hangs, NoneHangs, CurrentHangs, OlderHangs, LinesUp, NoneIsThere, LineIsFull, IsLinedUp, LinesUpAgain, NoneLinesUp, CurrentLinesUp, OlderLinesUp}
+use Rattle.run_link.specs.Disks.{Disks, Slot, SlotSteps, IsOlder, sent_at, lined, dead_slot, hung_slot, started, Steps, NoStep, CurrentSteps, OlderSteps, Dies, NoneDies, CurrentDies, OlderDies, Hangs, NoneHangs, CurrentHangs, OlderHangs, LinesUp, NoneIsThere, LineIsFull, IsLinedUp, LinesUpAgain, NoneLinesUp, CurrentLinesUp, OlderLinesUp}
 use Rattle.justified.specs.Steady.{AllSlots}
 use Rattle.justified.proofs.DiskMoves.{steps_generation, dies_generation}
 use Rattle.justified.proofs.FollowLaws.{other_number}

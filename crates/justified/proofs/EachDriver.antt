@@ -17,7 +17,7 @@ use Rattle.schedule.specs.Drivers.{requests_issued_to}
 use Rattle.inline.specs.Steps.{HandsOver}
 use Rattle.true_replies.specs.Posted.{since_start}
 use Rattle.schedule.specs.declared.log.Post.{Post}
-use Rattle.run_drivers.specs.Disks.{Disks, Slot, started, is_at, lined_up}
+use Rattle.run_link.specs.Disks.{Disks, Slot, started, is_at, lined_up}
 use Rattle.justified.specs.Core.{Core}
 use Rattle.justified.specs.Steady.{AllSlots}
 use Rattle.justified.proofs.SlotLaws.{push_get, same_slot}

@@ -23,11 +23,11 @@ use Rattle.schedule.specs.declared.Event.TheVariants as event
 use Rattle.schedule.specs.Groups.{Group, marks_of}
 use Rattle.schedule.specs.declared.log.Entry.TheVariants as entry
 use Rattle.schedule.specs.Noted.{Noted, marks_from, marks_in, with_mark, with_message, with_entry}
-use Rattle.driver_events.specs.declared.ruling.Ruling.{Ruling}
-use Rattle.driver_events.specs.declared.ruling.Ruling.TheVariants as ruling
-use Rattle.driver_events.specs.Ruling.{ruling_of}
-use Rattle.run_drivers.specs.Disks.{Disks, Steps, Dies, started}
-use Rattle.driver_events.specs.Scene.{Scene, faulted, told_of_ruling, ruled, Exits, beaten, acted, told_of_action, tick_event, next_started, ActsAt, AfterStep, AfterDeath, StepsAt, DiesAt, delivered, Quietly, Occurs}
+use Rattle.run_link.specs.declared.events.ruling.Ruling.{Ruling}
+use Rattle.run_link.specs.declared.events.ruling.Ruling.TheVariants as ruling
+use Rattle.run_link.specs.Ruling.{ruling_of}
+use Rattle.run_link.specs.Disks.{Disks, Steps, Dies, started}
+use Rattle.run_link.specs.Scene.{Scene, faulted, told_of_ruling, ruled, Exits, beaten, acted, told_of_action, tick_event, next_started, ActsAt, AfterStep, AfterDeath, StepsAt, DiesAt, delivered, Quietly, Occurs}
 use Rattle.justified.specs.Core.{Core}
 use Rattle.justified.specs.Seen.{core_at, with_brought, Brought, NoMessage, Counted, Uncounted, NoReply, EventDone, begun_scene}
 use Rattle.justified.specs.Happens.{fault_at, AtFault, Replaces, GivesUp, IsNotRunning, AtReport, OfNone, OfRunning, exit_marks, fault_marks, beaten_core, TicksTo, Beats, MissesOne, FoundHung, WaitsOn, StartsNext, IsOver, Begins, Arrives, Flushes, Answers, Drops, Delivers, LinesAgain, HangsOne, StepsOne, FailsOne, DiesNone, DiesOne, Ticks}

@@ -9,7 +9,7 @@ use Rattle.schedule.specs.declared.Event.{Event}
 use Rattle.schedule.specs.Groups.{Group, Each}
 use Rattle.schedule.specs.Drivers.{state_of}
 use Rattle.schedule.specs.Faults.{FailsAtItsStep}
-use Rattle.run_drivers.specs.Disks.{Disks, Slot}
+use Rattle.run_link.specs.Disks.{Disks, Slot}
 use Rattle.run_link.specs.StateView.{IsOpened}
 use Rattle.run_link.specs.Moments.{Moment, Resting, Runs}
 use Rattle.justified.specs.Core.{Core}

@@ -16,7 +16,7 @@ use Rattle.schedule.specs.declared.Event.TheVariants as event
 use Rattle.schedule.specs.Groups.{Group, marks_of, ticks_so_far, running, started_in, generation}
 use Rattle.schedule.specs.Drivers.{is_hung, missed, has_started}
 use Rattle.schedule.specs.Starts.{fault_of, ticks_of_faults, ticks_of_faults_in}
-use Rattle.run_drivers.specs.Disks.{Disks, Steps, Dies, Hangs, NoneHangs, CurrentHangs, OlderHangs, started}
+use Rattle.run_link.specs.Disks.{Disks, Steps, Dies, Hangs, NoneHangs, CurrentHangs, OlderHangs, started}
 use Rattle.justified.specs.Core.{Core, Story, story, RunsNow, WaitsNow, IsGivenUp, PhaseIs, Follows, FollowsGroups}
 use Rattle.justified.specs.Happens.{fault_at, AtFault, Replaces, GivesUp, IsNotRunning, AtReport, OfNone, OfRunning, fault_marks, exit_marks, blame_marks, is_end, beaten_core, TicksTo, Beats, MissesOne, FoundHung, WaitsOn, StartsNext, IsOver, Begins, Arrives, Flushes, Answers, Drops, Delivers, LinesAgain, HangsOne, StepsOne, FailsOne, DiesNone, DiesOne, Ticks, Adds, AddsNothing, Posts, Replies, Complains, Pays}
 use Rattle.justified.proofs.DiskMoves.{SameCurrent, steps_generation, dies_generation, steps_well, steps_other, dies_other, dies_none, repeats_same, lines_same}

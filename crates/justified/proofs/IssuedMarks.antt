@@ -16,7 +16,7 @@ use Rattle.schedule.specs.Groups.{Group, marks_of, EachGroup}
 use Rattle.schedule.specs.Drivers.{is_live, is_issued_to}
 use Rattle.schedule.specs.Starts.{is_among_first, may_issue, are_issued_in_place}
 use Rattle.reissue.specs.declared.link.LinkRefusal.{LinkRefusal}
-use Rattle.run_drivers.specs.Disks.{Disks, LinesUp, NoneIsThere, LineIsFull, IsLinedUp}
+use Rattle.run_link.specs.Disks.{Disks, LinesUp, NoneIsThere, LineIsFull, IsLinedUp}
 use Rattle.justified.specs.Core.{Core}
 use Rattle.justified.specs.Happens.{AtReport, OfNone, OfRunning, fault_marks, exit_marks, blame_marks, beaten_core, TicksTo, Beats, MissesOne, FoundHung, WaitsOn, StartsNext, IsOver, Begins, Arrives, Flushes, Answers, Drops, Delivers, LinesAgain, HangsOne, StepsOne, FailsOne, DiesNone, DiesOne, Ticks, Adds, AddsNothing, Posts, Replies, Complains, Pays}
 use Rattle.justified.proofs.FollowLaws.{same_generation, same_number}

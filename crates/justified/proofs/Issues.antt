@@ -18,7 +18,7 @@ use Rattle.schedule.specs.Groups.{Group, marks_of, generation, EachGroup}
 use Rattle.schedule.specs.Drivers.{has_ended}
 use Rattle.schedule.specs.Starts.{IssuesFollow, is_among_first, may_issue}
 use Rattle.reissue.specs.declared.link.LinkRefusal.{LinkRefusal}
-use Rattle.run_drivers.specs.Disks.{Disks, LinesUp, NoneIsThere, LineIsFull, IsLinedUp, is_at, lined_up}
+use Rattle.run_link.specs.Disks.{Disks, LinesUp, NoneIsThere, LineIsFull, IsLinedUp, is_at, lined_up}
 use Rattle.justified.specs.Core.{Core}
 use Rattle.justified.specs.Happens.{Adds, Posts}
 use Rattle.justified.specs.Steady.{SlotsSoFar}

@@ -20,9 +20,9 @@ use Rattle.schedule.specs.Calls.{Arrival, arrived, taken, MayWait}
 use Rattle.reissue.specs.declared.link.LinkRefusal.{LinkRefusal}
 use Rattle.schedule.specs.Noted.{Noted, with_mark, with_entry}
 use Rattle.schedule.specs.declared.log.Entry.TheVariants as entry
-use Rattle.driver_events.specs.Ruling.{is_fault}
-use Rattle.run_drivers.specs.Disks.{Disks, is_at, LinesUp, NoneIsThere, LineIsFull, IsLinedUp}
-use Rattle.driver_events.specs.Scene.{Scene}
+use Rattle.run_link.specs.Ruling.{is_fault}
+use Rattle.run_link.specs.Disks.{Disks, is_at, LinesUp, NoneIsThere, LineIsFull, IsLinedUp}
+use Rattle.run_link.specs.Scene.{Scene}
 use Rattle.schedule.specs.declared.arrived.Arrived.{Arrived}
 use Rattle.run_link.specs.StateView.{RunState, RunsEvent, Advances, Stays, Goes, Turn, Takes, TakesOwed, TakesEnd, Posts, Complains, ComesToEnd, IsRunOut, IsStarved, noting, ruling_at}
 use Rattle.run_link.specs.Waiting.{HasCalls, arrival_of}

@@ -21,7 +21,7 @@ use Rattle.schedule.specs.declared.Sent.{Sent}
 use Rattle.schedule.specs.Groups.{Each}
 use Rattle.inline.specs.Steps.{HandsOver}
 use Rattle.schedule.specs.declared.log.Post.{Post}
-use Rattle.run_drivers.specs.Disks.{Disks, sent_at, Steps, NoStep, CurrentSteps, OlderSteps, Dies, NoneDies, CurrentDies, OlderDies, Hangs, NoneHangs, CurrentHangs, OlderHangs, LinesUpAgain, NoneLinesUp, CurrentLinesUp, OlderLinesUp, Repeats, lined_up, started}
+use Rattle.run_link.specs.Disks.{Disks, sent_at, Steps, NoStep, CurrentSteps, OlderSteps, Dies, NoneDies, CurrentDies, OlderDies, Hangs, NoneHangs, CurrentHangs, OlderHangs, LinesUpAgain, NoneLinesUp, CurrentLinesUp, OlderLinesUp, Repeats, lined_up, started}
 use Rattle.justified.proofs.DiskMoves.{steps_generation, dies_generation}
 use Rattle.justified.proofs.NumberLaws.{IsFrom, length_push}
 use Rattle.justified.proofs.Issues.{AllOpen}

@@ -13,8 +13,8 @@ use Rattle.schedule.specs.Groups.{Group, marks_of, running, generation, Each, Ea
 use Rattle.schedule.specs.Drivers.{state_of}
 use Rattle.schedule.specs.Faults.{HasNotFailed}
 use Rattle.schedule.specs.Noted.{marks_in}
-use Rattle.run_drivers.specs.Disks.{Disks, Slot, opened_disks}
-use Rattle.driver_events.specs.Scene.{Scene}
+use Rattle.run_link.specs.Disks.{Disks, Slot, opened_disks}
+use Rattle.run_link.specs.Scene.{Scene}
 use Rattle.run_link.specs.StateView.{RunState, IsOpened, first_noted}
 use Rattle.run_link.specs.Moments.{Moment, Resting, Runs}
 use Rattle.justified.specs.Core.{Core, Story, story, PhaseIs, FollowsGroups}

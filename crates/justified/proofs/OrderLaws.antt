@@ -19,10 +19,10 @@ use Rattle.schedule.specs.Calls.{Arrival, arrived, taken}
 use Rattle.reissue.specs.declared.link.LinkRefusal.{LinkRefusal}
 use Rattle.schedule.specs.Noted.{Noted, marks_in, grouped, with_mark, with_entry}
 use Rattle.schedule.specs.declared.log.Entry.TheVariants as entry
-use Rattle.driver_events.specs.declared.ruling.Ruling.{Ruling}
-use Rattle.driver_events.specs.declared.ruling.Ruling.TheVariants as ruling
-use Rattle.run_drivers.specs.Disks.{Disks, LinesUp, NoneIsThere, LineIsFull, IsLinedUp}
-use Rattle.driver_events.specs.Scene.{Scene}
+use Rattle.run_link.specs.declared.events.ruling.Ruling.{Ruling}
+use Rattle.run_link.specs.declared.events.ruling.Ruling.TheVariants as ruling
+use Rattle.run_link.specs.Disks.{Disks, LinesUp, NoneIsThere, LineIsFull, IsLinedUp}
+use Rattle.run_link.specs.Scene.{Scene}
 use Rattle.schedule.specs.declared.arrived.Arrived.{Arrived}
 use Rattle.run_link.specs.StateView.{RunState, IsOpened, first_noted, RunsEvent, Advances, Stays, Goes, Turn, Takes, TakesOwed, TakesEnd, Posts, Complains, ComesToEnd, IsRunOut, IsStarved, Still, Further, HandsEvent, HandsNone, HandsOwed, noting, paid, posted, complained, ruling_at}
 use Rattle.run_link.specs.Waiting.{HasCalls, arrival_of}

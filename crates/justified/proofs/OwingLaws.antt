@@ -22,10 +22,10 @@ use Rattle.schedule.specs.Noted.{Noted, marks_in, grouped, with_mark, with_entry
 use Rattle.schedule.specs.declared.log.Post.{Post}
 use Rattle.schedule.specs.declared.log.Entry.TheVariants as entry
 use Rattle.schedule.proofs.NotedLaws.{message_in}
-use Rattle.driver_events.specs.declared.ruling.Ruling.{Ruling}
-use Rattle.run_drivers.specs.Disks.{Disks, LinesUp}
-use Rattle.driver_events.specs.Kept.{with_next}
-use Rattle.driver_events.proofs.Keeping.{events_note_aside}
+use Rattle.run_link.specs.declared.events.ruling.Ruling.{Ruling}
+use Rattle.run_link.specs.Disks.{Disks, LinesUp}
+use Rattle.run_link.specs.Kept.{with_next}
+use Rattle.run_link.proofs.Keeping.{events_note_aside}
 use Rattle.run_link.specs.StateView.{RunState, begun, RunsEvent, Advances, Stays, Goes, Turn, Takes, TakesOwed, TakesEnd, Posts, Complains, ComesToEnd, IsRunOut, IsStarved, noting, paid, ended, posted, complained}
 use Rattle.run_link.specs.Moments.{is_busy, Moment, record_of, Step, Begins as StepBegins, Tells, Takes as StepTakes, Settles, Brings, BringsNone, Pays as StepPays, HandsCall, Replies as StepReplies, Runs, Starts, Then}
 use Rattle.justified.specs.Core.{Core}

@@ -20,8 +20,8 @@ use Rattle.schedule.proofs.FaultlessLaws.{faults_change_nothing}
 use Rattle.schedule.specs.declared.Event.{Event}
 use Rattle.schedule.specs.Groups.{Group, marks_of, started_in, Each, EachGroup}
 use Rattle.schedule.specs.Starts.{IssuesFollow, is_among_first, are_issued_in_place}
-use Rattle.run_drivers.specs.Disks.{Disks, is_at, started}
-use Rattle.driver_events.specs.Kept.{with_next}
+use Rattle.run_link.specs.Disks.{Disks, is_at, started}
+use Rattle.run_link.specs.Kept.{with_next}
 use Rattle.run_link.specs.StateView.{RunState, IsOpened}
 use Rattle.run_link.specs.Moments.{Doing, Moment, Resting, is_busy, Runs}
 use Rattle.justified.specs.Core.{Core, story, PhaseIs, WaitsNow, FollowsGroups}

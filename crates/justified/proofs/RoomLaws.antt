@@ -17,8 +17,8 @@ use Rattle.schedule.specs.declared.Event.{Event}
 use Rattle.schedule.specs.Groups.{Group, marks_of, started_in, Each}
 use Rattle.reissue.specs.declared.link.LinkRefusal.{LinkRefusal}
 use Rattle.schedule.specs.declared.log.Post.{Post}
-use Rattle.run_drivers.specs.Disks.{Disks, LinesUp, IsLinedUp, lined_up, started}
-use Rattle.driver_events.specs.Kept.{with_next}
+use Rattle.run_link.specs.Disks.{Disks, LinesUp, IsLinedUp, lined_up, started}
+use Rattle.run_link.specs.Kept.{with_next}
 use Rattle.justified.specs.Core.{Core}
 use Rattle.justified.specs.Seen.{core_at}
 use Rattle.justified.specs.Happens.{Begins, Adds, AddsNothing, Posts, Replies, Complains, Pays}

@@ -19,8 +19,8 @@ use Rattle.schedule.specs.declared.Event.{Event}
 use Rattle.schedule.specs.Groups.{Group, marks_of, started_in, Each}
 use Rattle.reissue.specs.declared.link.LinkRefusal.{LinkRefusal}
 use Rattle.schedule.specs.declared.log.Post.{Post}
-use Rattle.run_drivers.specs.Disks.{Disks, LinesUp, NoneIsThere, LineIsFull}
-use Rattle.driver_events.specs.Kept.{with_next}
+use Rattle.run_link.specs.Disks.{Disks, LinesUp, NoneIsThere, LineIsFull}
+use Rattle.run_link.specs.Kept.{with_next}
 use Rattle.justified.specs.Core.{Core}
 use Rattle.justified.specs.Happens.{fault_marks, exit_marks, beaten_core, TicksTo, Beats, MissesOne, FoundHung, WaitsOn, StartsNext, IsOver, Begins, Arrives, Flushes, Answers, Drops, Delivers, LinesAgain, HangsOne, StepsOne, FailsOne, DiesNone, DiesOne, Ticks}
 use Rattle.justified.proofs.DiskMoves.{steps_generation, dies_generation, hangs_generation, repeats_same}

@@ -20,10 +20,10 @@ use Rattle.schedule.specs.Noted.{Noted, grouped, with_mark, with_message, with_e
 use Rattle.schedule.specs.declared.log.Post.{Post}
 use Rattle.schedule.specs.declared.log.Entry.{Entry}
 use Rattle.schedule.specs.declared.log.Entry.TheVariants as entry
-use Rattle.driver_events.specs.declared.ruling.Ruling.{Ruling}
-use Rattle.driver_events.specs.Ruling.{is_fault, gives_up}
-use Rattle.run_drivers.specs.Disks.{Disks, LinesUp, NoneIsThere, LineIsFull, IsLinedUp}
-use Rattle.driver_events.specs.Scene.{ruled}
+use Rattle.run_link.specs.declared.events.ruling.Ruling.{Ruling}
+use Rattle.run_link.specs.Ruling.{is_fault, gives_up}
+use Rattle.run_link.specs.Disks.{Disks, LinesUp, NoneIsThere, LineIsFull, IsLinedUp}
+use Rattle.run_link.specs.Scene.{ruled}
 use Rattle.schedule.specs.declared.arrived.Arrived.{Arrived}
 use Rattle.run_link.specs.StateView.{RunState, RunsEvent, Advances, Stays, Goes, Turn, Takes, TakesOwed, TakesEnd, Posts, Complains, ComesToEnd, IsRunOut, IsStarved, HandsOut, noting, paid, ended, posted, complained, ruling_at}
 use Rattle.run_link.specs.Moments.{Doing, Resting, Hearing, Answering, is_busy, Moment, record_of, Step, Begins as StepBegins, Tells, Takes as StepTakes, Settles, Brings, BringsNone, Pays as StepPays, HandsCall, Replies as StepReplies, Runs, Starts, Then}

@@ -17,7 +17,7 @@ use Rattle.schedule.specs.Drivers.{is_issued_to, has_started, has_ended, is_live
 use Rattle.schedule.specs.Replies.{has_sent_at, steps_for, bytes_of, IsSentAtItsStep}
 use Rattle.schedule.proofs.GoingOn.{replies_stay}
 use Rattle.schedule.specs.declared.log.Post.{Post}
-use Rattle.run_drivers.specs.Disks.{Disks, Slot, started, Steps, Repeats}
+use Rattle.run_link.specs.Disks.{Disks, Slot, started, Steps, Repeats}
 use Rattle.justified.specs.Core.{Core}
 use Rattle.justified.specs.Happens.{beaten_core, TicksTo, Beats, MissesOne, FoundHung, WaitsOn, StartsNext, IsOver, Begins, Arrives, Flushes, Answers, Drops, Delivers, LinesAgain, HangsOne, StepsOne, FailsOne, DiesNone, DiesOne, Ticks, Adds, AddsNothing, Posts, Replies, Complains, Pays}
 use Rattle.justified.specs.Steady.{IsKept, AnsweredSoFar, SlotStands, AllSlots, SlotsSoFar}

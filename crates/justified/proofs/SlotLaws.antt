@@ -22,7 +22,7 @@ use Rattle.schedule.specs.Faults.{may_have_failed}
 use Rattle.true_replies.specs.Events.{live_after}
 use Rattle.reissue.specs.declared.link.LinkRefusal.{LinkRefusal}
 use Rattle.schedule.specs.declared.log.Post.{Post}
-use Rattle.run_drivers.specs.Disks.{Disks, Slot, SlotSteps, IsOlder, NoneLives, NotStarted, CurrentIsDead, OlderIsDead, started, Steps, NoStep, CurrentSteps, OlderSteps, Dies, NoneDies, CurrentDies, OlderDies, Hangs, NoneHangs, CurrentHangs, OlderHangs, LinesUp, NoneIsThere, LineIsFull, IsLinedUp, LinesUpAgain, NoneLinesUp, CurrentLinesUp, OlderLinesUp, Repeats}
+use Rattle.run_link.specs.Disks.{Disks, Slot, SlotSteps, IsOlder, NoneLives, NotStarted, CurrentIsDead, OlderIsDead, started, Steps, NoStep, CurrentSteps, OlderSteps, Dies, NoneDies, CurrentDies, OlderDies, Hangs, NoneHangs, CurrentHangs, OlderHangs, LinesUp, NoneIsThere, LineIsFull, IsLinedUp, LinesUpAgain, NoneLinesUp, CurrentLinesUp, OlderLinesUp, Repeats}
 use Rattle.justified.specs.Core.{Core, FollowsGroups}
 use Rattle.justified.specs.Happens.{AtReport, OfNone, OfRunning, fault_marks, exit_marks, GoesWell, beaten_core, TicksTo, Beats, MissesOne, FoundHung, WaitsOn, StartsNext, IsOver, Begins, Arrives, Flushes, Answers, Drops, Delivers, LinesAgain, HangsOne, StepsOne, FailsOne, DiesNone, DiesOne, Ticks, Adds, AddsNothing, Posts, Replies, Complains, Pays}
 use Rattle.justified.specs.Steady.{IsKept, SlotStands, AllSlots, SlotsSoFar}

@@ -17,7 +17,7 @@ use Rattle.schedule.specs.Drivers.{is_issued_to, is_live}
 use Rattle.schedule.specs.Replies.{has_sent_at, steps_for, bytes_of, IsSentAtItsStep}
 use Rattle.true_replies.specs.Events.{line_after, live_after, reply_of}
 use Rattle.inline.specs.Steps.{HandsOver}
-use Rattle.run_drivers.specs.Disks.{Slot, SlotSteps, lined}
+use Rattle.run_link.specs.Disks.{Slot, SlotSteps, lined}
 use Rattle.justified.proofs.StepCounts.{moved_below, none_moved, one_moved, few_bytes, steps_append, steps_one_more, event_there, groups_there}
 
 -- a request was issued to this driver

@@ -16,7 +16,7 @@ use Rattle.schedule.specs.Drivers.{is_hung, missed, exits_in, driver_runs}
 use Rattle.schedule.specs.Faults.{hung_in, hung_by, hung_due, exits_due}
 use Rattle.schedule.specs.Starts.{fault_of, has_come, starts_due}
 use Rattle.schedule.specs.Calls.{flushes_in, flushes_due}
-use Rattle.run_drivers.specs.Disks.{Disks, NoneLives, NotStarted, CurrentIsDead, OlderIsDead, Dies, NoneDies, CurrentDies, OlderDies}
+use Rattle.run_link.specs.Disks.{Disks, NoneLives, NotStarted, CurrentIsDead, OlderIsDead, Dies, NoneDies, CurrentDies, OlderDies}
 use Rattle.justified.specs.Core.{Core, Story, story, RunsNow, WaitsNow, IsGivenUp, PhaseIs, Follows, FollowsGroups}
 use Rattle.justified.specs.Happens.{IsNotRunning, AtReport, OfNone, OfRunning, fault_marks, exit_marks, blame_marks, beaten_core, TicksTo, Beats, MissesOne, FoundHung, WaitsOn, StartsNext, IsOver, Begins, Arrives, Flushes, Answers, Drops, Delivers, LinesAgain, HangsOne, StepsOne, FailsOne, DiesNone, DiesOne, Ticks, Adds, AddsNothing, Posts, Replies, Complains, Pays}
 use Rattle.justified.proofs.FollowLaws.{same_number, other_number, runs_now}

@@ -16,8 +16,8 @@ use Rattle.schedule.specs.declared.Event.TheVariants as event
 use Rattle.schedule.specs.Groups.{Group, marks_of, started_in, generation}
 use Rattle.schedule.specs.Drivers.{has_exit, has_started, has_ended, is_live}
 use Rattle.schedule.specs.Starts.{IsFollowedByIssues, IssuesFollow, is_among_first, may_issue, are_issued_in_place}
-use Rattle.run_drivers.specs.Disks.{started}
-use Rattle.driver_events.specs.Kept.{with_next}
+use Rattle.run_link.specs.Disks.{started}
+use Rattle.run_link.specs.Kept.{with_next}
 use Rattle.justified.specs.Core.{Core}
 use Rattle.justified.specs.Happens.{fault_marks, exit_marks, beaten_core, TicksTo, Beats, MissesOne, FoundHung, WaitsOn, StartsNext, IsOver, Begins, Arrives, Flushes, Answers, Drops, Delivers, LinesAgain, HangsOne, StepsOne, FailsOne, DiesNone, DiesOne, Ticks, Adds, AddsNothing, Posts, Replies, Complains, Pays}
 use Rattle.justified.proofs.OwingLaws.{served, is_quiet}

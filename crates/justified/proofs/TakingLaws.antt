@@ -15,7 +15,7 @@ use Rattle.schedule.specs.declared.Sent.{Sent}
 use Rattle.schedule.specs.declared.Event.{Event}
 use Rattle.schedule.specs.Groups.{Group, marks_of, Each}
 use Rattle.schedule.specs.Drivers.{state_of, is_issued_to, requests_issued_to, TookItsOwn}
-use Rattle.run_drivers.specs.Disks.{Disks, Slot}
+use Rattle.run_link.specs.Disks.{Disks, Slot}
 use Rattle.run_link.specs.StateView.{IsOpened}
 use Rattle.run_link.specs.Moments.{Moment, Resting, Runs}
 use Rattle.justified.specs.Core.{Core}

@@ -16,7 +16,7 @@ use Rattle.schedule.specs.Groups.{Group, marks_of, ticks_so_far, running, starte
 use Rattle.schedule.specs.Drivers.{is_hung, missed, has_started}
 use Rattle.schedule.specs.Starts.{fault_of, ticks_of_faults, ticks_of_faults_in}
 use Rattle.schedule.specs.declared.log.Post.{Post}
-use Rattle.run_drivers.specs.Disks.{Disks, started}
+use Rattle.run_link.specs.Disks.{Disks, started}
 use Rattle.justified.specs.Core.{Core, Story, story, RunsNow, WaitsNow, IsGivenUp, PhaseIs, Follows, FollowsGroups}
 use Rattle.justified.specs.Happens.{fault_at, AtFault, Replaces, GivesUp, AtReport, OfNone, OfRunning, fault_marks, exit_marks, blame_marks, is_end, beaten_core, TicksTo, Beats, MissesOne, FoundHung, WaitsOn, StartsNext, IsOver, Begins, Arrives, Flushes, Answers, Drops, Delivers, LinesAgain, HangsOne, StepsOne, FailsOne, DiesNone, DiesOne, Ticks, Adds, AddsNothing, Posts, Replies, Complains, Pays}
 use Rattle.justified.proofs.DiskMoves.{SameCurrent, steps_well, dies_none, repeats_same, lines_same}

@@ -13,7 +13,7 @@ use Rattle.schedule.specs.declared.Event.{Event}
 use Rattle.schedule.specs.declared.Event.TheVariants as event
 use Rattle.schedule.specs.Groups.{Group, marks_of, generation, EachGroup}
 use Rattle.schedule.specs.Starts.{fault_of, times_gave_up, times_due, has_fault, gives_up_at}
-use Rattle.run_drivers.specs.Disks.{Disks}
+use Rattle.run_link.specs.Disks.{Disks}
 use Rattle.justified.specs.Core.{Core, Story, story, WaitsNow, IsGivenUp, PhaseIs, Follows, FollowsGroups}
 use Rattle.justified.specs.Happens.{AtFault, Replaces, GivesUp, AtReport, OfNone, OfRunning, fault_marks, exit_marks, blame_marks, is_end, beaten_core, TicksTo, Beats, MissesOne, FoundHung, WaitsOn, StartsNext, IsOver, Begins, Arrives, Flushes, Answers, Drops, Delivers, LinesAgain, HangsOne, StepsOne, FailsOne, DiesNone, DiesOne, Ticks, Adds, AddsNothing, Posts, Replies, Complains, Pays}
 use Rattle.justified.specs.Steady.{IsKept, owes, LastGivesUp, GivesUpAsDue, AllGiveUp, GivesUpSoFar}

@@ -16,7 +16,7 @@ use Rattle.schedule.specs.Faults.{ExitsOfGroup, HasNotFailed}
 use Rattle.schedule.specs.Starts.{GivingUpOfGroup}
 use Rattle.schedule.specs.Calls.{CallsSoFar, taken}
 use Rattle.schedule.specs.Justified.{AnswersAndFlushes, GroupKeeps}
-use Rattle.run_drivers.specs.Disks.{is_at}
+use Rattle.run_link.specs.Disks.{is_at}
 use Rattle.run_link.specs.Moments.{Moment, Resting, Runs, record_of}
 use Rattle.schedule.specs.Noted.{marks_in}
 use Rattle.justified.specs.Steady.{StartsAsDue, HungAsDue, drivers_of}

@@ -10,7 +10,7 @@ use Rattle.schedule.specs.Groups.{Group, marks_of, ticks_so_far, running, genera
 use Rattle.schedule.specs.Drivers.{is_hung, missed}
 use Rattle.schedule.specs.Starts.{fault_of}
 use Rattle.schedule.specs.declared.log.Post.{Post}
-use Rattle.run_drivers.specs.Disks.{Disks}
+use Rattle.run_link.specs.Disks.{Disks}
 
 -- the drivers, those not started yet, the policy and what the reincarnation server knows, the tick, the last beat, the accepted posts, and
 -- whether that the device was given up is owed or was told

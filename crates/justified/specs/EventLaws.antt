@@ -5,7 +5,7 @@ use Rattle.bdev.specs.DriverState.{DriverState}
 use Rattle.reincarnate.specs.Watch.{driver}
 use Rattle.records.specs.Marks.{Mark, Started}
 use Rattle.schedule.specs.declared.Event.{Event}
-use Rattle.driver_events.specs.Scene.{Scene, Occurs}
+use Rattle.run_link.specs.Scene.{Scene, Occurs}
 use Rattle.justified.specs.Steady.{IsKept, EachSoFar, StartsAsDue, HungAsDue, FlushesAsDue, GivesUpSoFar, AnsweredSoFar, ExitsSoFar, DriversSoFar, SlotsSoFar}
 use Rattle.justified.specs.Seen.{EventDone, begun_scene}
 

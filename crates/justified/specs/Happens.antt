@@ -20,7 +20,7 @@ use Rattle.schedule.specs.declared.Event.{Event}
 use Rattle.schedule.specs.declared.Event.TheVariants as event
 use Rattle.schedule.specs.Groups.{Group, marks_of}
 use Rattle.schedule.specs.declared.log.Post.{Post}
-use Rattle.run_drivers.specs.Disks.{Disks, Steps, Dies, Hangs, LinesUp, Repeats, started}
+use Rattle.run_link.specs.Disks.{Disks, Steps, Dies, Hangs, LinesUp, Repeats, started}
 use Rattle.justified.specs.Core.{Core}
 
 -- a fault at this tick, numbered

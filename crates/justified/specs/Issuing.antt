@@ -11,7 +11,7 @@ use Rattle.records.specs.Acts.{MayPost, is_post_due, empty_outbox}
 use Rattle.schedule.specs.declared.Event.{Event}
 use Rattle.schedule.specs.Groups.{Group, marks_of, Each, EachGroup}
 use Rattle.schedule.specs.Starts.{IssuesFollow}
-use Rattle.run_drivers.specs.Disks.{is_at}
+use Rattle.run_link.specs.Disks.{is_at}
 use Rattle.run_link.specs.StateView.{IsOpened}
 use Rattle.run_link.specs.Moments.{Moment, Resting, Runs, record_of}
 use Rattle.justified.specs.Said.{PlacedAsDue}

@@ -11,7 +11,7 @@ use Rattle.records.specs.Acts.{MayPost, empty_outbox}
 use Rattle.schedule.specs.declared.Event.{Event}
 use Rattle.schedule.specs.Groups.{Group, EachGroup}
 use Rattle.schedule.specs.Calls.{CallsSoFar}
-use Rattle.run_drivers.specs.Disks.{is_at}
+use Rattle.run_link.specs.Disks.{is_at}
 use Rattle.run_link.specs.StateView.{IsOpened}
 use Rattle.run_link.specs.Moments.{Moment, Resting, Runs, record_of}
 

@@ -10,7 +10,7 @@ use Rattle.schedule.specs.Groups.{Group, marks_of}
 use Rattle.schedule.specs.Replies.{answers_in}
 use Rattle.schedule.specs.declared.log.Entry.TheVariants as entry
 use Rattle.schedule.specs.Noted.{Noted, with_message, with_entry}
-use Rattle.driver_events.specs.Scene.{Scene}
+use Rattle.run_link.specs.Scene.{Scene}
 use Rattle.justified.specs.Core.{Core}
 use Rattle.justified.specs.Happens.{Begins}
 

@@ -12,7 +12,7 @@ use Rattle.schedule.specs.Faults.{hung_in, hung_due, ExitsOfGroup, may_have_fail
 use Rattle.schedule.specs.Starts.{starts_due, times_gave_up, times_due, has_fault}
 use Rattle.schedule.specs.Calls.{flushes_in, flushes_due}
 use Rattle.schedule.specs.Replies.{answers_in, answers_due, are_in_order}
-use Rattle.run_drivers.specs.Disks.{Disks, Slot}
+use Rattle.run_link.specs.Disks.{Disks, Slot}
 use Rattle.justified.specs.Core.{Core, FollowsGroups}
 use Rattle.justified.specs.Happens.{Begins, Adds}
 

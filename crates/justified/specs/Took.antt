@@ -8,7 +8,7 @@ use Rattle.schedule.specs.declared.Sent.{Sent}
 use Rattle.schedule.specs.Groups.{Group, marks_of, Each}
 use Rattle.schedule.specs.Drivers.{requests_issued_to, TookItsOwn}
 use Rattle.true_replies.specs.Posted.{since_start}
-use Rattle.run_drivers.specs.Disks.{Slot}
+use Rattle.run_link.specs.Disks.{Slot}
 use Rattle.justified.specs.Core.{Core, FollowsGroups}
 use Rattle.justified.specs.Steady.{AllSlots}
 

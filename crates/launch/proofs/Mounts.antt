@@ -12,7 +12,7 @@ use Rattle.reincarnate.specs.declared.policy.Policy.{Policy}
 use Rattle.records.specs.Legal.{IsAtFirst}
 use Rattle.records.specs.Mount.{MountRefused}
 use Rattle.reissue.specs.declared.link.Link.{Ghosts as LinkWords}
-use Rattle.counting_link.specs.declared.room.Room.{Ghosts as RoomWords}
+use Rattle.board.specs.declared.counting.room.Room.{Ghosts as RoomWords}
 use Rattle.shared_server.specs.Held.{IsHeld}
 use Rattle.stored.specs.declared.Stored.{Stored}
 use Rattle.mounting.specs.declared.whole.MountRefusal.{MountRefusal}

@@ -7,9 +7,9 @@ ghost use Rattle.shared_server.specs.Held.{HasEnded, IsCutAtEnd};
 ghost use Rattle.launch.specs.Spent.{IsSpent};
 
 use channel_link::link::ChannelLink;
-use counting_link::Noting;
-use counting_link::recorder::Recorder;
-use counting_link::room::Room;
+use board::counting::Noting;
+use board::counting::recorder::Recorder;
+use board::counting::room::Room;
 use reissue::link::Link;
 use std::sync::Wait;
 use tree::Outcome;

@@ -11,8 +11,8 @@ ghost use Rattle.mounting.specs.Laws.{sizes_in};
 ghost use Rattle.launch.specs.Stopped.{IsMountedTruly, IsStopped, refusal_of as start_refusal_of};
 
 use board::Board;
-use counting_link::recorder::Recorder;
-use counting_link::room::Room;
+use board::counting::recorder::Recorder;
+use board::counting::room::Room;
 use driver_threads::running::Running;
 use gate::Gate;
 use layout::Geometry;

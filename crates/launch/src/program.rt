@@ -10,8 +10,8 @@ ghost use Rattle.launch.specs.Stopped.{IsMountedTruly, IsStopped};
 
 use crate::opened::mounted;
 use board::Board;
-use counting_link::recorder::Recorder;
-use counting_link::room::Room;
+use board::counting::recorder::Recorder;
+use board::counting::room::Room;
 use driver_threads::running::Running;
 use file_server::FileServer;
 use gate::Gate;

@@ -6,7 +6,7 @@ use host::command_line::{line_of, status_for};
 use host::play_words::mfs::{Words, read as read_words};
 use host::whole_file::{read, replace};
 use modeldisk::supply::{drivers_for, setup_for, table_in};
-use script_text::script_files::File;
+use call_text::scripts::script_files::File;
 use std::alloc::{AllocError, Global};
 use std::io;
 use std::process::ExitCode;

@@ -6,8 +6,8 @@ ghost use Rattle.mount_service.specs.Spoken.{IsSpoken};
 
 use crate::archive::Archive;
 use crate::sessions::ServiceSessions;
-use counting_link::recorder::Recorder;
-use counting_link::room::Room;
+use board::counting::recorder::Recorder;
+use board::counting::room::Room;
 use file_server::FileServer;
 use ninep_stream::answering::{StreamRefusal, answer_all};
 use serve::service::Service;

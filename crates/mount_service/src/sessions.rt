@@ -4,8 +4,8 @@ ghost use Rattle.std.specs.Prelude.{◌≡◌, ◌↔◌, IsTrue};
 ghost use Rattle.mount_service.specs.Spoken.{IsArchived, IsSynced};
 
 use crate::archive::Archive;
-use counting_link::recorder::Recorder;
-use counting_link::room::Room;
+use board::counting::recorder::Recorder;
+use board::counting::room::Room;
 use errno::Errno;
 use file_server::FileServer;
 use ninep_server::sessions::{EnterRefusal, Sessions};

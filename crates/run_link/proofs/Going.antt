@@ -12,11 +12,11 @@ use Rattle.reincarnate.specs.declared.policy.Event.TheVariants as policy
 use Rattle.reincarnate.specs.Watch.{on}
 use Rattle.reincarnate.specs.Supply.{ReincarnationState}
 use Rattle.reissue.specs.declared.link.LinkRefusal.{LinkRefusal}
-use Rattle.run_drivers.specs.Disks.{Disks, LinesUp}
-use Rattle.driver_events.specs.Ruling.{is_fault, gives_up}
+use Rattle.run_link.specs.Disks.{Disks, LinesUp}
+use Rattle.run_link.specs.Ruling.{is_fault, gives_up}
 use Rattle.schedule.specs.declared.log.Entry.TheVariants as entry
 use Rattle.schedule.specs.Noted.{Noted, with_entry, with_end}
-use Rattle.driver_events.specs.Scene.{Scene}
+use Rattle.run_link.specs.Scene.{Scene}
 use Rattle.schedule.specs.declared.arrived.Arrived.{Arrived}
 use Rattle.run_link.specs.RunState.{RunState, noting, paid, ended, starving, posted, complained, ruling_at, RunsEvent, Advances, Goes, ComesToEnd, IsStarved, Takes, TakesOwed, TakesEnd, Posts, Complains, GoesOn, Still, Further, Asides, HandsEvent, HandsNone, HandsOwed, HandsNothing}
 

@@ -14,17 +14,17 @@ use Rattle.records.specs.Told.{Told, Posted, Complained, Received}
 use Rattle.reincarnate.specs.declared.policy.Event.TheVariants as policy
 use Rattle.reincarnate.specs.Watch.{on}
 use Rattle.reissue.specs.declared.link.LinkRefusal.{LinkRefusal}
-use Rattle.run_drivers.specs.Disks.{Disks, LinesUp, NoneIsThere, LineIsFull, IsLinedUp}
-use Rattle.driver_events.specs.Ruling.{is_fault}
+use Rattle.run_link.specs.Disks.{Disks, LinesUp, NoneIsThere, LineIsFull, IsLinedUp}
+use Rattle.run_link.specs.Ruling.{is_fault}
 use Rattle.schedule.specs.declared.Event.{Event}
 use Rattle.schedule.specs.declared.Event.TheVariants as event
 use Rattle.schedule.specs.Groups.{event_of}
 use Rattle.schedule.specs.declared.log.Entry.{Entry}
 use Rattle.schedule.specs.declared.log.Entry.TheVariants as entry
 use Rattle.schedule.specs.Noted.{Noted, marks_in, with_mark, with_message, with_entry}
-use Rattle.driver_events.specs.Kept.{NotesAside}
-use Rattle.driver_events.proofs.Keeping.{events_same, events_note_aside}
-use Rattle.driver_events.proofs.Sectors.{events_keep_sectors}
+use Rattle.run_link.specs.Kept.{NotesAside}
+use Rattle.run_link.proofs.Keeping.{events_same, events_note_aside}
+use Rattle.run_link.proofs.Sectors.{events_keep_sectors}
 use Rattle.schedule.specs.declared.arrived.Arrived.{Arrived}
 use Rattle.run_link.specs.StateView.{RunState, unless_told, work_left, begun, noting, paid, ended, starving, posted, complained, ruling_at, RunsEvent, Advances, Stays, Goes, ComesToEnd, IsRunOut, IsStarved, Turn, Takes, TakesOwed, TakesEnd, Posts, Complains, Still, Further, HandsEvent, HandsNone, HandsOwed, HandsNothing}
 use Rattle.schedule.specs.ArrivingCalls.{calls_of}

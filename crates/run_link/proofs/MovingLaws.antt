@@ -37,12 +37,12 @@ use Rattle.schedule.specs.declared.log.Entry.TheVariants as entry
 use Rattle.schedule.specs.Posts.{post_of}
 use Rattle.schedule.specs.Noted.{Noted, marks_in, with_mark, with_message, with_entry, with_end, noted_of}
 use Rattle.schedule.proofs.NotedLaws.{mark_in, message_in, said_end}
-use Rattle.run_drivers.specs.Disks.{Disks, seen, lined_up, LinesUp, IsLinedUp}
-use Rattle.driver_events.specs.Scene.{Scene, Opens, told_of_ruling, told_of_action, AfterStep, AfterDeath, delivered, Occurs}
-use Rattle.driver_events.specs.declared.ruling.Ruling.{Ruling}
-use Rattle.driver_events.specs.declared.ruling.Ruling.TheVariants as ruling
-use Rattle.driver_events.specs.Kept.{IsPost, PostsKept, SceneKept, with_next, IsLatest}
-use Rattle.driver_events.proofs.Keeping.{opening_keeps, events_keep, events_note_aside, kept_same, kept_noted, posts_entry, history_same}
+use Rattle.run_link.specs.Disks.{Disks, seen, lined_up, LinesUp, IsLinedUp}
+use Rattle.run_link.specs.Scene.{Scene, Opens, told_of_ruling, told_of_action, AfterStep, AfterDeath, delivered, Occurs}
+use Rattle.run_link.specs.declared.events.ruling.Ruling.{Ruling}
+use Rattle.run_link.specs.declared.events.ruling.Ruling.TheVariants as ruling
+use Rattle.run_link.specs.Kept.{IsPost, PostsKept, SceneKept, with_next, IsLatest}
+use Rattle.run_link.proofs.Keeping.{opening_keeps, events_keep, events_note_aside, kept_same, kept_noted, posts_entry, history_same}
 use Rattle.schedule.specs.declared.arrived.Arrived.{Arrived}
 use Rattle.run_link.specs.RunState.{RunState, first_noted, begun, RunsEvent, Advances, Stays, Goes, ComesToEnd, IsRunOut, IsStarved, Heard, RunTruth, left_of}
 use Rattle.schedule.specs.ArrivingCalls.{calls_of}

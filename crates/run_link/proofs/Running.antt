@@ -16,10 +16,10 @@ use Rattle.schedule.proofs.FaultlessLaws.{leave_same_mark}
 use Rattle.schedule.specs.declared.log.Entry.TheVariants as entry
 use Rattle.schedule.specs.Noted.{Noted, marks_in, with_entry}
 use Rattle.schedule.proofs.NotedLaws.{mark_in, message_in}
-use Rattle.driver_events.specs.Kept.{NotesAside}
-use Rattle.run_drivers.specs.Disks.{Disks}
-use Rattle.driver_events.specs.Ruling.{is_fault, gives_up}
-use Rattle.driver_events.proofs.Keeping.{events_note_aside, history_same}
+use Rattle.run_link.specs.Kept.{NotesAside}
+use Rattle.run_link.specs.Disks.{Disks}
+use Rattle.run_link.specs.Ruling.{is_fault, gives_up}
+use Rattle.run_link.proofs.Keeping.{events_note_aside, history_same}
 use Rattle.schedule.specs.declared.arrived.Arrived.{Arrived}
 use Rattle.run_link.specs.StateView as link
 use Rattle.run_link.specs.StateView.{RunState, begun, noting, paid, ended, starving, posted, complained, ruling_at, RunsEvent, Advances, Stays, Goes, ComesToEnd, IsRunOut, IsStarved, IsSpent, Turn, GoesOn, Still, Further}

@@ -13,9 +13,9 @@ use Rattle.schedule.specs.declared.log.Entry.{Entry}
 use Rattle.schedule.specs.declared.log.Entry.TheVariants as entry
 use Rattle.schedule.specs.Noted.{Noted, marks_in, with_entry}
 use Rattle.schedule.proofs.NotedLaws.{mark_in, message_in}
-use Rattle.driver_events.specs.Kept.{NotesAside}
-use Rattle.driver_events.specs.Ruling.{is_fault}
-use Rattle.driver_events.proofs.Keeping.{events_note_aside}
+use Rattle.run_link.specs.Kept.{NotesAside}
+use Rattle.run_link.specs.Ruling.{is_fault}
+use Rattle.run_link.proofs.Keeping.{events_note_aside}
 use Rattle.run_link.specs.StateView.{RunState, begun, noting, ended, starving, posted, complained, ruling_at, RunsEvent, Advances, Stays, Goes, ComesToEnd, IsRunOut, IsStarved, Turn, Takes, TakesOwed, TakesEnd, Posts, Complains, Still, Further, HandsEvent, HandsNone, HandsOwed, HandsNothing}
 use Rattle.run_link.specs.Laws.{IsToldTruly, ServersTellTruly, AsidesTellTruly}
 

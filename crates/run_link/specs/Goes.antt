@@ -3,7 +3,7 @@ use Rattle.std.specs.Prelude.{List}
 use Rattle.records.specs.Marks.{Mark}
 use Rattle.records.specs.Disk.{HasTrueReplies}
 use Rattle.records.specs.Opening.{Opening, contents_at}
-use Rattle.driver_events.specs.Scene.{Scene}
+use Rattle.run_link.specs.Scene.{Scene}
 use Rattle.run_link.specs.RunState.{RunState, RunTruth, GoesOn, Still, Further}
 
 pub goes_stays : (p : RunState) → GoesOn p p

@@ -11,7 +11,7 @@ use Rattle.records.specs.Opening.{Opening, contents_at}
 use Rattle.records.specs.Told.{took_end}
 use Rattle.true_replies.specs.State.{MediaHold, OutsideHolds}
 use Rattle.true_replies.specs.Events.{opening_media}
-use Rattle.driver_events.specs.Scene.{Scene}
+use Rattle.run_link.specs.Scene.{Scene}
 use Rattle.schedule.specs.declared.arrived.Arrived.{Arrived}
 use Rattle.run_link.specs.StateView.{RunState, RunTruth, IsSpent, GoesOn, Asides, HandsOut, Answers, work_left}
 

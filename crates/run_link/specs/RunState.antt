@@ -20,11 +20,11 @@ use Rattle.reissue.specs.declared.link.LinkRefusal.{LinkRefusal}
 use Rattle.schedule.specs.Noted.{Noted, marks_in, nothing_noted, with_entry, with_end}
 use Rattle.schedule.specs.declared.log.Entry.{Entry}
 use Rattle.schedule.specs.declared.log.Entry.TheVariants as entry
-use Rattle.driver_events.specs.declared.ruling.Ruling.{Ruling}
-use Rattle.driver_events.specs.Ruling.{ruling_of, is_fault, gives_up}
-use Rattle.run_drivers.specs.Disks.{Disks, LinesUp}
-use Rattle.driver_events.specs.Scene.{Scene, Opens, Occurs, ruled}
-use Rattle.driver_events.specs.Kept.{SceneKept, IsLatest}
+use Rattle.run_link.specs.declared.events.ruling.Ruling.{Ruling}
+use Rattle.run_link.specs.Ruling.{ruling_of, is_fault, gives_up}
+use Rattle.run_link.specs.Disks.{Disks, LinesUp}
+use Rattle.run_link.specs.Scene.{Scene, Opens, Occurs, ruled}
+use Rattle.run_link.specs.Kept.{SceneKept, IsLatest}
 use Rattle.schedule.specs.declared.arrived.Arrived.{Arrived}
 use Rattle.schedule.specs.ArrivingCalls.{calls_of}
 

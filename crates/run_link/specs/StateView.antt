@@ -1,7 +1,7 @@
 -- A link that a schedule moves, as the run that it runs; the words of such a run are passed on.
 use Rattle.bdev.specs.DriverState.{DriverState}
 use Rattle.schedule.specs.LogView.{said}
-use Rattle.driver_events.specs.StageView.{scene_of}
+use Rattle.run_link.specs.StageView.{scene_of}
 use Rattle.run_link.specs.declared.run.RunLink.{RunLink}
 pub use Rattle.run_link.specs.RunState.{RunState, begun, RunsEvent, Advances, Stays, Goes, Heard, RunTruth, noting, paid, ended, starving, IsSpent, ComesToEnd, IsRunOut, IsStarved, posted, ruling_at, complained, Turn, Takes, TakesOwed, TakesEnd, Posts, Complains, GoesOn, Still, Further, Asides, HandsEvent, HandsNone, HandsOwed, HandsNothing, HandsOut, Answers, unless_told, work_left, first_noted, IsOpened, left_of}
 

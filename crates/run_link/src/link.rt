@@ -7,7 +7,7 @@ ghost use Rattle.records.specs.Marks.{Mark};
 
 use crate::room::{event_at, make_room};
 use crate::run::RunLink;
-use driver_events::ruling::complain;
+use crate::events::ruling::complain;
 use inline::local::LocalDriver;
 use message::endpoint::Endpoint;
 use message::{BlockRequest, Incoming};
@@ -17,8 +17,8 @@ use schedule::queue::wait;
 
 impl<'a, D: LocalDriver> RunLink<'a, D> {
     ghost use Rattle.schedule.specs.LogView.{said, room_in};
-    ghost use Rattle.run_drivers.specs.View.{HasRoom};
-    ghost use Rattle.driver_events.specs.Kept.{with_next};
+    ghost use Rattle.run_link.specs.DisksView.{HasRoom};
+    ghost use Rattle.run_link.specs.Kept.{with_next};
     ghost use Rattle.run_link.specs.StateView.{run_of, RunsEvent, Advances, ComesToEnd, RunTruth, GoesOn, left_of};
 
     /// Runs the next event: what message it brings, if any.
@@ -77,7 +77,7 @@ fn owes(owed: bool, gives_up: bool, told: bool, over: bool) -> bool
 
 impl<'a, D: LocalDriver> Link for RunLink<'a, D> {
     ghost use Rattle.schedule.specs.LogView.{said as said_in, room_in as room_left};
-    ghost use Rattle.driver_events.specs.StageView.{scene_of};
+    ghost use Rattle.run_link.specs.StageView.{scene_of};
     ghost use Rattle.run_link.specs.StateView.{RunTruth as IsRunTruth, left_of as left_by, GoesOn as HasGoneOn, run_of as played};
     ghost use Rattle.run_link.specs.Goes.{goes_stays, goes_joins};
 

@@ -4,10 +4,10 @@ ghost use Rattle.std.specs.Prelude.{◌≡◌, ◌<◌, ◌≤◌, Some, length,
 ghost use Rattle.std.specs.Bool.{OnTrue};
 ghost use Rattle.std.specs.VecDeque.{deque_len, deque_capacity};
 ghost use Rattle.schedule.specs.LogView.{said, room_in};
-ghost use Rattle.run_drivers.specs.View.{HasRoom};
-ghost use Rattle.driver_events.specs.StageView.{scene_of};
+ghost use Rattle.run_link.specs.DisksView.{HasRoom};
+ghost use Rattle.run_link.specs.StageView.{scene_of};
 
-use driver_events::stage::Stage;
+use crate::events::stage::Stage;
 use inline::local::LocalDriver;
 use schedule::{Arrived, Event, Log};
 use std::alloc::Global;

@@ -7,7 +7,7 @@ ghost use Rattle.reincarnate.specs.Watch.{driver, new_watch};
 ghost use Rattle.true_replies.specs.Events.{IsOnMedia, opening_media};
 ghost use Rattle.inline.specs.Inline.{IsReady};
 
-use driver_events::stage::Stage;
+use crate::events::stage::Stage;
 use inline::local::LocalDriver;
 use media::Media;
 use message::Incoming;
@@ -42,7 +42,7 @@ pub struct RunLink<'a, D> {
 
 impl<'a, D: LocalDriver> RunLink<'a, D> {
     ghost use Rattle.schedule.specs.LogView.{said, room_in};
-    ghost use Rattle.driver_events.specs.StageView.{scene_of};
+    ghost use Rattle.run_link.specs.StageView.{scene_of};
     ghost use Rattle.run_link.specs.StateView.{run_of, RunTruth, IsOpened};
 
     /// A run of this schedule before its first event: on these media the first driver of the reincarnation server, which was told nothing

@@ -13,7 +13,7 @@ use Rattle.records.specs.Told.{received, took_end}
 use Rattle.records.specs.Acts.{Absorbed, told_of, marks_after, owed_after_message, IsAtRest}
 use Rattle.records.specs.ServerCall.{Serving, Serves, Outcome, Replied, Cut as WasCutOff}
 use Rattle.reissue.specs.Calls.{Truth}
-use Rattle.driver_events.specs.Kept.{with_next}
+use Rattle.run_link.specs.Kept.{with_next}
 use Rattle.schedule.specs.declared.arrived.Arrived.{Arrived}
 use Rattle.run_link.specs.StateView.{RunState, RunTruth, GoesOn, Asides, HandsEvent, HandsNone, HandsOwed, HandsNothing, Answers, HandsOut, work_left}
 use Rattle.run_link.specs.Laws.{LeadsOn, IsToldOfEnd}

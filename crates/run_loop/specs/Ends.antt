@@ -11,7 +11,7 @@ use Rattle.schedule.specs.Groups.{schedule_of}
 use Rattle.schedule.specs.Calls.{Arrival, arrived, taken}
 use Rattle.schedule.specs.Headline.{Transcript, RepliesHold}
 use Rattle.schedule.specs.Noted.{marks_in}
-use Rattle.driver_events.specs.Scene.{Scene}
+use Rattle.run_link.specs.Scene.{Scene}
 use Rattle.run_link.specs.StateView.{RunState, IsSpent}
 use Rattle.run_link.specs.Laws.{MediaHeld}
 use Rattle.run_link.specs.Waiting.{arrival_of}

@@ -8,7 +8,7 @@ use Rattle.records.specs.Marks.{Mark, Took}
 use Rattle.records.specs.Opening.{Opening}
 use Rattle.records.specs.ServerCall.{Serving}
 use Rattle.reissue.specs.Calls.{Truth}
-use Rattle.driver_events.specs.Kept.{with_next}
+use Rattle.run_link.specs.Kept.{with_next}
 use Rattle.schedule.specs.Calls.{Arrival}
 use Rattle.schedule.specs.declared.arrived.Arrived.{Arrived}
 use Rattle.run_link.specs.StateView.{RunState, IsSpent, Asides, Answers, work_left}

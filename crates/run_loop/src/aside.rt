@@ -5,8 +5,8 @@ ghost use Rattle.records.specs.Opening.{Opening};
 ghost use Rattle.records.specs.Marks.{Mark, Took};
 ghost use Rattle.tree.specs.Answers.{answer_of};
 ghost use Rattle.schedule.specs.LogView.{said, room_in};
-ghost use Rattle.driver_events.specs.StageView.{scene_of};
-ghost use Rattle.driver_events.specs.Kept.{with_next};
+ghost use Rattle.run_link.specs.StageView.{scene_of};
+ghost use Rattle.run_link.specs.Kept.{with_next};
 ghost use Rattle.run_link.specs.StateView.{run_of, RunTruth, Asides, Answers, HandsOut, left_of, starving};
 
 use inline::local::LocalDriver;

@@ -4,7 +4,7 @@ ghost use Rattle.std.specs.Prelude.{◌≡◌, ◌⊎◌, ◌↔◌, ◌≤◌, 
 ghost use Rattle.records.specs.Marks.{Mark, Took};
 ghost use Rattle.records.specs.Opening.{Opening};
 ghost use Rattle.tree.specs.Answers.{answer_of};
-ghost use Rattle.driver_events.specs.Kept.{with_next};
+ghost use Rattle.run_link.specs.Kept.{with_next};
 ghost use Rattle.run_link.specs.StateView.{RunState, RunTruth, GoesOn, Asides, HandsOut, Answers, starving};
 ghost use Rattle.schedule.specs.declared.arrived.Arrived.{Arrived as OfCall};
 

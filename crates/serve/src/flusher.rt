@@ -1,8 +1,8 @@
 //! The flusher's thread.
 
 use crate::service::Shared;
-use counting_link::recorder::Recorder;
-use counting_link::room::Room;
+use board::counting::recorder::Recorder;
+use board::counting::room::Room;
 use file_server::FileServer;
 use gate::{Gate, Point};
 use std::alloc::{AllocError, Global};

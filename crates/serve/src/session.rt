@@ -15,8 +15,8 @@ ghost use Rattle.shared_server.specs.Held.{HasEnded, HoldsIfTrue, IsCutAtEnd, Is
 
 use crate::service::Shared;
 use board::{Board, Device, Seat};
-use counting_link::recorder::Recorder;
-use counting_link::room::Room;
+use board::counting::recorder::Recorder;
+use board::counting::room::Room;
 use file_server::FileServer;
 use shared_server::left_open::{LeftOpen, is_cut};
 use std::marker::{Model, PhantomData};

@@ -5,7 +5,7 @@ ghost use Rattle.media.specs.Contents.{IsWhole};
 ghost use Rattle.driver_threads.specs.Confined.{IsImageOutside, KeepsOutside};
 ghost use Rattle.serve.specs.Stopping.{IsImageOf, IsLeftAfter, IsNoImageOf, no_image_name, stop_refusal_number};
 
-use counting_link::room::Room;
+use board::counting::room::Room;
 use media::Media;
 use shared_server::locked::LastSync;
 use std::alloc::Global;

@@ -37,7 +37,7 @@ use Rattle.file_server.proofs.Leaving.{cut_leaves, took_either}
 use Rattle.file_server.proofs.Standing.{serves_same, same_stands}
 use Rattle.board.specs.View.{View, SeatState, session_for, is_used}
 use Rattle.board.specs.Steps.{SessionLearns, SessionIsNew}
-use Rattle.counting_link.specs.declared.room.Room.{Ghosts as RoomWords}
+use Rattle.board.specs.declared.counting.room.Room.{Ghosts as RoomWords}
 use Rattle.shared_server.specs.Recorder.{SameServer}
 use Rattle.shared_server.specs.Descriptors.{is_done, succeeded}
 use Rattle.shared_server.specs.declared.refusal.SessionRefusal.{SessionRefusal}

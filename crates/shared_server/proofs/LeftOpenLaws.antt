@@ -1,6 +1,6 @@
 -- Which descriptors calls left open.
 use Rattle.std.proofs.Common.{◌≡◌, List, [], Bool, false, get_or, ◌∙◌, ap}
-use Rattle.counting_link.proofs.KeeperLaws.{all_free, is_free}
+use Rattle.board.proofs.KeeperLaws.{all_free, is_free}
 use Rattle.shared_server.specs.declared.left_open.LeftOpen.{LeftOpen}
 use Rattle.shared_server.specs.Descriptors.{AreLeftOpen}
 

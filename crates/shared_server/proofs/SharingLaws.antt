@@ -5,7 +5,7 @@ use Rattle.records.specs.ServerCall.{Serving}
 use Rattle.reincarnate.specs.declared.policy.Policy.{Policy}
 use Rattle.reissue.specs.declared.link.Link.{Ghosts as LinkWords}
 use Rattle.file_server.specs.Over.{SameServing}
-use Rattle.counting_link.specs.Recorder.{SameLink}
+use Rattle.board.specs.Recorder.{SameLink}
 use Rattle.shared_server.specs.Recorder.{SameServer}
 
 -- a server whose link was lent out, was told nothing and gave nothing, and came back

@@ -24,8 +24,8 @@ use Rattle.records.specs.ServerCall.{Serving, Outcome, Replied, Cut, with_outcom
 use Rattle.reissue.specs.declared.link.Link.{Ghosts as LinkWords}
 use Rattle.file_server.specs.Over.{CallsOver}
 use Rattle.file_server.specs.Leaving.{IsEndLast}
-use Rattle.counting_link.specs.declared.room.Room.{Ghosts as RoomWords}
-use Rattle.counting_link.specs.Keeper.{begins_itself, begins_before, begins_further}
+use Rattle.board.specs.declared.counting.room.Room.{Ghosts as RoomWords}
+use Rattle.board.specs.Keeper.{begins_itself, begins_before, begins_further}
 use Rattle.shared_server.specs.Descriptors.{is_done, was_cut, succeeded}
 use Rattle.shared_server.specs.Held.{IsHeld}
 use Rattle.shared_server.specs.Stopping.{syncer, SyncEnd, Went, WasGivenUp, WasCut, sync_end, has_ended, SyncTells, IsLastLine}

@@ -22,10 +22,10 @@ use Rattle.reissue.specs.declared.link.Link.{Ghosts as LinkWords}
 use Rattle.reissue.specs.Calls.{Truth}
 use Rattle.file_server.specs.Over.{Stands}
 use Rattle.board.specs.View.{View, session_for}
-use Rattle.counting_link.specs.declared.room.Room.{Ghosts as RoomWords}
+use Rattle.board.specs.declared.counting.room.Room.{Ghosts as RoomWords}
 use Rattle.shared_server.specs.declared.refusal.SessionRefusal.{SessionRefusal}
 use Rattle.shared_server.specs.declared.refusal.SessionRefusal.TheVariants.{TooMany, Stopped, OutOfMemory}
-use Rattle.counting_link.specs.Keeper.{AreAllUsed, IsLowestFree, IsOneFree}
+use Rattle.board.specs.Keeper.{AreAllUsed, IsLowestFree, IsOneFree}
 
 -- a call of a caller that had seen as much as the first of these, and then has seen as much as the second, came to this outcome
 abbrev pub IsServedCall : Geometry → Opening → Who → ℕ → Call → View → Outcome → View → Type 0

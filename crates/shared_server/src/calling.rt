@@ -8,8 +8,8 @@ ghost use Rattle.shared_server.specs.Held.{AddsCall, HoldsIfTrue, IsEioOnceGiven
 
 use crate::sharing::{count_call, show};
 use board::Seat;
-use counting_link::recorder::Recorder;
-use counting_link::room::Room;
+use board::counting::recorder::Recorder;
+use board::counting::room::Room;
 use file_server::FileServer;
 use tree::{Call, Outcome, Who};
 

@@ -6,8 +6,8 @@ ghost use Rattle.records.specs.Opening.{Opening};
 ghost use Rattle.shared_server.specs.Recorder.{SameServer};
 ghost use Rattle.shared_server.specs.Held.{IsHeld};
 
-use counting_link::recorder::Recorder;
-use counting_link::room::Room;
+use board::counting::recorder::Recorder;
+use board::counting::room::Room;
 use file_server::FileServer;
 use message::Incoming;
 

@@ -7,14 +7,14 @@ ghost use Rattle.records.specs.Opening.{Opening};
 ghost use Rattle.records.specs.Told.{took_end};
 ghost use Rattle.board.specs.View.{without};
 ghost use Rattle.board.specs.Steps.{SessionLearns, SessionIsNew};
-ghost use Rattle.counting_link.specs.Keeper.{AreAllUsed, IsLowestFree, IsOneFree};
+ghost use Rattle.board.specs.Keeper.{AreAllUsed, IsLowestFree, IsOneFree};
 ghost use Rattle.records.specs.Session.{tally_of};
 ghost use Rattle.shared_server.specs.Recorder.{SameServer};
 
 use crate::refusal::SessionRefusal;
 use board::Seat;
-use counting_link::recorder::Recorder;
-use counting_link::room::Room;
+use board::counting::recorder::Recorder;
+use board::counting::room::Room;
 use file_server::FileServer;
 use tree::{Call, Reply, Who};
 

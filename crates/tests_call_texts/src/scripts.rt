@@ -1,6 +1,6 @@
 //! Scripts, line by line.
-use script_text::reading::{ScriptRefusal, read_script};
-use script_text::timed::TimedCall;
+use call_text::scripts::reading::{ScriptRefusal, read_script};
+use call_text::scripts::timed::TimedCall;
 use std::alloc::Global;
 use std::test::Fail;
 use tree::Call;

@@ -7,7 +7,7 @@ use crate::watch::Watch;
 use bdev::{BlockDriver, Driver};
 use board::{Board, Seat};
 use channel_link::link::ChannelLink;
-use counting_link::room::Room;
+use board::counting::room::Room;
 use driver_threads::running::{Running, start_drivers};
 use media::Media;
 use media::partition::Table;

@@ -6,7 +6,7 @@ use fixtures::gates::Ticking;
 use fixtures::{new_volume, patient, whole};
 use modeldisk::supply::{drivers_for, table_in};
 use new_volume::NewVolume;
-use script_text::script_files;
+use call_text::scripts::script_files;
 use simulation::inputs::File;
 use simulation::simulate::simulate;
 use std::alloc::{AllocError, Global};

@@ -1,8 +1,8 @@
 //! Sessions that are asked for where memory is refused.
 
 use crate::orders::{refuse, was_refused};
-use counting_link::recorder::Recorder;
-use counting_link::room::Room;
+use board::counting::recorder::Recorder;
+use board::counting::room::Room;
 use file_server::FileServer;
 use fixtures::gates::Ticking;
 use fixtures::{new_volume, patient};

@@ -1,8 +1,8 @@
 //! Calls of a service after its opening, while there is no memory: none but read and readdir takes any.
 
 use crate::orders::{refuse, was_refused};
-use counting_link::recorder::Recorder;
-use counting_link::room::Room;
+use board::counting::recorder::Recorder;
+use board::counting::room::Room;
 use errno::Errno;
 use file_server::FileServer;
 use fixtures::gates::Ticking;
@@ -10,8 +10,8 @@ use fixtures::{new_volume, patient};
 use launch::program::Program;
 use launch::start::serve;
 use modeldisk::supply::{drivers_for, table_in};
-use script_text::reading::read_script;
-use script_text::timed::TimedCall;
+use call_text::scripts::reading::read_script;
+use call_text::scripts::timed::TimedCall;
 use serve::service::{Service, Shared};
 use serve::session::Session;
 use std::alloc::{AllocError, Global};

@@ -1,7 +1,7 @@
 //! Drivers that fail, or answer an error or too little, in runs of a call that reads the root's inode.
 
 use errno::Errno;
-use fixtures_runs::shown::{Faults, faults_show};
+use crate::compared::shown::{Faults, faults_show};
 use modeldisk::FaultKind;
 use std::alloc::Global;
 use std::test::Fail;

@@ -1,6 +1,6 @@
 //! A volume of 67108864 bytes, which are as many as media have: it is checked, and a call reads of it.
 
-use fixtures_runs::shown::volume_shows;
+use crate::compared::shown::volume_shows;
 use new_volume::mkfs;
 use std::test::Fail;
 

@@ -3,6 +3,7 @@
 //! worked out by hand.
 #![tactic(auto)]
 
+pub mod compared;
 #[cfg(test)]
 mod faults;
 #[cfg(test)]

@@ -1,7 +1,7 @@
 //! Calls that come between a driver's fault and the next start. One that needs no request is answered at once; one that needs a request
 //! waits for the start.
 
-use fixtures_runs::shown::parts_show;
+use crate::compared::shown::parts_show;
 use std::test::Fail;
 
 /// A file is made: that reads the root's inode, both maps and the root's entries.

@@ -1,6 +1,6 @@
 //! A call that reads the root's inode, while drivers die, hang, answer late and are given up.
 
-use fixtures_runs::shown::{cut_shows, shows};
+use crate::compared::shown::{cut_shows, shows};
 use std::test::Fail;
 
 /// A schedule, what is shown of it, and the status.

@@ -1,7 +1,7 @@
 //! What isn't run, and what is said of it.
 
-use fixtures_runs::RunRefusal;
-use fixtures_runs::refused::{Refused, Told, is_refused, is_told_first};
+use world::RunRefusal;
+use crate::compared::refused::{Refused, Told, is_refused, is_told_first};
 use media::MediaRefusal;
 use std::test::Fail;
 use volume::Finding;

@@ -1,7 +1,7 @@
 //! Neighbouring changed blocks, which a flush writes by one request: a death tears one of its sectors, and all of it is written again.
 
-use fixtures_runs::left::{Left, is_left};
-use fixtures_runs::shown::parts_show;
+use crate::compared::left::{Left, is_left};
+use crate::compared::shown::parts_show;
 use std::test::Fail;
 
 /// A file of one page is made on a volume of 64 blocks of 1024, and a flush writes what changed: blocks 2, 3 and 4 have both maps and the

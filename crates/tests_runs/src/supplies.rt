@@ -1,6 +1,6 @@
 //! Long supplies of drivers.
 
-use fixtures_runs::shown::faults_show;
+use crate::compared::shown::faults_show;
 use std::alloc::{AllocError, Global};
 use std::test::Fail;
 

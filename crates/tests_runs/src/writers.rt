@@ -1,6 +1,6 @@
 //! Writers that fail: what went out is a beginning of the transcript, and a line says so.
 
-use fixtures_runs::failing::{Printed, is_printed};
+use crate::compared::failing::{Printed, is_printed};
 use std::test::Fail;
 
 /// The transcript has lines of 12, 30 and 13 bytes, which take 3, 6 and 3 calls; the line on the other writer has 29, which take 6.

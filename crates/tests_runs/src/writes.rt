@@ -1,7 +1,7 @@
 //! Writes that drivers leave half done, and what the media hold afterwards.
 
-use fixtures_runs::left::{Left, is_left};
-use fixtures_runs::shown::{parts_show, repeats_show};
+use crate::compared::left::{Left, is_left};
+use crate::compared::shown::{parts_show, repeats_show};
 use std::test::Fail;
 
 /// Twenty pages are changed, and 25 blocks with what leads to them: under the setup's 64 frames nothing is written yet. The reads are those

@@ -1,7 +1,7 @@
 //! What is done with a service on the small volume.
 
-use counting_link::recorder::Recorder;
-use counting_link::room::Room;
+use board::counting::recorder::Recorder;
+use board::counting::room::Room;
 use file_server::FileServer;
 use fixtures::gates::HoldsFlusher;
 use fixtures::{MOUNT_READS, patient, supply_at};

@@ -3,8 +3,8 @@
 use crate::at_once::{Came, What, at_once};
 use crate::drivers::{Notes, drivers};
 use crate::watch::{Holds, Watch, is_alone, is_reached};
-use counting_link::recorder::Recorder;
-use counting_link::room::Room;
+use board::counting::recorder::Recorder;
+use board::counting::room::Room;
 use file_server::FileServer;
 use fixtures::{ROOT, new_volume};
 use fixtures_sessions::callers::{Caller, told};

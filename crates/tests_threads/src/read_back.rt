@@ -3,8 +3,8 @@
 use crate::drivers::{Notes, drivers};
 use crate::setting::served;
 use crate::watch::{Holds, Watch};
-use counting_link::recorder::Recorder;
-use counting_link::room::Room;
+use board::counting::recorder::Recorder;
+use board::counting::room::Room;
 use file_server::FileServer;
 use fixtures::{MOUNT_READS, new_volume};
 use fixtures_sessions::callers::{Caller, told};

@@ -1,7 +1,7 @@
 //! Writes of many pages at once.
 
-use fixtures_zones::calls::{Call, DONE};
-use fixtures_zones::images::{EMPTY, SMALL, volume};
+use crate::calls::{Call, DONE};
+use crate::images::{EMPTY, SMALL, volume};
 use std::test::Fail;
 use store::Halt;
 

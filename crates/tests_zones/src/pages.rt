@@ -1,11 +1,8 @@
 //! Pages and the zones that they take. A zone of 1024 bytes holds 256 numbers, so pages 0 to 6 are direct, 7 to 262 single, 263 to
 //! 65798 double, and the others triple; of 2048 bytes the last are 518 and 262662, of 4096 bytes 1030 and 1049606.
 
-use fixtures_zones::calls::{Call, DONE, Step};
-use fixtures_zones::images::{
-    HOLE, HOLE_LARGE, HOLE_MIDDLE, LARGE, MIDDLE, MIDDLE_PAGES, Part, SMALL, SMALL_PAGES, Size,
-    volume,
-};
+use crate::calls::{Call, DONE, Step};
+use crate::images::{HOLE, HOLE_LARGE, HOLE_MIDDLE, LARGE, MIDDLE, MIDDLE_PAGES, Part, SMALL, SMALL_PAGES, Size, volume};
 use std::alloc::Global;
 use std::test::Fail;
 use store::Halt;

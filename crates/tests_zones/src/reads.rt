@@ -1,7 +1,7 @@
 //! Reads of files, with slices that hold 0x2e before.
 
-use fixtures_zones::calls::{Call, Step};
-use fixtures_zones::images::{Part, SMALL, volume};
+use crate::calls::{Call, Step};
+use crate::images::{Part, SMALL, volume};
 use std::test::Fail;
 
 /// The first bytes of inode 1: a file, one link, its size.

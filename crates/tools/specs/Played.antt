@@ -7,17 +7,17 @@ use Rattle.bdev.specs.DriverState.{DriverState}
 use Rattle.reincarnate.specs.declared.policy.Setup.{Setup}
 use Rattle.mounting.specs.StartupRefusals.{start_refusal_text}
 use Rattle.mounting.specs.Starting.{opening_of}
-use Rattle.script_play.specs.launch.Ran.{IsNotStarted, IsStartable}
-use Rattle.script_play.specs.launch.Spent.{IsSpent}
-use Rattle.script_text.specs.declared.timed.TimedCall.{TimedCall}
-use Rattle.script_text.specs.declared.script_files.File.{File}
-use Rattle.script_text.specs.declared.script_files.FileRefusal.{FileRefusal}
-use Rattle.script_text.specs.declared.script_files.FileRefusal.TheVariants.{CannotRead}
-use Rattle.script_text.specs.Files as files
+use Rattle.launch.specs.Ran.{IsNotStarted, IsStartable}
+use Rattle.launch.specs.Spent.{IsSpent}
+use Rattle.call_text.specs.declared.scripts.timed.TimedCall.{TimedCall}
+use Rattle.call_text.specs.declared.scripts.script_files.File.{File}
+use Rattle.call_text.specs.declared.scripts.script_files.FileRefusal.{FileRefusal}
+use Rattle.call_text.specs.declared.scripts.script_files.FileRefusal.TheVariants.{CannotRead}
+use Rattle.call_text.specs.Files as files
 use Rattle.reply_text.specs.declared.answers.Played.{Played}
 use Rattle.reply_text.specs.Answers.{sessions_text}
-use Rattle.script_play.specs.Made.{has_eio}
-use Rattle.script_play.specs.Served.{AreServed, IsUnserved, service_text}
+use Rattle.tools.specs.Made.{has_eio}
+use Rattle.tools.specs.Served.{AreServed, IsUnserved, service_text}
 use Rattle.tools.specs.Status.{is_given_up}
 use Rattle.shared_server.specs.declared.locked.LastSync.{LastSync}
 use Rattle.tools.specs.declared.play.PlayRefusal.{PlayRefusal}

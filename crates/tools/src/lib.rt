@@ -2,3 +2,4 @@
 #![tactic(auto)]
 
 pub mod play;
+pub mod scripts;

@@ -10,8 +10,8 @@ ghost use Rattle.tools.specs.Played.{AreUnread, IsPlayed, IsUnplayed, IsShown, I
 ghost use Rattle.tools.specs.Refusals.{refusal_of};
 ghost use Rattle.volume_tools.specs.Making.{unwritten_text};
 ghost use Rattle.tools.specs.Status.{status_number, gave_of, is_given_up, IsWhole};
-ghost use Rattle.script_text.specs.Said.{said};
-ghost use Rattle.script_text.specs.Files.{AreScripts};
+ghost use Rattle.call_text.specs.Said.{said};
+ghost use Rattle.call_text.specs.Files.{AreScripts};
 
 use bdev::BlockDriver;
 use gate::Gate;
@@ -19,10 +19,10 @@ use mounting::StartRefusal;
 use output::{OutputRefusal, Told, tell, write_text};
 use reincarnate::policy::Setup;
 use reply_text::answers::{Played, write_sessions};
-use script_play::turns::has_eio;
-use script_play::{Came, ServiceRefusal, play_scripts};
-use script_text::script::Script;
-use script_text::script_files::{File, FileRefusal, read_scripts};
+use crate::scripts::turns::has_eio;
+use crate::scripts::{Came, ServiceRefusal, play_scripts};
+use call_text::scripts::script::Script;
+use call_text::scripts::script_files::{File, FileRefusal, read_scripts};
 use shared_server::locked::LastSync;
 use std::alloc::Global;
 use std::fmt;

@@ -4,7 +4,7 @@ use crate::shown::shown_marks;
 use file_server::FileServer;
 use inline::local::LocalDriver;
 use reply_text::mark::MarkRef;
-use run_drivers::unit::Unit;
+use run_link::unit::Unit;
 use run_link::RunLink;
 use schedule::Sent;
 use std::alloc::{AllocError, Global};

@@ -2,8 +2,8 @@
 
 use crate::bench_calls::work::{Caller, at_start, copies, measure, once, repeat, rewind};
 use bench_layers::timing::{say, tell};
-use counting_link::recorder::Recorder;
-use counting_link::room::Room;
+use board::counting::recorder::Recorder;
+use board::counting::room::Room;
 use file_server::FileServer;
 use serve::service::{Service, Shared};
 use serve::session::Session;

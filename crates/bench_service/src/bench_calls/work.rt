@@ -1,8 +1,8 @@
 //! Work that is measured: calls, made again and again.
 
 use bench_layers::timing::{copy, micros_since, tell};
-use counting_link::recorder::Recorder;
-use counting_link::room::Room;
+use board::counting::recorder::Recorder;
+use board::counting::room::Room;
 use file_server::FileServer;
 use serve::service::Shared;
 use serve::session::Session;

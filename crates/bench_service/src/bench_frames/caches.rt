@@ -8,7 +8,7 @@ use crate::bench_frames::work::{By, driver, fetch_again, fetch_run, write_run};
 use bench_layers::timing::{say, tell};
 use board::{Board, Seat};
 use cache::Cache;
-use counting_link::room::Room;
+use board::counting::room::Room;
 use driver_threads::running::start_drivers;
 use gate::paced_gate::Paced;
 use layout::Geometry;

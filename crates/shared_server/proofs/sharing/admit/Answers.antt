@@ -1,7 +1,7 @@
 use Rattle.std.proofs.Common.{◌≡◌, ℕ, ◌<◌, sym, ◌∙◌, ap, true, subst, refl}
 use Rattle.board.specs.View.{is_used}
 use Rattle.records.specs.Told.{took_end}
-use Rattle.counting_link.proofs.KeeperLaws.{some_free}
+use Rattle.board.proofs.KeeperLaws.{some_free}
 use Rattle.shared_server.proofs.SharingLaws.{same_over}
 use Rattle.shared_server.proofs.sharing.admit.Goals as goal
 

@@ -1,6 +1,6 @@
 use Rattle.std.specs.Prelude.{[]}
 use Rattle.reincarnate.specs.Policy.{default_policy}
-use Rattle.counting_link.specs.Rooms.{no_geometry}
+use Rattle.board.specs.Rooms.{no_geometry}
 use Rattle.tests_driver_threads.proofs.setting.play.Given as goal
 
 -- the volume is the first sectors of the media

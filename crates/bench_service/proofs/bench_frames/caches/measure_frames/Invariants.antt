@@ -1,6 +1,6 @@
 use Rattle.std.specs.Prelude.{[]}
 use Rattle.reincarnate.specs.Policy.{default_policy}
-use Rattle.counting_link.specs.Rooms.{no_geometry}
+use Rattle.board.specs.Rooms.{no_geometry}
 use Rattle.bench_service.proofs.bench_frames.caches.measure_frames.Given as goal
 
 -- the volume is all of the media

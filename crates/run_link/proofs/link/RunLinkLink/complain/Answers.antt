@@ -2,7 +2,7 @@ use Rattle.std.proofs.Common.{◌∙◌, refl, ap, Bool, not, ◌||◌, ◌&&◌
 use Rattle.schedule.specs.declared.log.Entry.TheVariants as entry
 use Rattle.schedule.specs.LogView.{said}
 use Rattle.schedule.specs.Noted.{with_entry}
-use Rattle.driver_events.specs.Ruling.{is_fault, gives_up}
+use Rattle.run_link.specs.Ruling.{is_fault, gives_up}
 use Rattle.run_link.proofs.Going.{complains}
 use Rattle.run_link.proofs.link.RunLinkLink.complain.Goals as goal
 

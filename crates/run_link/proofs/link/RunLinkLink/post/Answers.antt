@@ -1,5 +1,5 @@
 use Rattle.schedule.proofs.NotedLaws.{has_room}
-use Rattle.run_drivers.proofs.DisksLaws.{lines_up}
+use Rattle.run_link.proofs.DisksLaws.{lines_up}
 use Rattle.run_link.proofs.MovingLaws.{posted_true, accepted_at}
 use Rattle.run_link.proofs.Going.{posts}
 use Rattle.run_link.proofs.link.RunLinkLink.post.Goals as goal

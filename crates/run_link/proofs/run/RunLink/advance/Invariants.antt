@@ -1,7 +1,7 @@
 use Rattle.std.proofs.Common.{length, ◌-◌, ◌≡◌, ◌<◌, ◌≤◌, None, false}
 use Rattle.std.specs.VecDeque.{deque_len, deque_capacity}
 use Rattle.schedule.specs.LogView.{room_in}
-use Rattle.run_drivers.specs.View.{HasRoom}
+use Rattle.run_link.specs.DisksView.{HasRoom}
 use Rattle.run_link.specs.StateView.{run_of, Advances}
 use Rattle.run_link.proofs.run.RunLink.advance.Given as goal
 

@@ -1,4 +1,0 @@
-pub mod Decided
-pub mod StageLaws
-pub mod Keeping
-pub mod Sectors

@@ -1,4 +1,0 @@
-pub mod Ruling
-pub mod Scene
-pub mod StageView
-pub mod Kept

@@ -1,6 +1,0 @@
-use Rattle.script_play.proofs.Records.{are_served}
-use Rattle.script_play.proofs.players.play_on.Goals as goal
-
-pub returns-in-Ok-clause-served : goal.returns-in-Ok-clause-served
-returns-in-Ok-clause-served g c =
-    are_served g.L.Link g.N.Room.geometry g.N.Room.opening _ _ _ _ _ c.in_ok-sessions.ensures.played c.in-Ok.ensures

@@ -1,8 +1,0 @@
-use Rattle.std.proofs.Common.{◌≡◌, take}
-use Rattle.std.specs.Prelude.{flat_map}
-use Rattle.script_text.specs.Scripts.{line_bytes}
-use Rattle.script_text.proofs.reading.decode_lines.Given as goal
-
--- the bytes of the lines so far
-abbrev pub invariant-loop-line : goal.invariant-loop-line
-invariant-loop-line l = l.bytes.items ≡ flat_map line_bytes (take l.line-index l.lines)

@@ -1,4 +1,0 @@
-pub mod Refusals
-pub mod Said
-pub mod Scripts
-pub mod Files

@@ -1,7 +1,0 @@
-//! Scripts as text: a line for the user, and then a line for each call.
-#![tactic(auto)]
-
-pub mod reading;
-pub mod script;
-pub mod script_files;
-pub mod timed;

@@ -1,4 +1,0 @@
-use Rattle.tests_ends.proofs.ended.ask_and_stop.Goals as goal
-
-pub over-requires-clause-truth : goal.over-requires-clause-truth
-over-requires-clause-truth g c κs lives = c.in_ok-noting.ensures.truth g.N.Room.opening tt

@@ -1,0 +1,23 @@
+use Rattle.std.proofs.Common.{◌∙◌, sym, ap, subst, refl}
+use Rattle.std.specs.Prelude.{Ok}
+use Rattle.layout.specs.declared.Geometry.{Geometry}
+use Rattle.fsck.specs.Shown.{HasItsGeometry, TellsWhetherTree}
+use Rattle.layout.proofs.Parsed.{geometry_fits}
+use Rattle.tests_sessions.proofs.Whole.{at_first}
+use Rattle.tests_sessions.proofs.ended.asked_of.Goals as goal
+
+pub ask_and_stop-requires-clause-geometry : goal.ask_and_stop-requires-clause-geometry
+ask_and_stop-requires-clause-geometry g c κs lives =
+    let clean = subst (λ v. HasItsGeometry c.args.image.now v) c.in-Ok-Clean.field-0-is c.in-Ok-Clean.ensures.geometry in
+    let parsed = clean ∙ ap (λ (x : Geometry). Ok x) (sym c.geometry.ensures) in
+    ((geometry_fits c.args.image.now c.geometry.result parsed).0, refl)
+
+pub ask_and_stop-requires-clause-tree : goal.ask_and_stop-requires-clause-tree
+ask_and_stop-requires-clause-tree g c κs lives =
+    let clean = subst (λ v. HasItsGeometry c.args.image.now v) c.in-Ok-Clean.field-0-is c.in-Ok-Clean.ensures.geometry in
+    let parsed = clean ∙ ap (λ (x : Geometry). Ok x) (sym c.geometry.ensures) in
+    let held = subst (λ v. TellsWhetherTree c.args.image.now v) c.in-Ok-Clean.field-0-is c.in-Ok-Clean.ensures.tree in (
+      held.0,
+      at_first c.args.image.now c.in-Ok.prepared.range c.geometry.result held.0 c.in-Ok.ensures.ok.place.1
+          c.in-Ok.ensures.on_media.whole parsed held.1,
+    )

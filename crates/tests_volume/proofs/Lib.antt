@@ -1,7 +1,0 @@
-pub mod Small
-mod LayoutRows
-mod ReadRows
-mod FreshRows
-mod RootRows
-mod TreeRows
-mod SymlinkRows

@@ -1,0 +1,66 @@
+//! Numbers and bytes in blocks.
+
+ghost use Rattle.std.specs.Prelude.{◌≡◌};
+
+use crate::layers::images::image_of;
+use std::alloc::Global;
+use std::test::Fail;
+use store::memory::Memory;
+use store::words::{clear, read_byte, read_bytes, read_u32, write_bytes, write_u32};
+use store::{Blocks, Cut};
+
+/// Reads and writes in block 1, and clears it: a byte, a number that was written, half of it, and five bytes.
+fn words<B: Blocks>(blocks: &mut B) -> Result<(u8, u32, u32, [u8; 5]), Cut>
+    requires ready { B.world.ready blocks.old }
+    requires size { B.world.size blocks.old ≡ 1024 }
+{
+    let byte = read_byte(blocks, 1, 1023)?;
+    write_u32(blocks, 1, 4, 0x0403_0201)?;
+    let whole = read_u32(blocks, 1, 4)?;
+    let half = read_u32(blocks, 1, 2)?;
+    write_bytes(blocks, 1, 1020, &[1, 2, 3])?;
+    let mut into = [0u8; 5];
+    read_bytes(blocks, 1, 1019, &mut into)?;
+    clear(blocks, 1)?;
+    Ok((byte, whole, half, into))
+}
+
+/// Bytes come and go.
+fn come_and_go(alloc: Global) -> Result<(), Fail> {
+    let parts: &[(usize, &[u8], usize)] = &[(1024, b"\x09", 0), (2047, b"\x07\x05", 0)];
+    let mut blocks = Memory::new(1024, image_of(alloc, &(3072, parts))?);
+    let left = image_of(alloc, &(3072, &[(2048, b"\x05", 0)]))?;
+    let came = words(&mut blocks);
+    if came == Ok((7, 0x0403_0201, 0x0201_0000, [0, 1, 2, 3, 7]))
+        && blocks.image() == left.as_slice()
+    {
+        return Ok(());
+    }
+    Err(Fail::from("words"))
+}
+
+/// Whether this call was cut off.
+fn is_cut(came: Result<(), Cut>) -> bool {
+    matches!(came, Err(Cut::Eio))
+}
+
+/// Whether past the last block nothing is given, and calls go on.
+fn ends_with_the_last<B: Blocks>(blocks: &mut B, into: &mut [u8; 3]) -> bool
+    requires ready { B.world.ready blocks.old }
+    requires size { B.world.size blocks.old ≡ 1024 }
+{
+    is_cut(read_bytes(blocks, 3, 0, into))
+        && is_cut(clear(blocks, 3))
+        && is_cut(write_bytes(blocks, 3, 0, &[1]))
+        && blocks.sync().is_ok()
+        && blocks.live().is_ok()
+}
+
+#[test]
+fn words_are_read_and_written(rt: HostRuntime) -> Result<(), Fail> {
+    come_and_go(rt.alloc())?;
+    let mut blocks = Memory::new(1024, image_of(rt.alloc(), &(3072, &[]))?);
+    let mut into = [8u8; 3];
+    assert!(rt; ends_with_the_last(&mut blocks, &mut into) && into == [8, 8, 8]);
+    Ok(())
+}

@@ -1,0 +1,15 @@
+use Rattle.std.specs.Prelude.{map}
+use Rattle.records.specs.Opening.{contents_at}
+use Rattle.mounting.specs.Laws.{sizes_in}
+use Rattle.mounting.specs.Starting.{opening_of}
+use Rattle.tools.proofs.scripts.starting.play_scripts.Given as goal
+
+-- the service's board, its volume and the sizes that its superblock gives, the policy and the drivers, from what is handed over
+abbrev pub ghosts-start_and_play : goal.ghosts-start_and_play
+ghosts-start_and_play g a = record {
+  table = a.board;
+  opening = opening_of a.image.now a.setup.now.minor a.prepared.range;
+  geometry = sizes_in (contents_at (opening_of a.image.now a.setup.now.minor a.prepared.range));
+  policy = a.setup.now.policy;
+  supply = map g.D.BlockDriver.state a.supply.items;
+}

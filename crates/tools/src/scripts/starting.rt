@@ -1,0 +1,180 @@
+//! Starting the service on which scripts are played.
+//!
+//! It isn't a `Program` of `launch`: what is known of the types that a program's `run` takes is known in one thread alone, and scripts are
+//! played in several.
+
+ghost use Rattle.std.specs.Prelude.{◌≡◌, ◌≢◌, ◌≤◌, ◌^◌, [], true, IfErr, IfOk, OnOk, map};
+ghost use Rattle.std.specs.Arc.{arc_value};
+ghost use Rattle.records.specs.Opening.{contents_at};
+ghost use Rattle.records.specs.Mount.{is_frame_count};
+ghost use Rattle.mounting.specs.Laws.{sizes_in};
+ghost use Rattle.mounting.specs.Starting.{opening_of, IsPrepared};
+ghost use Rattle.true_replies.specs.Events.{opening_media};
+ghost use Rattle.board.specs.View.{IsKeeper, opener};
+ghost use Rattle.call_text.specs.Said.{said};
+ghost use Rattle.launch.specs.Stopped.{IsMountedTruly, IsStopped};
+ghost use Rattle.launch.specs.Ran.{HasRun, IsNotStarted};
+ghost use Rattle.launch.specs.Spent.{IsSpent};
+ghost use Rattle.shared_server.specs.Held.{HasEnded};
+ghost use Rattle.tools.specs.Served.{AreServed, IsUnserved, IsUnservedBy};
+
+use crate::scripts::players::{Came, ServiceRefusal, play_on};
+use bdev::BlockDriver;
+use board::{Board, Seat};
+use board::counting::recorder::Recorder;
+use board::counting::room::Room;
+use driver_threads::running::Running;
+use gate::Gate;
+use launch::StartRefusal;
+use launch::ending::cut_once_spent;
+use launch::opened::refusal_of;
+use launch::start::counted_drivers;
+use mounting::mounted::mount;
+use mounting::{Prepared, prepare};
+use reincarnate::policy::Setup;
+use call_text::scripts::script::Script;
+use serve::service::Service;
+use std::alloc::Global;
+use std::marker::Brand;
+use std::sync::{Arc, Wait};
+use std::thread::Threads;
+
+/// Mounts the volume over this link, plays scripts on the service of it, and stops the service. It is refused as `launch::opened::mounted`
+/// is, and then nothing is played.
+fn mount_and_play<
+    N: Room + Send + Sync + 'static,
+    R: Threads + Wait + Copy + Send + Sync + 'static,
+    L: Recorder<N> + Send + 'static,
+    G: Gate + 'static,
+>(
+    alloc: Global,
+    rt: R,
+    board: Arc<Board>,
+    link: L,
+    minor: u8,
+    frames: u32,
+    running: Running<N>,
+    gate: Arc<G>,
+    scripts: &[Script<'_>],
+) -> Result<Result<Came, ServiceRefusal>, StartRefusal>
+    requires board { arc_value board ≡ N.table }
+    requires marks { L.marks link ≡ [] }
+    requires told { L.Link.history link ≡ [] }
+    requires geometry { N.geometry ≡ sizes_in (contents_at N.opening) }
+    requires minor { minor ≡ N.opening.minor }
+    requires frames { is_frame_count frames ≡ true }
+    requires budget { L.Link.budget_left link ≤ 2 ^ 57 }
+    requires truth { L.Link.truth link N.opening [] }
+    requires drivers { L.runs_on link N.policy N.supply }
+    ensures played { IfOk result (λ o. IfOk o (λ came. AreServed (HasEnded L.Link N.opening) N.geometry N.opening (map said scripts.now)
+        came.sessions.items came.last_sync came.image.items)) }
+    ensures unserved { IfOk result (λ o. IfErr o (IsUnservedBy L.Link L.numbers N.opening)) }
+    ensures holds { OnOk result (IsMountedTruly L.truth N.geometry N.opening) }
+    ensures refused { IfErr result (IsStopped N.opening frames) }
+{
+    match mount(alloc, link, minor, frames) {
+        Ok(server) => {
+            let service = Service::over(alloc, rt, board, server, running, gate)?;
+            Ok(play_on(alloc, &rt, service, scripts))
+        }
+        Err(refusal) => {
+            let _ = running.stop(&rt);
+            Err(refusal_of(refusal))
+        }
+    }
+}
+
+// The caller picks `N` from what it hands over.
+fn start_and_play<
+    N: Room + Send + Sync + 'static,
+    R: Threads + Wait + Copy + Send + Sync + 'static,
+    D: BlockDriver + 'static,
+    G: Gate + 'static,
+>(
+    alloc: Global,
+    rt: R,
+    board: Board,
+    seat: Seat,
+    prepared: Prepared,
+    image: &[u8],
+    setup: &Setup,
+    supply: Vec<D>,
+    gate: Arc<G>,
+    scripts: &[Script<'_>],
+) -> Result<Result<Came, ServiceRefusal>, StartRefusal>
+    requires board { board ≡ N.table }
+    requires seat { IsKeeper N.table seat × (seat.view ≡ opener) }
+    requires opening { N.opening ≡ opening_of image.now setup.now.minor prepared.range }
+    requires geometry { N.geometry ≡ sizes_in (contents_at N.opening) }
+    requires prepared { IsPrepared image.now setup.now (map D.state supply.items) prepared.range }
+    requires contents { prepared.media ≡ opening_media N.opening }
+    ensures played { IfOk result (λ o. HasRun image.now setup.now (map D.state supply.items) (λ g v. IfOk o (λ came.
+        AreServed IsSpent g v (map said scripts.now) came.sessions.items came.last_sync came.image.items))) }
+    ensures unserved { IfOk result (λ o. IfErr o (IsUnserved IsSpent)) }
+    ensures refused { IfErr result (IsStopped (opening_of image.now setup.now.minor prepared.range) setup.now.frames) }
+{
+    let Prepared { media, range } = prepared;
+    let asked = Arc::try_clone(&gate)?;
+    let (board, link, running) = counted_drivers::<N, R, D, G>(
+        alloc,
+        rt,
+        board,
+        seat,
+        media,
+        range,
+        setup.policy,
+        supply,
+        asked,
+    )?;
+    cut_once_spent::<N, R>();
+    mount_and_play(
+        alloc,
+        rt,
+        board,
+        link,
+        setup.minor,
+        setup.frames as u32,
+        running,
+        gate,
+        scripts,
+    )
+}
+
+/// Starts a service on the volume in an image, whose threads ask this gate, plays scripts at one time, each in a session and a thread of
+/// its own, and stops the service.
+///
+/// The service is refused as `launch::start::serve` refuses it, and then nothing is played; of a service that started no image may come. A
+/// call is told as cut, or the last sync, only once the link to the drivers had received 2^40 messages.
+pub fn play_scripts<
+    R: Threads + Wait + Copy + Send + Sync + 'static,
+    D: BlockDriver + 'static,
+    G: Gate + 'static,
+>(
+    alloc: Global,
+    rt: R,
+    image: &[u8],
+    scripts: Vec<Script<'_>>,
+    setup: &Setup,
+    supply: Vec<D>,
+    gate: Arc<G>,
+) -> Result<Result<Came, ServiceRefusal>, StartRefusal>
+    ensures refusal { IfErr result (IsNotStarted image.now setup.now (map D.state supply.items)) }
+    ensures played { IfOk result (λ o. HasRun image.now setup.now (map D.state supply.items) (λ g v. IfOk o (λ came.
+        AreServed IsSpent g v (map said scripts.entry.items) came.sessions.items came.last_sync came.image.items))) }
+    ensures unserved { IfOk result (λ o. IfErr o (IsUnserved IsSpent)) }
+{
+    let prepared = prepare(alloc, image, setup, &supply)?;
+    let (board, seat) = Board::new(alloc)?;
+    start_and_play::<Brand, R, D, G>(
+        alloc,
+        rt,
+        board,
+        seat,
+        prepared,
+        image,
+        setup,
+        supply,
+        gate,
+        scripts.as_slice(),
+    )
+}
