@@ -15,9 +15,9 @@ mod work;
 
 use bdev::BlockDriver;
 use bench_layers::timing::say;
-use board::{Board, Seat};
 use board::counting::recorder::Recorder;
 use board::counting::room::Room;
+use board::{Board, Seat};
 use driver_threads::running::Running;
 use gate::Gate;
 use gate::paced_gate::Paced;

@@ -2,9 +2,9 @@
 ghost use Rattle.std.specs.Prelude.{◌≡◌};
 
 use bench_layers::timing::{say, tell};
+use board::counting::room::Room;
 use board::{Board, Seat};
 use channel_link::channel::{Receiver, Sender, bounded};
-use board::counting::room::Room;
 use driver_threads::running::start_drivers;
 use gate::{Gate, Point};
 use media::Media;

@@ -12,7 +12,10 @@ ghost use Rattle.board.specs.Steps.{SessionIsNew};
 ghost use Rattle.board.specs.Words.{pulse_word, is_given_up, mark_of};
 
 use crate::mark::{NewCall, NewMark, NewNumber};
-use crate::rule::{Ask, Beat, Copy, Feel, Find, Give, GiveUp, Host, Law, Learn, Look, Note, Part, Spend, Start, Take, Tell};
+use crate::rule::{
+    Ask, Beat, Copy, Feel, Find, Give, GiveUp, Host, Law, Learn, Look, Note, Part, Spend, Start,
+    Take, Tell,
+};
 use crate::seat::{Knowledge, Seat};
 use atomic_table::Table;
 use message::endpoint::Endpoint;

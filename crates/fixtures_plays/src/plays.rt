@@ -2,13 +2,13 @@
 
 ghost use Rattle.std.specs.Prelude.{◌≡◌, ◌↔◌, IsOk, is_some, not, ◌==◌};
 
+use call_text::scripts::script_files::File;
 use fixtures::gates::Ticking;
 use fixtures::{patient, supply_at};
 use fsck::{Verdict, check};
 use gate::Gate;
 use modeldisk::{FaultKind, ScriptedDriver};
 use reincarnate::policy::Setup;
-use call_text::scripts::script_files::File;
 use std::alloc::{AllocError, Global};
 use std::io::{self, Write};
 use std::sync::{Arc, Wait};

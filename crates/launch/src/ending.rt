@@ -6,10 +6,10 @@ ghost use Rattle.records.specs.Opening.{Opening};
 ghost use Rattle.shared_server.specs.Held.{HasEnded, IsCutAtEnd};
 ghost use Rattle.launch.specs.Spent.{IsSpent};
 
-use channel_link::link::ChannelLink;
 use board::counting::Noting;
 use board::counting::recorder::Recorder;
 use board::counting::room::Room;
+use channel_link::link::ChannelLink;
 use reissue::link::Link;
 use std::sync::Wait;
 use tree::Outcome;

@@ -14,11 +14,11 @@ ghost use Rattle.launch.specs.Ran.{HasRun, IsNotStarted};
 
 use crate::program::run_over;
 use bdev::BlockDriver;
-use board::{Board, Seat};
-use channel_link::link::ChannelLink;
 use board::counting::Noting;
 use board::counting::recorder::Recorder;
 use board::counting::room::Room;
+use board::{Board, Seat};
+use channel_link::link::ChannelLink;
 use driver_threads::running::{Running, start_drivers};
 use gate::Gate;
 use media::Media;

@@ -1,12 +1,12 @@
 //! Plays scripts of client calls against a file server over the image of a volume.
 #![tactic(auto)]
 
+use call_text::scripts::script_files::File;
 use gate::paced_gate::Paced;
 use host::command_line::{line_of, status_for};
 use host::play_words::mfs::{Words, read as read_words};
 use host::whole_file::{read, replace};
 use modeldisk::supply::{drivers_for, setup_for, table_in};
-use call_text::scripts::script_files::File;
 use std::alloc::{AllocError, Global};
 use std::io;
 use std::process::ExitCode;

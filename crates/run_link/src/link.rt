@@ -5,9 +5,9 @@ ghost use Rattle.std.specs.VecDeque.{deque_len, deque_capacity};
 ghost use Rattle.records.specs.Opening.{Opening};
 ghost use Rattle.records.specs.Marks.{Mark};
 
+use crate::events::ruling::complain;
 use crate::room::{event_at, make_room};
 use crate::run::RunLink;
-use crate::events::ruling::complain;
 use inline::local::LocalDriver;
 use message::endpoint::Endpoint;
 use message::{BlockRequest, Incoming};

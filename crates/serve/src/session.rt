@@ -14,9 +14,9 @@ ghost use Rattle.shared_server.specs.Descriptors.{leaves_open};
 ghost use Rattle.shared_server.specs.Held.{HasEnded, HoldsIfTrue, IsCutAtEnd, IsEioOnceGivenUp, IsGuaranteed, IsSound};
 
 use crate::service::Shared;
-use board::{Board, Device, Seat};
 use board::counting::recorder::Recorder;
 use board::counting::room::Room;
+use board::{Board, Device, Seat};
 use file_server::FileServer;
 use shared_server::left_open::{LeftOpen, is_cut};
 use std::marker::{Model, PhantomData};

@@ -1,8 +1,5 @@
-//! Tests of calls, schedules and scripts as text: every kind of line, and lines that can't be read. Each expected value is
-//! docs/PROGRAMS.md's, or worked out by hand.
-//!
-//! Tests of errors, replies, outcomes, flags and transcripts as text, and of writers that fail. Each expected value is the format's or
-//! docs/PROGRAMS.md's, or worked out by hand.
+//! Tests of texts: of calls, schedules and scripts, every kind of line, and lines that can't be read; of errors, replies, outcomes, flags
+//! and transcripts, and of writers that fail. Each expected value is the format's or docs/PROGRAMS.md's, or worked out by hand.
 #![tactic(auto)]
 
 #[cfg(test)]

@@ -1,6 +1,6 @@
 //! Refusals of schedules and of scripts as text: a bad line is told by its number, which docs/PROGRAMS.md counts from 1.
-use schedule_text::reading::ScheduleRefusal;
 use call_text::scripts::reading::ScriptRefusal;
+use schedule_text::reading::ScheduleRefusal;
 use std::test::Fail;
 use tests_texts::are_told;
 

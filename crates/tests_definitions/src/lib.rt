@@ -1,8 +1,3 @@
-//! Tests of the volume, by computation: what is read of small volumes, and the check's verdicts on them with bytes changed. They stand in
-//! `proofs/`.
-//!
-//! Tests of the file tree, by computation: what each call answers on small trees, and the zones that files need. They stand in `proofs/`,
-//! one file for each kind of call.
+//! Tests of definitions, by computation: what each call answers on small file trees, the zones that files need, what is read of small
+//! volumes, and the check's verdicts on them with bytes changed. They stand in `proofs/`, one file for each kind.
 #![tactic(auto)]
-
-

@@ -5,9 +5,9 @@ ghost use Rattle.std.specs.Arc.{arc_value};
 
 use crate::watch::Watch;
 use bdev::{BlockDriver, Driver};
+use board::counting::room::Room;
 use board::{Board, Seat};
 use channel_link::link::ChannelLink;
-use board::counting::room::Room;
 use driver_threads::running::{Running, start_drivers};
 use media::Media;
 use media::partition::Table;

@@ -1,7 +1,5 @@
-//! Tests of paths, of access, of open files and descriptors: each expected value is worked out by hand from the rules of client calls.
-//!
-//! Tests of a directory's names, of walks and the places that paths mean: each expected value is worked out by hand from the format and
-//! from the rules of client calls.
+//! Tests of paths, of access, of open files and descriptors, of a directory's names, of walks and the places that paths mean: each
+//! expected value is worked out by hand from the format and from the rules of client calls.
 #![tactic(auto)]
 
 #[cfg(test)]

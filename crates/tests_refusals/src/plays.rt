@@ -2,11 +2,11 @@
 
 use crate::orders::{MOST, Trial, each_refused, is_last, refuse, was_refused};
 use crate::told::Said;
+use call_text::scripts::script_files;
 use fixtures::gates::Ticking;
 use fixtures::{new_volume, patient, whole};
 use modeldisk::supply::{drivers_for, table_in};
 use new_volume::NewVolume;
-use call_text::scripts::script_files;
 use simulation::inputs::File;
 use simulation::simulate::simulate;
 use std::alloc::{AllocError, Global};

@@ -3,6 +3,8 @@
 use crate::orders::{refuse, was_refused};
 use board::counting::recorder::Recorder;
 use board::counting::room::Room;
+use call_text::scripts::reading::read_script;
+use call_text::scripts::timed::TimedCall;
 use errno::Errno;
 use file_server::FileServer;
 use fixtures::gates::Ticking;
@@ -10,8 +12,6 @@ use fixtures::{new_volume, patient};
 use launch::program::Program;
 use launch::start::serve;
 use modeldisk::supply::{drivers_for, table_in};
-use call_text::scripts::reading::read_script;
-use call_text::scripts::timed::TimedCall;
 use serve::service::{Service, Shared};
 use serve::session::Session;
 use std::alloc::{AllocError, Global};

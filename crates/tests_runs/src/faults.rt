@@ -1,7 +1,7 @@
 //! Drivers that fail, or answer an error or too little, in runs of a call that reads the root's inode.
 
-use errno::Errno;
 use crate::compared::shown::{Faults, faults_show};
+use errno::Errno;
 use modeldisk::FaultKind;
 use std::alloc::Global;
 use std::test::Fail;

@@ -1,9 +1,9 @@
 //! Tests of runs of schedules: transcripts, while drivers die, hang, answer late, badly or too little, and are given up; what the media
-//! hold after writes; and runs that aren't begun, or whose transcript can't be written. Each expected value is taken from a format or
-//! worked out by hand.
+//! hold after writes; and runs that aren't begun, or whose transcript can't be written. `compared` makes the runs, and compares what came
+//! of them with what a test wants. Each expected value is taken from a format or worked out by hand.
 #![tactic(auto)]
 
-pub mod compared;
+mod compared;
 #[cfg(test)]
 mod faults;
 #[cfg(test)]

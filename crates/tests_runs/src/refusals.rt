@@ -1,8 +1,8 @@
 //! What isn't run, and what is said of it.
 
-use world::RunRefusal;
 use crate::compared::refused::{Refused, Told, is_refused, is_told_first};
 use media::MediaRefusal;
+use simulation::world::RunRefusal;
 use std::test::Fail;
 use volume::Finding;
 

@@ -8,9 +8,9 @@ ghost use Rattle.mounting.specs.Starting.{opening_of};
 ghost use Rattle.board.specs.View.{IsKeeper, opener};
 ghost use Rattle.true_replies.specs.Events.{opening_media};
 
-use board::{Board, Seat};
 use board::counting::Noting;
 use board::counting::room::Room;
+use board::{Board, Seat};
 use driver_threads::running::start_drivers;
 use fixtures::gates::Yielding;
 use fixtures::{new_volume, supply_of};

@@ -1,7 +1,5 @@
-//! Tests of a service's sessions: in turn, given up and refused, and of a service that is stopped. Each expected value is worked out by
-//! hand.
-//!
-//! Tests of a service whose link has ended. Each expected value is worked out by hand.
+//! Tests of a service's sessions: in turn, given up and refused, of a service that is stopped, and of one whose link has ended. Each
+//! expected value is worked out by hand.
 #![tactic(auto)]
 
 #[cfg(test)]

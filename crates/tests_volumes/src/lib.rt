@@ -1,8 +1,6 @@
-//! Tests of the programs' words, and of what is written of volumes that are made and checked, with which status. Each expected value is
-//! docs/PROGRAMS.md's or the format's.
-//!
-//! Tests of superblocks, of inodes' bytes, of new volumes, and of the check's findings on a small volume. Each expected value is taken
-//! from the format's tables or worked out by hand.
+//! Tests of volumes: of superblocks, of inodes' bytes, of new volumes, and of the check's findings on a small volume; of the programs'
+//! words, and of what is written of volumes that are made and checked, with which status. Each expected value is taken from the format's
+//! tables or docs/PROGRAMS.md, or worked out by hand.
 #![tactic(auto)]
 
 #[cfg(test)]

@@ -1,23 +1,23 @@
-//! Tests of the bytes and zones of files, and of the room that writes need, over blocks in memory: each expected value is worked out by
-//! hand from the format.
-//!
-//! Small volumes in memory, for tests of zones and of files: calls are made on them, and each is to give what stands beside it.
-//!
-//! Tests of the maps, of the bytes of a file and of the zones that its pages need, over a link that answers from a list: each expected
-//! value is worked out by hand from the format.
+//! Tests of a volume's lower layers: of the bytes and zones of files and the room that writes need, over blocks in memory (`calls`,
+//! `images` and `volumes` make them); of numbers, maps and inodes in blocks (`layers`); and of files over a link that answers from a
+//! list (`links`). Each expected value is taken from the format's tables or worked out by hand.
 #![tactic(auto)]
 
 #[cfg(test)]
 mod bytes;
-pub mod calls;
-pub mod images;
-pub mod layers;
+#[cfg(test)]
+mod calls;
+#[cfg(test)]
+mod images;
+#[cfg(test)]
+mod layers;
 #[cfg(test)]
 mod links;
 #[cfg(test)]
 mod pages;
 #[cfg(test)]
 mod reads;
-pub mod volumes;
+#[cfg(test)]
+mod volumes;
 #[cfg(test)]
 mod writes;

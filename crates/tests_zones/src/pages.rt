@@ -2,7 +2,10 @@
 //! 65798 double, and the others triple; of 2048 bytes the last are 518 and 262662, of 4096 bytes 1030 and 1049606.
 
 use crate::calls::{Call, DONE, Step};
-use crate::images::{HOLE, HOLE_LARGE, HOLE_MIDDLE, LARGE, MIDDLE, MIDDLE_PAGES, Part, SMALL, SMALL_PAGES, Size, volume};
+use crate::images::{
+    HOLE, HOLE_LARGE, HOLE_MIDDLE, LARGE, MIDDLE, MIDDLE_PAGES, Part, SMALL, SMALL_PAGES, Size,
+    volume,
+};
 use std::alloc::Global;
 use std::test::Fail;
 use store::Halt;

@@ -4,7 +4,10 @@
 //! 262662, of 4096 bytes 1030 and 1049606.
 
 use crate::calls::{Call, DONE, Field, SIZE, Step};
-use crate::images::{EMPTY, EMPTY_LARGE, EMPTY_MIDDLE, LARGE, MIDDLE, MIDDLE_PAGES, Part, SMALL, SMALL_PAGES, Size, volume};
+use crate::images::{
+    EMPTY, EMPTY_LARGE, EMPTY_MIDDLE, LARGE, MIDDLE, MIDDLE_PAGES, Part, SMALL, SMALL_PAGES, Size,
+    volume,
+};
 use std::alloc::Global;
 use std::test::Fail;
 

@@ -13,16 +13,16 @@ ghost use Rattle.tools.specs.Status.{status_number, gave_of, is_given_up, IsWhol
 ghost use Rattle.call_text.specs.Said.{said};
 ghost use Rattle.call_text.specs.Files.{AreScripts};
 
+use crate::scripts::turns::has_eio;
+use crate::scripts::{Came, ServiceRefusal, play_scripts};
 use bdev::BlockDriver;
+use call_text::scripts::script::Script;
+use call_text::scripts::script_files::{File, FileRefusal, read_scripts};
 use gate::Gate;
 use mounting::StartRefusal;
 use output::{OutputRefusal, Told, tell, write_text};
 use reincarnate::policy::Setup;
 use reply_text::answers::{Played, write_sessions};
-use crate::scripts::turns::has_eio;
-use crate::scripts::{Came, ServiceRefusal, play_scripts};
-use call_text::scripts::script::Script;
-use call_text::scripts::script_files::{File, FileRefusal, read_scripts};
 use shared_server::locked::LastSync;
 use std::alloc::Global;
 use std::fmt;

@@ -12,9 +12,9 @@ ghost use Rattle.board.specs.Keeper.{AreAllUsed, IsLowestFree};
 ghost use Rattle.board.specs.Recorder.{SameLink};
 ghost use Rattle.file_server.specs.Leaving.{IsEndLast};
 
+use crate::Seat;
 use crate::counting::room::Room;
 use crate::counting::steady::Supplied;
-use crate::Seat;
 use tree::{Call, Reply, Who};
 
 /// A link that keeps the record of a service on the service's board, and gives its sessions their numbers.

@@ -5,6 +5,7 @@ ghost use Rattle.reincarnate.specs.declared.policy.Event.TheVariants.{Tick};
 ghost use Rattle.reincarnate.specs.Watch.{driver as driver_of, new_watch, on};
 ghost use Rattle.schedule.specs.Noted.{Noted};
 
+use crate::drivers::Drivers;
 use crate::events::ruling::{Ruling, exit};
 use bdev::Step;
 use inline::local::LocalDriver;
@@ -14,7 +15,6 @@ use message::endpoint::{DISK_DRIVER, Endpoint};
 use records::marks::Cause;
 use reincarnate::policy::Event as PolicyEvent;
 use reincarnate::{Action, Reincarnation};
-use crate::drivers::Drivers;
 use schedule::Event;
 use schedule::log::{Entry, Log};
 use std::alloc::{AllocError, Global};

@@ -7,9 +7,9 @@ ghost use Rattle.tools.specs.Made.{Calls, Plays, cuts, is_eio, has_eio};
 ghost use Rattle.tools.specs.Turns.{ArePlayed, HaveEnded, HaveMet, IsTaken, IsUnplayed, asked, seen_by};
 
 use crate::scripts::client::Client;
+use call_text::scripts::timed::TimedCall;
 use errno::Errno;
 use reply_text::answers::Played;
-use call_text::scripts::timed::TimedCall;
 use std::alloc::{AllocError, Global};
 use std::thread;
 use std::thread::Threads;
