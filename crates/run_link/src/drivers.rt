@@ -1,6 +1,7 @@
 //! The media and the drivers of a run.
 
-ghost use Rattle.std.specs.Prelude.{◌≡◌, ◌≢◌, ◌↔◌, ◌⊎◌, ◌<◌, ◌≤◌, ◌+◌, IfSome, IfNone, IfOk, OnOk, OnErr, Err, length, true, false, vec_len, vec_capacity};
+ghost use Rattle.std.specs.Prelude.{◌≡◌, ◌≢◌, ◌↔◌, ◌⊎◌, ◌<◌, ◌≤◌, ◌+◌, IfSome, IfNone, IfOk, OnOk, OnErr, Err, length, true, false};
+ghost use Rattle.std.specs.Prelude.{vec_len, vec_capacity};
 ghost use Rattle.run_link.specs.Disks.{torn_media};
 
 use crate::moves::{send, step_unit};

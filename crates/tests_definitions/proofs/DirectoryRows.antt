@@ -7,7 +7,8 @@ use Rattle.tree.specs.Tree.{Tree, on_node}
 use Rattle.tree.specs.Changes.{more_links}
 use Rattle.tree.specs.Answers.{refused, done, node_is, room_is}
 use Rattle.tree.specs.Effects.{tree_after_call}
-use Rattle.tests_definitions.proofs.SmallTrees.{small, tight, user0, other, at, path, flags, after, house, Rows, empty_path, long_path, zero_path, wide_path}
+use Rattle.tests_definitions.proofs.SmallTrees.{small, tight, user0, other, at, path, flags, after, house, Rows, empty_path, long_path}
+use Rattle.tests_definitions.proofs.SmallTrees.{zero_path, wide_path}
 
 mkdirs : Rows small house (
     (user0, Mkdir (path "/y") 511, done)

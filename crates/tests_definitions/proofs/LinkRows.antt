@@ -8,7 +8,8 @@ use Rattle.tree.specs.Tree.{Tree, on_node}
 use Rattle.tree.specs.Changes.{more_links}
 use Rattle.tree.specs.Answers.{refused, done, node_is, room_is}
 use Rattle.tree.specs.Effects.{tree_after_call}
-use Rattle.tests_definitions.proofs.SmallTrees.{small, tight, user0, other, at, path, after, house, Row, Rows, empty_path, long_path, zero_path, wide_path}
+use Rattle.tests_definitions.proofs.SmallTrees.{small, tight, user0, other, at, path, after, house, Row, Rows, empty_path, long_path}
+use Rattle.tests_definitions.proofs.SmallTrees.{zero_path, wide_path}
 
 -- the refusals of an old path, where the new one is this; and of a new path, where the old one is this
 abbrev old_paths : Bor (List ℕ) → List Row

@@ -10,7 +10,8 @@ use Rattle.tree.specs.Sums.{sum_below, some_below, least_below}
 use Rattle.tree.specs.Tree.{Tree}
 use Rattle.tree.specs.Answers.{refused, done, some_bytes, descriptor, node_is, room_is}
 use Rattle.tree.specs.Effects.{tree_after_call, may_want_memory}
-use Rattle.tests_definitions.proofs.SmallTrees.{small, user, user0, other, path, flags, after, house, Row, Rows, empty_path, long_path, zero_path, wide_path}
+use Rattle.tests_definitions.proofs.SmallTrees.{small, user, user0, other, path, flags, after, house, Row, Rows, empty_path, long_path}
+use Rattle.tests_definitions.proofs.SmallTrees.{zero_path, wide_path}
 
 -- chmod, chown, utime and truncate of a path that is refused, with arguments that may be, and ones that may not
 abbrev chmods : ℕ → Errno → Errno → Errno → Errno → Errno → Errno → Errno → List Row

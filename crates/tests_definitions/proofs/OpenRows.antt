@@ -8,7 +8,8 @@ use Rattle.tree.specs.declared.Whence.TheVariants.{Set}
 use Rattle.tree.specs.Sums.{sum_below, some_below, least_below}
 use Rattle.tree.specs.Tree.{OpenFile, Tree}
 use Rattle.tree.specs.Answers.{refused, done, descriptor, some_bytes, node_is, room_is}
-use Rattle.tests_definitions.proofs.SmallTrees.{small, tight, user0, other, path, flags, after, house, Row, Rows, empty_path, long_path, zero_path, wide_path}
+use Rattle.tests_definitions.proofs.SmallTrees.{small, tight, user0, other, path, flags, after, house, Row, Rows, empty_path, long_path}
+use Rattle.tests_definitions.proofs.SmallTrees.{zero_path, wide_path}
 
 -- the flags by their letters
 opened : Rows small house (

@@ -5,7 +5,8 @@ use Rattle.errno.specs.declared.Errno.TheVariants.{ENOENT, EACCES, ENOTDIR, EINV
 use Rattle.tree.specs.Sums.{sum_below, some_below, least_below}
 use Rattle.tree.specs.Tree.{Tree}
 use Rattle.tree.specs.Answers.{Answer, refused, done, descriptor, node_is}
-use Rattle.tests_definitions.proofs.SmallTrees.{small, user, user0, other, at, path, flags, after, house, Rows, empty_path, long_path, zero_path, wide_path}
+use Rattle.tests_definitions.proofs.SmallTrees.{small, user, user0, other, at, path, flags, after, house, Rows, empty_path, long_path}
+use Rattle.tests_definitions.proofs.SmallTrees.{zero_path, wide_path}
 
 -- what stat says of /d, and of the root
 abbrev d_is : Answer

@@ -7,7 +7,8 @@ use Rattle.volume.specs.Reading.{blocks_of, disk_of, u16_in, u32_in, bit_in, map
 use Rattle.volume.specs.Pieces.{blank}
 use Rattle.volume.specs.Nodes.{page_zone, file_byte, file_of, entry_inode, entry_name, names_in, type_in, permissions_in, is_mode, node_of, nodes_of}
 use Rattle.volume.specs.Places.{zone_at}
-use Rattle.tests_definitions.proofs.SmallVolumes.{Gives, u16, u32, entry, with_block, with_byte, start, small, small_pieces, tree, wide, wide_pieces}
+use Rattle.tests_definitions.proofs.SmallVolumes.{Gives, u16, u32, entry, with_block, with_byte, start, small, small_pieces, tree, wide}
+use Rattle.tests_definitions.proofs.SmallVolumes.{wide_pieces}
 
 -- Blocks of 64 bytes: byte 130 of an image is byte 2 of block 2; past a block's end and past the image there are zeros.
 blocks : Gives (λ (at : ℕ × ℕ). disk_of small (replicate 130 7 ++ (9 ∷ 8 ∷ [])) at.0 at.1)

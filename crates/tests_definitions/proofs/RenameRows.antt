@@ -8,7 +8,8 @@ use Rattle.tree.specs.Tree.{Tree, on_node}
 use Rattle.tree.specs.Changes.{more_links}
 use Rattle.tree.specs.Answers.{refused, done, node_is, room_is}
 use Rattle.tree.specs.Effects.{tree_after_call}
-use Rattle.tests_definitions.proofs.SmallTrees.{small, user0, other, path, flags, after, rooms, Row, Rows, empty_path, long_path, zero_path, wide_path}
+use Rattle.tests_definitions.proofs.SmallTrees.{small, user0, other, path, flags, after, rooms, Row, Rows, empty_path, long_path, zero_path}
+use Rattle.tests_definitions.proofs.SmallTrees.{wide_path}
 
 renames : Rows small rooms (
     (user0, Rename (path "/f") (path "/y"), done)

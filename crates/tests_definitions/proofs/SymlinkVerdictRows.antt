@@ -8,7 +8,8 @@ use Rattle.volume.specs.Reading.{Disk}
 use Rattle.volume.specs.Pieces.{pieces}
 use Rattle.volume.specs.Nodes.{names_in, nodes_of}
 use Rattle.volume.specs.Verdict.{Verdict, Clean, found, first_found, place_limit, tests}
-use Rattle.tests_definitions.proofs.SmallVolumes.{Rows, Gives, inode, entry, with_block, with_byte, start, small, small_pieces, verdict, small_verdict_from}
+use Rattle.tests_definitions.proofs.SmallVolumes.{Rows, Gives, inode, entry, with_block, with_byte, start, small, small_pieces, verdict}
+use Rattle.tests_definitions.proofs.SmallVolumes.{small_verdict_from}
 
 -- The root with two links, l and m: inode 2 with the target a in zone 16, and inode 3 with the target bc in zone 17. The root's entries
 -- lie in zones 12 to 15.

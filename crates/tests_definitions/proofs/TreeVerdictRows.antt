@@ -6,7 +6,8 @@ use Rattle.volume.specs.Reading.{Disk}
 use Rattle.volume.specs.Pieces.{pieces}
 use Rattle.volume.specs.Nodes.{names_in}
 use Rattle.volume.specs.Verdict.{Verdict, Clean, found, verdict_of_pieces}
-use Rattle.tests_definitions.proofs.SmallVolumes.{Rows, Gives, inode, entry, with_block, with_byte, tree, wide_verdict, verdict_from, later_verdict}
+use Rattle.tests_definitions.proofs.SmallVolumes.{Rows, Gives, inode, entry, with_block, with_byte, tree, wide_verdict, verdict_from}
+use Rattle.tests_definitions.proofs.SmallVolumes.{later_verdict}
 
 -- The tree; and the tree with bytes that are unseen (of both first blocks, of an inode that isn't marked, of a zone without a use, and of
 -- the last page past the end), a file without permissions, a name of a high byte, one of 60 bytes, and a hole of the greatest size.

@@ -1,5 +1,6 @@
 -- Sessions whose calls were made at one time, and that then meet.
-use Rattle.std.proofs.Common.{◌≡◌, ℕ, suc, take, ◌-◌, ◌<◌, ◌≤◌, arith, List, [], ◌∷◌, ◌++◌, length, length-append, map, refl, sym, ap, ◌∙◌, append-nil, append_assoc, subst, Result, Ok, inl, inr, ◌⊎◌, reverse}
+use Rattle.std.proofs.Common.{◌≡◌, ℕ, suc, take, ◌-◌, ◌<◌, ◌≤◌, arith, List, [], ◌∷◌, ◌++◌, length, length-append, map, refl, sym, ap, ◌∙◌}
+use Rattle.std.proofs.Common.{append-nil, append_assoc, subst, Result, Ok, inl, inr, ◌⊎◌, reverse}
 use Rattle.std.specs.Prelude.{slice_index_or}
 use Rattle.std.proofs.lemmas.List.{reverse-append}
 use Rattle.tree.specs.Tree.{most_sessions}
