@@ -1,4 +1,4 @@
--- Scripts played on a service.
+-- Scripts played on a service, and what is printed of them.
 pub mod Played
 pub mod Status
 pub mod Refusals
