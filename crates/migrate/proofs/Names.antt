@@ -11,11 +11,11 @@ use Rattle.image.specs.declared.Image.{Image}
 use Rattle.image.specs.Contents.{contents}
 use Rattle.migrate.specs.Same.{SameNames, SameDirectory}
 use Rattle.image.proofs.Places.{four}
-use Rattle.old_volume.specs.Form.{version_2}
-use Rattle.old_volume.specs.Nodes as nodes_2
-use Rattle.old_volume.specs.Nodes.{is_dropped}
-use Rattle.old_volume.specs.Widened.{IsWidened}
-use Rattle.old_volume.proofs.EntryBytes.{text_cut}
+use Rattle.migrate.specs.Form.{version_2}
+use Rattle.migrate.specs.Nodes as nodes_2
+use Rattle.migrate.specs.Nodes.{is_dropped}
+use Rattle.migrate.specs.Widened.{IsWidened}
+use Rattle.migrate.proofs.EntryBytes.{text_cut}
 
 -- two rows of the same bytes hold the same text
 text_same : (f h : ℕ → ℕ) (k p q : ℕ) → ((a : ℕ) → a < k → f (p + a) ≡ h (q + a)) → text_in f k p ≡ text_in h k q

@@ -14,9 +14,9 @@ use Rattle.volume.proofs.Naming.{spot}
 use Rattle.volume.proofs.Bridge.{naming, zone_spot}
 use Rattle.volume.proofs.Levels.{needed_by_level}
 use Rattle.volume.proofs.Sums.{count_most}
-use Rattle.old_volume.specs.Form.{version_2}
-use Rattle.old_volume.specs.Nodes.{nodes_of, node_of, body_of, directory_of, is_dropped, entry_count_of}
-use Rattle.old_volume.specs.Holds.{IsSound}
+use Rattle.migrate.specs.Form.{version_2}
+use Rattle.migrate.specs.Nodes.{nodes_of, node_of, body_of, directory_of, is_dropped, entry_count_of}
+use Rattle.migrate.specs.Holds.{IsSound}
 use Rattle.migrate.specs.Used.{zones_in, zones_for, name_count}
 use Rattle.migrate.proofs.UsedFiles.{zones_by_slots}
 use Rattle.migrate.proofs.UsedPages.{first_pages}

@@ -20,16 +20,16 @@ use Rattle.image.proofs.Contents.{out_of_range, is_geometry}
 use Rattle.fsck.specs.Parts.{first_of}
 use Rattle.fsck.proofs.Firsts.{verdict_from, first_verdict, none_first}
 use Rattle.tree.specs.Tree.{Tree}
-use Rattle.old_volume.specs.Form.{version_2}
-use Rattle.old_volume.specs.Nodes as nodes_2
-use Rattle.old_volume.specs.Findings.{has_bad_size}
-use Rattle.old_volume.specs.Holds.{IsSound}
-use Rattle.old_volume.specs.Verdict.{tests, verdict_of_pieces, old_verdict_of}
-use Rattle.old_volume.specs.Stamped.{IsStamped}
+use Rattle.migrate.specs.Form.{version_2}
+use Rattle.migrate.specs.Nodes as nodes_2
+use Rattle.migrate.specs.Findings.{has_bad_size}
+use Rattle.migrate.specs.Holds.{IsSound}
+use Rattle.migrate.specs.Verdict.{tests, verdict_of_pieces, old_verdict_of}
+use Rattle.migrate.specs.Stamped.{IsStamped}
 use Rattle.migrate.specs.Same.{SameNodes}
-use Rattle.old_volume.specs.Superblock.{old_geometry_of}
-use Rattle.old_volume.proofs.SuperblockPut.{old_fits}
-use Rattle.old_volume.proofs.SoundDirectories.{clean_is_sound as clean_sound}
+use Rattle.migrate.specs.Superblock.{old_geometry_of}
+use Rattle.migrate.proofs.SuperblockPut.{old_fits}
+use Rattle.migrate.proofs.SoundDirectories.{clean_is_sound as clean_sound}
 use Rattle.new_volume.specs.Sizes.{sizes_of}
 use Rattle.migrate.specs.Used.{has_room}
 use Rattle.migrate.specs.declared.refusal.MigrateRefusal.{MigrateRefusal}

@@ -10,12 +10,12 @@ use Rattle.volume.specs.Verdict.{Verdict, Clean, Found, verdict_of, HoldsClosed}
 use Rattle.image.specs.declared.Image.{Image}
 use Rattle.image.specs.Contents.{contents}
 use Rattle.new_volume.specs.Sizes.{sizes_of}
-use Rattle.old_volume.specs.declared.superblock.OldRefusal.{OldRefusal}
-use Rattle.old_volume.specs.Superblock.{old_geometry_of, old_refusal_number}
-use Rattle.old_volume.specs.Form.{version_2}
-use Rattle.old_volume.specs.Nodes.{nodes_of}
-use Rattle.old_volume.specs.Holds.{HoldsOld}
-use Rattle.old_volume.specs.Verdict.{old_verdict_of}
+use Rattle.migrate.specs.declared.old_volume.superblock.OldRefusal.{OldRefusal}
+use Rattle.migrate.specs.Superblock.{old_geometry_of, old_refusal_number}
+use Rattle.migrate.specs.Form.{version_2}
+use Rattle.migrate.specs.Nodes.{nodes_of}
+use Rattle.migrate.specs.Holds.{HoldsOld}
+use Rattle.migrate.specs.Verdict.{old_verdict_of}
 use Rattle.migrate.specs.Used.{has_room}
 use Rattle.migrate.specs.declared.refusal.MigrateRefusal.{MigrateRefusal}
 use Rattle.migrate.specs.declared.refusal.MigrateRefusal.TheVariants.{OldLayout, Found as FoundOld, TooManyBlocks, DoesNotFit, OutOfMemory, Mismatch}

@@ -1,6 +1,6 @@
 use Rattle.std.proofs.Common.{sym, ap, subst, ◌∙◌}
 use Rattle.layout.specs.Places.{geometry_of}
-use Rattle.old_volume.proofs.SuperblockPut.{old_fits}
+use Rattle.migrate.proofs.SuperblockPut.{old_fits}
 use Rattle.migrate.specs.Migrated.{IsConfirmed, IsRefused}
 use Rattle.migrate.proofs.RoomLeft.{sizes_known}
 use Rattle.migrate.proofs.Verdicts.{err_same, sound_from, sizes_good, found_refused, many_refused, none_refused, cramped_refused, late_refused, migrated}

@@ -2,7 +2,7 @@ use Rattle.std.proofs.Common.{◌≡◌, true, sym, ap, ◌∙◌}
 use Rattle.std.proofs.lemmas.Bool.{and_from}
 use Rattle.volume.specs.Nodes.{is_marked, is_directory_mode}
 use Rattle.image.specs.Contents.{contents}
-use Rattle.old_volume.proofs.EntryBytes.{small}
+use Rattle.migrate.proofs.EntryBytes.{small}
 use Rattle.migrate.proofs.write.moved.Goals as goal
 
 pub moved_directory-requires : goal.moved_directory-requires
