@@ -36,11 +36,13 @@ module _ (i : Image) (n : ℕ) where
 
   -- the keys are the names of the first entries that aren't free
   abbrev pub AreNames : List (Bor (List ℕ)) → ℕ → Type 0
-  AreNames keys e = (q : List ℕ) → list_any (λ (k : Bor (List ℕ)). pointwise eqb q k.now) keys ≡ some_below (λ f. not (free f) && same_name (name f) q) e
+  AreNames keys e = (q : List ℕ) → list_any (λ (k : Bor (List ℕ)). pointwise eqb q k.now) keys
+      ≡ some_below (λ f. not (free f) && same_name (name f) q) e
 
   -- one name more
   pub names_more : (old new : List (Bor (List ℕ))) (e : ℕ) (key : List ℕ) → AreNames old e → free e ≡ false → key ≡ name e
-      → ((q : List ℕ) → list_any (λ (k : Bor (List ℕ)). pointwise eqb q k.now) new ≡ cond (pointwise eqb key q) true (list_any (λ (k : Bor (List ℕ)). pointwise eqb q k.now) old))
+      → ((q : List ℕ) → list_any (λ (k : Bor (List ℕ)). pointwise eqb q k.now) new
+      ≡ cond (pointwise eqb key q) true (list_any (λ (k : Bor (List ℕ)). pointwise eqb q k.now) old))
       → AreNames new (e + 1)
   names_more old new e key before used is update q =
       let turn : (a b : Bool) → cond a true b ≡ (b || a) = λ a b. elim a as (λ a. cond a true b ≡ (b || a)) [
@@ -71,16 +73,23 @@ module _ (i : Image) (n : ℕ) where
   free_good e is = and_left (not (free e)) _ (ap not is)
 
   -- the three ways to be bad of one that isn't free, and none of them
-  pub bad_free : (e : ℕ) → free e ≡ false → (target_at version_2 (g i) (v i) n e == 0) ≡ true → is_bad_entry version_2 (g i) (v i) n e ≡ true
-  bad_free e used is = and_from (not (free e)) _ (ap not used) (or_left _ _ (or_left (target_at version_2 (g i) (v i) n e == 0) (nat_le 2 e && not (is_name_field version_2 (g i) (v i) n e)) is))
+  pub bad_free : (e : ℕ) → free e ≡ false → (target_at version_2 (g i) (v i) n e == 0) ≡ true
+      → is_bad_entry version_2 (g i) (v i) n e ≡ true
+  bad_free e used is = and_from (not (free e)) _ (ap not used) (or_left _ _
+      (or_left (target_at version_2 (g i) (v i) n e == 0) (nat_le 2 e && not (is_name_field version_2 (g i) (v i) n e)) is))
 
-  pub bad_field : (e : ℕ) → free e ≡ false → (nat_le 2 e && not (is_name_field version_2 (g i) (v i) n e)) ≡ true → is_bad_entry version_2 (g i) (v i) n e ≡ true
-  bad_field e used is = and_from (not (free e)) _ (ap not used) (or_left _ _ (or_right (target_at version_2 (g i) (v i) n e == 0) (nat_le 2 e && not (is_name_field version_2 (g i) (v i) n e)) is))
+  pub bad_field : (e : ℕ) → free e ≡ false → (nat_le 2 e && not (is_name_field version_2 (g i) (v i) n e)) ≡ true
+      → is_bad_entry version_2 (g i) (v i) n e ≡ true
+  bad_field e used is = and_from (not (free e)) _ (ap not used) (or_left _ _
+      (or_right (target_at version_2 (g i) (v i) n e == 0) (nat_le 2 e && not (is_name_field version_2 (g i) (v i) n e)) is))
 
-  pub bad_double : (e : ℕ) → free e ≡ false → some_below (has_name_of version_2 (g i) (v i) n e) e ≡ true → is_bad_entry version_2 (g i) (v i) n e ≡ true
+  pub bad_double : (e : ℕ) → free e ≡ false → some_below (has_name_of version_2 (g i) (v i) n e) e ≡ true
+      → is_bad_entry version_2 (g i) (v i) n e ≡ true
   bad_double e used is = and_from (not (free e)) _ (ap not used)
       (or_right ((target_at version_2 (g i) (v i) n e == 0) || (nat_le 2 e && not (is_name_field version_2 (g i) (v i) n e))) _ is)
 
-  pub good_entry : (e : ℕ) → (target_at version_2 (g i) (v i) n e == 0) ≡ false → (nat_le 2 e && not (is_name_field version_2 (g i) (v i) n e)) ≡ false
+  pub good_entry : (e : ℕ) → (target_at version_2 (g i) (v i) n e == 0) ≡ false
+      → (nat_le 2 e && not (is_name_field version_2 (g i) (v i) n e)) ≡ false
       → some_below (has_name_of version_2 (g i) (v i) n e) e ≡ false → is_bad_entry version_2 (g i) (v i) n e ≡ false
-  good_entry e a b c = and_right (not (free e)) _ (or_from _ _ (or_from (target_at version_2 (g i) (v i) n e == 0) (nat_le 2 e && not (is_name_field version_2 (g i) (v i) n e)) a b) c)
+  good_entry e a b c = and_right (not (free e)) _ (or_from _ _ (or_from (target_at version_2 (g i) (v i) n e == 0)
+      (nat_le 2 e && not (is_name_field version_2 (g i) (v i) n e)) a b) c)

@@ -1,8 +1,10 @@
 -- The entries of directories by the bytes that version 3 has for them.
-use Rattle.std.proofs.Common.{◌≡◌, ◌≢◌, ◌<◌, ◌≤◌, ◌+◌, ◌*◌, ◌-◌, take, drop, set, get_or, ℕ, zero, suc, List, [], ◌∷◌, length, slice_index, Bool, true, false, refl, sym, ap, ◌∙◌, cond, arith}
+use Rattle.std.proofs.Common.{◌≡◌, ◌≢◌, ◌<◌, ◌≤◌, ◌+◌, ◌*◌, ◌-◌, take, drop, set, get_or, ℕ, zero, suc, List, [], ◌∷◌, length, slice_index}
+use Rattle.std.proofs.Common.{Bool, true, false, refl, sym, ap, ◌∙◌, cond, arith}
 use mathlib.Core.Logic.{inl, inr}
 use Rattle.std.specs.Prelude.{not, ◌&&◌, ◌||◌, ◌==◌, nat_lt, nat_le, replicate}
-use Rattle.std.proofs.lemmas.List.{length-take, length-drop, length-take-le, get_or-take, get_or-drop, get_or-replicate, get_or_past, length-replicate, length-set, get_or-set_same, get_or-set_other}
+use Rattle.std.proofs.lemmas.List.{length-take, length-drop, length-take-le, get_or-take, get_or-drop, get_or-replicate, get_or_past}
+use Rattle.std.proofs.lemmas.List.{length-replicate, length-set, get_or-set_same, get_or-set_other}
 use Rattle.std.proofs.lemmas.Bool.{cases_eq, cases_lt, cond-true, and_parts, and_left, and_right, or_parts, ltb-false, eq-eqb}
 use Rattle.tree.specs.Sums.{some_below}
 use Rattle.tree.specs.Names.{Name, is_name}
@@ -23,7 +25,8 @@ use Rattle.migrate.specs.Findings.{has_bad_size, is_bad_directory_size, is_lost}
 use Rattle.migrate.specs.Widened.{IsWidened}
 
 -- what is false from a bound on is some number's below the bound
-pub some_shorter : (p q : ℕ → Bool) (k n : ℕ) → k ≤ n → ((a : ℕ) → a < k → p a ≡ q a) → ((a : ℕ) → k ≤ a → a < n → p a ≡ false) → some_below p n ≡ some_below q k
+pub some_shorter : (p q : ℕ → Bool) (k n : ℕ) → k ≤ n → ((a : ℕ) → a < k → p a ≡ q a) → ((a : ℕ) → k ≤ a → a < n → p a ≡ false)
+    → some_below p n ≡ some_below q k
 unfolding some_below
 some_shorter p q k zero most same none = let e : 0 ≡ k = omega arith in same_some p q 0 (λ a h. absurd (omega arith)) ∙ ap (some_below q) e
 some_shorter p q k (suc n) most same none = elim (cases_lt n k) [
@@ -41,7 +44,8 @@ text_same f h (suc k) p q same =
     let p0 : p + 0 ≡ p = omega arith in
     let q0 : q + 0 ≡ q = omega arith in
     let here : f p ≡ h q = sym (ap f p0) ∙ same 0 (omega arith) ∙ ap h q0 in
-    let rest = text_same f h k (suc p) (suc q) (λ a l. let pa : suc p + a ≡ p + suc a = omega arith in let qa : q + suc a ≡ suc q + a = omega arith in
+    let rest = text_same f h k (suc p) (suc q) (λ a l. let pa : suc p + a ≡ p + suc a = omega arith in
+    let qa : q + suc a ≡ suc q + a = omega arith in
     ap f pa ∙ same (suc a) (omega arith) ∙ ap h qa) in
     λ i. cond (here i == 0) [] (here i ∷ rest i)
 
@@ -65,7 +69,8 @@ module _ (i : Image) (n e : ℕ) (x : Inode) (is : x ≡ (v i).inodes n) (bytes 
   byte_same a h = wide.name a h ∙ ap (λ x. file_byte (g i) (v i) x (16 * e + 2 + a)) is
 
   -- its field
-  pub field_same : (name : Name) → ((a : ℕ) → 14 ≤ a → slice_index name a ≡ 0) → entry.is_field (slice_index bytes) name ≡ is_field version_2 (g i) (v i) n e name
+  pub field_same : (name : Name) → ((a : ℕ) → 14 ≤ a → slice_index name a ≡ 0)
+      → entry.is_field (slice_index bytes) name ≡ is_field version_2 (g i) (v i) n e name
   field_same name short = ap not (some_shorter _ _ 14 60 (omega arith) (λ a h. ap (λ b. not (b == slice_index name a)) (byte_same a h))
       (λ a far h. ap not (eq-eqb (slice_index bytes (4 + a)) (slice_index name a) (wide.rest a far h ∙ sym (short a far)))))
 
@@ -80,7 +85,8 @@ module _ (i : Image) (n e : ℕ) (x : Inode) (is : x ≡ (v i).inodes n) (bytes 
   padded_same : entry.is_padded (slice_index bytes) ≡ is_padded version_2 (g i) (v i) n e
   padded_same = ap not (some_shorter _ _ 13 59 (omega arith)
       (λ a h. let one = byte_same a (omega arith) in let two = byte_same (a + 1) (omega arith) in λ j. (one j == 0) && not (two j == 0))
-      (λ a far h. and_right (slice_index bytes (4 + a) == 0) _ (ap not (eq-eqb (slice_index bytes (4 + (a + 1))) 0 (wide.rest (a + 1) (omega arith) (omega arith))))))
+      (λ a far h. and_right (slice_index bytes (4 + a) == 0) _ (ap not
+      (eq-eqb (slice_index bytes (4 + (a + 1))) 0 (wide.rest (a + 1) (omega arith) (omega arith))))))
 
   -- whether it is a name
   pub name_field_same : entry.has_name (slice_index bytes) ≡ is_name_field version_2 (g i) (v i) n e
@@ -92,30 +98,38 @@ module _ (i : Image) (n e : ℕ) (x : Inode) (is : x ≡ (v i).inodes n) (bytes 
   lost_same = ap (λ t. not (nat_le 2 e && (t == 0)) && not (is_marked (g i) (v i) t)) target_same
 
 -- a directory whose size isn't bad has two entries
-pub two_entries : (i : Image) (n : ℕ) → is_directory_inode (g i) (v i) n ≡ true → has_bad_size version_2 (g i) (v i) n ≡ false → 32 ≤ ((v i).inodes n).size
+pub two_entries : (i : Image) (n : ℕ) → is_directory_inode (g i) (v i) n ≡ true → has_bad_size version_2 (g i) (v i) n ≡ false
+    → 32 ≤ ((v i).inodes n).size
 two_entries i n is good =
     let size = ((v i).inodes n).size in
     let marked = (and_parts (is_marked (g i) (v i) n) _ is).0 in
     let inner : nat_lt most_size size || (is_directory_inode (g i) (v i) n && is_bad_directory_size version_2 (g i) (v i) size) ≡ false
-    = sym (ap (λ b. b && (nat_lt most_size size || (is_directory_inode (g i) (v i) n && is_bad_directory_size version_2 (g i) (v i) size))) marked) ∙ good in
+    = sym (ap (λ b. b && (nat_lt most_size size || (is_directory_inode (g i) (v i) n && is_bad_directory_size version_2 (g i) (v i) size)))
+    marked) ∙ good in
     let later = (or_parts (nat_lt most_size size) _ inner).1 in
-    let bad : is_bad_directory_size version_2 (g i) (v i) size ≡ false = sym (ap (λ b. b && is_bad_directory_size version_2 (g i) (v i) size) is) ∙ later in
+    let bad : is_bad_directory_size version_2 (g i) (v i) size ≡ false
+    = sym (ap (λ b. b && is_bad_directory_size version_2 (g i) (v i) size) is) ∙ later in
     ltb-false size 32 (or_parts (nat_lt size 32) _ bad).0
 
 -- and is within the limit
-pub size_low : (i : Image) (n : ℕ) → is_marked (g i) (v i) n ≡ true → has_bad_size version_2 (g i) (v i) n ≡ false → ((v i).inodes n).size ≤ most_size
+pub size_low : (i : Image) (n : ℕ) → is_marked (g i) (v i) n ≡ true → has_bad_size version_2 (g i) (v i) n ≡ false
+    → ((v i).inodes n).size ≤ most_size
 size_low i n marked good =
     let size = ((v i).inodes n).size in
     let inner : nat_lt most_size size || (is_directory_inode (g i) (v i) n && is_bad_directory_size version_2 (g i) (v i) size) ≡ false
-    = sym (ap (λ b. b && (nat_lt most_size size || (is_directory_inode (g i) (v i) n && is_bad_directory_size version_2 (g i) (v i) size))) marked) ∙ good in
+    = sym (ap (λ b. b && (nat_lt most_size size || (is_directory_inode (g i) (v i) n && is_bad_directory_size version_2 (g i) (v i) size)))
+    marked) ∙ good in
     ltb-false most_size size (or_parts (nat_lt most_size size) _ inner).0
 
 -- the same of a directory that was read
-pub small : (i : Image) (n : ℕ) (x : Inode) → x ≡ (v i).inodes n → is_directory_inode (g i) (v i) n ≡ true → has_bad_size version_2 (g i) (v i) n ≡ false → x.size ≤ most_size
-small i n x e is good = let size = ap (λ x. x.size) e in let low = size_low i n (and_parts (is_marked (g i) (v i) n) _ is).0 good in omega arith
+pub small : (i : Image) (n : ℕ) (x : Inode) → x ≡ (v i).inodes n → is_directory_inode (g i) (v i) n ≡ true
+    → has_bad_size version_2 (g i) (v i) n ≡ false → x.size ≤ most_size
+small i n x e is good = let size = ap (λ x. x.size) e in let low = size_low i n (and_parts (is_marked (g i) (v i) n) _ is).0 good
+    in omega arith
 
 -- the name of an entry of a directory that was read
-pub is_named : (i : Image) (n e : ℕ) (x : Inode) → x ≡ (v i).inodes n → entry_name version_2 (file_byte (g i) (v i) x) e ≡ name_at version_2 (g i) (v i) n e
+pub is_named : (i : Image) (n e : ℕ) (x : Inode) → x ≡ (v i).inodes n → entry_name version_2 (file_byte (g i) (v i) x) e
+    ≡ name_at version_2 (g i) (v i) n e
 is_named i n e x is = ap (λ x. entry_name version_2 (file_byte (g i) (v i) x) e) is
 
 module _ (f : ℕ → ℕ) (e : ℕ) (xs : List ℕ) (whole : length xs ≡ 16) (read : (a : ℕ) → a < 16 → slice_index xs a ≡ f (16 * e + a)) where
@@ -135,7 +149,8 @@ module _ (f : ℕ → ℕ) (e : ℕ) (xs : List ℕ) (whole : length xs ≡ 16) 
       get_or-take (length xs - 2) (drop 2 xs) k 0 inside ∙ get_or-drop 2 xs k 0 ∙ read (2 + k) (omega arith) ∙ ap f at
 
   -- the bytes before the first zero are the name
-  pub name_found : (n : ℕ) → n < length field → get_or field n 0 ≡ 0 → ((k : ℕ) → k < n → get_or field k 0 ≢ 0) → take n field ≡ entry_name version_2 f e
+  pub name_found : (n : ℕ) → n < length field → get_or field n 0 ≡ 0 → ((k : ℕ) → k < n → get_or field k 0 ≢ 0)
+      → take n field ≡ entry_name version_2 f e
   name_found n h none some =
       let size = fourteen in
       let len : length (take n field) ≡ n = length-take-le n field (omega arith) in
@@ -164,7 +179,8 @@ pub record IsWide (raw wide : List ℕ) (n : ℕ) : Type 0 where
 zero_at : (n k : ℕ) → slice_index (replicate n 0) k ≡ 0
 zero_at n k = elim (cases_lt k n) [
   | inl low ↦ get_or-replicate n k 0 0 low
-  | inr far ↦ let size : length (replicate {A = ℕ} n 0) ≡ n = length-replicate {A = ℕ} n 0 in get_or_past (replicate {A = ℕ} n 0) k 0 (omega arith)
+  | inr far ↦ let size : length (replicate {A = ℕ} n 0) ≡ n = length-replicate {A = ℕ} n 0 in
+      get_or_past (replicate {A = ℕ} n 0) k 0 (omega arith)
 ]
 
 -- the number is written
@@ -199,20 +215,23 @@ pub wide_more : (raw wide : List ℕ) (n : ℕ) → n < 14 → IsWide raw wide n
 wide_more raw wide n few before =
     let byte : ℕ = get_or raw (2 + n) 0 in
     let size = before.size in
-    let other : (k : ℕ) → k ≢ 4 + n → get_or (set wide (4 + n) byte) k 0 ≡ get_or wide k 0 = λ k d. get_or-set_other wide (4 + n) k byte 0 d in
+    let other : (k : ℕ) → k ≢ 4 + n → get_or (set wide (4 + n) byte) k 0 ≡ get_or wide k 0
+    = λ k d. get_or-set_other wide (4 + n) k byte 0 d in
     record {
       size = length-set wide (4 + n) byte ∙ before.size;
       low = λ k h. other k (λ e. absurd (omega arith)) ∙ before.low k h;
       gap = λ k far h. other k (λ e. absurd (omega arith)) ∙ before.gap k far h;
       name = λ k h. elim (cases_eq k n) [
-        | inl e ↦ ap (λ k. get_or (set wide (4 + n) byte) (4 + k) 0) e ∙ get_or-set_same wide (4 + n) byte 0 (omega arith) ∙ ap (λ k. get_or raw (2 + k) 0) (sym e)
+        | inl e ↦ ap (λ k. get_or (set wide (4 + n) byte) (4 + k) 0) e ∙ get_or-set_same wide (4 + n) byte 0 (omega arith)
+            ∙ ap (λ k. get_or raw (2 + k) 0) (sym e)
         | inr d ↦ other (4 + k) (λ e. d (omega arith)) ∙ before.name k (omega arith)
       ];
       rest = λ k h. other (4 + k) (λ e. absurd (omega arith)) ∙ before.rest k (omega arith);
     }
 
 -- the whole entry
-pub wide_is : (f : ℕ → ℕ) (e : ℕ) (raw wide : List ℕ) → ((a : ℕ) → a < 16 → get_or raw a 0 ≡ f (16 * e + a)) → IsWide raw wide 14 → IsWidened f e wide
+pub wide_is : (f : ℕ → ℕ) (e : ℕ) (raw wide : List ℕ) → ((a : ℕ) → a < 16 → get_or raw a 0 ≡ f (16 * e + a)) → IsWide raw wide 14
+    → IsWidened f e wide
 wide_is f e raw wide read all =
     let at0 : 16 * e + 0 ≡ 16 * e = omega arith in
     let b0 : get_or wide 0 0 ≡ f (16 * e) = all.low 0 (omega arith) ∙ read 0 (omega arith) ∙ ap f at0 in

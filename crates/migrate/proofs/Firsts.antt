@@ -19,8 +19,11 @@ use Rattle.migrate.specs.Parts.{structure_tests, entry_tests, tree_tests}
 module _ (i : Image) where
   -- what all findings are
   pub all_parts : first_of (place_limit (g i)) 2 (tests version_2 (g i) (v i))
-      ≡ or_else (first_of (place_limit (g i)) 2 (structure_tests version_2 (g i) (v i))) (or_else (first_of (place_limit (g i)) 7 (zone_tests (g i) (v i)))
-      (or_else (first_of (place_limit (g i)) 10 (block_tests (g i) (v i))) (or_else (first_of (place_limit (g i)) 12 (entry_tests version_2 (g i) (v i))) (first_of (place_limit (g i)) 15 (tree_tests version_2 (g i) (v i))))))
+      ≡ or_else (first_of (place_limit (g i)) 2 (structure_tests version_2 (g i) (v i)))
+      (or_else (first_of (place_limit (g i)) 7 (zone_tests (g i) (v i)))
+      (or_else (first_of (place_limit (g i)) 10 (block_tests (g i) (v i)))
+      (or_else (first_of (place_limit (g i)) 12 (entry_tests version_2 (g i) (v i)))
+      (first_of (place_limit (g i)) 15 (tree_tests version_2 (g i) (v i))))))
   all_parts =
       let l = place_limit (g i) in
       let s = structure_tests version_2 (g i) (v i) in
@@ -34,7 +37,8 @@ module _ (i : Image) where
       ∙ ap (or_else (first_of l 10 b)) (first_parts l 12 e t)))
 
   -- where the structure is right, no size is bad
-  pub sizes_good : None ≡ first_of (place_limit (g i)) 2 (structure_tests version_2 (g i) (v i)) → (n : ℕ) → has_bad_size version_2 (g i) (v i) n ≡ false
+  pub sizes_good : None ≡ first_of (place_limit (g i)) 2 (structure_tests version_2 (g i) (v i)) → (n : ℕ)
+      → has_bad_size version_2 (g i) (v i) n ≡ false
   sizes_good e n =
       let l = place_limit (g i) in
       let a = none_first l 2 (lacks_inode_bit (g i) (v i)) _ e in

@@ -39,10 +39,16 @@ module _ (g : Geometry) (v : Pieces) (q : Quiet g v) where
   dots : (n : ℕ) → is_directory_inode g v n ≡ true
       → (is_field version_2 g v n 0 dot ≡ true) × (target_at version_2 g v n 0 ≡ n) × (is_field version_2 g v n 1 dot_dot ≡ true)
   dots n is =
-      let here = at_dir g v (λ n. not (is_field version_2 g v n 0 dot) || not (target_at version_2 g v n 0 == n) || not (is_field version_2 g v n 1 dot_dot)) n q.dots is in
-      let a = or_parts (not (is_field version_2 g v n 0 dot) || not (target_at version_2 g v n 0 == n)) (not (is_field version_2 g v n 1 dot_dot)) here in
-      let b = or_parts (not (is_field version_2 g v n 0 dot)) (not (target_at version_2 g v n 0 == n)) a.0 in
-      (not-false (is_field version_2 g v n 0 dot) b.0, eqb-true (target_at version_2 g v n 0) n (not-false (target_at version_2 g v n 0 == n) b.1), not-false (is_field version_2 g v n 1 dot_dot) a.1)
+      let here = at_dir g v (λ n. not (is_field version_2 g v n 0 dot) || not (target_at version_2 g v n 0 == n)
+      || not (is_field version_2 g v n 1 dot_dot)) n q.dots is in
+      let a = or_parts (not (is_field version_2 g v n 0 dot) || not (target_at version_2 g v n 0 == n))
+      (not (is_field version_2 g v n 1 dot_dot)) here in
+      let b = or_parts (not (is_field version_2 g v n 0 dot)) (not (target_at version_2 g v n 0 == n)) a.0 in (
+        not-false (is_field version_2 g v n 0 dot) b.0,
+        eqb-true (target_at version_2 g v n 0) n
+            (not-false (target_at version_2 g v n 0 == n) b.1),
+        not-false (is_field version_2 g v n 1 dot_dot) a.1,
+      )
 
   -- none of its entries is bad
   entry_good : (n e : ℕ) → is_directory_inode g v n ≡ true → e < entry_count version_2 v n → is_bad_entry version_2 g v n e ≡ false
@@ -66,7 +72,8 @@ module _ (g : Geometry) (v : Pieces) (q : Quiet g v) where
   names_good : (n e : ℕ) → is_directory_inode g v n ≡ true → 2 ≤ e → e < entry_count version_2 v n → is_free_at version_2 g v n e ≡ false
       → is_name_field version_2 g v n e ≡ true
   names_good n e is two low used =
-      not-false (is_name_field version_2 g v n e) (and_false_right (nat_le 2 e) (not (is_name_field version_2 g v n e)) (entry_parts n e (entry_good n e is low) used).1 (le-leb 2 e two))
+      not-false (is_name_field version_2 g v n e) (and_false_right (nat_le 2 e) (not (is_name_field version_2 g v n e))
+      (entry_parts n e (entry_good n e is low) used).1 (le-leb 2 e two))
 
   -- no name stands twice
   distinct : (n e f : ℕ) → is_directory_inode g v n ≡ true → e < f → f < entry_count version_2 v n → is_free_at version_2 g v n e ≡ false

@@ -2,7 +2,8 @@
 use Rattle.std.proofs.Common.{◌≡◌, ◌≢◌, ◌<◌, ◌≤◌, ◌+◌, ◌-◌, ℕ, suc, true, false, sym, ap, ◌∙◌, cond, arith}
 use mathlib.Core.Logic.{inl, inr, ◌↔◌}
 use Rattle.std.specs.Prelude.{not, ◌==◌, nat_lt}
-use Rattle.std.proofs.lemmas.Bool.{cases_Bool, cases_lt, or_parts, cond-true, cond-false, ne_eqb, eqb-true, eqb-false, ltb-false, le-leb, not-false, not_from_false}
+use Rattle.std.proofs.lemmas.Bool.{cases_Bool, cases_lt, or_parts, cond-true, cond-false, ne_eqb, eqb-true, eqb-false, ltb-false, le-leb}
+use Rattle.std.proofs.lemmas.Bool.{not-false, not_from_false}
 use Rattle.lemmas.proofs.Bools.{and_false_right}
 use Rattle.layout.specs.declared.Geometry.{Geometry}
 use Rattle.tree.specs.ZonesNeeded.{page_limit}
@@ -31,7 +32,8 @@ module _ (g : Geometry) (v : Pieces) (ok : IsVolume g v) (q : Quiet g v) where
           let all = at_inode g v _ n q.numbers is in
           let level = none_below _ 4 all l low in
           let here = none_below _ (page_limit (numbers_in_zone g)) level k near in
-          not-false _ (and_false_right (not (zone_at g v (v.inodes n) l k == 0)) _ here (not_from_false (zone_at g v (v.inodes n) l k == 0) (ne_eqb _ 0 some)))
+          not-false _ (and_false_right (not (zone_at g v (v.inodes n) l k == 0)) _ here
+          (not_from_false (zone_at g v (v.inodes n) l k == 0) (ne_eqb _ 0 some)))
     ]
   ]
 
@@ -41,7 +43,8 @@ module _ (g : Geometry) (v : Pieces) (ok : IsVolume g v) (q : Quiet g v) where
 
   -- what is counted has a use
   use_of_uses : (z : ℕ) → 0 < uses g v z → Use g v z
-  use_of_uses z h = let e = uses_are g v ok.sized z in use_of_place g v ok.sized z (used_place (naming g v) ok.sized (marked_below g v) ok.words z (omega arith))
+  use_of_uses z h = let e = uses_are g v ok.sized z in use_of_place g v ok.sized z
+      (used_place (naming g v) ok.sized (marked_below g v) ok.words z (omega arith))
 
   -- what has a use is counted
   uses_of_use : (z : ℕ) → z ≢ 0 → Use g v z → 0 < uses g v z
@@ -65,9 +68,11 @@ module _ (g : Geometry) (v : Pieces) (ok : IsVolume g v) (q : Quiet g v) where
   once z some a b =
       let la = level_low g v ok.sized z some a in
       let lb = level_low g v ok.sized z some b in
-      let r = same_place (naming g v) ok.sized (marked_below g v) ok.words (λ y s. let e = uses_are g v ok.sized y in let o = single y s in omega arith)
+      let r = same_place (naming g v) ok.sized (marked_below g v) ok.words
+      (λ y s. let e = uses_are g v ok.sized y in let o = single y s in omega arith)
       (3 - a.level) a.inode a.index (3 - b.level) b.inode b.index z (omega arith) (omega arith) a.marked b.marked
-      (sym (zone_spot g v ok.sized a.inode a.level a.index la) ∙ a.names) (sym (zone_spot g v ok.sized b.inode b.level b.index lb) ∙ b.names) some in
+      (sym (zone_spot g v ok.sized a.inode a.level a.index la) ∙ a.names)
+      (sym (zone_spot g v ok.sized b.inode b.level b.index lb) ∙ b.names) some in
       record { inode = r.0; level = omega (arith, r.1); index = r.2 }
 
   -- a data zone is marked where it has a use
@@ -75,7 +80,8 @@ module _ (g : Geometry) (v : Pieces) (ok : IsVolume g v) (q : Quiet g v) where
   mapped z is =
       let bit = v.zone_map (z - g.first_zone + 1) in
       let differ : cond bit (uses g v z == 0) (nat_lt 0 (uses g v z)) ≡ false = at_zone g v _ z q.bits is in (
-        λ set. let some = eqb-false _ 0 (sym (cond-true bit (uses g v z == 0) (nat_lt 0 (uses g v z)) set) ∙ differ) in use_of_uses z (omega arith),
+        λ set. let some = eqb-false _ 0 (sym (cond-true bit (uses g v z == 0) (nat_lt 0 (uses g v z)) set) ∙ differ) in
+            use_of_uses z (omega arith),
         λ u. elim (cases_Bool bit) [
           | inl set ↦ set
           | inr clear ↦
@@ -111,7 +117,8 @@ module _ (g : Geometry) (v : Pieces) (ok : IsVolume g v) (q : Quiet g v) where
   ]
 
   -- each block has a number
-  full : (n l k : ℕ) → is_marked g v n ≡ true → zone_at g v (v.inodes n) (suc l) k ≢ 0 → has_number g v (zone_at g v (v.inodes n) (suc l) k) ≡ true
+  full : (n l k : ℕ) → is_marked g v n ≡ true → zone_at g v (v.inodes n) (suc l) k ≢ 0
+      → has_number g v (zone_at g v (v.inodes n) (suc l) k) ≡ true
   full n l k is some = elim (cases_lt l 3) [
     | inr far ↦ absurd (some (no_level g v ok.sized n (suc l) k (omega arith)))
     | inl low ↦ elim (cases_lt k (page_limit (numbers_in_zone g))) [
@@ -120,7 +127,8 @@ module _ (g : Geometry) (v : Pieces) (ok : IsVolume g v) (q : Quiet g v) where
           let both = or_parts _ _ (at_inode g v _ n q.ends is) in
           let level = none_below _ 3 both.1 l low in
           let here = none_below _ (page_limit (numbers_in_zone g)) level k near in
-          not-false _ (and_false_right (not (zone_at g v (v.inodes n) (suc l) k == 0)) _ here (not_from_false (zone_at g v (v.inodes n) (suc l) k == 0) (ne_eqb _ 0 some)))
+          not-false _ (and_false_right (not (zone_at g v (v.inodes n) (suc l) k == 0)) _ here
+          (not_from_false (zone_at g v (v.inodes n) (suc l) k == 0) (ne_eqb _ 0 some)))
     ]
   ]
 

@@ -1,11 +1,14 @@
 -- A version 2 image with version 3's superblock says the same pieces.
-use Rattle.std.proofs.Common.{◌≡◌, ◌≤◌, ◌<◌, ◌+◌, ◌-◌, ◌*◌, ◌/◌, ◌%◌, ◌++◌, ℕ, List, [], Bool, true, false, length, take, drop, refl, sym, ap, subst, ◌∙◌, arith, get_or}
+use Rattle.std.proofs.Common.{◌≡◌, ◌≤◌, ◌<◌, ◌+◌, ◌-◌, ◌*◌, ◌/◌, ◌%◌, ◌++◌, ℕ, List, [], Bool, true, false, length, take, drop, refl, sym}
+use Rattle.std.proofs.Common.{ap, subst, ◌∙◌, arith, get_or}
 use mathlib.Core.Logic.{inl, inr}
 use Rattle.std.specs.Prelude.{nat_le, nat_lt, ◌&&◌, ◌==◌, T, not, is_ok, Result, Ok, Err, if◌then◌else◌, slice_index}
 use Rattle.std.proofs.Math.Nat.{mul_comm}
 use Rattle.std.proofs.lemmas.Nat.{div_below, mul-add-lt}
-use Rattle.std.proofs.lemmas.List.{get_or-append_right, get_or-take, get_or-drop, length-take-le, length-append, length-drop, take_all, drop_all, append-nil}
-use Rattle.std.proofs.lemmas.Bool.{and_parts, eqb-true, leb-true, ltb-true, ltb-false, lt-leb, lt-ltb, le-ltb, cond-true, cond-false, cases_lt, cases_Bool}
+use Rattle.std.proofs.lemmas.List.{get_or-append_right, get_or-take, get_or-drop, length-take-le, length-append, length-drop, take_all}
+use Rattle.std.proofs.lemmas.List.{drop_all, append-nil}
+use Rattle.std.proofs.lemmas.Bool.{and_parts, eqb-true, leb-true, ltb-true, ltb-false, lt-leb, lt-ltb, le-ltb, cond-true, cond-false}
+use Rattle.std.proofs.lemmas.Bool.{cases_lt, cases_Bool}
 use Rattle.lemmas.proofs.Bools.{not_false}
 use Rattle.layout.specs.declared.Geometry.{Geometry}
 use Rattle.layout.specs.Bytes.{u16_at, u32_at}
@@ -14,7 +17,8 @@ use Rattle.layout.specs.Superblock.{superblock_bytes, with_superblock}
 use Rattle.layout.proofs.Parsed.{block_sizes}
 use Rattle.layout.proofs.Written.{reads_back}
 use Rattle.volume.specs.declared.Inode.{Inode}
-use Rattle.volume.specs.Reading.{Disk, disk_of, blocks_of, is_inode, is_data_zone, inode_in, inode_block, inode_offset, inode_of_disk, inode_bit, zone_bit, bit_in}
+use Rattle.volume.specs.Reading.{Disk, disk_of, blocks_of, is_inode, is_data_zone, inode_in, inode_block, inode_offset, inode_of_disk}
+use Rattle.volume.specs.Reading.{inode_bit, zone_bit, bit_in}
 use Rattle.volume.specs.Pieces.{pieces, blank}
 use Rattle.migrate.specs.declared.old_volume.superblock.OldRefusal.{OldRefusal}
 use Rattle.migrate.specs.declared.old_volume.superblock.OldRefusal.TheVariants.{Truncated, BadMagic, BadZoneSize, BadCounts, DoesNotFit}
@@ -74,7 +78,12 @@ old_fits image g h =
     let counts = passed (not (counts_agree s)) BadCounts _ g size.1 in
     let fits = passed (nat_lt (length image) (1024 * s.zones)) DoesNotFit (Ok s) g counts.1 in
     let room : 1024 * s.zones ≤ length image = ltb-false _ _ fits.0 in
-    subst (OldFits image) (read_is s g fits.1) (record { sizes = counts_fit s refl refl (not_false _ counts.0); block = refl; room = room; flat = omega arith })
+    subst (OldFits image) (read_is s g fits.1) (record {
+      sizes = counts_fit s refl refl (not_false _ counts.0);
+      block = refl;
+      room = room;
+      flat = omega arith;
+    })
 
 -- the inodes' blocks come before the data zones
 before_zones : (g : Geometry) → IsGeometry g → (n : ℕ) → 1 ≤ n → n ≤ g.inodes → inode_block g n < g.first_zone
@@ -110,12 +119,14 @@ module _ (g : Geometry) (geometry : IsGeometry g) (d e : Disk) (same : (b : ℕ)
         (let c = mul_comm g.inode_map_blocks width in let l = geometry.inode_map in omega (arith, c, l, within)) in
         let first = geometry.first in
         let last = geometry.some_zone in
-        ap (λ (f : ℕ → ℕ). nat_le m g.inodes && bit_in f (m % width)) (same (2 + m / width) (omega arith) (omega (arith, below, first, last)))
+        ap (λ (f : ℕ → ℕ). nat_le m g.inodes && bit_in f (m % width)) (same (2 + m / width) (omega arith)
+        (omega (arith, below, first, last)))
   ]
 
   zone_map : (m : ℕ) → (pieces g e).zone_map m ≡ (pieces g d).zone_map m
   zone_map m = elim (cases_lt (g.zones - g.first_zone) m) [
-    | inl past ↦ ap (λ b. b && zone_bit g e m) (lt-leb m (g.zones - g.first_zone) past) ∙ sym (ap (λ b. b && zone_bit g d m) (lt-leb m (g.zones - g.first_zone) past))
+    | inl past ↦ ap (λ b. b && zone_bit g e m) (lt-leb m (g.zones - g.first_zone) past)
+        ∙ sym (ap (λ b. b && zone_bit g d m) (lt-leb m (g.zones - g.first_zone) past))
     | inr within ↦
         let below : m / width < g.zone_map_blocks = div_below m width g.zone_map_blocks some
         (let c = mul_comm g.zone_map_blocks width in let l = geometry.zone_map in omega (arith, c, l, within)) in
@@ -133,7 +144,8 @@ module _ (g : Geometry) (geometry : IsGeometry g) (d e : Disk) (same : (b : ℕ)
         let last = geometry.some_zone in
         let f : (ℕ → ℕ) → Inode = λ x. if is_inode g m then inode_in x (inode_offset g m) else blank in
         ap f (same (inode_block g m) (omega arith) (omega (arith, low, last)))
-    | inr past ↦ cond-false (is_inode g m) (inode_of_disk g e m) blank past ∙ sym (cond-false (is_inode g m) (inode_of_disk g d m) blank past)
+    | inr past ↦ cond-false (is_inode g m) (inode_of_disk g e m) blank past
+        ∙ sym (cond-false (is_inode g m) (inode_of_disk g d m) blank past)
   ]
 
   zones : (z : ℕ) → (pieces g e).zones z ≡ (pieces g d).zones z
@@ -166,7 +178,13 @@ put_back len new old same long =
 pub put_length : (g : Geometry) (xs : List ℕ) → 1055 ≤ length xs → length (with_superblock g xs) ≡ length xs
 put_length g xs long =
     let bytes : length (superblock_bytes g) ≡ 31 = refl in
-    omega (arith, length-append (take 1024 xs) (superblock_bytes g ++ drop 1055 xs), length-append (superblock_bytes g) (drop 1055 xs), length-take-le 1024 xs (omega arith), length-drop 1055 xs)
+    omega (
+      arith,
+      length-append (take 1024 xs) (superblock_bytes g ++ drop 1055 xs),
+      length-append (superblock_bytes g) (drop 1055 xs),
+      length-take-le 1024 xs (omega arith),
+      length-drop 1055 xs,
+    )
 
 -- the bytes behind the superblock stay
 behind : (g : Geometry) (b : List ℕ) (k : ℕ) → 1055 ≤ length b → 1055 ≤ k → get_or (with_superblock g b) k 0 ≡ get_or b k 0
@@ -187,7 +205,8 @@ module _ (image : List ℕ) (g : Geometry) (h : old_geometry_of image ≡ Ok g) 
   size = let fits = old_fits image g h in let room = fits.room in let flat = fits.flat in length-take-le n image (omega arith)
 
   -- a byte from block 2 on
-  byte : (b o : ℕ) → 2 ≤ b → b < g.zones → o < g.block_size → get_or (with_superblock g blocks) (b * g.block_size + o) 0 ≡ get_or image (b * g.block_size + o) 0
+  byte : (b o : ℕ) → 2 ≤ b → b < g.zones → o < g.block_size → get_or (with_superblock g blocks) (b * g.block_size + o) 0
+      ≡ get_or image (b * g.block_size + o) 0
   byte b o two low h' =
       let fits = old_fits image g h in
       let block = fits.block in

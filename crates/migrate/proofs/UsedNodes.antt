@@ -37,7 +37,8 @@ module _ (g : Geometry) (v : Pieces) (block : g.block_size ≡ 1024) (n : ℕ) w
     sized = omega arith
 
     -- a block has a number
-    full : (h i : ℕ) → h < 3 → spot (naming g v) n h i ≢ 0 → some_below (λ j. not (word v (spot (naming g v) n h i) j == 0)) (numbers_in_zone g) ≡ true
+    full : (h i : ℕ) → h < 3 → spot (naming g v) n h i ≢ 0 → some_below (λ j. not (word v (spot (naming g v) n h i) j == 0))
+        (numbers_in_zone g) ≡ true
     full h i low some =
         let back : 3 - suc (2 - h) ≡ h = omega arith in
         let same : zone_at g v (v.inodes n) (suc (2 - h)) i ≡ spot (naming g v) n h i

@@ -26,7 +26,8 @@ names_same f (suc k) = ap (λ names. with_name names (nodes_3.entry_name f (k + 
 module _ (g : Geometry) (v : Pieces) where
   -- the bodies
   body_same : (i : Inode) → body_of version_3 g v i ≡ nodes_3.body_of g v i
-  body_same i = ap (λ names. if is_directory_mode i.mode then is_directory (record { parent = nodes_3.entry_inode (file_byte g v i) 1; names = names }) else is_file (file_of g v i))
+  body_same i = ap (λ names. if is_directory_mode i.mode then is_directory
+      (record { parent = nodes_3.entry_inode (file_byte g v i) 1; names = names }) else is_file (file_of g v i))
       (names_same (file_byte g v i) (nodes_3.entry_count_of i - 2))
 
   -- the nodes
@@ -69,14 +70,24 @@ module _ (g : Geometry) (v : Pieces) where
   held_from : (t : Tree) → HoldsNodes version_3 g v t → holds_3.HoldsNodes g v t
   held_from t h = record {
     nodes = h.nodes ∙ nodes_same;
-    sound = record { zones = h.sound.zones; inodes = h.sound.inodes; directories = λ n is. sound_directory_from n (h.sound.directories n is) };
+    sound = record {
+      zones = h.sound.zones;
+      inodes = h.sound.inodes;
+      directories = λ n is. sound_directory_from n
+          (h.sound.directories n is);
+    };
     tree = h.tree;
   }
 
   held_to : (t : Tree) → holds_3.HoldsNodes g v t → HoldsNodes version_3 g v t
   held_to t h = record {
     nodes = h.nodes ∙ sym nodes_same;
-    sound = record { zones = h.sound.zones; inodes = h.sound.inodes; directories = λ n is. sound_directory_to n (h.sound.directories n is) };
+    sound = record {
+      zones = h.sound.zones;
+      inodes = h.sound.inodes;
+      directories = λ n is. sound_directory_to n
+          (h.sound.directories n is);
+    };
     tree = h.tree;
   }
 

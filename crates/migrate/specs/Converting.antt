@@ -43,5 +43,6 @@ pub record IsHalfTold (old : Option (Bor (List ℕ))) (blocks : ℕ) (Part : Lis
 -- The file can't be read, or the volume isn't migrated, and nothing went out; or a part of the line did.
 abbrev pub IsUnconverted : Option (Bor (List ℕ)) → Bor (List ℕ) → ℕ → ConvertRefusal → Type 0 → (List ℕ → Type 0) → Type 0
 IsUnconverted old name blocks (CannotRead unread) Nothing Part = (old ≡ None) × (unread ≡ name) × Nothing
-IsUnconverted old name blocks (Migrate refusal) Nothing Part = (bytes : Bor (List ℕ)) × (old ≡ Some bytes) × IsRefused bytes.now blocks refusal × Nothing
+IsUnconverted old name blocks (Migrate refusal) Nothing Part = (bytes : Bor (List ℕ)) × (old ≡ Some bytes)
+    × IsRefused bytes.now blocks refusal × Nothing
 IsUnconverted old name blocks NotWritten Nothing Part = IsHalfTold old blocks Part

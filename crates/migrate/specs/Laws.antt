@@ -11,4 +11,5 @@ use Rattle.migrate.specs.Verdict.{verdict_of_pieces}
 
 -- a volume in which the check finds nothing keeps the rules of the format that a tree doesn't show
 abbrev pub CleanIsSound : Type 0
-CleanIsSound = (g : Geometry) (d : Disk) → IsGeometry g → verdict_of_pieces version_2 g (pieces g d) ≡ Clean → IsSound version_2 g (pieces g d)
+CleanIsSound = (g : Geometry) (d : Disk) → IsGeometry g → verdict_of_pieces version_2 g (pieces g d) ≡ Clean
+    → IsSound version_2 g (pieces g d)

@@ -3,7 +3,8 @@ use Rattle.std.specs.Prelude.{ℕ, List, [], ◌∷◌}
 use Rattle.layout.specs.declared.Geometry.{Geometry}
 use Rattle.volume.specs.Reading.{disk_of}
 use Rattle.volume.specs.Pieces.{Pieces, pieces}
-use Rattle.volume.specs.Findings.{lacks_inode_bit, lacks_zone_bit, lacks_root, has_bad_mode, has_bad_number, is_used_twice, has_bad_bit, has_spare_zone, has_hole, has_bad_link}
+use Rattle.volume.specs.Findings.{lacks_inode_bit, lacks_zone_bit, lacks_root, has_bad_mode, has_bad_number, is_used_twice, has_bad_bit}
+use Rattle.volume.specs.Findings.{has_spare_zone, has_hole, has_bad_link}
 use Rattle.volume.specs.Verdict.{Verdict, Test, first_found, place_limit}
 use Rattle.migrate.specs.Form.{EntryForm, version_2}
 use Rattle.migrate.specs.Findings.{has_bad_size, has_bad_dots, has_bad_entry, has_bad_target, is_misplaced, has_bad_links}

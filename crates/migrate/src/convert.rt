@@ -84,7 +84,8 @@ fn try_convert<'n, W: Write>(
     blocks: u32,
     out: &mut W,
 ) -> Result<Vec<u8>, ConvertRefusal<'n>>
-    ensures converted { IfOk result (λ image. IsConverted old.entry blocks image.items (Appends (W.contents out.old) (W.contents out.new))) }
+    ensures converted { IfOk result (λ image. IsConverted old.entry blocks image.items
+        (Appends (W.contents out.old) (W.contents out.new))) }
     ensures refused { IfErr result (λ refusal. IsUnconverted old.entry name.entry blocks refusal (out.new ≡ out.old)
         (AppendsPart (W.contents out.old) (W.contents out.new))) }
 {

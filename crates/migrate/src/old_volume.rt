@@ -1,7 +1,8 @@
 //! Version 2 volumes of the MINIX file system: what their bytes say, and their check.
 //!
-//! A version 2 volume has the maps, the inodes and the zones of a version 3 volume with blocks of 1024 bytes, in the same places. Only its
-//! superblock and the entries of its directories are others. So what reads version 3 volumes reads the rest, once the superblock is stamped.
+//! A version 2 volume has the maps, the inodes and the zones of a version 3 volume with blocks of 1024 bytes, in the same places. Only
+//! its superblock and the entries of its directories are others. So what reads version 3 volumes reads the rest, once the superblock is
+//! stamped.
 
 mod blocks;
 pub mod entries;

@@ -19,7 +19,8 @@ use volume::Finding;
 /// The first of findings 12 to 14, where no size is bad.
 pub(crate) fn entries(alloc: Global, image: &Image) -> Result<Option<Finding>, AllocError>
     requires { (n : ℕ) → has_bad_size version_2 image.now.geometry (contents image.now) n ≡ false }
-    ensures { IfOk result (λ r. r ≡ first_of (place_limit image.now.geometry) 12 (entry_tests version_2 image.now.geometry (contents image.now))) }
+    ensures { IfOk result (λ r. r
+        ≡ first_of (place_limit image.now.geometry) 12 (entry_tests version_2 image.now.geometry (contents image.now))) }
 {
     if let Some(place) = bad_dots(image) {
         return Ok(Some(Finding { number: 12, place }));
@@ -36,7 +37,8 @@ pub(crate) fn entries(alloc: Global, image: &Image) -> Result<Option<Finding>, A
 /// The first of findings 15 to 17, where no size is bad.
 pub(crate) fn tree(alloc: Global, image: &Image) -> Result<Option<Finding>, AllocError>
     requires { (n : ℕ) → has_bad_size version_2 image.now.geometry (contents image.now) n ≡ false }
-    ensures { IfOk result (λ r. r ≡ first_of (place_limit image.now.geometry) 15 (tree_tests version_2 image.now.geometry (contents image.now))) }
+    ensures { IfOk result (λ r. r
+        ≡ first_of (place_limit image.now.geometry) 15 (tree_tests version_2 image.now.geometry (contents image.now))) }
 {
     let numbers = image.geometry().inodes as usize + 1;
     let mut named = vec![in alloc; 0u16; numbers]?;
@@ -65,7 +67,8 @@ fn tree_with(
     requires namer_size { length namer.old ≡ image.now.geometry.inodes + 1 }
     requires seen_size { length seen.old ≡ image.now.geometry.inodes + 1 }
     requires seen_fresh { (n : ℕ) → slice_index_or seen.old n false ≡ false }
-    ensures { IfOk result (λ r. r ≡ first_of (place_limit image.now.geometry) 15 (tree_tests version_2 image.now.geometry (contents image.now))) }
+    ensures { IfOk result (λ r. r
+        ≡ first_of (place_limit image.now.geometry) 15 (tree_tests version_2 image.now.geometry (contents image.now))) }
 {
     count_names(image, named, namer);
     mark_reached(alloc, image, seen)?;

@@ -10,12 +10,14 @@ returns-in-Ok-write_text-clause-converted g c =
     let m = c.in-Ok.ensures.migrated in
     let image = c.deref.ensures.value in
     let text : c.as_bytes.result.now ≡ converted_text m.geometry c.in-Ok.image.items
-    = c.as_bytes.ensures.value ∙ c.in-Ok-line_of.ensures m.geometry (ap geometry_of image ∙ m.read) ∙ ap (converted_text m.geometry) image in
+    = c.as_bytes.ensures.value ∙ c.in-Ok-line_of.ensures m.geometry (ap geometry_of image ∙ m.read)
+    ∙ ap (converted_text m.geometry) image in
     record {
       bytes = c.in-Some.bytes;
       file = c.in-Some.is;
       migrated = m;
-      line = subst (Appends (g.W.Write.contents c.args.out.now) (g.W.Write.contents c.write_text.new.to)) text c.in-Ok-write_text.ensures.ok;
+      line = subst (Appends (g.W.Write.contents c.args.out.now) (g.W.Write.contents c.write_text.new.to)) text
+          c.in-Ok-write_text.ensures.ok;
     }
 
 pub returns-clause-refused : goal.returns-clause-refused
@@ -23,11 +25,13 @@ returns-clause-refused g c =
     let m = c.in-Ok.ensures.migrated in
     let image = c.deref.ensures.value in
     let text : c.as_bytes.result.now ≡ converted_text m.geometry c.in-Ok.image.items
-    = c.as_bytes.ensures.value ∙ c.in-Ok-line_of.ensures m.geometry (ap geometry_of image ∙ m.read) ∙ ap (converted_text m.geometry) image in
+    = c.as_bytes.ensures.value ∙ c.in-Ok-line_of.ensures m.geometry (ap geometry_of image ∙ m.read)
+    ∙ ap (converted_text m.geometry) image in
     record {
       bytes = c.in-Some.bytes;
       file = c.in-Some.is;
       image = c.in-Ok.image.items;
       migrated = m;
-      line = subst (AppendsPart (g.W.Write.contents c.args.out.now) (g.W.Write.contents c.write_text.new.to)) text c.in-Err-write_text.ensures.err;
+      line = subst (AppendsPart (g.W.Write.contents c.args.out.now) (g.W.Write.contents c.write_text.new.to)) text
+          c.in-Err-write_text.ensures.err;
     }

@@ -14,7 +14,11 @@ returns-in-Some c =
     let g = i.geometry in
     let v = contents i in
     let l = place_limit g in
-    ap (λ o. or_else o (or_else (first_of l 7 (zone_tests g v)) (or_else (first_of l 10 (block_tests g v)) (or_else (first_of l 12 (entry_tests version_2 g v)) (first_of l 15 (tree_tests version_2 g v)))))) (c.in-Some.ensures)
+    let trees = first_of l 15 (tree_tests version_2 g v) in
+    let names = or_else (first_of l 12 (entry_tests version_2 g v)) trees in
+    let blocks = or_else (first_of l 10 (block_tests g v)) names in
+    let zones = or_else (first_of l 7 (zone_tests g v)) blocks in
+    ap (λ o. or_else o zones) (c.in-Some.ensures)
     ∙ sym (all_parts i)
 
 pub returns-in-Some-2 : goal.returns-in-Some-2
@@ -23,7 +27,11 @@ returns-in-Some-2 c =
     let g = i.geometry in
     let v = contents i in
     let l = place_limit g in
-    (ap (λ o. or_else o (or_else (first_of l 10 (block_tests g v)) (or_else (first_of l 12 (entry_tests version_2 g v)) (first_of l 15 (tree_tests version_2 g v))))) (sym c.in-Some-2.is ∙ c.in_ok-finding.ensures)) ∙ ap (λ o. or_else o (or_else (first_of l 7 (zone_tests g v)) (or_else (first_of l 10 (block_tests g v)) (or_else (first_of l 12 (entry_tests version_2 g v)) (first_of l 15 (tree_tests version_2 g v)))))) (c.in_default.ensures)
+    let trees = first_of l 15 (tree_tests version_2 g v) in
+    let names = or_else (first_of l 12 (entry_tests version_2 g v)) trees in
+    let blocks = or_else (first_of l 10 (block_tests g v)) names in
+    let zones = or_else (first_of l 7 (zone_tests g v)) blocks in
+    (ap (λ o. or_else o blocks) (sym c.in-Some-2.is ∙ c.in_ok-finding.ensures)) ∙ ap (λ o. or_else o zones) (c.in_default.ensures)
     ∙ sym (all_parts i)
 
 pub returns-in-Some-blocks : goal.returns-in-Some-blocks
@@ -32,7 +40,12 @@ returns-in-Some-blocks c =
     let g = i.geometry in
     let v = contents i in
     let l = place_limit g in
-    ((ap (λ o. or_else o (or_else (first_of l 12 (entry_tests version_2 g v)) (first_of l 15 (tree_tests version_2 g v)))) (c.in-Some-blocks.ensures)) ∙ ap (λ o. or_else o (or_else (first_of l 10 (block_tests g v)) (or_else (first_of l 12 (entry_tests version_2 g v)) (first_of l 15 (tree_tests version_2 g v))))) (sym c.in_default-2.is ∙ c.in_ok-finding.ensures)) ∙ ap (λ o. or_else o (or_else (first_of l 7 (zone_tests g v)) (or_else (first_of l 10 (block_tests g v)) (or_else (first_of l 12 (entry_tests version_2 g v)) (first_of l 15 (tree_tests version_2 g v)))))) (c.in_default.ensures)
+    let trees = first_of l 15 (tree_tests version_2 g v) in
+    let names = or_else (first_of l 12 (entry_tests version_2 g v)) trees in
+    let blocks = or_else (first_of l 10 (block_tests g v)) names in
+    let zones = or_else (first_of l 7 (zone_tests g v)) blocks in
+    ((ap (λ o. or_else o names) (c.in-Some-blocks.ensures)) ∙ ap (λ o. or_else o blocks) (sym c.in_default-2.is ∙ c.in_ok-finding.ensures))
+    ∙ ap (λ o. or_else o zones) (c.in_default.ensures)
     ∙ sym (all_parts i)
 
 pub returns-in-Some-3 : goal.returns-in-Some-3
@@ -41,7 +54,13 @@ returns-in-Some-3 c =
     let g = i.geometry in
     let v = contents i in
     let l = place_limit g in
-    (((ap (λ o. or_else o (first_of l 15 (tree_tests version_2 g v))) (sym c.in-Some-3.is ∙ c.in_ok-finding-2.ensures)) ∙ ap (λ o. or_else o (or_else (first_of l 12 (entry_tests version_2 g v)) (first_of l 15 (tree_tests version_2 g v)))) (c.in_default-blocks.ensures)) ∙ ap (λ o. or_else o (or_else (first_of l 10 (block_tests g v)) (or_else (first_of l 12 (entry_tests version_2 g v)) (first_of l 15 (tree_tests version_2 g v))))) (sym c.in_default-2.is ∙ c.in_ok-finding.ensures)) ∙ ap (λ o. or_else o (or_else (first_of l 7 (zone_tests g v)) (or_else (first_of l 10 (block_tests g v)) (or_else (first_of l 12 (entry_tests version_2 g v)) (first_of l 15 (tree_tests version_2 g v)))))) (c.in_default.ensures)
+    let trees = first_of l 15 (tree_tests version_2 g v) in
+    let names = or_else (first_of l 12 (entry_tests version_2 g v)) trees in
+    let blocks = or_else (first_of l 10 (block_tests g v)) names in
+    let zones = or_else (first_of l 7 (zone_tests g v)) blocks in
+    (((ap (λ o. or_else o trees) (sym c.in-Some-3.is ∙ c.in_ok-finding-2.ensures))
+    ∙ ap (λ o. or_else o names) (c.in_default-blocks.ensures)) ∙ ap (λ o. or_else o blocks)
+    (sym c.in_default-2.is ∙ c.in_ok-finding.ensures)) ∙ ap (λ o. or_else o zones) (c.in_default.ensures)
     ∙ sym (all_parts i)
 
 pub returns : goal.returns
@@ -50,7 +69,13 @@ returns c =
     let g = i.geometry in
     let v = contents i in
     let l = place_limit g in
-    ((((c.in_ok-tree.ensures) ∙ ap (λ o. or_else o (first_of l 15 (tree_tests version_2 g v))) (sym c.in_default-3.is ∙ c.in_ok-finding-2.ensures)) ∙ ap (λ o. or_else o (or_else (first_of l 12 (entry_tests version_2 g v)) (first_of l 15 (tree_tests version_2 g v)))) (c.in_default-blocks.ensures)) ∙ ap (λ o. or_else o (or_else (first_of l 10 (block_tests g v)) (or_else (first_of l 12 (entry_tests version_2 g v)) (first_of l 15 (tree_tests version_2 g v))))) (sym c.in_default-2.is ∙ c.in_ok-finding.ensures)) ∙ ap (λ o. or_else o (or_else (first_of l 7 (zone_tests g v)) (or_else (first_of l 10 (block_tests g v)) (or_else (first_of l 12 (entry_tests version_2 g v)) (first_of l 15 (tree_tests version_2 g v)))))) (c.in_default.ensures)
+    let trees = first_of l 15 (tree_tests version_2 g v) in
+    let names = or_else (first_of l 12 (entry_tests version_2 g v)) trees in
+    let blocks = or_else (first_of l 10 (block_tests g v)) names in
+    let zones = or_else (first_of l 7 (zone_tests g v)) blocks in
+    ((((c.in_ok-tree.ensures) ∙ ap (λ o. or_else o trees) (sym c.in_default-3.is ∙ c.in_ok-finding-2.ensures))
+    ∙ ap (λ o. or_else o names) (c.in_default-blocks.ensures)) ∙ ap (λ o. or_else o blocks)
+    (sym c.in_default-2.is ∙ c.in_ok-finding.ensures)) ∙ ap (λ o. or_else o zones) (c.in_default.ensures)
     ∙ sym (all_parts i)
 
 pub entries-requires : goal.entries-requires

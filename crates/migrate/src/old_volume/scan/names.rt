@@ -14,10 +14,12 @@ use layout::u32_at;
 use std::alloc::{AllocError, Global};
 use std::collections::HashSet;
 
-/// The least directory with a free entry among the first two, one past . and .. whose field is no name, or one whose name stands earlier too.
+/// The least directory with a free entry among the first two, one past . and .. whose field is no name, or one whose name stands earlier
+/// too.
 pub(crate) fn bad_entry(alloc: Global, image: &Image) -> Result<Option<u32>, AllocError>
     requires { (n : ℕ) → has_bad_size version_2 image.now.geometry (contents image.now) n ≡ false }
-    ensures { IfOk result (λ r. r ≡ least_of (has_bad_entry version_2 image.now.geometry (contents image.now)) (place_limit image.now.geometry)) }
+    ensures { IfOk result (λ r. r
+        ≡ least_of (has_bad_entry version_2 image.now.geometry (contents image.now)) (place_limit image.now.geometry)) }
 {
     for n in 0..image.geometry().inodes + 1 {
         if has_bad_entry(alloc, image, n)? {

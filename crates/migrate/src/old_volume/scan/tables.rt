@@ -35,7 +35,8 @@ fn count_names_in(image: &Image, n: u32, named: &mut [u16], namer: &mut [u16])
     requires sizes { length namer.old ≡ length named.old }
     requires most { (m : ℕ) → slice_index named.old m ≤ 32768 }
     ensures most { (m : ℕ) → slice_index named.new m ≤ 32768 }
-    ensures more { AreNamedMore n (names_in_of version_2 image.now.geometry (contents image.now) n) named.old namer.old named.new namer.new }
+    ensures more { AreNamedMore n (names_in_of version_2 image.now.geometry (contents image.now) n)
+        named.old namer.old named.new namer.new }
 {
     if !image.is_directory(n) {
         return;

@@ -16,11 +16,14 @@ returns-in-Some-hole c =
     let g = c.args.image.now.geometry in
     let v = contents c.args.image.now in
     let l = place_limit g in
-    first_later l 10 (has_spare_zone g v) _ _ (c.in_default.ensures) (first_here l 11 c.in-Some-hole.place (has_hole g v) _ (c.in-Some-hole.ensures))
+    first_later l 10 (has_spare_zone g v) _ _ (c.in_default.ensures)
+    (first_here l 11 c.in-Some-hole.place (has_hole g v) _ (c.in-Some-hole.ensures))
 
 pub returns : goal.returns
 returns c =
     let g = c.args.image.now.geometry in
     let v = contents c.args.image.now in
     let l = place_limit g in
-    first_later l 10 (has_spare_zone g v) _ _ (c.in_default.ensures) (first_later l 11 (has_hole g v) _ _ (c.in_default-hole.ensures) (first_none l 12))
+    first_later l 10 (has_spare_zone g v) _ _ (c.in_default.ensures)
+    (first_later l 11 (has_hole g v) _ _ (c.in_default-hole.ensures)
+    (first_none l 12))

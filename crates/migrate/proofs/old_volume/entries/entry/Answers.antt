@@ -13,5 +13,6 @@ loop-a-preserved c = wide_more c.raw_entry-raw.result.now c.loop-a.wide c.loop-a
 pub returns : goal.returns
 returns c =
     let all : c.loop-a.a ≡ 14 = omega arith in
-    wide_is (file_byte c.args.image.now.geometry (contents c.args.image.now) c.args.inode.now) c.args.number c.raw_entry-raw.result.now c.loop-a.wide
+    wide_is (file_byte c.args.image.now.geometry (contents c.args.image.now) c.args.inode.now) c.args.number
+    c.raw_entry-raw.result.now c.loop-a.wide
     c.raw_entry-raw.ensures.bytes (subst (IsWide c.raw_entry-raw.result.now c.loop-a.wide) all c.loop-a.invariant)

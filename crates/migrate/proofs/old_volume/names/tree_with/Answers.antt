@@ -18,7 +18,8 @@ returns-in-Some-bad_links c =
     let g = c.args.image.now.geometry in
     let v = contents c.args.image.now in
     let l = place_limit g in
-    first_later l 15 (is_misplaced version_2 g v) _ _ (c.in_default.ensures) (first_here l 16 c.in-Some-bad_links.place (has_bad_links version_2 g v) _ (c.in-Some-bad_links.ensures))
+    first_later l 15 (is_misplaced version_2 g v) _ _ (c.in_default.ensures)
+    (first_here l 16 c.in-Some-bad_links.place (has_bad_links version_2 g v) _ (c.in-Some-bad_links.ensures))
 
 pub returns-in-Some-bad_link : goal.returns-in-Some-bad_link
 returns-in-Some-bad_link c =

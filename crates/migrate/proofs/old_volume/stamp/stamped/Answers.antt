@@ -26,7 +26,8 @@ write-requires-clause-room c =
     let flat = fits.flat in
     let size = length-take-le (g.zones * g.block_size) c.args.image.now (omega arith) in
     let items : length c.extend_from_slice.new.self.items ≡ length (take (g.zones * g.block_size) c.args.image.now)
-    = ap length (c.in_ok-extend_from_slice.ensures.items ∙ ap (λ l. l ++ take (g.zones * g.block_size) c.args.image.now) c.in_ok-blocks.ensures.items) in
+    = ap length (c.in_ok-extend_from_slice.ensures.items ∙ ap (λ l. l ++ take (g.zones * g.block_size) c.args.image.now)
+    c.in_ok-blocks.ensures.items) in
     let value = ap length c.deref_mut.ensures.value in
     omega arith
 
@@ -43,9 +44,11 @@ returns c =
     let size = length-take-le n c.args.image.now (omega arith) in
     let items : c.extend_from_slice.new.self.items ≡ take n c.args.image.now
     = c.in_ok-extend_from_slice.ensures.items ∙ ap (λ l. l ++ take n c.args.image.now) c.in_ok-blocks.ensures.items in
-    let written : c.write.new.image ≡ with_superblock g (take n c.args.image.now) = c.write.ensures ∙ ap (with_superblock g) (c.deref_mut.ensures.value ∙ items) in
+    let written : c.write.new.image ≡ with_superblock g (take n c.args.image.now) = c.write.ensures
+    ∙ ap (with_superblock g) (c.deref_mut.ensures.value ∙ items) in
     let same : length c.write.new.image ≡ length c.extend_from_slice.new.self.items
     = ap length written ∙ put_length g (take n c.args.image.now) (omega arith) ∙ sym (ap length items) in
-    let long : length c.extend_from_slice.new.self.items ≤ c.extend_from_slice.new.self.len = omega (arith, ap length c.deref_mut.ensures.value, c.deref_mut.ensures.len) in
+    let long : length c.extend_from_slice.new.self.items ≤ c.extend_from_slice.new.self.len
+    = omega (arith, ap length c.deref_mut.ensures.value, c.deref_mut.ensures.len) in
     let back = put_back c.extend_from_slice.new.self.len c.write.new.image c.extend_from_slice.new.self.items same long ∙ written in
     subst (IsStamped g c.args.image.now) (sym back) (is_stamped c.args.image.now g c.requires n refl)

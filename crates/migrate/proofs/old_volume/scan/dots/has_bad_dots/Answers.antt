@@ -28,7 +28,8 @@ entry-first-requires-clause-there c =
 
 pub entry-first-requires-clause-small : goal.entry-first-requires-clause-small
 entry-first-requires-clause-small c =
-    small c.args.image.now c.args.n c.inode-inode.result c.inode-inode.ensures (sym c.is_directory.ensures ∙ c.if-not-is_directory.false) (c.requires c.args.n)
+    small c.args.image.now c.args.n c.inode-inode.result c.inode-inode.ensures (sym c.is_directory.ensures ∙ c.if-not-is_directory.false)
+    (c.requires c.args.n)
 
 pub entry-requires-clause-there : goal.entry-requires-clause-there
 entry-requires-clause-there c =
@@ -38,15 +39,19 @@ entry-requires-clause-there c =
 
 pub entry-requires-clause-small : goal.entry-requires-clause-small
 entry-requires-clause-small c =
-    small c.args.image.now c.args.n c.inode-inode.result c.inode-inode.ensures (sym c.is_directory.ensures ∙ c.if-not-is_directory.false) (c.requires c.args.n)
+    small c.args.image.now c.args.n c.inode-inode.result c.inode-inode.ensures (sym c.is_directory.ensures ∙ c.if-not-is_directory.false)
+    (c.requires c.args.n)
 
 pub returns-then-not-is_field : goal.returns-then-not-is_field
 returns-then-not-is_field c =
     let i = c.args.image.now in
     let n = c.args.n in
-    let out = sym (field_same i n 0 c.inode-inode.result c.inode-inode.ensures c.entry-first.result c.entry-first.ensures dot short_dot) ∙ sym c.is_field.ensures ∙ c.if-not-is_field.true in
-    sym (or_left (not (is_field version_2 i.geometry (contents i) n 0 dot) || not (target_at version_2 i.geometry (contents i) n 0 == n)) (not (is_field version_2 i.geometry (contents i) n 1 dot_dot))
-    (or_left (not (is_field version_2 i.geometry (contents i) n 0 dot)) (not (target_at version_2 i.geometry (contents i) n 0 == n)) (ap not out)))
+    let out = sym (field_same i n 0 c.inode-inode.result c.inode-inode.ensures c.entry-first.result c.entry-first.ensures dot short_dot)
+    ∙ sym c.is_field.ensures ∙ c.if-not-is_field.true in
+    sym (or_left (not (is_field version_2 i.geometry (contents i) n 0 dot) || not (target_at version_2 i.geometry (contents i) n 0 == n))
+    (not (is_field version_2 i.geometry (contents i) n 1 dot_dot))
+    (or_left (not (is_field version_2 i.geometry (contents i) n 0 dot)) (not (target_at version_2 i.geometry (contents i) n 0 == n))
+    (ap not out)))
     ∙ of_directory i n _ (sym c.is_directory.ensures ∙ c.if-not-is_directory.false)
 
 pub returns-then-u32_at-n : goal.returns-then-u32_at-n
@@ -54,7 +59,8 @@ returns-then-u32_at-n c =
     let i = c.args.image.now in
     let n = c.args.n in
     let is = c.u32_at.ensures ∙ target_same i n 0 c.inode-inode.result c.inode-inode.ensures c.entry-first.result c.entry-first.ensures in
-    sym (or_left (not (is_field version_2 i.geometry (contents i) n 0 dot) || not (target_at version_2 i.geometry (contents i) n 0 == n)) (not (is_field version_2 i.geometry (contents i) n 1 dot_dot))
+    sym (or_left (not (is_field version_2 i.geometry (contents i) n 0 dot) || not (target_at version_2 i.geometry (contents i) n 0 == n))
+    (not (is_field version_2 i.geometry (contents i) n 1 dot_dot))
     (or_right (not (is_field version_2 i.geometry (contents i) n 0 dot)) (not (target_at version_2 i.geometry (contents i) n 0 == n))
     (ap not (ne_eqb (target_at version_2 i.geometry (contents i) n 0) n (λ e. c.if-u32_at-n.true (is ∙ e))))))
     ∙ of_directory i n _ (sym c.is_directory.ensures ∙ c.if-not-is_directory.false)
@@ -64,9 +70,12 @@ returns c =
     let i = c.args.image.now in
     let n = c.args.n in
     let first : is_field version_2 i.geometry (contents i) n 0 dot ≡ true
-    = sym (field_same i n 0 c.inode-inode.result c.inode-inode.ensures c.entry-first.result c.entry-first.ensures dot short_dot) ∙ sym c.is_field.ensures ∙ c.if-not-is_field.false in
+    = sym (field_same i n 0 c.inode-inode.result c.inode-inode.ensures c.entry-first.result c.entry-first.ensures dot short_dot)
+    ∙ sym c.is_field.ensures ∙ c.if-not-is_field.false in
     let is = c.u32_at.ensures ∙ target_same i n 0 c.inode-inode.result c.inode-inode.ensures c.entry-first.result c.entry-first.ensures in
-    let own : (target_at version_2 i.geometry (contents i) n 0 == n) ≡ true = eq-eqb (target_at version_2 i.geometry (contents i) n 0) n (sym is ∙ c.if-u32_at-n.false) in
-    ap not (c.is_field-2.ensures ∙ field_same i n 1 c.inode-inode.result c.inode-inode.ensures c.entry.result c.entry.ensures dot_dot short_dot_dot)
+    let own : (target_at version_2 i.geometry (contents i) n 0 == n) ≡ true
+    = eq-eqb (target_at version_2 i.geometry (contents i) n 0) n (sym is ∙ c.if-u32_at-n.false) in
+    ap not (c.is_field-2.ensures ∙ field_same i n 1 c.inode-inode.result c.inode-inode.ensures c.entry.result c.entry.ensures dot_dot
+    short_dot_dot)
     ∙ sym (λ j. (not (first j) || not (own j)) || not (is_field version_2 i.geometry (contents i) n 1 dot_dot))
     ∙ of_directory i n _ (sym c.is_directory.ensures ∙ c.if-not-is_directory.false)

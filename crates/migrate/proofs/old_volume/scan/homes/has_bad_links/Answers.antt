@@ -11,7 +11,8 @@ use Rattle.migrate.proofs.old_volume.scan.homes.has_bad_links.Goals as goal
 use Rattle.migrate.specs.Form.{version_2}
 
 pub returns-then-not-is_marked : goal.returns-then-not-is_marked
-returns-then-not-is_marked c = sym (and_left (is_marked c.args.image.now.geometry (contents c.args.image.now) c.args.n) _ (sym c.is_marked.ensures ∙ c.if-not-is_marked.true))
+returns-then-not-is_marked c = sym (and_left (is_marked c.args.image.now.geometry (contents c.args.image.now) c.args.n) _
+    (sym c.is_marked.ensures ∙ c.if-not-is_marked.true))
 
 pub returns-then-links-eq0 : goal.returns-then-links-eq0
 returns-then-links-eq0 c =
@@ -32,13 +33,15 @@ returns-then-is_directory c =
     let some = c.if-links-eq0.false in
     let few = c.if-links-gt32767.false in
     let wanted : 2 + c.subdirectories.result ≡ links_of version_2 i.geometry (contents i) n
-    = ap (λ k. 2 + k) c.subdirectories.ensures.value ∙ sym (cond-true (is_directory_inode i.geometry (contents i) n) (2 + subdirectories_of version_2 i.geometry (contents i) n) _ (sym c.is_directory.ensures ∙ c.if-is_directory.true)) in
+    = ap (λ k. 2 + k) c.subdirectories.ensures.value ∙ sym (cond-true (is_directory_inode i.geometry (contents i) n)
+    (2 + subdirectories_of version_2 i.geometry (contents i) n) _ (sym c.is_directory.ensures ∙ c.if-is_directory.true)) in
     ap (λ l. not (l == 2 + c.subdirectories.result)) is
     ∙ other_links i n (sym c.is_marked.ensures ∙ c.if-not-is_marked.false) (λ e. some (is ∙ e)) (omega arith) (2 + c.subdirectories.result)
     (ap (λ k. ((contents i).inodes n).links == k) wanted)
 
 pub bounds-named-n : goal.bounds-named-n
-bounds-named-n c = let low = inside c.args.image.now c.args.n (sym c.is_marked.ensures ∙ c.if-not-is_marked.false) in let size = c.requires.named.named_size in omega arith
+bounds-named-n c = let low = inside c.args.image.now c.args.n (sym c.is_marked.ensures ∙ c.if-not-is_marked.false) in let size
+    = c.requires.named.named_size in omega arith
 
 pub returns : goal.returns
 returns c =
@@ -50,7 +53,8 @@ returns c =
     let few = c.if-links-gt32767.false in
     let low : ((contents i).inodes n).links ≤ 32767 = omega arith in
     let wanted : links_of version_2 i.geometry (contents i) n ≡ all_names_of version_2 i.geometry (contents i) n
-    = cond-false (is_directory_inode i.geometry (contents i) n) (2 + subdirectories_of version_2 i.geometry (contents i) n) _ (sym c.is_directory.ensures ∙ c.if-is_directory.false) in
+    = cond-false (is_directory_inode i.geometry (contents i) n) (2 + subdirectories_of version_2 i.geometry (contents i) n) _
+    (sym c.is_directory.ensures ∙ c.if-is_directory.false) in
     ap (λ l. not (l == c.from.result)) is
     ∙ other_links i n marked (λ e. some (is ∙ e)) low c.from.result
     (ap (λ k. ((contents i).inodes n).links == k) (c.from.ensures ∙ c.requires.named.counted n (inside i n marked))

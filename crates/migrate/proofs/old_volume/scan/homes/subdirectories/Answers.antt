@@ -22,7 +22,8 @@ loop-number-preserved c =
     let low : 2 ≤ e = omega arith in
     let target = target_at version_2 i.geometry (contents i) n in
     let here : c.target.result ≡ target (e - 2 + 2)
-    = c.target.ensures ∙ ap (λ x. entry_inode version_2 (file_byte i.geometry (contents i) x) e) c.inode-inode.ensures ∙ ap target (let k : e ≡ e - 2 + 2 = omega arith in k) in
+    = c.target.ensures ∙ ap (λ x. entry_inode version_2 (file_byte i.geometry (contents i) x) e) c.inode-inode.ensures
+    ∙ ap target (let k : e ≡ e - 2 + 2 = omega arith in k) in
     let one : c.one_when-count.result ≡ one_if (is_directory_inode i.geometry (contents i) (target (e - 2 + 2)))
     = c.one_when-count.ensures ∙ ap one_if (c.is_directory.ensures ∙ ap (is_directory_inode i.geometry (contents i)) here) in
     let few = one_most (is_directory_inode i.geometry (contents i) (target (e - 2 + 2))) in
@@ -31,7 +32,8 @@ loop-number-preserved c =
     record {
       near = omega arith;
       most = omega arith;
-      value = (λ x. before.value x + one x) ∙ sym (sum_more (λ e. one_if (is_directory_inode i.geometry (contents i) (target (e + 2)))) (e - 2))
+      value = (λ x. before.value x + one x) ∙ sym (sum_more (λ e. one_if
+          (is_directory_inode i.geometry (contents i) (target (e + 2)))) (e - 2))
           ∙ ap (count_below (λ e. is_directory_inode i.geometry (contents i) (target (e + 2)))) next;
     }
 
@@ -42,7 +44,9 @@ returns-clause-value c =
     let count : c.inode-inode.result.size / 16 ≡ entry_count version_2 (contents i) n = ap (λ x. x.size / 16) c.inode-inode.ensures in
     let near = c.loop-number.invariant.near in
     let all : c.loop-number.number - 2 ≡ entry_count version_2 (contents i) n - 2 = omega arith in
-    c.loop-number.invariant.value ∙ ap (count_below (λ e. is_directory_inode i.geometry (contents i) (target_at version_2 i.geometry (contents i) n (e + 2)))) all
+    c.loop-number.invariant.value ∙ ap (count_below (λ e. is_directory_inode i.geometry (contents i)
+    (target_at version_2 i.geometry (contents i) n (e + 2)))) all
 
 pub target-requires-clause-small : goal.target-requires-clause-small
-target-requires-clause-small c = small c.args.image.now c.args.n c.inode-inode.result c.inode-inode.ensures c.requires.directory (c.requires.sizes c.args.n)
+target-requires-clause-small c = small c.args.image.now c.args.n c.inode-inode.result c.inode-inode.ensures c.requires.directory
+    (c.requires.sizes c.args.n)

@@ -10,5 +10,6 @@ abbrev pub invariant-loop-number : goal.invariant-loop-number
 invariant-loop-number l = record {
   near : l.number - 2 ≤ l.inode.size / 16 - 2;
   most : l.count ≤ l.number - 2;
-  value : l.count ≡ count_below (λ e. is_directory_inode l.image.geometry (contents l.image) (target_at version_2 l.image.geometry (contents l.image) l.n (e + 2))) (l.number - 2);
+  value : l.count ≡ count_below (λ e. is_directory_inode l.image.geometry (contents l.image)
+      (target_at version_2 l.image.geometry (contents l.image) l.n (e + 2))) (l.number - 2);
 }

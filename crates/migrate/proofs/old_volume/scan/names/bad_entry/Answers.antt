@@ -27,4 +27,8 @@ returns c =
     let i = c.args.image.now in
     let e : c.geometry-n-end.result.inodes ≡ i.geometry.inodes = ap (λ g. g.inodes) c.geometry-n-end.ensures in
     none_least (has_bad_entry version_2 i.geometry (contents i)) (place_limit i.geometry)
-    (λ k h. elim (cases_lt k c.loop-n.n) [ inl low ↦ c.loop-n.invariant k low | inr far ↦ sym (no_directory i k _ (past_directories i k (omega arith))) ])
+    (λ k h. elim (cases_lt k c.loop-n.n) [
+      | inl low ↦ c.loop-n.invariant k low
+      | inr far ↦ sym
+          (no_directory i k _ (past_directories i k (omega arith)))
+    ])

@@ -21,11 +21,13 @@ returns-then-not-is_directory c = no_directory c.args.image.now c.args.n _ (sym 
 
 pub entry-entry-requires-clause-small : goal.entry-entry-requires-clause-small
 entry-entry-requires-clause-small c =
-    small c.args.image.now c.args.n c.inode-inode.result c.inode-inode.ensures (sym c.is_directory.ensures ∙ c.if-not-is_directory.false) (c.requires c.args.n)
+    small c.args.image.now c.args.n c.inode-inode.result c.inode-inode.ensures (sym c.is_directory.ensures ∙ c.if-not-is_directory.false)
+    (c.requires c.args.n)
 
 pub name_at-requires-clause-small : goal.name_at-requires-clause-small
 name_at-requires-clause-small c =
-    small c.args.image.now c.args.n c.inode-inode.result c.inode-inode.ensures (sym c.is_directory.ensures ∙ c.if-not-is_directory.false) (c.requires c.args.n)
+    small c.args.image.now c.args.n c.inode-inode.result c.inode-inode.ensures (sym c.is_directory.ensures ∙ c.if-not-is_directory.false)
+    (c.requires c.args.n)
 
 pub loop-number-init : goal.loop-number-init
 loop-number-init c = record {
@@ -40,7 +42,8 @@ returns-then-u32_at-eq0 c =
     let e = c.loop-number.number in
     let count : c.inode-inode.result.size / 16 ≡ entry_count version_2 (contents i) n = ap (λ x. x.size / 16) c.inode-inode.ensures in
     let is = target_same i n e c.inode-inode.result c.inode-inode.ensures c.entry-entry.result c.entry-entry.ensures in
-    let used : is_free_at version_2 i.geometry (contents i) n e ≡ false = ap (λ (t : ℕ). nat_le 2 e && (t == 0)) (sym is) ∙ sym c.is_free.ensures ∙ c.if-is_free.false in
+    let used : is_free_at version_2 i.geometry (contents i) n e ≡ false = ap (λ (t : ℕ). nat_le 2 e && (t == 0)) (sym is)
+    ∙ sym c.is_free.ensures ∙ c.if-is_free.false in
     sym (some_from (is_bad_entry version_2 i.geometry (contents i) n) (entry_count version_2 (contents i) n) e (omega arith)
     (bad_free i n e used (eq-eqb _ 0 (sym is ∙ sym c.u32_at.ensures ∙ c.if-u32_at-eq0.true))))
     ∙ of_directory i n _ (sym c.is_directory.ensures ∙ c.if-not-is_directory.false)
@@ -52,7 +55,8 @@ returns-then-is_bad_name c =
     let e = c.loop-number.number in
     let count : c.inode-inode.result.size / 16 ≡ entry_count version_2 (contents i) n = ap (λ x. x.size / 16) c.inode-inode.ensures in
     let t = target_same i n e c.inode-inode.result c.inode-inode.ensures c.entry-entry.result c.entry-entry.ensures in
-    let used : is_free_at version_2 i.geometry (contents i) n e ≡ false = ap (λ (k : ℕ). nat_le 2 e && (k == 0)) (sym t) ∙ sym c.is_free.ensures ∙ c.if-is_free.false in
+    let used : is_free_at version_2 i.geometry (contents i) n e ≡ false = ap (λ (k : ℕ). nat_le 2 e && (k == 0)) (sym t)
+    ∙ sym c.is_free.ensures ∙ c.if-is_free.false in
     let is = name_field_same i n e c.inode-inode.result c.inode-inode.ensures c.entry-entry.result c.entry-entry.ensures in
     sym (some_from (is_bad_entry version_2 i.geometry (contents i) n) (entry_count version_2 (contents i) n) e (omega arith)
     (bad_field i n e used (ap (λ b. nat_le 2 e && not b) (sym is) ∙ sym c.is_bad_name.ensures ∙ c.if-is_bad_name.true)))
@@ -65,11 +69,13 @@ returns-then-not-branch c =
     let e = c.loop-number.number in
     let count : c.inode-inode.result.size / 16 ≡ entry_count version_2 (contents i) n = ap (λ x. x.size / 16) c.inode-inode.ensures in
     let t = target_same i n e c.inode-inode.result c.inode-inode.ensures c.entry-entry.result c.entry-entry.ensures in
-    let used : is_free_at version_2 i.geometry (contents i) n e ≡ false = ap (λ (k : ℕ). nat_le 2 e && (k == 0)) (sym t) ∙ sym c.is_free.ensures ∙ c.if-is_free.false in
+    let used : is_free_at version_2 i.geometry (contents i) n e ≡ false = ap (λ (k : ℕ). nat_le 2 e && (k == 0)) (sym t)
+    ∙ sym c.is_free.ensures ∙ c.if-is_free.false in
     let key = c.name_at.ensures ∙ is_named i n e c.inode-inode.result c.inode-inode.ensures in
     let there = not-false _ (sym c.in_ok-insert.ensures.added ∙ c.if-not-branch.true) in
     sym (some_from (is_bad_entry version_2 i.geometry (contents i) n) (entry_count version_2 (contents i) n) e (omega arith)
-    (bad_double i n e used (sym (stands_earlier i n c.loop-number.names.keys e c.name_at.result.now true c.loop-number.invariant.names key (sym there)))))
+    (bad_double i n e used (sym (stands_earlier i n c.loop-number.names.keys e c.name_at.result.now true c.loop-number.invariant.names key
+    (sym there)))))
     ∙ of_directory i n _ (sym c.is_directory.ensures ∙ c.if-not-is_directory.false)
 
 pub loop-number-preserved-then-is_free : goal.loop-number-preserved-then-is_free
@@ -78,7 +84,8 @@ loop-number-preserved-then-is_free c =
     let n = c.args.n in
     let e = c.loop-number.number in
     let t = target_same i n e c.inode-inode.result c.inode-inode.ensures c.entry-entry.result c.entry-entry.ensures in
-    let free : is_free_at version_2 i.geometry (contents i) n e ≡ true = ap (λ (k : ℕ). nat_le 2 e && (k == 0)) (sym t) ∙ sym c.is_free.ensures ∙ c.if-is_free.true in
+    let free : is_free_at version_2 i.geometry (contents i) n e ≡ true = ap (λ (k : ℕ). nat_le 2 e && (k == 0)) (sym t)
+    ∙ sym c.is_free.ensures ∙ c.if-is_free.true in
     let P : ℕ → Type 0 = λ e. is_bad_entry version_2 i.geometry (contents i) n e ≡ false in
     record {
       good = below_more P e c.loop-number.invariant.good (free_good i n e free);
@@ -91,7 +98,8 @@ loop-number-preserved c =
     let n = c.args.n in
     let e = c.loop-number.number in
     let is = target_same i n e c.inode-inode.result c.inode-inode.ensures c.entry-entry.result c.entry-entry.ensures in
-    let used : is_free_at version_2 i.geometry (contents i) n e ≡ false = ap (λ (t : ℕ). nat_le 2 e && (t == 0)) (sym is) ∙ sym c.is_free.ensures ∙ c.if-is_free.false in
+    let used : is_free_at version_2 i.geometry (contents i) n e ≡ false = ap (λ (t : ℕ). nat_le 2 e && (t == 0)) (sym is)
+    ∙ sym c.is_free.ensures ∙ c.if-is_free.false in
     let field = name_field_same i n e c.inode-inode.result c.inode-inode.ensures c.entry-entry.result c.entry-entry.ensures in
     let key = c.name_at.ensures ∙ is_named i n e c.inode-inode.result c.inode-inode.ensures in
     let new = not-true _ (sym c.in_ok-insert.ensures.added ∙ c.if-not-branch.false) in
@@ -110,5 +118,6 @@ returns c =
     let i = c.args.image.now in
     let n = c.args.n in
     let count : c.inode-inode.result.size / 16 ≡ entry_count version_2 (contents i) n = ap (λ x. x.size / 16) c.inode-inode.ensures in
-    sym (none_from (is_bad_entry version_2 i.geometry (contents i) n) (entry_count version_2 (contents i) n) (λ e h. c.loop-number.invariant.good e (omega arith)))
+    sym (none_from (is_bad_entry version_2 i.geometry (contents i) n) (entry_count version_2 (contents i) n)
+    (λ e h. c.loop-number.invariant.good e (omega arith)))
     ∙ of_directory i n _ (sym c.is_directory.ensures ∙ c.if-not-is_directory.false)

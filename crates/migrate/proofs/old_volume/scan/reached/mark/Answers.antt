@@ -9,4 +9,5 @@ pub returns-then-seen-place : goal.returns-then-seen-place
 returns-then-seen-place c = goes_seen c.args.m c.args.seen.now c.args.waiting.now.items c.if-seen-place.true
 
 pub returns : goal.returns
-returns c = goes_one c.args.m c.args.seen.now c.args.waiting.now.items c.push.new.self.items c.if-place-seen.false c.if-seen-place.false c.in_ok-push.ensures.items
+returns c = goes_one c.args.m c.args.seen.now c.args.waiting.now.items c.push.new.self.items c.if-place-seen.false c.if-seen-place.false
+    c.in_ok-push.ensures.items

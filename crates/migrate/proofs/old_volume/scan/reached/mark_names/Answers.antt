@@ -18,12 +18,16 @@ pub returns-then-not-is_directory : goal.returns-then-not-is_directory
 returns-then-not-is_directory c =
     let i = c.args.image.now in
     goes_none (names_in_of version_2 i.geometry (contents i) c.args.n) c.args.seen.now c.args.waiting.now.items
-    (λ k h some. let none : names_in_of version_2 i.geometry (contents i) c.args.n k ≡ 0 = cond-false (is_directory_inode i.geometry (contents i) c.args.n) _ 0 (sym c.is_directory.ensures ∙ c.if-not-is_directory.true) in absurd (omega arith))
+    (λ k h some. let none : names_in_of version_2 i.geometry (contents i) c.args.n k
+    ≡ 0 = cond-false (is_directory_inode i.geometry (contents i) c.args.n) _ 0 (sym c.is_directory.ensures ∙ c.if-not-is_directory.true)
+    in absurd (omega arith))
 
 pub loop-number-init : goal.loop-number-init
 loop-number-init c = record {
   near = omega arith;
-  go = goes_none _ c.args.seen.now c.args.waiting.now.items (λ k h some. let none = no_sum (λ e. one_if (target_at version_2 c.args.image.now.geometry (contents c.args.image.now) c.args.n (e + 2) == k)) in absurd (omega arith));
+  go = goes_none _ c.args.seen.now c.args.waiting.now.items (λ k h some. let none = no_sum
+      (λ e. one_if (target_at version_2 c.args.image.now.geometry (contents c.args.image.now) c.args.n (e + 2) == k)) in
+      absurd (omega arith));
 }
 
 pub loop-number-preserved : goal.loop-number-preserved
@@ -34,11 +38,13 @@ loop-number-preserved c =
     let low : 2 ≤ e = omega arith in
     let target : ℕ → ℕ = target_at version_2 i.geometry (contents i) n in
     let here : target (e - 2 + 2) ≡ c.target.result
-    = ap target (let k : e - 2 + 2 ≡ e = omega arith in k) ∙ ap (λ x. entry_inode version_2 (file_byte i.geometry (contents i) x) e) (sym c.inode-inode.ensures) ∙ sym c.target.ensures in
+    = ap target (let k : e - 2 + 2 ≡ e = omega arith in k) ∙ ap (λ x. entry_inode version_2 (file_byte i.geometry (contents i) x) e)
+    (sym c.inode-inode.ensures) ∙ sym c.target.ensures in
     let next : e + 1 - 2 ≡ e - 2 + 1 = omega arith in
     record {
       near = omega arith;
-      go = goes_more (λ m. count_below (λ e. target (e + 2) == m) (e - 2)) (λ m. one_if (c.target.result == m)) (λ m. count_below (λ e. target (e + 2) == m) (e + 1 - 2))
+      go = goes_more (λ m. count_below (λ e. target (e + 2) == m) (e - 2)) (λ m. one_if (c.target.result == m))
+          (λ m. count_below (λ e. target (e + 2) == m) (e + 1 - 2))
           c.args.seen.now c.args.waiting.now.items c.loop-number.seen c.loop-number.waiting.items c.mark.new.seen c.mark.new.waiting.items
           (λ m. ap (count_below (λ e. target (e + 2) == m)) next ∙ sum_more (λ e. one_if (target (e + 2) == m)) (e - 2)
           ∙ ap (λ t. count_below (λ e. target (e + 2) == m) (e - 2) + one_if (t == m)) here)
@@ -61,4 +67,5 @@ returns c =
 
 pub target-requires-clause-small : goal.target-requires-clause-small
 target-requires-clause-small c =
-    small c.args.image.now c.args.n c.inode-inode.result c.inode-inode.ensures (sym c.is_directory.ensures ∙ c.if-not-is_directory.false) (c.requires c.args.n)
+    small c.args.image.now c.args.n c.inode-inode.result c.inode-inode.ensures (sym c.is_directory.ensures ∙ c.if-not-is_directory.false)
+    (c.requires c.args.n)

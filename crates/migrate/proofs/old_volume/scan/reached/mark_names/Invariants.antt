@@ -10,5 +10,6 @@ use Rattle.migrate.specs.Form.{version_2}
 abbrev pub invariant-loop-number : goal.invariant-loop-number
 invariant-loop-number l = record {
   near : l.number - 2 ≤ l.inode.size / 16 - 2;
-  go : GoesOn (λ m. count_below (λ e. target_at version_2 l.image.geometry (contents l.image) l.n (e + 2) == m) (l.number - 2)) l.fn.seen l.fn.waiting.items l.seen l.waiting.items;
+  go : GoesOn (λ m. count_below (λ e. target_at version_2 l.image.geometry (contents l.image) l.n (e + 2) == m) (l.number - 2)) l.fn.seen
+      l.fn.waiting.items l.seen l.waiting.items;
 }

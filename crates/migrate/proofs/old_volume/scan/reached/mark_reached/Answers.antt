@@ -13,7 +13,8 @@ loop-n-init c =
 
 pub loop-n-preserved : goal.loop-n-preserved
 loop-n-preserved c =
-    walk_goes c.args.image.now c.loop-n.seen c.loop-n.waiting.items c.pop.new.self.items c.in-Some.n c.mark_names.new.seen c.mark_names.new.waiting.items
+    walk_goes c.args.image.now c.loop-n.seen c.loop-n.waiting.items c.pop.new.self.items c.in-Some.n c.mark_names.new.seen
+    c.mark_names.new.waiting.items
     c.loop-n.invariant c.in-Some.ensures.items c.in_ok-mark_names.ensures
 
 pub returns : goal.returns

@@ -14,8 +14,10 @@ loop-n-init c = record {
   most = λ m. omega (arith, c.requires.fresh m);
   named_size = c.requires.named_size;
   namer_size = c.requires.namer_size;
-  counted = λ m h. let none = no_sum (λ n. names_in_of version_2 c.args.image.now.geometry (contents c.args.image.now) n m) in omega (arith, c.requires.fresh m);
-  noted = λ m h some. let none = no_sum (λ n. names_in_of version_2 c.args.image.now.geometry (contents c.args.image.now) n m) in absurd (omega arith);
+  counted = λ m h. let none = no_sum (λ n. names_in_of version_2 c.args.image.now.geometry (contents c.args.image.now) n m) in
+      omega (arith, c.requires.fresh m);
+  noted = λ m h some. let none = no_sum (λ n. names_in_of version_2 c.args.image.now.geometry (contents c.args.image.now) n m) in
+      absurd (omega arith);
 }
 
 pub loop-n-preserved : goal.loop-n-preserved
@@ -53,5 +55,6 @@ returns c =
       named_size = done.named_size;
       namer_size = done.namer_size;
       counted = λ m h. done.counted m h ∙ ap (λ k. min 32768 (sum_below (λ n. names_in_of version_2 i.geometry (contents i) n m) k)) all;
-      noted = λ m h some. done.noted m h (let same = ap (sum_below (λ n. names_in_of version_2 i.geometry (contents i) n m)) all in omega arith);
+      noted = λ m h some. done.noted m h (let same = ap (sum_below (λ n. names_in_of version_2 i.geometry (contents i) n m)) all
+          in omega arith);
     }

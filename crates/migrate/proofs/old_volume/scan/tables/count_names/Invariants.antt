@@ -11,7 +11,8 @@ invariant-loop-n l = record {
   most : (m : ℕ) → slice_index l.named m ≤ 32768;
   named_size : length l.named ≡ l.image.geometry.inodes + 1;
   namer_size : length l.namer ≡ l.image.geometry.inodes + 1;
-  counted : (m : ℕ) → m < l.image.geometry.inodes + 1 → slice_index l.named m ≡ min 32768 (sum_below (λ n. names_in_of version_2 l.image.geometry (contents l.image) n m) l.n);
+  counted : (m : ℕ) → m < l.image.geometry.inodes + 1 → slice_index l.named m
+      ≡ min 32768 (sum_below (λ n. names_in_of version_2 l.image.geometry (contents l.image) n m) l.n);
   noted : (m : ℕ) → m < l.image.geometry.inodes + 1 → 0 < sum_below (λ n. names_in_of version_2 l.image.geometry (contents l.image) n m) l.n
       → 0 < names_in_of version_2 l.image.geometry (contents l.image) (slice_index l.namer m) m;
 }

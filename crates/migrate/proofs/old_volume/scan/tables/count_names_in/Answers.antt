@@ -36,13 +36,15 @@ loop-number-preserved c =
     let low : 2 ≤ e = omega arith in
     let target : ℕ → ℕ = target_at version_2 i.geometry (contents i) n in
     let here : target (e - 2 + 2) ≡ c.target.result
-    = ap target (let k : e - 2 + 2 ≡ e = omega arith in k) ∙ ap (λ x. entry_inode version_2 (file_byte i.geometry (contents i) x) e) (sym c.inode-inode.ensures) ∙ sym c.target.ensures in
+    = ap target (let k : e - 2 + 2 ≡ e = omega arith in k) ∙ ap (λ x. entry_inode version_2 (file_byte i.geometry (contents i) x) e)
+    (sym c.inode-inode.ensures) ∙ sym c.target.ensures in
     let next : e + 1 - 2 ≡ e - 2 + 1 = omega arith in
     record {
       most = c.count_name.ensures.most;
       near = omega arith;
       sizes = c.count_name.ensures.more.namer_size ∙ c.loop-number.invariant.sizes ∙ sym c.count_name.ensures.more.named_size;
-      more = named_more n (λ m. count_below (λ e. target (e + 2) == m) (e - 2)) (λ m. one_if (c.target.result == m)) (λ m. count_below (λ e. target (e + 2) == m) (e + 1 - 2))
+      more = named_more n (λ m. count_below (λ e. target (e + 2) == m) (e - 2)) (λ m. one_if (c.target.result == m))
+          (λ m. count_below (λ e. target (e + 2) == m) (e + 1 - 2))
           c.args.named.now c.args.namer.now c.loop-number.named c.loop-number.namer c.count_name.new.named c.count_name.new.namer
           (λ m. ap (count_below (λ e. target (e + 2) == m)) next ∙ sum_more (λ e. one_if (target (e + 2) == m)) (e - 2)
           ∙ ap (λ t. count_below (λ e. target (e + 2) == m) (e - 2) + one_if (t == m)) here)
@@ -68,4 +70,5 @@ count_name-requires-clause-inode c = let few = (is_geometry c.args.image.now).in
 
 pub target-requires-clause-small : goal.target-requires-clause-small
 target-requires-clause-small c =
-    small c.args.image.now c.args.n c.inode-inode.result c.inode-inode.ensures (sym c.is_directory.ensures ∙ c.if-not-is_directory.false) (c.requires.good c.args.n)
+    small c.args.image.now c.args.n c.inode-inode.result c.inode-inode.ensures (sym c.is_directory.ensures ∙ c.if-not-is_directory.false)
+    (c.requires.good c.args.n)
