@@ -5,7 +5,7 @@ use mathlib.Core.Logic.{inl, inr}
 use Rattle.std.specs.Prelude.{not, ◌&&◌, ◌||◌, ◌==◌, nat_lt, nat_le, replicate}
 use Rattle.std.proofs.lemmas.List.{length-take, length-drop, length-take-le, get_or-take, get_or-drop, get_or-replicate, get_or_past}
 use Rattle.std.proofs.lemmas.List.{length-replicate, length-set, get_or-set_same, get_or-set_other}
-use Rattle.std.proofs.lemmas.Bool.{cases_eq, cases_lt, cond-true, and_parts, and_left, and_right, or_parts, ltb-false, eq-eqb}
+use Rattle.std.proofs.lemmas.Bool.{cases_eq, cases_lt, cond-true, and_parts, and_right, or_parts, ltb-false, eq-eqb}
 use Rattle.tree.specs.Sums.{some_below}
 use Rattle.tree.specs.Names.{Name, is_name}
 use Rattle.tree.specs.Tree.{most_size}
@@ -16,7 +16,7 @@ use Rattle.volume.specs.Entries.{is_directory_inode}
 use Rattle.volume.proofs.Sums.{same_some}
 use Rattle.image.specs.declared.Image.{Image}
 use Rattle.image.specs.Entry as entry
-use Rattle.image.proofs.Contents.{g, v, inside, out_of_range}
+use Rattle.image.proofs.Contents.{g, v}
 use Rattle.image.proofs.Texts.{text_is}
 use Rattle.migrate.specs.Form.{version_2}
 use Rattle.migrate.specs.Nodes.{entry_inode, entry_name}

@@ -1,5 +1,5 @@
 -- The first finding, part by part.
-use Rattle.std.proofs.Common.{◌≡◌, ◌+◌, ℕ, ◌++◌, false, sym, ap, ◌∙◌, arith}
+use Rattle.std.proofs.Common.{◌≡◌, ℕ, ◌++◌, false, ap, ◌∙◌, arith}
 use mathlib.Core.Logic.{inl, inr}
 use Rattle.std.specs.Prelude.{None}
 use Rattle.std.proofs.lemmas.Bool.{cases_lt, and_left}

@@ -1,5 +1,5 @@
 -- A clean verdict of version 2 finds nothing.
-use Rattle.std.proofs.Common.{◌≡◌, ℕ, Bool, false, sym, ◌∙◌, ap}
+use Rattle.std.proofs.Common.{◌≡◌, false, ◌∙◌}
 use Rattle.std.specs.Prelude.{Option, None, Some}
 use Rattle.layout.specs.declared.Geometry.{Geometry}
 use Rattle.tree.specs.Sums.{some_below}
@@ -7,7 +7,7 @@ use Rattle.volume.specs.declared.Finding.{Finding}
 use Rattle.volume.specs.Pieces.{Pieces}
 use Rattle.volume.specs.Findings.{lacks_inode_bit, lacks_zone_bit, lacks_root, has_bad_mode, has_bad_number, is_used_twice, has_bad_bit}
 use Rattle.volume.specs.Findings.{has_spare_zone, has_hole}
-use Rattle.volume.specs.Verdict.{Verdict, Clean, Found, Test, place_limit}
+use Rattle.volume.specs.Verdict.{Clean, Test, place_limit}
 use Rattle.fsck.specs.Parts.{first_of}
 use Rattle.fsck.proofs.Firsts.{verdict_from, first_verdict, none_first}
 use Rattle.migrate.specs.Form.{version_2}

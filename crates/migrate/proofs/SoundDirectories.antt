@@ -1,16 +1,14 @@
 -- Where no finding of version 2 holds, the rules of the format hold.
-use Rattle.std.proofs.Common.{◌≡◌, ◌≢◌, ◌<◌, ◌≤◌, ◌%◌, ◌*◌, ℕ, true, false, sym, ap, ◌∙◌, arith}
-use Rattle.std.specs.Prelude.{not, ◌&&◌, ◌||◌, ◌==◌, nat_lt, nat_le, Some, None}
-use Rattle.std.proofs.lemmas.Bool.{or_parts, eqb-true, eqb-false, ltb-false, le-leb, lt-ltb, not-false, both_ways, and_from}
+use Rattle.std.proofs.Common.{◌≡◌, ◌≢◌, ◌<◌, ◌≤◌, ◌%◌, ℕ, true, false, sym, ap, ◌∙◌, arith}
+use Rattle.std.specs.Prelude.{not, ◌&&◌, ◌||◌, ◌==◌, nat_lt, nat_le}
+use Rattle.std.proofs.lemmas.Bool.{or_parts, eqb-true, eqb-false, ltb-false, le-leb, not-false, both_ways, and_from}
 use Rattle.lemmas.proofs.Bools.{and_false_right}
 use Rattle.layout.specs.declared.Geometry.{Geometry}
-use Rattle.layout.specs.Places.{IsGeometry}
 use Rattle.tree.specs.Sums.{some_below}
 use Rattle.tree.specs.Names.{same_name, dot, dot_dot}
 use Rattle.tree.specs.Space.{pages_of}
-use Rattle.volume.specs.Reading.{Disk}
 use Rattle.volume.specs.Pieces.{Pieces, pieces}
-use Rattle.volume.specs.Nodes.{page_zone, is_marked}
+use Rattle.volume.specs.Nodes.{page_zone}
 use Rattle.volume.specs.Entries.{is_directory_inode}
 use Rattle.volume.proofs.Sums.{none_below}
 use Rattle.volume.proofs.Volumes.{IsVolume, is_volume}

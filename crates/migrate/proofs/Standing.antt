@@ -2,14 +2,14 @@
 use Rattle.std.proofs.Common.{◌≡◌, ◌≢◌, ◌<◌, ◌≤◌, ◌+◌, ℕ, List, slice_index, Bool, true, false, refl, sym, ap, subst, ◌∙◌, cond, arith}
 use mathlib.Core.Logic.{inl, inr}
 use Rattle.std.specs.Prelude.{min, not, ◌&&◌, ◌||◌, ◌==◌, nat_lt}
-use Rattle.std.proofs.lemmas.Bool.{cases_eq, cases_lt, cases_Bool, cond-true, cond-false, both_ways, eq-eqb, ne_eqb, eqb-true, lt-ltb}
-use Rattle.std.proofs.lemmas.Bool.{le-ltb, and_left, and_parts, or_left, or_right, not-false}
-use Rattle.tree.specs.Sums.{sum_below, one_if}
+use Rattle.std.proofs.lemmas.Bool.{cases_eq, cases_lt, cases_Bool, cond-true, cond-false, eq-eqb, ne_eqb, lt-ltb}
+use Rattle.std.proofs.lemmas.Bool.{le-ltb, and_parts, or_left, or_right}
+use Rattle.tree.specs.Sums.{one_if}
 use Rattle.tree.specs.Tree.{most_links}
 use Rattle.volume.specs.Nodes.{is_marked}
 use Rattle.volume.specs.Entries.{is_directory_inode}
 use Rattle.migrate.specs.Entries.{target_at}
-use Rattle.migrate.specs.Findings.{names_in_of, all_names_of, is_reached, is_parent, is_misplaced, subdirectories_of, links_of}
+use Rattle.migrate.specs.Findings.{names_in_of, all_names_of, is_reached, is_parent, is_misplaced, links_of}
 use Rattle.migrate.specs.Findings.{has_bad_links}
 use Rattle.volume.proofs.Sums.{sum_same}
 use Rattle.image.specs.declared.Image.{Image}

@@ -2,7 +2,7 @@
 use Rattle.std.proofs.Common.{◌≡◌, ◌≤◌, ◌<◌, ◌+◌, ◌-◌, ◌*◌, ◌/◌, ◌%◌, ◌++◌, ℕ, List, [], Bool, true, false, length, take, drop, refl, sym}
 use Rattle.std.proofs.Common.{ap, subst, ◌∙◌, arith, get_or}
 use mathlib.Core.Logic.{inl, inr}
-use Rattle.std.specs.Prelude.{nat_le, nat_lt, ◌&&◌, ◌==◌, T, not, is_ok, Result, Ok, Err, if◌then◌else◌, slice_index}
+use Rattle.std.specs.Prelude.{nat_le, nat_lt, ◌&&◌, ◌==◌, T, not, is_ok, Result, Ok, Err, if◌then◌else◌}
 use Rattle.std.proofs.Math.Nat.{mul_comm}
 use Rattle.std.proofs.lemmas.Nat.{div_below, mul-add-lt}
 use Rattle.std.proofs.lemmas.List.{get_or-append_right, get_or-take, get_or-drop, length-take-le, length-append, length-drop, take_all}
@@ -11,13 +11,13 @@ use Rattle.std.proofs.lemmas.Bool.{and_parts, eqb-true, leb-true, ltb-true, ltb-
 use Rattle.std.proofs.lemmas.Bool.{cases_lt, cases_Bool}
 use Rattle.lemmas.proofs.Bools.{not_false}
 use Rattle.layout.specs.declared.Geometry.{Geometry}
-use Rattle.layout.specs.Bytes.{u16_at, u32_at}
+use Rattle.layout.specs.Bytes.{u16_at}
 use Rattle.layout.specs.Places.{IsGeometry, table_blocks, counts_agree, is_block_size}
 use Rattle.layout.specs.Superblock.{superblock_bytes, with_superblock}
 use Rattle.layout.proofs.Parsed.{block_sizes}
 use Rattle.layout.proofs.Written.{reads_back}
 use Rattle.volume.specs.declared.Inode.{Inode}
-use Rattle.volume.specs.Reading.{Disk, disk_of, blocks_of, is_inode, is_data_zone, inode_in, inode_block, inode_offset, inode_of_disk}
+use Rattle.volume.specs.Reading.{Disk, disk_of, is_inode, is_data_zone, inode_in, inode_block, inode_offset, inode_of_disk}
 use Rattle.volume.specs.Reading.{inode_bit, zone_bit, bit_in}
 use Rattle.volume.specs.Pieces.{pieces, blank}
 use Rattle.migrate.specs.declared.old_volume.superblock.OldRefusal.{OldRefusal}

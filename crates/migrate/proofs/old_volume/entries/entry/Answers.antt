@@ -1,4 +1,4 @@
-use Rattle.std.proofs.Common.{ℕ, List, subst, arith, ◌≡◌}
+use Rattle.std.proofs.Common.{subst, arith, ◌≡◌}
 use Rattle.volume.specs.Nodes.{file_byte}
 use Rattle.image.specs.Contents.{contents}
 use Rattle.migrate.proofs.EntryBytes.{IsWide, wide_begins, wide_more, wide_is}

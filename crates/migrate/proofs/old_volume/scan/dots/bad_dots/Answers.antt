@@ -1,4 +1,4 @@
-use Rattle.std.proofs.Common.{◌≡◌, ◌≤◌, ◌+◌, ℕ, Bool, false, sym, ap, rules, arith}
+use Rattle.std.proofs.Common.{◌≡◌, sym, ap, rules, arith}
 use Rattle.migrate.specs.Findings.{has_bad_dots}
 use Rattle.volume.specs.Verdict.{place_limit}
 use Rattle.image.specs.Contents.{contents}

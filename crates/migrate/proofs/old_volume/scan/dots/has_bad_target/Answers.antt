@@ -1,4 +1,4 @@
-use Rattle.std.proofs.Common.{◌≡◌, ◌/◌, ◌+◌, ℕ, false, sym, ap, ◌∙◌, below_more, arith}
+use Rattle.std.proofs.Common.{◌≡◌, ◌/◌, ℕ, false, sym, ap, ◌∙◌, below_more, arith}
 use Rattle.volume.proofs.Sums.{some_from, none_from}
 use Rattle.image.specs.Contents.{contents}
 use Rattle.fsck.proofs.Entries.{no_directory, of_directory}

@@ -1,5 +1,5 @@
-use Rattle.std.proofs.Common.{◌≡◌, ◌<◌, ◌≤◌, ◌+◌, ℕ, true, false, sym, ap, ◌∙◌, cond, slice_index, arith}
-use Rattle.std.specs.Prelude.{not, ◌==◌, min}
+use Rattle.std.proofs.Common.{◌≡◌, ◌≤◌, ◌+◌, sym, ap, ◌∙◌, arith}
+use Rattle.std.specs.Prelude.{not, ◌==◌}
 use Rattle.std.proofs.lemmas.Bool.{and_left, cond-true, cond-false}
 use Rattle.volume.specs.Nodes.{is_marked}
 use Rattle.volume.specs.Entries.{is_directory_inode}

@@ -1,10 +1,9 @@
-use Rattle.std.proofs.Common.{◌≡◌, ◌<◌, ◌≤◌, ◌+◌, ◌/◌, ℕ, true, false, sym, ap, ◌∙◌, cond, slice_index, arith}
-use Rattle.std.specs.Prelude.{not, ◌==◌, min}
+use Rattle.std.proofs.Common.{◌≡◌, sym, ap, ◌∙◌, cond, arith}
+use Rattle.std.specs.Prelude.{not, ◌==◌}
 use Rattle.tree.specs.Sums.{one_if}
 use Rattle.volume.specs.Nodes.{file_byte}
 use Rattle.migrate.specs.Nodes.{entry_inode}
-use Rattle.migrate.specs.Entries.{target_at}
-use Rattle.migrate.specs.Findings.{all_names_of, is_reached}
+use Rattle.migrate.specs.Findings.{all_names_of}
 use Rattle.image.specs.Contents.{contents}
 use Rattle.volume.proofs.Sums.{one_most}
 use Rattle.fsck.proofs.Entries.{no_directory, directory_low}

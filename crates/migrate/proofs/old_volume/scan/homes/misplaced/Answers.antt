@@ -1,11 +1,8 @@
-use Rattle.std.proofs.Common.{◌≡◌, ◌≤◌, ◌+◌, ℕ, Bool, false, sym, ap, rules, arith}
-use Rattle.std.proofs.lemmas.Bool.{and_left}
-use Rattle.volume.specs.Nodes.{is_marked}
+use Rattle.std.proofs.Common.{◌≡◌, sym, ap, rules, arith}
 use Rattle.migrate.specs.Findings.{is_misplaced}
 use Rattle.volume.specs.Verdict.{place_limit}
 use Rattle.image.specs.Contents.{contents}
 use Rattle.image.proofs.Leasts.{first_least}
-use Rattle.image.proofs.Contents.{out_of_range}
 use Rattle.fsck.proofs.Entries.{no_directory, past_directories}
 use Rattle.migrate.proofs.old_volume.scan.homes.misplaced.Goals as goal
 use Rattle.migrate.specs.Form.{version_2}

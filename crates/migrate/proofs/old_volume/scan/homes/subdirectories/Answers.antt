@@ -1,4 +1,4 @@
-use Rattle.std.proofs.Common.{◌≡◌, ◌<◌, ◌≤◌, ◌+◌, ◌-◌, ◌/◌, ℕ, sym, ap, ◌∙◌, arith}
+use Rattle.std.proofs.Common.{◌≡◌, ◌≤◌, ◌+◌, ◌-◌, ◌/◌, sym, ap, ◌∙◌, arith}
 use Rattle.tree.specs.Sums.{count_below, one_if}
 use Rattle.volume.specs.Nodes.{file_byte}
 use Rattle.migrate.specs.Nodes.{entry_inode}

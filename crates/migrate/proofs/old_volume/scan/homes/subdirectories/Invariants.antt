@@ -1,4 +1,4 @@
-use Rattle.std.proofs.Common.{◌≡◌, ◌≤◌, ◌+◌, ◌-◌, ◌/◌, ℕ}
+use Rattle.std.proofs.Common.{◌≡◌, ◌≤◌, ◌+◌, ◌-◌, ◌/◌}
 use Rattle.tree.specs.Sums.{count_below}
 use Rattle.volume.specs.Entries.{is_directory_inode}
 use Rattle.migrate.specs.Entries.{target_at}

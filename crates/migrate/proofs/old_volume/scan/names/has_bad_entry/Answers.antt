@@ -1,4 +1,4 @@
-use Rattle.std.proofs.Common.{◌≡◌, ◌<◌, ◌≤◌, ◌+◌, ◌/◌, ℕ, List, Bool, true, false, sym, ap, ◌∙◌, below_more, arith}
+use Rattle.std.proofs.Common.{◌≡◌, ◌/◌, ℕ, List, true, false, sym, ap, ◌∙◌, below_more, arith}
 use Rattle.std.specs.Prelude.{not, ◌&&◌, ◌==◌, nat_le}
 use Rattle.std.specs.List.{list_any}
 use Rattle.std.specs.Borrow.{Bor}
@@ -9,7 +9,6 @@ use Rattle.volume.proofs.Sums.{some_from, none_from}
 use Rattle.image.specs.Contents.{contents}
 use Rattle.fsck.proofs.Entries.{no_directory, of_directory}
 use Rattle.migrate.specs.Form.{version_2}
-use Rattle.migrate.specs.Nodes.{entry_name}
 use Rattle.migrate.specs.Entries.{entry_count, is_free_at}
 use Rattle.migrate.specs.Findings.{is_bad_entry}
 use Rattle.migrate.proofs.EntryBytes.{small, target_same, name_field_same, is_named}

@@ -1,4 +1,3 @@
-use Rattle.std.proofs.Common.{◌≡◌, arith}
 use Rattle.migrate.proofs.Walks.{goes_past, goes_seen, goes_one}
 use Rattle.migrate.proofs.old_volume.scan.reached.mark.Goals as goal
 

@@ -1,7 +1,7 @@
-use Rattle.std.proofs.Common.{◌≡◌, ◌+◌, ◌*◌, ◌<◌, ℕ, List, length, sym, subst, arith}
+use Rattle.std.proofs.Common.{◌≡◌, ℕ, List, length, subst, arith}
 use Rattle.std.specs.Prelude.{◌==◌}
 use Rattle.tree.specs.Sums.{one_if}
-use Rattle.fsck.specs.Reached.{GoesOn, unseen}
+use Rattle.fsck.specs.Reached.{GoesOn}
 use Rattle.migrate.proofs.Walks.{walk_begins, walk_goes, walk_over}
 use Rattle.migrate.proofs.old_volume.scan.reached.mark_reached.Goals as goal
 

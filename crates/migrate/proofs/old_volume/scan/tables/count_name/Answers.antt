@@ -1,4 +1,4 @@
-use Rattle.std.proofs.Common.{◌≡◌, ◌<◌, ◌≤◌, ℕ, arith}
+use Rattle.std.proofs.Common.{arith}
 use Rattle.fsck.proofs.Counts.{named_one, named_past, most_one}
 use Rattle.migrate.proofs.old_volume.scan.tables.count_name.Goals as goal
 

@@ -1,7 +1,7 @@
-use Rattle.std.proofs.Common.{◌≡◌, ◌<◌, ◌≤◌, ◌+◌, ◌-◌, ◌/◌, ℕ, Bool, true, false, refl, sym, ap, ◌∙◌, cond, arith}
+use Rattle.std.proofs.Common.{◌≡◌, ◌≤◌, ◌+◌, ◌-◌, ◌/◌, ℕ, sym, ap, ◌∙◌, arith}
 use Rattle.std.specs.Prelude.{◌==◌}
 use Rattle.std.proofs.lemmas.Bool.{cond-true, cond-false}
-use Rattle.tree.specs.Sums.{sum_below, count_below, one_if}
+use Rattle.tree.specs.Sums.{count_below, one_if}
 use Rattle.volume.specs.Nodes.{file_byte}
 use Rattle.migrate.specs.Nodes.{entry_inode}
 use Rattle.volume.specs.Entries.{is_directory_inode}
