@@ -28,13 +28,13 @@ ODD = [
 ]
 
 
-def fill(chance, block):
-    """Lines of a shell that fill a volume by the seed, with no name taken away."""
+def fill(chance, block, longest=60):
+    """Lines of a shell that fill a volume by the seed, with no name taken away and none longer than so many bytes."""
     folders, files, links, lines = ["."], [], [], []
     def new():
         while True:
             name = chance.choice(["n%d", "Name-%d.txt", "x%d" + "x" * 56, "\xff\xe9%d", ".%d", "%d~"]) % chance.randint(0, 999)
-            path = f"{chance.choice(folders)}/{name[:60]}"
+            path = f"{chance.choice(folders)}/{name[:longest]}"
             if path not in files + folders + links:
                 return path
     for at in range(160):

@@ -6,9 +6,9 @@ from .common import ROOT, refuse, run, said
 class Ours:
     """The programs of this repository."""
 
-    def __init__(self, folder):
+    def __init__(self, folder, names=("mkmfs", "mfsck", "mfs")):
         self.programs = {}
-        for name in ("mkmfs", "mfsck", "mfs"):
+        for name in names:
             self.programs[name] = pathlib.Path(folder, name).resolve() if folder else ROOT / "crates" / name / "out" / name
             if not folder and subprocess.run([ROOT / "bin" / name, "--help"], stdout=subprocess.DEVNULL).returncode != 0:
                 refuse(f"{name} couldn't be built")
@@ -24,6 +24,11 @@ class Ours:
         """What mfsck prints: `clean`, a finding, or why nothing could be said."""
         done = run([self.programs["mfsck"], image, "--minor", str(minor)])
         return (done.stdout or done.stderr).decode().strip()
+
+    def migrate(self, old, new, blocks):
+        """The line that mfmig prints; or none, and what it said instead."""
+        done = run([self.programs["mfmig"], old, new, "--blocks", str(blocks)])
+        return (done.stdout.decode().strip(), "") if done.returncode == 0 else (None, done.stderr.decode("utf-8", "replace").strip())
 
     def play(self, image, scripts, minor=0, out=None):
         """The lines of each script's session, or what mfs said instead."""

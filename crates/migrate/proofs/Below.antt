@@ -28,7 +28,8 @@ level_low s h = elim (cases_lt s 7) [
 
 -- two zones with the same block are the same page
 pub page_from : (v w : Pieces) (x y : ℕ) (xs ys : List ℕ) → xs ≡ ys → x ≢ 0 → y ≢ 0
-    → ((o : ℕ) → o < 1024 → slice_index xs o ≡ page_byte v x o) → ((o : ℕ) → o < 1024 → slice_index ys o ≡ page_byte w y o) → SamePage v w x y
+    → ((o : ℕ) → o < 1024 → slice_index xs o ≡ page_byte v x o) → ((o : ℕ) → o < 1024 → slice_index ys o ≡ page_byte w y o)
+    → SamePage v w x y
 page_from v w x y xs ys same some some' left right = record {
   held = ne_eqb x 0 some ∙ sym (ne_eqb y 0 some');
   bytes = λ o h. sym (left o h) ∙ ap (λ l. slice_index l o) same ∙ right o h;
@@ -47,8 +48,10 @@ module _ (v w : Pieces) (x y : Inode) (same : SameFile v w x y) where
         let f = ne_eqb m 0 d in
         elim (cases_Bool (nat_le m 256)) [
           | inl low ↦
-              let a : second_block 256 v x m ≡ number v (slot x 9) (m - 1) = cond-false (m == 0) (slot x 8) _ f ∙ cond-true (nat_le m 256) _ 0 low in
-              let b : second_block 256 w y m ≡ number w (slot y 9) (m - 1) = cond-false (m == 0) (slot y 8) _ f ∙ cond-true (nat_le m 256) _ 0 low in
+              let a : second_block 256 v x m ≡ number v (slot x 9) (m - 1) = cond-false (m == 0) (slot x 8) _ f
+              ∙ cond-true (nat_le m 256) _ 0 low in
+              let b : second_block 256 w y m ≡ number w (slot y 9) (m - 1) = cond-false (m == 0) (slot y 8) _ f
+              ∙ cond-true (nat_le m 256) _ 0 low in
               let most = leb-true m 256 low in
               subst (λ p. SameBelow v w 2 p (second_block 256 w y m)) (sym a) (subst (SameBelow v w 2 (number v (slot x 9) (m - 1))) (sym b)
               (same 9 (omega arith) (m - 1) (omega arith)))
@@ -72,7 +75,8 @@ module _ (v w : Pieces) (x y : Inode) (same : SameFile v w x y) where
         let j = (k - 1) % 256 in
         let a : last_block 256 v x k ≡ number v (second_block 256 v x m) j = cond-false (k == 0) (slot x 7) _ f in
         let b : last_block 256 w y k ≡ number w (second_block 256 w y m) j = cond-false (k == 0) (slot y 7) _ f in
-        subst (λ p. SameBelow v w 1 p (last_block 256 w y k)) (sym a) (subst (SameBelow v w 1 (number v (second_block 256 v x m) j)) (sym b) (second m j (omega arith)))
+        subst (λ p. SameBelow v w 1 p (last_block 256 w y k)) (sym a) (subst (SameBelow v w 1 (number v (second_block 256 v x m) j)) (sym b)
+        (second m j (omega arith)))
   ]
 
   -- the pages
@@ -91,7 +95,8 @@ module _ (v w : Pieces) (x y : Inode) (same : SameFile v w x y) where
         let j = (p - 7) % 256 in
         let a : zone_of 256 v x p ≡ number v (last_block 256 v x m) j = cond-false (nat_lt p 7) (slot x p) _ f in
         let b : zone_of 256 w y p ≡ number w (last_block 256 w y m) j = cond-false (nat_lt p 7) (slot y p) _ f in
-        subst (λ z. SamePage v w z (zone_of 256 w y p)) (sym a) (subst (SamePage v w (number v (last_block 256 v x m) j)) (sym b) (last m j (omega arith)))
+        subst (λ z. SamePage v w z (zone_of 256 w y p)) (sym a) (subst (SamePage v w (number v (last_block 256 v x m) j)) (sym b)
+        (last m j (omega arith)))
   ]
 
   module _ (g h : Geometry) (old : g.block_size ≡ 1024) (new : h.block_size ≡ 1024) (size : x.size ≡ y.size) where
@@ -112,7 +117,8 @@ module _ (v w : Pieces) (x y : Inode) (same : SameFile v w x y) where
         let o : p % 1024 < 1024 = omega arith in
         let left : page_byte v (page_zone g v x (p / g.block_size)) (p % g.block_size) ≡ page_byte v (zone_of 256 v x (p / 1024)) (p % 1024)
         = ap (λ b. page_byte v (zone_of (b / 4) v x (p / b)) (p % b)) old in
-        let right : page_byte w (page_zone h w y (p / h.block_size)) (p % h.block_size) ≡ page_byte w (zone_of 256 w y (p / 1024)) (p % 1024)
+        let right : page_byte w (page_zone h w y (p / h.block_size)) (p % h.block_size)
+        ≡ page_byte w (zone_of 256 w y (p / 1024)) (p % 1024)
         = ap (λ b. page_byte w (zone_of (b / 4) w y (p / b)) (p % b)) new in
         λ i. cond (nat_lt p (size i)) ((left ∙ (page (p / 1024)).bytes (p % 1024) o ∙ sym right) i) 0
 

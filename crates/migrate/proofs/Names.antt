@@ -11,11 +11,11 @@ use Rattle.image.specs.declared.Image.{Image}
 use Rattle.image.specs.Contents.{contents}
 use Rattle.migrate.specs.Same.{SameNames, SameDirectory}
 use Rattle.image.proofs.Places.{four}
-use Rattle.old_volume.specs.Form.{version_2}
-use Rattle.old_volume.specs.Nodes as nodes_2
-use Rattle.old_volume.specs.Nodes.{is_dropped}
-use Rattle.old_volume.specs.Widened.{IsWidened}
-use Rattle.old_volume.proofs.EntryBytes.{text_cut}
+use Rattle.migrate.specs.Form.{version_2}
+use Rattle.migrate.specs.Nodes as nodes_2
+use Rattle.migrate.specs.Nodes.{is_dropped}
+use Rattle.migrate.specs.Widened.{IsWidened}
+use Rattle.migrate.proofs.EntryBytes.{text_cut}
 
 -- two rows of the same bytes hold the same text
 text_same : (f h : ℕ → ℕ) (k p q : ℕ) → ((a : ℕ) → a < k → f (p + a) ≡ h (q + a)) → text_in f k p ≡ text_in h k q
@@ -24,7 +24,8 @@ text_same f h (suc k) p q same =
     let p0 : p + 0 ≡ p = omega arith in
     let q0 : q + 0 ≡ q = omega arith in
     let here : f p ≡ h q = sym (ap f p0) ∙ same 0 (omega arith) ∙ ap h q0 in
-    let rest = text_same f h k (suc p) (suc q) (λ a l. let pa : suc p + a ≡ p + suc a = omega arith in let qa : q + suc a ≡ suc q + a = omega arith in
+    let rest = text_same f h k (suc p) (suc q) (λ a l. let pa : suc p + a ≡ p + suc a = omega arith in
+    let qa : q + suc a ≡ suc q + a = omega arith in
     ap f pa ∙ same (suc a) (omega arith) ∙ ap h qa) in
     λ i. cond (here i == 0) [] (here i ∷ rest i)
 
@@ -34,13 +35,15 @@ unfolding nodes_2.names_in nodes_3.names_in
 none_yet f h = refl
 
 -- a free entry adds none
-pub one_free : (f : ℕ → ℕ) (k : ℕ) → is_dropped version_2 f (k + 2) ≡ true → nodes_2.names_in version_2 f (suc k) ≡ nodes_2.names_in version_2 f k
+pub one_free : (f : ℕ → ℕ) (k : ℕ) → is_dropped version_2 f (k + 2) ≡ true
+    → nodes_2.names_in version_2 f (suc k) ≡ nodes_2.names_in version_2 f k
 unfolding nodes_2.names_in
 one_free f k is = cond-true (is_dropped version_2 f (k + 2)) (nodes_2.names_in version_2 f k) _ is
 
 -- the same entry on both sides adds the same name
 pub one_more : (f h : ℕ → ℕ) (k j : ℕ) → is_dropped version_2 f (k + 2) ≡ false
-    → nodes_2.entry_name version_2 f (k + 2) ≡ nodes_3.entry_name h (j + 2) → nodes_2.entry_inode version_2 f (k + 2) ≡ nodes_3.entry_inode h (j + 2)
+    → nodes_2.entry_name version_2 f (k + 2) ≡ nodes_3.entry_name h (j + 2)
+    → nodes_2.entry_inode version_2 f (k + 2) ≡ nodes_3.entry_inode h (j + 2)
     → nodes_2.names_in version_2 f k ≡ nodes_3.names_in h j → nodes_2.names_in version_2 f (suc k) ≡ nodes_3.names_in h (suc j)
 unfolding nodes_2.names_in nodes_3.names_in
 one_more f h k j used name inode before =
@@ -53,7 +56,8 @@ module _ (f h : ℕ → ℕ) (e d : ℕ) (bytes new : List ℕ) (wide : IsWidene
   pub number_same : nodes_2.entry_inode version_2 f e ≡ nodes_3.entry_inode h d
   number_same =
       sym wide.number ∙ ap (λ l. u32_in (slice_index l) 0) same
-      ∙ four (slice_index new) h 0 (64 * d) 64 (λ k l. let z : 0 + k ≡ k = omega arith in ap (slice_index new) z ∙ read k l) 0 (64 * d) 0 (omega arith) (omega arith) (omega arith)
+      ∙ four (slice_index new) h 0 (64 * d) 64 (λ k l. let z : 0 + k ≡ k = omega arith in ap (slice_index new) z ∙ read k l) 0 (64 * d) 0
+      (omega arith) (omega arith) (omega arith)
 
   -- the name
   pub name_same : nodes_2.entry_name version_2 f e ≡ nodes_3.entry_name h d
@@ -61,10 +65,12 @@ module _ (f h : ℕ → ℕ) (e d : ℕ) (bytes new : List ℕ) (wide : IsWidene
       text_same f (slice_index bytes) 14 (16 * e + 2) 4 (λ a l. sym (wide.name a l))
       ∙ sym (text_cut (slice_index bytes) 14 60 4 (omega arith) (wide.rest 14 (omega arith) (omega arith)))
       ∙ ap (λ l. text_in (slice_index l) 60 4) same
-      ∙ text_same (slice_index new) h 60 4 (64 * d + 4) (λ a l. let at : 64 * d + (4 + a) ≡ 64 * d + 4 + a = omega arith in read (4 + a) (omega arith) ∙ ap h at)
+      ∙ text_same (slice_index new) h 60 4 (64 * d + 4) (λ a l. let at : 64 * d + (4 + a) ≡ 64 * d + 4 + a = omega arith in
+      read (4 + a) (omega arith) ∙ ap h at)
 
 -- two directories with the same parent and the same names
 pub directory_from : (old new : Image) (x y : Inode)
-    → nodes_2.entry_inode version_2 (file_byte old.geometry (contents old) x) 1 ≡ nodes_3.entry_inode (file_byte new.geometry (contents new) y) 1
+    → nodes_2.entry_inode version_2 (file_byte old.geometry (contents old) x) 1
+    ≡ nodes_3.entry_inode (file_byte new.geometry (contents new) y) 1
     → SameNames old new x y → SameDirectory old new x y
 directory_from old new x y parent names = λ i. record { parent = parent i; names = names i }

@@ -11,8 +11,8 @@ use Rattle.volume.specs.Nodes.{file_of, is_directory_mode, is_link_mode, permiss
 use Rattle.image.specs.declared.Image.{Image}
 use Rattle.image.specs.Contents.{contents}
 use Rattle.image.proofs.Contents.{out_of_range, zero_unmarked}
-use Rattle.old_volume.specs.Form.{version_2}
-use Rattle.old_volume.specs.Nodes as nodes_2
+use Rattle.migrate.specs.Form.{version_2}
+use Rattle.migrate.specs.Nodes as nodes_2
 use Rattle.migrate.specs.Same.{SameAttributes, same_attributes, SameDirectory, SameNode, SameNodes}
 
 -- inodes that were found to agree do
@@ -43,7 +43,8 @@ same_answer false false e = refl
 
 module _ (old new : Image) where
   -- the nodes of two inodes that agree and have the same body
-  node_same : (x y : Inode) → SameAttributes x y → nodes_2.body_of version_2 old.geometry (contents old) x ≡ nodes_3.body_of new.geometry (contents new) y
+  node_same : (x y : Inode) → SameAttributes x y → nodes_2.body_of version_2 old.geometry (contents old) x
+      ≡ nodes_3.body_of new.geometry (contents new) y
       → nodes_2.node_of version_2 old.geometry (contents old) x ≡ nodes_3.node_of new.geometry (contents new) y
   node_same x y a body = λ i. record {
     permissions = permissions_in (a.mode i);
@@ -61,38 +62,49 @@ module _ (old new : Image) where
     -- no node on both sides
     pub none_same : is_marked old.geometry (contents old) n ≡ false → is_marked new.geometry (contents new) n ≡ false → SameNode old new n
     none_same a b =
-        cond-false (is_marked old.geometry (contents old) n) (Some (nodes_2.node_of version_2 old.geometry (contents old) ((contents old).inodes n))) None a
-        ∙ sym (cond-false (is_marked new.geometry (contents new) n) (Some (nodes_3.node_of new.geometry (contents new) ((contents new).inodes n))) None b)
+        cond-false (is_marked old.geometry (contents old) n) (Some (nodes_2.node_of version_2 old.geometry (contents old)
+        ((contents old).inodes n))) None a
+        ∙ sym (cond-false (is_marked new.geometry (contents new) n) (Some
+        (nodes_3.node_of new.geometry (contents new) ((contents new).inodes n))) None b)
 
     module _ (a : is_marked old.geometry (contents old) n ≡ true) (b : is_marked new.geometry (contents new) n ≡ true)
         (x y : Inode) (at : x ≡ (contents old).inodes n) (there : y ≡ (contents new).inodes n) (attributes : SameAttributes x y) where
       -- a node on both sides
-      some_same : nodes_2.body_of version_2 old.geometry (contents old) x ≡ nodes_3.body_of new.geometry (contents new) y → SameNode old new n
+      some_same : nodes_2.body_of version_2 old.geometry (contents old) x ≡ nodes_3.body_of new.geometry (contents new) y
+          → SameNode old new n
       some_same body =
-          cond-true (is_marked old.geometry (contents old) n) (Some (nodes_2.node_of version_2 old.geometry (contents old) ((contents old).inodes n))) None a
+          cond-true (is_marked old.geometry (contents old) n) (Some (nodes_2.node_of version_2 old.geometry (contents old)
+          ((contents old).inodes n))) None a
           ∙ ap (λ x. Some (nodes_2.node_of version_2 old.geometry (contents old) x)) (sym at)
           ∙ ap Some (node_same x y attributes body)
           ∙ ap (λ y. Some (nodes_3.node_of new.geometry (contents new) y)) there
-          ∙ sym (cond-true (is_marked new.geometry (contents new) n) (Some (nodes_3.node_of new.geometry (contents new) ((contents new).inodes n))) None b)
+          ∙ sym (cond-true (is_marked new.geometry (contents new) n) (Some
+          (nodes_3.node_of new.geometry (contents new) ((contents new).inodes n))) None b)
 
       -- a directory
       pub directory_same : is_directory_mode x.mode ≡ true → SameDirectory old new x y → SameNode old new n
       directory_same is same = some_same (
-          cond-true (is_directory_mode x.mode) (is_directory (nodes_2.directory_of version_2 old.geometry (contents old) x)) (is_file (file_of old.geometry (contents old) x)) is
+          cond-true (is_directory_mode x.mode) (is_directory (nodes_2.directory_of version_2 old.geometry (contents old) x))
+          (is_file (file_of old.geometry (contents old) x)) is
           ∙ ap is_directory same
-          ∙ sym (cond-true (is_directory_mode y.mode) (is_directory (nodes_3.directory_of new.geometry (contents new) y)) (is_file (file_of new.geometry (contents new) y))
+          ∙ sym (cond-true (is_directory_mode y.mode) (is_directory (nodes_3.directory_of new.geometry (contents new) y))
+          (is_file (file_of new.geometry (contents new) y))
           (ap is_directory_mode (sym attributes.mode) ∙ is)))
 
       -- a file
-      pub file_same : is_directory_mode x.mode ≡ false → file_of old.geometry (contents old) x ≡ file_of new.geometry (contents new) y → SameNode old new n
+      pub file_same : is_directory_mode x.mode ≡ false → file_of old.geometry (contents old) x ≡ file_of new.geometry (contents new) y
+          → SameNode old new n
       file_same out same = some_same (
-          cond-false (is_directory_mode x.mode) (is_directory (nodes_2.directory_of version_2 old.geometry (contents old) x)) (is_file (file_of old.geometry (contents old) x)) out
+          cond-false (is_directory_mode x.mode) (is_directory (nodes_2.directory_of version_2 old.geometry (contents old) x))
+          (is_file (file_of old.geometry (contents old) x)) out
           ∙ ap is_file same
-          ∙ sym (cond-false (is_directory_mode y.mode) (is_directory (nodes_3.directory_of new.geometry (contents new) y)) (is_file (file_of new.geometry (contents new) y))
+          ∙ sym (cond-false (is_directory_mode y.mode) (is_directory (nodes_3.directory_of new.geometry (contents new) y))
+          (is_file (file_of new.geometry (contents new) y))
           (ap is_directory_mode (sym attributes.mode) ∙ out)))
 
   -- all nodes, where those of the numbers in range are
-  pub all_same : old.geometry.inodes ≡ new.geometry.inodes → ((n : ℕ) → 1 ≤ n → n < old.geometry.inodes + 1 → SameNode old new n) → SameNodes old new
+  pub all_same : old.geometry.inodes ≡ new.geometry.inodes → ((n : ℕ) → 1 ≤ n → n < old.geometry.inodes + 1 → SameNode old new n)
+      → SameNodes old new
   all_same inodes each = record {
     inodes = inodes;
     nodes = λ i n. by n i;

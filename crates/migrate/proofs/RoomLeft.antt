@@ -2,7 +2,8 @@
 use Rattle.std.proofs.Common.{◌≡◌, ◌<◌, ◌≤◌, ◌+◌, ◌-◌, ◌*◌, ◌/◌, ℕ, Bool, true, false, refl, sym, ap, subst, ◌∙◌, arith}
 use mathlib.Core.Logic.{inl, inr}
 use Rattle.std.specs.Prelude.{Option, None, Some, Result, Ok, Err, T, is_ok, ◌==◌, ◌||◌, nat_lt, nat_le, if◌then◌else◌}
-use Rattle.std.proofs.lemmas.Bool.{cases_Bool, cases_lt, cond-false, ne_eqb, and_left, and_right, and_from, le-ltb, lt-ltb, le-leb, lt-leb, leb-true}
+use Rattle.std.proofs.lemmas.Bool.{cases_Bool, cases_lt, cond-false, ne_eqb, and_left, and_right, and_from, le-ltb, lt-ltb, le-leb, lt-leb}
+use Rattle.std.proofs.lemmas.Bool.{leb-true}
 use Rattle.layout.specs.declared.Geometry.{Geometry}
 use Rattle.tree.specs.Tree.{Body, is_file, is_directory, Node, size_of}
 use Rattle.tree.specs.ZonesNeeded.{zones_needed}
@@ -12,8 +13,8 @@ use Rattle.volume.specs.Pieces.{Pieces}
 use Rattle.new_volume.specs.Sizes.{sizes_of, new_geometry}
 use Rattle.new_volume.specs.declared.MkfsRefusal.{MkfsRefusal}
 use Rattle.new_volume.specs.declared.MkfsRefusal.TheVariants.{BadInodes, TooManyBlocks, TooFewBlocks}
-use Rattle.old_volume.specs.Form.{version_2}
-use Rattle.old_volume.specs.Nodes.{nodes_of}
+use Rattle.migrate.specs.Form.{version_2}
+use Rattle.migrate.specs.Nodes.{nodes_of}
 use Rattle.migrate.specs.Used.{zones_of_all, has_room}
 
 -- a refusal of a test
@@ -61,9 +62,11 @@ sizes_known blocks inodes g h =
 
 -- where no sizes are wrong by themselves, they are refused where no data zone is left
 sizes_by_room : (blocks inodes : ℕ) → blocks ≤ 65536 → 1 ≤ inodes → inodes ≤ 65535
-    → sizes_of blocks 1024 inodes ≡ (if nat_le blocks (new_geometry blocks 1024 inodes).first_zone then Err TooFewBlocks else Ok (new_geometry blocks 1024 inodes))
+    → sizes_of blocks 1024 inodes ≡ (if nat_le blocks (new_geometry blocks 1024 inodes).first_zone then Err TooFewBlocks else Ok
+    (new_geometry blocks 1024 inodes))
 sizes_by_room blocks inodes few some most =
-    cond-false ((inodes == 0) || nat_lt 65535 inodes) (Err BadInodes) _ (λ i. ne_eqb inodes 0 (λ e. absurd (omega arith)) i || le-ltb 65535 inodes most i)
+    cond-false ((inodes == 0) || nat_lt 65535 inodes) (Err BadInodes) _
+    (λ i. ne_eqb inodes 0 (λ e. absurd (omega arith)) i || le-ltb 65535 inodes most i)
     ∙ cond-false (nat_lt 65536 blocks || nat_lt 67108864 (blocks * 1024)) (Err TooManyBlocks) _
     (λ i. le-ltb 65536 blocks few i || le-ltb 67108864 (blocks * 1024) (omega arith) i)
 
@@ -75,11 +78,13 @@ none_left g v blocks refusal few some most e =
     elim (cases_Bool (nat_le blocks new.first_zone)) [
       | inl is ↦ and_left (nat_lt new.first_zone blocks) _ (le-ltb new.first_zone blocks (leb-true blocks new.first_zone is))
       | inr out ↦ absurd (no_err new refusal
-          (sym (cond-false (nat_le blocks new.first_zone) (Err TooFewBlocks) (Ok new) out) ∙ sym (sizes_by_room blocks g.inodes few some most) ∙ e))
+          (sym (cond-false (nat_le blocks new.first_zone) (Err TooFewBlocks) (Ok new) out)
+          ∙ sym (sizes_by_room blocks g.inodes few some most) ∙ e))
     ]
 
 -- the zones that a body needs depend on the length of blocks alone
-needed_over : (g h : Geometry) → g.block_size ≡ h.block_size → (b : Body) → zones_needed (numbers_in_zone g) (held_of g b) ≡ zones_needed (numbers_in_zone h) (held_of h b)
+needed_over : (g h : Geometry) → g.block_size ≡ h.block_size → (b : Body)
+    → zones_needed (numbers_in_zone g) (held_of g b) ≡ zones_needed (numbers_in_zone h) (held_of h b)
 needed_over g h e (is_file f) = ap (λ s. zones_needed (s / 4) f.held) e
 needed_over g h e (is_directory d) = λ i. zones_needed (e i / 4) (λ q. nat_lt q ((size_of (is_directory d) + e i - 1) / e i))
 
@@ -88,7 +93,8 @@ zones_over : (g h : Geometry) → g.block_size ≡ h.block_size → (o : Option 
 zones_over g h e None = refl
 zones_over g h e (Some node) = needed_over g h e node.body
 
-module _ (g : Geometry) (v : Pieces) (block : g.block_size ≡ 1024) (blocks used zones : ℕ) (counted : used ≡ zones_of_all g (nodes_of version_2 g v)) where
+module _ (g : Geometry) (v : Pieces) (block : g.block_size ≡ 1024) (blocks used zones : ℕ)
+    (counted : used ≡ zones_of_all g (nodes_of version_2 g v)) where
   -- the zones that are used, in the new volume
   all_over : zones_of_all (new_geometry blocks 1024 g.inodes) (nodes_of version_2 g v) ≡ used
   all_over =

@@ -50,7 +50,8 @@ zones_under m zero z = one_if (not (z == 0))
 zones_under m (suc l) z = one_if (not (z == 0)) + sum_below (λ j. zones_under m l (named m z j)) m.width
 
 -- eleven sums put together
-joined : (t0 t1 t2 t3 in2 u2 v2 in1 u1 v1 in0 u0 v0 s9 s7 s8 p : ℕ) → t3 ≡ in2 + u2 → t2 + u2 ≡ v2 → v2 ≡ in1 + u1 → t1 + u1 ≡ v1 → v1 ≡ in0 + u0
+joined : (t0 t1 t2 t3 in2 u2 v2 in1 u1 v1 in0 u0 v0 s9 s7 s8 p : ℕ) → t3 ≡ in2 + u2 → t2 + u2 ≡ v2 → v2 ≡ in1 + u1 → t1 + u1 ≡ v1
+    → v1 ≡ in0 + u0
     → t0 + u0 ≡ v0 → v0 ≡ s9 → in1 ≡ s7 → in0 ≡ s8 → in2 ≡ p → t0 + t1 + t2 + t3 ≡ p + s7 + s8 + s9
 joined t0 t1 t2 t3 in2 u2 v2 in1 u1 v1 in0 u0 v0 s9 s7 s8 p a b c d e g h i j k = omega arith
 
@@ -101,7 +102,8 @@ module _ (m : Naming) (n : ℕ) where
   seven = refl
 
   -- all heights
-  pub by_slots : sum_below (λ h. count_below (taken m n h) (limit_at m.width h)) 4 ≡ sum_below (λ s. zones_under m (level_of s) (m.slot n s)) 10
+  pub by_slots : sum_below (λ h. count_below (taken m n h) (limit_at m.width h)) 4
+      ≡ sum_below (λ s. zones_under m (level_of s) (m.slot n s)) 10
   by_slots =
       let f = zones_under m in
       let parts = four_parts (λ h. over (f 0) h) in
@@ -116,7 +118,8 @@ module _ (m : Naming) (n : ℕ) where
       let last : over (f 3) 0 ≡ f 3 (m.slot n 9) = top_height (f 3) in
       let single : inside (f 1) 1 ≡ f 1 (m.slot n 7) = one_part (λ i. f 1 (m.slot n (front 1 + i))) in
       let double : inside (f 2) 0 ≡ f 2 (m.slot n 8) = one_part (λ i. f 2 (m.slot n (front 0 + i))) in
-      parts ∙ joined (over (f 0) 0) (over (f 0) 1) (over (f 0) 2) (over (f 0) 3) _ _ _ _ _ _ _ _ _ _ _ _ _ a b c d e g last single double pages ∙ sym slots
+      parts ∙ joined (over (f 0) 0) (over (f 0) 1) (over (f 0) 2) (over (f 0) 3) _ _ _ _ _ _ _ _ _ _ _ _ _ a b c d e g last single double
+      pages ∙ sym slots
 
 module _ (g : Geometry) (v : Pieces) (block : g.block_size ≡ 1024) where
   -- a block holds 256 numbers
@@ -132,5 +135,6 @@ module _ (g : Geometry) (v : Pieces) (block : g.block_size ≡ 1024) where
       (same_sum _ _ many (λ j _. same_zones l (number v z j)) ∙ ap (sum_below (λ j. zones_below v l (number v z j))) width)
 
   -- all places of an inode
-  pub zones_by_slots : (n : ℕ) → sum_below (λ h. count_below (taken (naming g v) n h) (limit_at (naming g v).width h)) 4 ≡ zones_in v (v.inodes n)
+  pub zones_by_slots : (n : ℕ) → sum_below (λ h. count_below (taken (naming g v) n h) (limit_at (naming g v).width h)) 4
+      ≡ zones_in v (v.inodes n)
   zones_by_slots n = by_slots (naming g v) n ∙ same_sum _ _ 10 (λ s _. same_zones (level_of s) (slot (v.inodes n) s))

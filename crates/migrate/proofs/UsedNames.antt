@@ -10,8 +10,8 @@ use Rattle.tree.specs.Sums.{sum_below, count_below, one_if}
 use Rattle.tree.specs.Names.{Name, Names, name_cmp, inode_of, with_name}
 use Rattle.tree.proofs.Names.{inode_of-with_name, sorted-with_name}
 use Rattle.volume.proofs.Entries.{cmp_apart}
-use Rattle.old_volume.specs.Form.{version_2}
-use Rattle.old_volume.specs.Nodes.{names_in, entry_name, entry_inode, is_dropped}
+use Rattle.migrate.specs.Form.{version_2}
+use Rattle.migrate.specs.Nodes.{names_in, entry_name, entry_inode, is_dropped}
 
 module _ (f : ℕ → ℕ) where
   -- entry e past the first two is free
@@ -51,7 +51,8 @@ module _ (f : ℕ → ℕ) where
         | inr is ↦
             let n = entry_inode version_2 f (k + 2) in
             ap (λ es. inode_of es q) (used_next k is) ∙ inode_of-with_name (names k) (name k) n q
-            ∙ cond-false (eq_by_cmp name_cmp q (name k)) (Some n) (inode_of (names k) q) (cmp_apart q (name k) (λ e. apart k (omega arith) is (sym e)))
+            ∙ cond-false (eq_by_cmp name_cmp q (name k)) (Some n) (inode_of (names k) q)
+            (cmp_apart q (name k) (λ e. apart k (omega arith) is (sym e)))
             ∙ before
       ]
 
@@ -63,7 +64,8 @@ module _ (f : ℕ → ℕ) where
       by zero = subst (λ es. T (is_sorted name_cmp es)) (sym none_first) tt
       by (suc k) = elim (cases_Bool (free k)) [
         | inl is ↦ subst (λ es. T (is_sorted name_cmp es)) (sym (free_next k is)) (by k)
-        | inr is ↦ subst (λ es. T (is_sorted name_cmp es)) (sym (used_next k is)) (sorted-with_name (names k) (name k) (entry_inode version_2 f (k + 2)) (by k))
+        | inr is ↦ subst (λ es. T (is_sorted name_cmp es)) (sym (used_next k is))
+            (sorted-with_name (names k) (name k) (entry_inode version_2 f (k + 2)) (by k))
       ]
 
   -- the names of entries that aren't free differ
@@ -84,7 +86,8 @@ module _ (f : ℕ → ℕ) where
         | inr is ↦
             let one : one_if (not (free k)) ≡ 1 = ap (λ b. one_if (not b)) is in
             let n = entry_inode version_2 f (k + 2) in
-            let fresh : is_some (inode_of (names k) (name k)) ≡ false = ap is_some (not_found k (name k) (λ e h o. apart e k h (omega arith) o is)) in
+            let fresh : is_some (inode_of (names k) (name k)) ≡ false = ap is_some
+            (not_found k (name k) (λ e h o. apart e k h (omega arith) o is)) in
             let here : length (names (suc k)) ≡ length (names k) + 1
             = ap length (used_next k is) ∙ length-put name_cmp nat_list_cmp_total (name k) n (names k) (in_order k)
             ∙ cond-false (is_some (inode_of (names k) (name k))) (length (names k)) (length (names k) + 1) fresh in

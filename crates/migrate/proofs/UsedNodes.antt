@@ -14,9 +14,9 @@ use Rattle.volume.proofs.Naming.{spot}
 use Rattle.volume.proofs.Bridge.{naming, zone_spot}
 use Rattle.volume.proofs.Levels.{needed_by_level}
 use Rattle.volume.proofs.Sums.{count_most}
-use Rattle.old_volume.specs.Form.{version_2}
-use Rattle.old_volume.specs.Nodes.{nodes_of, node_of, body_of, directory_of, is_dropped, entry_count_of}
-use Rattle.old_volume.specs.Holds.{IsSound}
+use Rattle.migrate.specs.Form.{version_2}
+use Rattle.migrate.specs.Nodes.{nodes_of, node_of, body_of, directory_of, is_dropped, entry_count_of}
+use Rattle.migrate.specs.Holds.{IsSound}
 use Rattle.migrate.specs.Used.{zones_in, zones_for, name_count}
 use Rattle.migrate.proofs.UsedFiles.{zones_by_slots}
 use Rattle.migrate.proofs.UsedPages.{first_pages}
@@ -37,7 +37,8 @@ module _ (g : Geometry) (v : Pieces) (block : g.block_size ≡ 1024) (n : ℕ) w
     sized = omega arith
 
     -- a block has a number
-    full : (h i : ℕ) → h < 3 → spot (naming g v) n h i ≢ 0 → some_below (λ j. not (word v (spot (naming g v) n h i) j == 0)) (numbers_in_zone g) ≡ true
+    full : (h i : ℕ) → h < 3 → spot (naming g v) n h i ≢ 0 → some_below (λ j. not (word v (spot (naming g v) n h i) j == 0))
+        (numbers_in_zone g) ≡ true
     full h i low some =
         let back : 3 - suc (2 - h) ≡ h = omega arith in
         let same : zone_at g v (v.inodes n) (suc (2 - h)) i ≡ spot (naming g v) n h i

@@ -91,8 +91,10 @@ module _ (pages : ℕ) where
       let limit : ℕ = page_limit 256 in
       let a : count_below held (page_limit 256) ≡ pages = count_to pages (page_limit 256) (omega arith) in
       let b : count_below (last_needed 256 held) (1 + 256 + 256 * 256) ≡ blocks_over pages 7 256
-      = same_sum _ _ (1 + 256 + 256 * 256) (λ k _. ap one_if (last_held k ∙ last_covers k)) ∙ count_to (blocks_over pages 7 256) (1 + 256 + 256 * 256) (omega arith) in
+      = same_sum _ _ (1 + 256 + 256 * 256) (λ k _. ap one_if (last_held k ∙ last_covers k))
+      ∙ count_to (blocks_over pages 7 256) (1 + 256 + 256 * 256) (omega arith) in
       let c : count_below (second_needed 256 held) (1 + 256) ≡ blocks_over pages 263 65536
-      = same_sum _ _ (1 + 256) (λ k _. ap one_if (second_held k ∙ second_covers k)) ∙ count_to (blocks_over pages 263 65536) (1 + 256) (omega arith) in
+      = same_sum _ _ (1 + 256) (λ k _. ap one_if (second_held k ∙ second_covers k))
+      ∙ count_to (blocks_over pages 263 65536) (1 + 256) (omega arith) in
       let d : one_if (third_needed 256 held) ≡ one_if (nat_lt 65799 pages) = ap one_if third_held in
       zones_needed_is_by_place 256 held ∙ (λ i. a i + b i + c i + d i)

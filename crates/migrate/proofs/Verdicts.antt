@@ -20,20 +20,21 @@ use Rattle.image.proofs.Contents.{out_of_range, is_geometry}
 use Rattle.fsck.specs.Parts.{first_of}
 use Rattle.fsck.proofs.Firsts.{verdict_from, first_verdict, none_first}
 use Rattle.tree.specs.Tree.{Tree}
-use Rattle.old_volume.specs.Form.{version_2}
-use Rattle.old_volume.specs.Nodes as nodes_2
-use Rattle.old_volume.specs.Findings.{has_bad_size}
-use Rattle.old_volume.specs.Holds.{IsSound}
-use Rattle.old_volume.specs.Verdict.{tests, verdict_of_pieces, old_verdict_of}
-use Rattle.old_volume.specs.Stamped.{IsStamped}
+use Rattle.migrate.specs.Form.{version_2}
+use Rattle.migrate.specs.Nodes as nodes_2
+use Rattle.migrate.specs.Findings.{has_bad_size}
+use Rattle.migrate.specs.Holds.{IsSound}
+use Rattle.migrate.specs.Verdict.{tests, verdict_of_pieces, old_verdict_of}
+use Rattle.migrate.specs.Stamped.{IsStamped}
 use Rattle.migrate.specs.Same.{SameNodes}
-use Rattle.old_volume.specs.Superblock.{old_geometry_of}
-use Rattle.old_volume.proofs.SuperblockPut.{old_fits}
-use Rattle.old_volume.proofs.SoundDirectories.{clean_is_sound as clean_sound}
+use Rattle.migrate.specs.Superblock.{old_geometry_of}
+use Rattle.migrate.proofs.SuperblockPut.{old_fits}
+use Rattle.migrate.proofs.SoundDirectories.{clean_is_sound as clean_sound}
 use Rattle.new_volume.specs.Sizes.{sizes_of}
 use Rattle.migrate.specs.Used.{has_room}
 use Rattle.migrate.specs.declared.refusal.MigrateRefusal.{MigrateRefusal}
-use Rattle.migrate.specs.declared.refusal.MigrateRefusal.TheVariants.{OldLayout, Found as FoundOld, TooManyBlocks, DoesNotFit, OutOfMemory, Mismatch}
+use Rattle.migrate.specs.declared.refusal.MigrateRefusal.TheVariants.{OldLayout, Found as FoundOld, TooManyBlocks, DoesNotFit, OutOfMemory}
+use Rattle.migrate.specs.declared.refusal.MigrateRefusal.TheVariants.{Mismatch}
 use Rattle.migrate.specs.Migrated.{IsConfirmed, IsCramped, IsLate, IsMigrated, IsRefused, refusal_from, refusal_of, refusal_past}
 use Rattle.migrate.proofs.RoomLeft.{sizes_known, sizes_are_new}
 use Rattle.migrate.proofs.TreeSizes.{tree_over}
@@ -59,7 +60,8 @@ module _ (i : Image) (g : Geometry) (old bytes : List ℕ) (same : i.bytes.now �
       ∙ subst (λ h. pieces h (disk_of h bytes) ≡ pieces h (disk_of h old)) (sym e) stamped.pieces
 
   -- the first finding of it is the old one's verdict
-  pub old_checked : (o : Option Finding) → o ≡ first_of (place_limit i.geometry) 2 (tests version_2 i.geometry (contents i)) → verdict_from o ≡ old_verdict_of g old
+  pub old_checked : (o : Option Finding) → o ≡ first_of (place_limit i.geometry) 2 (tests version_2 i.geometry (contents i))
+      → verdict_from o ≡ old_verdict_of g old
   old_checked o is =
       ap verdict_from is ∙ first_verdict (place_limit i.geometry) 2 (tests version_2 i.geometry (contents i))
       ∙ ap (verdict_of_pieces version_2 i.geometry) pieces_are
@@ -72,11 +74,13 @@ module _ (i : Image) (g : Geometry) (old bytes : List ℕ) (same : i.bytes.now �
       ∙ ap (λ h. nodes_2.nodes_of version_2 h (pieces h (disk_of h old))) (sizes_are i g bytes same stamped.parsed)
 
 -- where nothing is found, the verdict is clean
-quiet : (i : Image) → None ≡ first_of (place_limit i.geometry) 2 (tests version_2 i.geometry (contents i)) → verdict_of_pieces version_2 i.geometry (contents i) ≡ Clean
+quiet : (i : Image) → None ≡ first_of (place_limit i.geometry) 2 (tests version_2 i.geometry (contents i))
+    → verdict_of_pieces version_2 i.geometry (contents i) ≡ Clean
 quiet i none = sym (ap verdict_from none ∙ first_verdict (place_limit i.geometry) 2 (tests version_2 i.geometry (contents i)))
 
 -- and the old volume is sound
-pub sound_from : (i : Image) → None ≡ first_of (place_limit i.geometry) 2 (tests version_2 i.geometry (contents i)) → IsSound version_2 i.geometry (contents i)
+pub sound_from : (i : Image) → None ≡ first_of (place_limit i.geometry) 2 (tests version_2 i.geometry (contents i))
+    → IsSound version_2 i.geometry (contents i)
 unfolding contents
 sound_from i none = clean_sound i.geometry (disk_of i.geometry i.bytes.now) (is_geometry i) (quiet i none)
 
@@ -156,7 +160,8 @@ module _ (i : Image) (old bytes : List ℕ) (blocks : ℕ) (g : Geometry) (same 
   module _ (none : None ≡ first_of (place_limit i.geometry) 2 (tests version_2 i.geometry (contents i))) where
     -- a clean one by the blocks that are wanted
     clean_refused : refusal_of old blocks ≡ refusal_past g old blocks Clean
-    clean_refused = ap (refusal_from old blocks) parsed ∙ ap (refusal_past g old blocks) (sym (old_checked i g old bytes same stamped None none))
+    clean_refused = ap (refusal_from old blocks) parsed ∙ ap (refusal_past g old blocks)
+        (sym (old_checked i g old bytes same stamped None none))
 
     -- too many
     pub many_refused : 65536 < blocks → refusal_of old blocks ≡ Some TooManyBlocks
@@ -175,11 +180,13 @@ module _ (i : Image) (old bytes : List ℕ) (blocks : ℕ) (g : Geometry) (same 
 
       -- too few
       pub room_refused : has_room i.geometry (contents i) blocks ≡ false → refusal_of old blocks ≡ Some DoesNotFit
-      room_refused out = by_room ∙ cond-true (not (has_room g (pieces g (disk_of g old)) blocks)) (Some DoesNotFit) None (ap not (sym room_is ∙ out))
+      room_refused out = by_room ∙ cond-true (not (has_room g (pieces g (disk_of g old)) blocks)) (Some DoesNotFit) None
+          (ap not (sym room_is ∙ out))
 
       -- enough
       pub none_refused : has_room i.geometry (contents i) blocks ≡ true → refusal_of old blocks ≡ None
-      none_refused is = by_room ∙ cond-false (not (has_room g (pieces g (disk_of g old)) blocks)) (Some DoesNotFit) None (ap not (sym room_is ∙ is))
+      none_refused is = by_room ∙ cond-false (not (has_room g (pieces g (disk_of g old)) blocks)) (Some DoesNotFit) None
+          (ap not (sym room_is ∙ is))
 
       -- why a new volume isn't begun is why the old one is refused
       pub cramped_refused : (e : MigrateRefusal) → IsCramped i.geometry (contents i) blocks e → IsRefused old blocks e
@@ -202,7 +209,8 @@ module _ (i : Image) (old bytes : List ℕ) (blocks : ℕ) (g : Geometry) (same 
 -- the migration of a clean old image whose new one is confirmed
 pub migrated : (i : Image) (old bytes image : List ℕ) (blocks : ℕ) (g h : Geometry) → i.bytes.now ≡ bytes → old_geometry_of old ≡ Ok g
     → IsStamped g old bytes → None ≡ first_of (place_limit i.geometry) 2 (tests version_2 i.geometry (contents i))
-    → refusal_of old blocks ≡ None → sizes_of blocks 1024 i.geometry.inodes ≡ Ok h → length image ≡ 1024 * h.zones → IsConfirmed i h image → IsMigrated old blocks image
+    → refusal_of old blocks ≡ None → sizes_of blocks 1024 i.geometry.inodes ≡ Ok h → length image ≡ 1024 * h.zones → IsConfirmed i h image
+    → IsMigrated old blocks image
 migrated i old bytes image blocks g h same parsed stamped none unrefused sizes whole c =
     let e = sizes_are i g bytes same stamped.parsed in
     let clean = sym (old_checked i g old bytes same stamped None none) in

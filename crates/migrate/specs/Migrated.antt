@@ -1,5 +1,6 @@
 -- What a migration comes to.
-use Rattle.std.specs.Prelude.{◌≡◌, ℕ, ◌*◌, List, length, ◌++◌, false, not, nat_lt, if◌then◌else◌, Option, None, Some, Result, Ok, Err, codes, decimal}
+use Rattle.std.specs.Prelude.{◌≡◌, ℕ, ◌*◌, List, length, ◌++◌, false, not, nat_lt, if◌then◌else◌, Option, None, Some, Result, Ok, Err}
+use Rattle.std.specs.Prelude.{codes, decimal}
 use Rattle.layout.specs.declared.Geometry.{Geometry}
 use Rattle.layout.specs.Places.{geometry_of}
 use Rattle.tree.specs.Tree.{Tree}
@@ -10,15 +11,16 @@ use Rattle.volume.specs.Verdict.{Verdict, Clean, Found, verdict_of, HoldsClosed}
 use Rattle.image.specs.declared.Image.{Image}
 use Rattle.image.specs.Contents.{contents}
 use Rattle.new_volume.specs.Sizes.{sizes_of}
-use Rattle.old_volume.specs.declared.superblock.OldRefusal.{OldRefusal}
-use Rattle.old_volume.specs.Superblock.{old_geometry_of, old_refusal_number}
-use Rattle.old_volume.specs.Form.{version_2}
-use Rattle.old_volume.specs.Nodes.{nodes_of}
-use Rattle.old_volume.specs.Holds.{HoldsOld}
-use Rattle.old_volume.specs.Verdict.{old_verdict_of}
+use Rattle.migrate.specs.declared.old_volume.superblock.OldRefusal.{OldRefusal}
+use Rattle.migrate.specs.Superblock.{old_geometry_of, old_refusal_number}
+use Rattle.migrate.specs.Form.{version_2}
+use Rattle.migrate.specs.Nodes.{nodes_of}
+use Rattle.migrate.specs.Holds.{HoldsOld}
+use Rattle.migrate.specs.Verdict.{old_verdict_of}
 use Rattle.migrate.specs.Used.{has_room}
 use Rattle.migrate.specs.declared.refusal.MigrateRefusal.{MigrateRefusal}
-use Rattle.migrate.specs.declared.refusal.MigrateRefusal.TheVariants.{OldLayout, Found as FoundOld, TooManyBlocks, DoesNotFit, OutOfMemory, Mismatch}
+use Rattle.migrate.specs.declared.refusal.MigrateRefusal.TheVariants.{OldLayout, Found as FoundOld, TooManyBlocks, DoesNotFit, OutOfMemory}
+use Rattle.migrate.specs.declared.refusal.MigrateRefusal.TheVariants.{Mismatch}
 
 -- why an old image with these sizes and this verdict isn't migrated
 abbrev pub refusal_past : Geometry → List ℕ → ℕ → Verdict → Option MigrateRefusal
@@ -37,8 +39,8 @@ refusal_from old blocks (Ok g) = refusal_past g old blocks (old_verdict_of g old
 abbrev pub refusal_of : List ℕ → ℕ → Option MigrateRefusal
 refusal_of old blocks = refusal_from old blocks (old_geometry_of old)
 
--- No refusal holds: the old image is clean, read as version 2, and its tree fits. The new one has the sizes of a new volume of so many blocks of 1024 bytes with the old one's
--- inodes, and it is clean. One tree without open files is held by both, each read as its version.
+-- No refusal holds: the old image is clean, read as version 2, and its tree fits. The new one has the sizes of a new volume of so many
+-- blocks of 1024 bytes with the old one's inodes, and it is clean. One tree without open files is held by both, each read as its version.
 pub record IsMigrated (old : List ℕ) (blocks : ℕ) (image : List ℕ) : Type 0 where
   pub old_geometry : Geometry
   pub parsed : old_geometry_of old ≡ Ok old_geometry

@@ -7,11 +7,11 @@ ghost use Rattle.migrate.specs.Used.{SizesAreGood};
 ghost use Rattle.migrate.specs.Same.{SameBelow, SameDirectory, SameFile, SameNames, SameNode, SameNodes, same_attributes};
 
 use crate::new_zones::NUMBERS;
+use crate::old_volume::entries::{entry, entry_count, is_free};
 use crate::volume_blocks::VolumeBlocks;
 use crate::write::level_of;
 use image::is_directory_mode;
 use layout::u32_at;
-use old_volume::entries::{entry, entry_count, is_free};
 use volume::Inode;
 
 /// Whether both volumes have as many inodes, and of each number the same node.

@@ -4,9 +4,9 @@ ghost use Rattle.std.specs.Prelude.{◌≤◌, IfOk, IfErr, length};
 ghost use Rattle.tree.specs.Tree.{most_size};
 ghost use Rattle.migrate.specs.Migrated.{IsLate};
 
+use crate::old_volume::entries::{entry, entry_count, is_free};
 use crate::refusal::MigrateRefusal;
 use image::Image;
-use old_volume::entries::{entry, entry_count, is_free};
 use std::alloc::Global;
 use volume::Inode;
 

@@ -2,8 +2,10 @@
 #![tactic(auto)]
 
 mod compare;
+pub mod convert;
 mod directory;
 mod new_zones;
+pub mod old_volume;
 mod refusal;
 mod room;
 mod used;
@@ -14,10 +16,10 @@ ghost use Rattle.std.specs.Prelude.{IfOk, IfErr, OnOk};
 ghost use Rattle.migrate.specs.Used.{SizesAreGood};
 ghost use Rattle.migrate.specs.Migrated.{IsConfirmed, IsLate, IsMigrated, IsRefused};
 
+use crate::old_volume::{finding, parse, stamped};
 use compare::same_nodes;
 use fsck::Verdict;
 use layout::Geometry;
-use old_volume::{finding, parse, stamped};
 pub use refusal::MigrateRefusal;
 use room::empty_volume;
 use std::alloc::Global;

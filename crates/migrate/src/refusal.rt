@@ -4,8 +4,8 @@ ghost use Rattle.std.specs.Prelude.{◌≡◌, Some};
 ghost use Rattle.migrate.specs.Migrated.{refusal_text};
 ghost use Rattle.migrate.specs.declared.refusal.MigrateRefusal.TheVariants.{OutOfMemory as NoMemory};
 
+use crate::old_volume::OldRefusal;
 use fsck::OutOfMemory;
-use old_volume::OldRefusal;
 use std::alloc::AllocError;
 use std::error::Error;
 use std::fmt;

@@ -5,17 +5,16 @@ ghost use Rattle.tree.specs.Sums.{one_if};
 ghost use Rattle.tree.specs.Tree.{most_size};
 ghost use Rattle.tree.specs.Space.{zones_of};
 ghost use Rattle.image.specs.Contents.{contents};
-ghost use Rattle.old_volume.specs.Form.{version_2};
-ghost use Rattle.old_volume.specs.Holds.{IsSound};
-ghost use Rattle.old_volume.specs.Nodes.{nodes_of};
-ghost use Rattle.migrate.specs.Used.{blocks_over, most_below, name_count, zones_below, zones_for, zones_in, zones_of_all};
-ghost use Rattle.migrate.specs.Used.{SizesAreGood};
+ghost use Rattle.migrate.specs.Form.{version_2};
+ghost use Rattle.migrate.specs.Holds.{IsSound};
+ghost use Rattle.migrate.specs.Nodes.{nodes_of};
+ghost use Rattle.migrate.specs.Used.{blocks_over, most_below, name_count, zones_below, zones_for, zones_in, zones_of_all, SizesAreGood};
 
 use crate::new_zones::NUMBERS;
+use crate::old_volume::entries::{entry, entry_count, is_free};
 use crate::volume_blocks::{BLOCK, VolumeBlocks};
 use crate::write::level_of;
 use image::is_directory_mode;
-use old_volume::entries::{entry, entry_count, is_free};
 use volume::Inode;
 
 /// How many zones the tree uses.

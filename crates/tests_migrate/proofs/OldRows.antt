@@ -6,9 +6,9 @@ use Rattle.tree.specs.Sums.{put, sum_below, some_below, least_below}
 use Rattle.volume.specs.Reading.{Disk}
 use Rattle.volume.specs.Pieces.{pieces}
 use Rattle.volume.specs.Verdict.{Verdict, Clean, found}
-use Rattle.old_volume.specs.Form.{version_2}
-use Rattle.old_volume.specs.Nodes.{names_in, directory_of}
-use Rattle.old_volume.specs.Verdict.{verdict_of_pieces}
+use Rattle.migrate.specs.Form.{version_2}
+use Rattle.migrate.specs.Nodes.{names_in, directory_of}
+use Rattle.migrate.specs.Verdict.{verdict_of_pieces}
 
 -- the two bytes of a number
 abbrev u16 : ℕ → List ℕ

@@ -2,9 +2,9 @@
 use Rattle.std.proofs.Common.{◌≡◌, ℕ, List, [], ◌∷◌, ◌++◌, ◌/◌, ◌%◌, map, take, replicate, refl}
 use Rattle.std.specs.Prelude.{Result, Ok, Err}
 use Rattle.layout.specs.declared.Geometry.{Geometry}
-use Rattle.old_volume.specs.declared.superblock.OldRefusal.{OldRefusal}
-use Rattle.old_volume.specs.declared.superblock.OldRefusal.TheVariants.{Truncated, BadMagic, BadZoneSize, BadCounts, DoesNotFit}
-use Rattle.old_volume.specs.Superblock.{old_geometry_of}
+use Rattle.migrate.specs.declared.old_volume.superblock.OldRefusal.{OldRefusal}
+use Rattle.migrate.specs.declared.old_volume.superblock.OldRefusal.TheVariants.{Truncated, BadMagic, BadZoneSize, BadCounts, DoesNotFit}
+use Rattle.migrate.specs.Superblock.{old_geometry_of}
 
 -- the two bytes of a number
 abbrev u16 : ℕ → List ℕ

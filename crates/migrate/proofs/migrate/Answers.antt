@@ -1,16 +1,18 @@
 use Rattle.std.proofs.Common.{sym, ap, subst, ◌∙◌}
 use Rattle.layout.specs.Places.{geometry_of}
-use Rattle.old_volume.proofs.SuperblockPut.{old_fits}
+use Rattle.migrate.proofs.SuperblockPut.{old_fits}
 use Rattle.migrate.specs.Migrated.{IsConfirmed, IsRefused}
 use Rattle.migrate.proofs.RoomLeft.{sizes_known}
-use Rattle.migrate.proofs.Verdicts.{err_same, sound_from, sizes_good, found_refused, many_refused, none_refused, cramped_refused, late_refused, migrated}
+use Rattle.migrate.proofs.Verdicts.{err_same, sound_from, sizes_good, found_refused, many_refused, none_refused, cramped_refused}
+use Rattle.migrate.proofs.Verdicts.{late_refused, migrated}
 use Rattle.migrate.proofs.migrate.Goals as goal
 
 pub unreachable-requires : goal.unreachable-requires
 unreachable-requires c =
     let g = c.in-Ok.geometry in
     let parsed = sym c.in-Ok.ensures in
-    c.in-None.ensures.none g (ap geometry_of c.deref.ensures.value ∙ c.in_ok-old_blocks.ensures.parsed) (old_fits c.args.old.now g parsed).block
+    c.in-None.ensures.none g (ap geometry_of c.deref.ensures.value ∙ c.in_ok-old_blocks.ensures.parsed)
+    (old_fits c.args.old.now g parsed).block
 
 pub returns-in-Some-2-clause-refused : goal.returns-in-Some-2-clause-refused
 returns-in-Some-2-clause-refused c =
@@ -77,7 +79,8 @@ returns-in_err-image-clause-refused c =
     let none = sym c.in_default.is ∙ c.in_ok-found.ensures in
     let few = c.if-blocks-gt-MOST_BLOCKS.false in
     err_same c.from_residual-in_err-image.result c.in_err-image.field-0.0 (IsRefused old c.args.blocks) c.from_residual-in_err-image.ensures
-    (late_refused i old bytes c.args.blocks g same parsed stamped none few c.in_ok-empty.ensures.room c.in_err-image.field-0.0 c.in_err-image.ensures.refused)
+    (late_refused i old bytes c.args.blocks g same parsed stamped none few c.in_ok-empty.ensures.room c.in_err-image.field-0.0
+    c.in_err-image.ensures.refused)
 
 pub confirm-requires : goal.confirm-requires
 confirm-requires c =
@@ -94,8 +97,10 @@ returns-in_err-confirm-clause-refused c =
     let stamped = c.in_ok-old_blocks.ensures in
     let none = sym c.in_default.is ∙ c.in_ok-found.ensures in
     let few = c.if-blocks-gt-MOST_BLOCKS.false in
-    err_same c.from_residual-in_err-confirm.result c.in_err-confirm.field-0.0 (IsRefused old c.args.blocks) c.from_residual-in_err-confirm.ensures
-    (late_refused i old bytes c.args.blocks g same parsed stamped none few c.in_ok-empty.ensures.room c.in_err-confirm.field-0.0 c.in_err-confirm.ensures.refused)
+    err_same c.from_residual-in_err-confirm.result c.in_err-confirm.field-0.0 (IsRefused old c.args.blocks)
+    c.from_residual-in_err-confirm.ensures
+    (late_refused i old bytes c.args.blocks g same parsed stamped none few c.in_ok-empty.ensures.room c.in_err-confirm.field-0.0
+    c.in_err-confirm.ensures.refused)
 
 pub returns-clause-migrated : goal.returns-clause-migrated
 returns-clause-migrated c =
@@ -109,5 +114,6 @@ returns-clause-migrated c =
     let none = sym c.in_default.is ∙ c.in_ok-found.ensures in
     let few = c.if-blocks-gt-MOST_BLOCKS.false in
     migrated i old bytes c.in_ok-image.image.items c.args.blocks g c.in_ok-empty.empty.volume same parsed stamped none
-    (none_refused i old bytes c.args.blocks g same parsed stamped none few c.in_ok-empty.ensures.room) c.in_ok-empty.ensures.sizes c.in_ok-image.ensures.whole
+    (none_refused i old bytes c.args.blocks g same parsed stamped none few c.in_ok-empty.ensures.room) c.in_ok-empty.ensures.sizes
+    c.in_ok-image.ensures.whole
     (subst (IsConfirmed i c.in_ok-empty.empty.volume) c.deref-2.ensures.value c.in_ok-confirm.ensures.confirmed)

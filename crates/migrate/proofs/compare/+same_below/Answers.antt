@@ -9,15 +9,18 @@ use Rattle.migrate.proofs.Below.{no_numbers, page_from}
 use Rattle.migrate.proofs.compare.+same_below.Goals as goal
 
 pub returns-then-x-eq0 : goal.returns-then-x-eq0
-returns-then-x-eq0 t c = λ is. no_numbers (contents c.args.old.now.image) (contents c.args.new.now.image) c.args.level c.args.x c.args.y c.if-x-eq0.true (eqb-true c.args.y 0 is)
+returns-then-x-eq0 t c = λ is. no_numbers (contents c.args.old.now.image) (contents c.args.new.now.image) c.args.level c.args.x c.args.y
+    c.if-x-eq0.true (eqb-true c.args.y 0 is)
 
 pub returns-then-level-eq0 : goal.returns-then-level-eq0
 returns-then-level-eq0 t c = λ is.
     let v = contents c.args.old.now.image in
     let w = contents c.args.new.now.image in
-    let same = same_name_true c.block.result.now c.block-then-level-eq0.result.now (sym (same_names c.block.result.now c.block-then-level-eq0.result.now) ∙ sym c.eq.ensures ∙ is) in
+    let same = same_name_true c.block.result.now c.block-then-level-eq0.result.now
+    (sym (same_names c.block.result.now c.block-then-level-eq0.result.now) ∙ sym c.eq.ensures ∙ is) in
     subst (λ l. SameBelow v w l c.args.x c.args.y) (sym c.if-level-eq0.true)
-    (page_from v w c.args.x c.args.y c.block.result.now c.block-then-level-eq0.result.now same c.if-x-eq0.false c.if-y-eq0.false c.block.ensures.bytes c.block-then-level-eq0.ensures.bytes)
+    (page_from v w c.args.x c.args.y c.block.result.now c.block-then-level-eq0.result.now same c.if-x-eq0.false c.if-y-eq0.false
+    c.block.ensures.bytes c.block-then-level-eq0.ensures.bytes)
 
 pub loop-j-preserved : goal.loop-j-preserved
 loop-j-preserved t c =

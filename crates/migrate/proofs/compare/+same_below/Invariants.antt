@@ -9,4 +9,5 @@ decreases-same_below l = l.level
 
 abbrev pub invariant-loop-j : goal.invariant-loop-j
 invariant-loop-j l = (k : ℕ) → k < l.j
-    → SameBelow (contents l.old.image) (contents l.new.image) (l.level - 1) (number (contents l.old.image) l.x k) (number (contents l.new.image) l.y k)
+    → SameBelow (contents l.old.image) (contents l.new.image) (l.level - 1) (number (contents l.old.image) l.x k)
+    (number (contents l.new.image) l.y k)

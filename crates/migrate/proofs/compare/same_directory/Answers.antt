@@ -13,7 +13,8 @@ returns c = λ is.
     let h = file_byte j.geometry (contents j) c.args.y.now in
     let read : nodes_3.entry_inode h 1 ≡ c.u32_at-2.result
     = sym (c.u32_at-2.ensures ∙ four (slice_index c.entry-wanted.result.now) h 0 (64 * 1) 64
-    (λ k l. let z : 0 + k ≡ k = omega arith in ap (slice_index c.entry-wanted.result.now) z ∙ c.entry-wanted.ensures.bytes k l) 0 (64 * 1) 0 (omega arith) (omega arith) (omega arith)) in
+    (λ k l. let z : 0 + k ≡ k = omega arith in ap (slice_index c.entry-wanted.result.now) z ∙ c.entry-wanted.ensures.bytes k l) 0 (64 * 1) 0
+    (omega arith) (omega arith) (omega arith)) in
     directory_from i j c.args.x.now c.args.y.now
     (sym c.entry-parent.ensures.number ∙ sym c.u32_at.ensures ∙ c.if-u32_at.false ∙ sym read)
     (c.same_names.ensures is)

@@ -15,7 +15,8 @@ loop-slot-preserved c =
     let w = contents c.args.new.now.image in
     let P : ℕ → Type 0 = λ s. SameBelow v w (level_of s) (slot c.args.x.now s) (slot c.args.y.now s) in
     below_more P c.loop-slot.slot c.loop-slot.invariant
-    (subst (λ l. SameBelow v w l (slot c.args.x.now c.loop-slot.slot) (slot c.args.y.now c.loop-slot.slot)) c.level_of.ensures (c.same_below.ensures c.if-not-same_below.false))
+    (subst (λ l. SameBelow v w l (slot c.args.x.now c.loop-slot.slot) (slot c.args.y.now c.loop-slot.slot)) c.level_of.ensures
+    (c.same_below.ensures c.if-not-same_below.false))
 
 pub returns : goal.returns
 returns c = λ _ s h. c.loop-slot.invariant s (omega arith)

@@ -6,9 +6,9 @@ use Rattle.volume.specs.Nodes.{file_byte}
 use Rattle.volume.proofs.Ranges.{same_name_true}
 use Rattle.image.specs.Contents.{contents}
 use Rattle.image.proofs.Texts.{same_names}
-use Rattle.old_volume.specs.Form.{version_2}
-use Rattle.old_volume.specs.Nodes as nodes_2
-use Rattle.old_volume.specs.Nodes.{is_dropped}
+use Rattle.migrate.specs.Form.{version_2}
+use Rattle.migrate.specs.Nodes as nodes_2
+use Rattle.migrate.specs.Nodes.{is_dropped}
 use Rattle.migrate.proofs.Names.{none_yet, one_free, one_more, number_same, name_same}
 use Rattle.migrate.proofs.compare.same_names.Goals as goal
 
@@ -23,7 +23,8 @@ loop-number-preserved-then-is_free c =
     let back : e - 2 + 2 ≡ e = omega arith in
     let next : e + 1 - 2 ≡ suc (e - 2) = omega arith in
     let free : is_dropped version_2 f (e - 2 + 2) ≡ true
-    = ap (is_dropped version_2 f) back ∙ ap (λ (k : ℕ). nat_le 2 e && (k == 0)) (sym c.entry-entry.ensures.number) ∙ sym c.is_free.ensures ∙ c.if-is_free.true in
+    = ap (is_dropped version_2 f) back ∙ ap (λ (k : ℕ). nat_le 2 e && (k == 0)) (sym c.entry-entry.ensures.number) ∙ sym c.is_free.ensures
+    ∙ c.if-is_free.true in
     let before = c.loop-number.invariant in
     record {
       begun = before.begun;
@@ -46,11 +47,13 @@ loop-number-preserved c =
     let next : e + 1 - 2 ≡ suc (e - 2) = omega arith in
     let next' : d + 1 - 2 ≡ suc (d - 2) = omega arith in
     let used : is_dropped version_2 f (e - 2 + 2) ≡ false
-    = ap (is_dropped version_2 f) back ∙ ap (λ (k : ℕ). nat_le 2 e && (k == 0)) (sym c.entry-entry.ensures.number) ∙ sym c.is_free.ensures ∙ c.if-is_free.false in
+    = ap (is_dropped version_2 f) back ∙ ap (λ (k : ℕ). nat_le 2 e && (k == 0)) (sym c.entry-entry.ensures.number) ∙ sym c.is_free.ensures
+    ∙ c.if-is_free.false in
     let same = same_name_true c.as_slice.result.now c.entry-wanted.result.now
     (sym (same_names c.as_slice.result.now c.entry-wanted.result.now) ∙ sym c.eq-same.ensures ∙ c.if-not-same.false) in
     let bytes = sym c.as_slice.ensures ∙ same in
-    let number = number_same f h e d c.entry-entry.result c.entry-wanted.result.now c.entry-entry.ensures c.entry-wanted.ensures.bytes bytes in
+    let number = number_same f h e d c.entry-entry.result c.entry-wanted.result.now c.entry-entry.ensures
+    c.entry-wanted.ensures.bytes bytes in
     let name = name_same f h e d c.entry-entry.result c.entry-wanted.result.now c.entry-entry.ensures c.entry-wanted.ensures.bytes bytes in
     record {
       begun = omega arith;

@@ -13,7 +13,8 @@ returns-in-Err-TooFewBlocks-clause-refused c =
     let sizes = is_geometry i in
     let same = ap (λ g. g.inodes) c.geometry-inodes.ensures in
     none_left i.geometry (contents i) c.args.blocks TooFewBlocks (omega arith) sizes.some_inode sizes.inodes
-    (ap (sizes_of c.args.blocks 1024) (sym same) ∙ subst (IsRefused c.args.blocks 1024 c.geometry-inodes.result.inodes) c.in-Err-TooFewBlocks.field-0-is
+    (ap (sizes_of c.args.blocks 1024) (sym same) ∙ subst (IsRefused c.args.blocks 1024 c.geometry-inodes.result.inodes)
+    c.in-Err-TooFewBlocks.field-0-is
     c.in-Err-TooFewBlocks.ensures.refused)
 
 pub returns-then-zones_used-zones-clause-refused : goal.returns-then-zones_used-zones-clause-refused
@@ -21,7 +22,8 @@ returns-then-zones_used-zones-clause-refused c =
     let i = c.args.old.now.image in
     let new = c.in-Ok.empty.volume in
     let same = ap (λ g. g.inodes) c.geometry-inodes.ensures in
-    none_enough i.geometry (contents i) c.args.old.now.sized c.args.blocks c.zones_used.result (new.zones - new.first_zone) c.zones_used.ensures
+    none_enough i.geometry (contents i) c.args.old.now.sized c.args.blocks c.zones_used.result (new.zones - new.first_zone)
+    c.zones_used.ensures
     new (ap (sizes_of c.args.blocks 1024) (sym same) ∙ c.in-Ok.ensures.sizes) refl c.if-zones_used-zones.true
 
 pub returns-clause-room : goal.returns-clause-room
@@ -29,5 +31,6 @@ returns-clause-room c =
     let i = c.args.old.now.image in
     let new = c.in-Ok.empty.volume in
     let same = ap (λ g. g.inodes) c.geometry-inodes.ensures in
-    room_left i.geometry (contents i) c.args.old.now.sized c.args.blocks c.zones_used.result (new.zones - new.first_zone) c.zones_used.ensures
+    room_left i.geometry (contents i) c.args.old.now.sized c.args.blocks c.zones_used.result (new.zones - new.first_zone)
+    c.zones_used.ensures
     new (ap (sizes_of c.args.blocks 1024) (sym same) ∙ c.in-Ok.ensures.sizes) refl c.if-zones_used-zones.false

@@ -12,7 +12,8 @@ returns-then-zone-eq0-clause-value t c = sym (none_below (contents c.args.old.no
 
 pub loop-j-init : goal.loop-j-init
 loop-j-init t c =
-    let none = no_sum (λ j. zones_below (contents c.args.old.now.image) (c.args.level - 1) (number (contents c.args.old.now.image) c.args.zone j)) in
+    let none = no_sum (λ j. zones_below (contents c.args.old.now.image) (c.args.level - 1)
+    (number (contents c.args.old.now.image) c.args.zone j)) in
     record { counted = ap (λ s. 1 + s) (sym none); few = omega arith }
 
 pub overflow_add-used : goal.overflow_add-used
@@ -33,7 +34,8 @@ loop-j-preserved t c =
     let here : c.zones_below-used.result ≡ f c.loop-j.j = c.zones_below-used.ensures.value ∙ ap (zones_below v l) c.number.ensures in
     record {
       counted = omega arith;
-      few = more_below c.loop-j.used c.zones_below-used.result c.loop-j.j (most_below l) c.loop-j.invariant.few c.zones_below-used.ensures.few;
+      few = more_below c.loop-j.used c.zones_below-used.result c.loop-j.j (most_below l) c.loop-j.invariant.few
+          c.zones_below-used.ensures.few;
     }
 
 pub returns-clause-value : goal.returns-clause-value
@@ -47,6 +49,7 @@ pub returns-clause-few : goal.returns-clause-few
 returns-clause-few t c =
     let all : c.loop-j.j ≡ 256 = omega arith in
     let few = c.loop-j.invariant.few in
-    let turn : c.loop-j.j * most_below (c.args.level - 1) ≡ 256 * most_below (c.args.level - 1) = ap (λ n. n * most_below (c.args.level - 1)) all in
+    let turn : c.loop-j.j * most_below (c.args.level - 1) ≡ 256 * most_below (c.args.level - 1)
+    = ap (λ n. n * most_below (c.args.level - 1)) all in
     let most = most_block c.args.level c.if-level-eq0.false in
     omega arith

@@ -4,8 +4,8 @@ use Rattle.tree.specs.Sums.{count_below, one_if}
 use Rattle.volume.specs.Nodes.{file_byte}
 use Rattle.image.specs.Contents.{contents}
 use Rattle.fsck.proofs.Counts.{sum_more, no_sum}
-use Rattle.old_volume.specs.Form.{version_2}
-use Rattle.old_volume.specs.Nodes.{is_dropped}
+use Rattle.migrate.specs.Form.{version_2}
+use Rattle.migrate.specs.Nodes.{is_dropped}
 use Rattle.migrate.proofs.used.name_count.Goals as goal
 
 pub loop-number-init : goal.loop-number-init
@@ -26,7 +26,8 @@ loop-number-preserved-then-is_free c =
     let back : k + 2 ≡ c.loop-number.number = omega arith in
     let here : is_dropped version_2 bytes (k + 2) ≡ true
     = ap (is_dropped version_2 bytes) back
-    ∙ ap (λ (n : ℕ). nat_le 2 c.loop-number.number && (n == 0)) (sym c.entry-entry.ensures.number) ∙ sym c.is_free.ensures ∙ c.if-is_free.true in
+    ∙ ap (λ (n : ℕ). nat_le 2 c.loop-number.number && (n == 0)) (sym c.entry-entry.ensures.number) ∙ sym c.is_free.ensures
+    ∙ c.if-is_free.true in
     let p : ℕ → Bool = λ e. not (is_dropped version_2 bytes (e + 2)) in
     let more : count_below p (c.loop-number.number + 1 - 2) ≡ count_below p k + one_if (not true)
     = ap (count_below p) next ∙ sum_more (λ e. one_if (p e)) k ∙ ap (λ b. count_below p k + one_if (not b)) here in
@@ -43,7 +44,8 @@ loop-number-preserved c =
     let back : k + 2 ≡ c.loop-number.number = omega arith in
     let here : is_dropped version_2 bytes (k + 2) ≡ false
     = ap (is_dropped version_2 bytes) back
-    ∙ ap (λ (n : ℕ). nat_le 2 c.loop-number.number && (n == 0)) (sym c.entry-entry.ensures.number) ∙ sym c.is_free.ensures ∙ c.if-is_free.false in
+    ∙ ap (λ (n : ℕ). nat_le 2 c.loop-number.number && (n == 0)) (sym c.entry-entry.ensures.number) ∙ sym c.is_free.ensures
+    ∙ c.if-is_free.false in
     let p : ℕ → Bool = λ e. not (is_dropped version_2 bytes (e + 2)) in
     let more : count_below p (c.loop-number.number + 1 - 2) ≡ count_below p k + one_if (not false)
     = ap (count_below p) next ∙ sum_more (λ e. one_if (p e)) k ∙ ap (λ b. count_below p k + one_if (not b)) here in

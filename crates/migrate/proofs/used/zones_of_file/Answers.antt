@@ -10,7 +10,11 @@ use Rattle.migrate.proofs.UsedBelow.{most_low}
 use Rattle.migrate.proofs.used.zones_of_file.Goals as goal
 
 pub loop-slot-init : goal.loop-slot-init
-loop-slot-init c = record { counted = sym (no_sum (λ s. zones_below (contents c.args.old.now.image) (level_of s) (slot c.args.inode.now s))); few = omega arith }
+loop-slot-init c = record {
+  counted = sym (no_sum (λ s. zones_below (contents c.args.old.now.image) (level_of s)
+      (slot c.args.inode.now s)));
+  few = omega arith;
+}
 
 pub overflow_add-used : goal.overflow_add-used
 overflow_add-used c =

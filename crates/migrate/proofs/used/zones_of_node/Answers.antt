@@ -2,7 +2,7 @@ use Rattle.std.proofs.Common.{◌≡◌, ◌+◌, ◌-◌, ◌*◌, ◌/◌, tru
 use Rattle.std.proofs.lemmas.Bool.{and_from}
 use Rattle.volume.specs.Nodes.{is_marked, is_directory_mode}
 use Rattle.image.specs.Contents.{contents}
-use Rattle.old_volume.proofs.EntryBytes.{small}
+use Rattle.migrate.proofs.EntryBytes.{small}
 use Rattle.migrate.specs.Used.{name_count, zones_for, zones_in}
 use Rattle.migrate.proofs.UsedNodes.{none_used, directory_used, file_used}
 use Rattle.migrate.proofs.used.zones_of_node.Goals as goal

@@ -5,11 +5,13 @@ use Rattle.migrate.proofs.volume_blocks.VolumeBlocks.block.Goals as goal
 
 pub returns-then-not-is_data_zone-clause-bytes : goal.returns-then-not-is_data_zone-clause-bytes
 returns-then-not-is_data_zone-clause-bytes c = λ o h.
-    get_or-replicate 1024 o 0 0 h ∙ sym (no_page c.args.self.now.image c.args.zone o (sym c.is_data_zone.ensures ∙ c.if-not-is_data_zone.true))
+    get_or-replicate 1024 o 0 0 h ∙ sym (no_page c.args.self.now.image c.args.zone o
+    (sym c.is_data_zone.ensures ∙ c.if-not-is_data_zone.true))
 
 pub slice_bounds-result-end-2 : goal.slice_bounds-result-end-2
 slice_bounds-result-end-2 c =
-    let inside = page_inside c.args.self.now.image c.args.zone c.args.self.now.sized (sym c.is_data_zone.ensures ∙ c.if-not-is_data_zone.false) in
+    let inside = page_inside c.args.self.now.image c.args.zone c.args.self.now.sized
+    (sym c.is_data_zone.ensures ∙ c.if-not-is_data_zone.false) in
     let same = ap length c.args.self.now.same in
     omega arith
 

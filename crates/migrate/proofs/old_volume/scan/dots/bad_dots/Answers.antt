@@ -1,0 +1,15 @@
+use Rattle.std.proofs.Common.{◌≡◌, sym, ap, rules, arith}
+use Rattle.migrate.specs.Findings.{has_bad_dots}
+use Rattle.volume.specs.Verdict.{place_limit}
+use Rattle.image.specs.Contents.{contents}
+use Rattle.image.proofs.Leasts.{first_least}
+use Rattle.fsck.proofs.Entries.{no_directory, past_directories}
+use Rattle.migrate.proofs.old_volume.scan.dots.bad_dots.Goals as goal
+use Rattle.migrate.specs.Form.{version_2}
+
+pub returns : goal.returns
+returns c =
+    let i = c.args.image.now in
+    let e : c.geometry.result.inodes ≡ i.geometry.inodes = ap (λ g. g.inodes) c.geometry.ensures in
+    first_least _ _ _ c.least_passing.ensures (has_bad_dots version_2 i.geometry (contents i)) (place_limit i.geometry) (omega arith)
+    (λ k b h a. search rules) (λ k h. sym (no_directory i k _ (past_directories i k (omega arith))))

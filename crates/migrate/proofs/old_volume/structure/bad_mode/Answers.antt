@@ -1,0 +1,16 @@
+use Rattle.std.proofs.Common.{◌≡◌, ap, rules, arith}
+use Rattle.std.proofs.lemmas.Bool.{and_left}
+use Rattle.volume.specs.Nodes.{is_marked}
+use Rattle.volume.specs.Findings.{has_bad_mode}
+use Rattle.volume.specs.Verdict.{place_limit}
+use Rattle.image.specs.Contents.{contents}
+use Rattle.image.proofs.Leasts.{first_least}
+use Rattle.image.proofs.Contents.{out_of_range}
+use Rattle.migrate.proofs.old_volume.structure.bad_mode.Goals as goal
+
+pub returns : goal.returns
+returns c =
+    let i = c.args.image.now in
+    let e : c.geometry.result.inodes ≡ i.geometry.inodes = ap (λ g. g.inodes) c.geometry.ensures in
+    first_least _ _ _ c.least_passing.ensures (has_bad_mode i.geometry (contents i)) (place_limit i.geometry) (omega arith)
+    (λ k b h a. search rules) (λ k h. and_left (is_marked i.geometry (contents i) k) _ (out_of_range i k (omega arith)))

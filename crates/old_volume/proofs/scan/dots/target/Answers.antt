@@ -1,5 +1,0 @@
-use Rattle.std.proofs.Common.{◌∙◌}
-use Rattle.old_volume.proofs.scan.dots.target.Goals as goal
-
-pub returns : goal.returns
-returns c = c.u32_at.ensures ∙ c.entry.ensures.number
