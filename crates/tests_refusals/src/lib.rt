@@ -7,6 +7,8 @@ mod alone;
 #[cfg(test)]
 mod made;
 #[cfg(test)]
+mod migrated;
+#[cfg(test)]
 mod orders;
 #[cfg(test)]
 mod plays;

@@ -43,8 +43,8 @@ fn is_granted(alloc: Global) -> bool {
     asked.is_ok()
 }
 
-/// How often in a row a request is refused where there is no memory. Each thread may have a part of memory of its own, and an allocator that
-/// finds none in one may look into another one the next time.
+/// How often in a row a request is refused where there is no memory. Each thread may have a part of memory of its own, and an allocator
+/// that finds none in one may look into another one the next time.
 const ASKS: u32 = 256;
 
 /// Whether one of so many small requests is granted.
