@@ -3,7 +3,7 @@ use Rattle.std.proofs.Common.{◌≡◌, ℕ, ◌==◌, ◌∙◌, ap, List, [],
 use Rattle.std.proofs.Common.{if◌then◌else◌}
 use Rattle.message.specs.declared.Incoming.{Incoming}
 use Rattle.message.specs.declared.Incoming.TheVariants as incoming
-use Rattle.message.specs.declared.BlockReply.{BlockReply}
+use Rattle.std.specs.Global.{Box}
 use Rattle.message.specs.declared.BlockRequest.{BlockRequest}
 use Rattle.message.specs.declared.endpoint.Endpoint.{Endpoint}
 use Rattle.records.specs.Marks.{Mark, Answered, Issued}
@@ -11,18 +11,19 @@ use Rattle.records.specs.Open.{counts, MayFollow}
 use Rattle.records.specs.Opening.{Opening, Fits}
 use Rattle.records.specs.Told.{Told, received, heard, took_end}
 use Rattle.channel_link.specs.News.{incoming_of}
+use Rattle.channel_link.specs.declared.messages.Exchange.{Exchange}
 use Rattle.channel_link.specs.declared.messages.News.{News}
 use Rattle.channel_link.specs.declared.messages.News.TheVariants as news
 use Rattle.channel_link.specs.Received.{AreReceived, None, Dropped, Left, Other, mark_of}
 
-by_count : (marks : List Mark) (got : List News) (reply : BlockReply) (b : Bool) → AreReceived marks got
-    → AreReceived (if b then Answered reply ∷ marks else marks) (news.Answer reply ∷ got)
-by_count marks got reply true is = Left marks got (news.Answer reply) is
-by_count marks got reply false is = Dropped marks got (news.Answer reply) is
+by_count : (marks : List Mark) (got : List News) (x : Box Exchange) (b : Bool) → AreReceived marks got
+    → AreReceived (if b then Answered x.value.reply ∷ marks else marks) (news.Answer x ∷ got)
+by_count marks got x true is = Left marks got (news.Answer x) is
+by_count marks got x false is = Dropped marks got (news.Answer x) is
 
 pub receives : (marks : List Mark) (got : List News) (x : News) → AreReceived marks got
     → AreReceived (received (incoming_of x) marks) (x ∷ got)
-receives marks got (news.Answer reply) is = by_count marks got reply (counts marks reply) is
+receives marks got (news.Answer x) is = by_count marks got x (counts marks x.value.reply) is
 receives marks got (news.Started endpoint line) is = Left marks got (news.Started endpoint line) is
 receives marks got news.GaveUp is = Left marks got news.GaveUp is
 
@@ -45,7 +46,7 @@ posts (Err e) v marks got more request to same kept = tt
 
 -- no message of the server's line is an End
 goes_live : (x : News) (told : List Told) → took_end (heard (incoming_of x) told) ≡ took_end told
-goes_live (news.Answer reply) told = refl
+goes_live (news.Answer exchange) told = refl
 goes_live (news.Started endpoint line) told = refl
 goes_live news.GaveUp told = refl
 

@@ -11,7 +11,7 @@ use Rattle.channel_link.specs.declared.messages.NewsView.{NewsView}
 
 -- the message that news are to a server
 abbrev pub incoming_of : News → Incoming
-incoming_of (news.Answer reply) = incoming.Reply reply
+incoming_of (news.Answer exchange) = incoming.Reply exchange.value.reply
 incoming_of (news.Started endpoint line) = incoming.Started endpoint
 incoming_of news.GaveUp = incoming.GaveUp
 
@@ -31,7 +31,7 @@ got_by v x = record { drives = v.drives; endpoint = v.endpoint; sent = v.sent; g
 
 -- an answer bears this endpoint
 abbrev pub Bears : Endpoint → News → Type 0
-Bears endpoint (news.Answer reply) = reply.from ≡ endpoint
+Bears endpoint (news.Answer exchange) = exchange.value.reply.from ≡ endpoint
 Bears endpoint (news.Started of line) = Unit {0}
 Bears endpoint news.GaveUp = Unit {0}
 

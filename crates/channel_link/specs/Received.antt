@@ -6,7 +6,7 @@ use Rattle.channel_link.specs.declared.messages.News.TheVariants as news
 
 -- the mark that news leave where they count
 abbrev pub mark_of : News → Mark
-mark_of (news.Answer reply) = Answered reply
+mark_of (news.Answer exchange) = Answered exchange.value.reply
 mark_of (news.Started endpoint line) = Started endpoint
 mark_of news.GaveUp = GaveUp
 

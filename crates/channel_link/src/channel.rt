@@ -1,5 +1,6 @@
 //! Bounded channels. Their rule says nothing of the messages; it lets them do without a lock, and without memory once they are made.
-ghost use Rattle.std.specs.Prelude.{◌≡◌, ◌<◌, OnErr};
+ghost use Rattle.std.specs.Prelude.{◌≡◌, ◌<◌, IfErr, OnErr};
+ghost use Rattle.channel_link.specs.declared.channel.NotSent.TheVariants as not_sent;
 ghost use Rattle.crossbeam_channel.specs.Claims.{IsSeatAt};
 ghost use Rattle.crossbeam_channel.specs.Ends.{sends_on, receives_on};
 
@@ -13,12 +14,12 @@ use std::thread;
 /// half a microsecond, and to wake a sleeping thread takes five and more.
 pub(crate) const LOOKS: u32 = 32;
 
-/// Why a message wasn't sent. It is let go.
-#[derive(Clone, Copy, Debug, PartialEq, Eq)]
-pub enum NotSent {
-    /// The channel was full.
-    Full,
-    /// Nobody receives from it any more.
+/// Why a message wasn't sent.
+#[derive(Drop)]
+pub enum NotSent<T> {
+    /// The channel was full: the message comes back.
+    Full(T),
+    /// Nobody receives from it any more. The message is let go.
     Gone,
 }
 
@@ -73,13 +74,15 @@ impl<T: Drop> Sender<T> {
     }
 
     /// Sends a message, unless the channel is full or nobody receives from it. It doesn't wait for room.
-    pub fn try_send<R: Wait>(&mut self, rt: &R, message: T) -> Result<(), NotSent> {
+    pub fn try_send<R: Wait>(&mut self, rt: &R, message: T) -> Result<(), NotSent<T>>
+        ensures { IfErr result (λ why. (back : T) → why ≡ not_sent.Full back → back ≡ message) }
+    {
         match self
             .sender
             .try_send_as::<Free, R>(rt, &mut self.pass, message)
         {
             Ok(()) => Ok(()),
-            Err(TrySendError::Full(_)) => Err(NotSent::Full),
+            Err(TrySendError::Full(message)) => Err(NotSent::Full(message)),
             Err(_) => Err(NotSent::Gone),
         }
     }

@@ -4,4 +4,5 @@
 pub mod channel;
 pub mod link;
 pub mod messages;
+pub mod order_line;
 pub mod server_line;

@@ -9,7 +9,8 @@ ghost use Rattle.channel_link.specs.Received.{AreReceived, Other};
 ghost use Rattle.board.specs.Steady.{enough_room};
 
 use crate::channel::{NotSent, Sender};
-use crate::messages::{Order, Report};
+use crate::messages::{Exchange, News, Report};
+use crate::order_line::OrderLine;
 use crate::server_line::{NewsReceiver, message_of};
 use board::History;
 use board::counting::steady::{Steady, Supplied};
@@ -26,7 +27,7 @@ const BUDGET: u64 = 1099511627776;
 /// was started last, and an end of the reincarnation server's line.
 ///
 /// - `post` hands a request to the driver that was started last: `DeadEndpoint` where the endpoint isn't that one's or the driver has
-///   ended, else `Full` where its channel is full. It doesn't wait.
+///   ended, else `Full` where 32 requests are under way to it or its channel is full. It doesn't wait.
 /// - `complain` tells the reincarnation server. It doesn't wait: where its line is full, the complaint is made at the next message.
 /// - `take` waits for the next message. It costs one of the budget, 2^40 at first; once that is spent, and not before, it gives End.
 ///
@@ -35,7 +36,7 @@ const BUDGET: u64 = 1099511627776;
 pub struct ChannelLink<R: Wait + Copy> {
     rt: R,
     pub(crate) line: NewsReceiver,
-    orders: Option<(Endpoint, Sender<Order>)>,
+    orders: Option<(Endpoint, OrderLine)>,
     reports: Sender<Report>,
     // A complaint that the reincarnation server's line had no room for. A later one takes its place: it is about the same driver or a later
     // one.
@@ -92,9 +93,9 @@ impl<R: Wait + Copy> ChannelLink<R> {
         let rt = self.rt;
         match &mut self.orders {
             Some((endpoint, line)) if *endpoint == to => {
-                match line.try_send(&rt, Order::Ask(*request)) {
+                match line.post(&rt, request) {
                     Ok(()) => Ok(()),
-                    Err(NotSent::Full) => Err(LinkRefusal::Full),
+                    Err(NotSent::Full(())) => Err(LinkRefusal::Full),
                     Err(NotSent::Gone) => Err(LinkRefusal::DeadEndpoint),
                 }
             }
@@ -112,7 +113,7 @@ impl<R: Wait + Copy> ChannelLink<R> {
         let rt = self.rt;
         if !matches!(
             self.reports.try_send(&rt, Report::Complaint(about)),
-            Err(NotSent::Full)
+            Err(NotSent::Full(_))
         ) {
             self.due = None;
         }
@@ -130,11 +131,30 @@ impl<R: Wait + Copy> ChannelLink<R> {
         let rt = self.rt;
         self.budget -= 1;
         let news = self.line.next(&rt);
-        let (message, started) = message_of(news);
-        if started.is_some() {
-            self.orders = started;
-        }
+        let message = message_of(&news);
+        self.keep(news);
         message
+    }
+
+    // Keeps what came with news: the line of a driver that was started, and the exchange of an answer, if it is one of that line's.
+    fn keep(&mut self, news: News)
+        ensures { (self.new.line ≡ self.old.line) × (self.new.budget ≡ self.old.budget) × (self.new.history ≡ self.old.history) }
+    {
+        match news {
+            News::Started(endpoint, line) => self.orders = Some((endpoint, line)),
+            News::Answer(exchange) => self.put_back(exchange),
+            News::GaveUp => {}
+        }
+    }
+
+    // Keeps the exchange of an answer, if it is one of the present driver's line.
+    fn put_back(&mut self, exchange: Box<Exchange>)
+        ensures { (self.new.line ≡ self.old.line) × (self.new.budget ≡ self.old.budget) × (self.new.history ≡ self.old.history) }
+    {
+        match &mut self.orders {
+            Some((endpoint, line)) if *endpoint == exchange.reply.from => line.keep(exchange),
+            _ => {}
+        }
     }
 }
 

@@ -4,12 +4,13 @@ ghost use Rattle.crossbeam_channel.specs.Claims.{view, IsSeatAt};
 ghost use Rattle.crossbeam_channel.specs.Ends.{sends_on};
 ghost use Rattle.channel_link.specs.News.{reader, driver, Bears, incoming_of};
 
-use crate::channel::{LOOKS, Sender};
-use crate::messages::{News, NewsView, Order};
+use crate::channel::LOOKS;
+use crate::messages::{Exchange, News, NewsView};
+use crate::order_line::OrderLine;
 use crossbeam_channel::protocol::{Lesson, Outcome, Protocol, Split};
 use crossbeam_channel::{Pass, RuledReceiver, RuledSender, bounded_with};
+use message::Incoming;
 use message::endpoint::Endpoint;
-use message::{BlockReply, Incoming};
 use std::alloc::{AllocError, Global};
 use std::marker::{Brand, Model, PhantomData};
 use std::sync::Wait;
@@ -191,16 +192,16 @@ impl NewsSender {
             .is_ok()
     }
 
-    /// Sends an answer, which bears this endpoint, and waits for room. False where the server has left.
-    pub fn answer<R: Wait>(&mut self, rt: &R, reply: BlockReply) -> bool
-        requires { reply.from ≡ self.old.endpoint }
+    /// Sends an exchange whose answer bears this endpoint, and waits for room. False where the server has left.
+    pub fn answer<R: Wait>(&mut self, rt: &R, exchange: Box<Exchange>) -> bool
+        requires { exchange.value.reply.from ≡ self.old.endpoint }
         ensures { self.new.endpoint ≡ self.old.endpoint }
     {
-        self.send(rt, News::Answer(reply))
+        self.send(rt, News::Answer(exchange))
     }
 
     /// Tells of a start, and waits for room. False where the server has left.
-    pub fn started<R: Wait>(&mut self, rt: &R, endpoint: Endpoint, line: Sender<Order>) -> bool
+    pub fn started<R: Wait>(&mut self, rt: &R, endpoint: Endpoint, line: OrderLine) -> bool
         ensures { self.new.endpoint ≡ self.old.endpoint }
     {
         self.send(rt, News::Started(endpoint, line))
@@ -264,13 +265,13 @@ impl NewsReceiver {
     }
 }
 
-/// The message that news are to a server, and the line of a driver that was started.
-pub fn message_of(news: News) -> (Incoming, Option<(Endpoint, Sender<Order>)>)
-    ensures { result.0 ≡ incoming_of news }
+/// The message that news are to a server.
+pub fn message_of(news: &News) -> Incoming
+    ensures { result ≡ incoming_of news.now }
 {
     match news {
-        News::Answer(reply) => (Incoming::Reply(reply), None),
-        News::Started(endpoint, line) => (Incoming::Started(endpoint), Some((endpoint, line))),
-        News::GaveUp => (Incoming::GaveUp, None),
+        News::Answer(exchange) => Incoming::Reply(exchange.reply),
+        News::Started(endpoint, _) => Incoming::Started(*endpoint),
+        News::GaveUp => Incoming::GaveUp,
     }
 }

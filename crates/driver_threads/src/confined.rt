@@ -5,13 +5,27 @@ ghost use Rattle.std.specs.List.{concat};
 ghost use Rattle.media.specs.Contents.{adopted};
 ghost use Rattle.true_replies.specs.Events.{opening_media};
 ghost use Rattle.bdev.specs.Promises.{StepKeeps};
-ghost use Rattle.driver_threads.specs.Confined.{KeepsOutside, IsImageOutside, IsInVolume, StaysInVolume};
+ghost use Rattle.driver_threads.specs.Confined.{KeepsOutside, IsImageOutside, IsInVolume, StaysInVolume, step_of};
 
 use bdev::{BlockDriver, Step};
 use board::counting::room::Room;
 use media::Media;
+use message::BlockReply;
 use std::alloc::{AllocError, Global};
 use std::marker::{Model, PhantomData};
+
+/// How far a step brought a driver: `Step`, but that the answer stands elsewhere.
+#[derive(Clone, Copy, Debug, PartialEq, Eq)]
+pub enum Progress {
+    /// The request stays in work.
+    Working,
+    /// There is no request in work.
+    Idle,
+    /// The request in work has ended: it has its answer.
+    Done,
+    /// The driver failed.
+    Failed,
+}
 
 /// Media on which drivers write in a volume's range alone: they have as many sectors as were handed in, and outside of the range each
 /// sector is as it was handed in. Contracts see them as the media.
@@ -61,19 +75,36 @@ impl<N: Room> Confined<N> {
         self.media.adopt(generation);
     }
 
-    /// Takes a driver's step, under its generation. A driver that names a sector outside of the range as the one that its step may write
-    /// isn't stepped: it counts as failed.
+    /// Takes a driver's step, under its generation, and puts the answer of one that is done into the reply, without its endpoint. A driver
+    /// that names a sector outside of the range as the one that its step may write isn't stepped: it counts as failed.
     #[tactic(auto, using(crate::proofs::Confining::keeps_stepped))]
-    pub fn step<D: BlockDriver>(&mut self, driver: &mut D, generation: u32) -> Step
+    pub fn step<D: BlockDriver>(
+        &mut self,
+        driver: &mut D,
+        generation: u32,
+        reply: &mut BlockReply,
+    ) -> Progress
         ensures inside { StaysInVolume N.opening (D.state driver.old)
-            → StepKeeps (D.state driver.old) self.old generation result (D.state driver.new) self.new }
+            → StepKeeps (D.state driver.old) self.old generation (step_of result reply.new) (D.state driver.new) self.new }
         ensures outside { ¬ (StaysInVolume N.opening (D.state driver.old))
-            → (result ≡ Step.Failed) × (D.state driver.new ≡ D.state driver.old) × (self.new ≡ self.old) }
+            → (result ≡ Progress.Failed) × (D.state driver.new ≡ D.state driver.old) × (self.new ≡ self.old) }
+        ensures from { reply.new.from ≡ reply.old.from }
     {
         if !self.admits(driver) {
-            return Step::Failed;
+            return Progress::Failed;
         }
-        driver.step(&mut self.media, generation)
+        match driver.step(&mut self.media, generation) {
+            Step::Working => Progress::Working,
+            Step::Idle => Progress::Idle,
+            Step::Done(answer) => {
+                let bytes = answer.bytes;
+                reply.id = answer.id;
+                reply.outcome = answer.outcome;
+                reply.bytes = bytes;
+                Progress::Done
+            }
+            Step::Failed => Progress::Failed,
+        }
     }
 
     /// The image of the media: the bytes of all sectors, in order, as they stand. Refused where no memory was found for it.

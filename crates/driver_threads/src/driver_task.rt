@@ -3,16 +3,16 @@
 ghost use Rattle.std.specs.Prelude.{◌≡◌};
 ghost use Rattle.std.specs.Arc.{arc_value};
 
+use crate::confined::Progress;
 use crate::shared::Shared;
-use bdev::{Answer, BlockDriver, Step};
+use bdev::BlockDriver;
 use board::Seat;
 use board::counting::room::Room;
 use channel_link::channel::{Receiver, Sender};
-use channel_link::messages::{Order, Report};
+use channel_link::messages::{Exchange, Order, Report};
 use channel_link::server_line::NewsSender;
 use gate::{Gate, Point};
-use message::endpoint::Endpoint;
-use message::{BlockReply, BlockRequest};
+use message::BlockReply;
 use std::sync::atomic::{AtomicBool, Ordering};
 use std::sync::{Arc, Wait};
 use std::thread;
@@ -33,19 +33,6 @@ pub(crate) struct DriverTask<N: Room, D: BlockDriver, G: Gate> {
     // Whether the last order was a request.
     has_served: bool,
     ghost seated: { seat.table ≡ arc_value shared.board },
-}
-
-// An answer, stamped with the endpoint of the driver that gave it.
-fn stamped(from: Endpoint, answer: &Answer) -> BlockReply
-    ensures { result ≡ record { from = from; id = answer.now.id; outcome = answer.now.outcome; bytes = answer.now.bytes } }
-{
-    let bytes = answer.bytes;
-    BlockReply {
-        from,
-        id: answer.id,
-        outcome: answer.outcome,
-        bytes,
-    }
 }
 
 impl<N: Room, D: BlockDriver, G: Gate> DriverTask<N, D, G> {
@@ -83,34 +70,36 @@ impl<N: Room, D: BlockDriver, G: Gate> DriverTask<N, D, G> {
             .beat(&mut self.seat, generation, self.beats);
     }
 
-    // One step, under the lock of the media; none where all is to end. It doesn't ask whether a later driver was started: then the media
-    // refuse the step.
-    fn step<R: Wait>(&mut self, rt: &R) -> Option<Step> {
+    // One step, under the lock of the media, which puts an answer into the reply; none where all is to end. It doesn't ask whether a later
+    // driver was started: then the media refuse the step.
+    fn step<R: Wait>(&mut self, rt: &R, reply: &mut BlockReply) -> Option<Progress> {
         let generation = self.news.endpoint().generation;
         self.shared.gate.pass(Point::DriverStep(generation));
         if self.shared.ending.load(Ordering::SeqCst) {
             return None;
         }
         let mut media = self.shared.media.lock(rt);
-        Some((&mut *media).step(&mut self.driver, generation))
+        Some((&mut *media).step(&mut self.driver, generation, reply))
     }
 
-    // Sends an answer. Whether the driver goes on: it ends where the server has left.
-    fn answer<R: Wait>(&mut self, rt: &R, answer: &Answer) -> bool {
+    // Sends an answer, stamped with the driver's endpoint. Whether the driver goes on: it ends where the server has left.
+    fn answer<R: Wait>(&mut self, rt: &R, exchange: Box<Exchange>) -> bool {
         self.beat();
-        let reply = stamped(self.news.endpoint(), answer);
-        self.news.answer(rt, reply)
+        let mut exchange = exchange;
+        exchange.reply.from = self.news.endpoint();
+        self.news.answer(rt, exchange)
     }
 
     // Works on a request until it is answered. Whether the driver goes on: a failed one ends.
-    fn serve<R: Wait>(&mut self, rt: &R, request: BlockRequest) -> bool {
-        let _ = self.driver.accept(request);
+    fn serve<R: Wait>(&mut self, rt: &R, exchange: Box<Exchange>) -> bool {
+        let mut exchange = exchange;
+        let _ = self.driver.accept(exchange.request);
         for _ in rt.forever() {
-            match self.step(rt) {
-                Some(Step::Working) => self.beat(),
-                Some(Step::Idle) => return true,
-                Some(Step::Done(answer)) => return self.answer(rt, &answer),
-                Some(Step::Failed) => {
+            match self.step(rt, &mut exchange.reply) {
+                Some(Progress::Working) => self.beat(),
+                Some(Progress::Idle) => return true,
+                Some(Progress::Done) => return self.answer(rt, exchange),
+                Some(Progress::Failed) => {
                     let _ = self.reports.send(rt, Report::Exit(self.news.endpoint()));
                     return false;
                 }
@@ -140,7 +129,7 @@ impl<N: Room, D: BlockDriver, G: Gate> DriverTask<N, D, G> {
                 self.beat();
                 true
             }
-            Some(Order::Ask(request)) => self.serve(rt, request),
+            Some(Order::Ask(exchange)) => self.serve(rt, exchange),
         }
     }
 

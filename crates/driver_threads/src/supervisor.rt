@@ -11,6 +11,7 @@ use board::Seat;
 use board::counting::room::Room;
 use channel_link::channel::{Receiver, Sender, bounded};
 use channel_link::messages::{Order, Report};
+use channel_link::order_line::OrderLine;
 use channel_link::server_line::NewsSender;
 use gate::{Gate, Point};
 use message::endpoint::Endpoint;
@@ -25,7 +26,7 @@ use std::thread::{JoinHandle, Threads};
 /// The last tick that there is (own).
 const LAST_TICK: u64 = 281474976710655;
 
-/// How many orders the channel of a driver holds (own).
+/// How many orders the channel of a driver holds, and how many requests may be under way to it (own).
 const ORDERS: usize = 32;
 
 /// A driver's thread, and an end of the channel of its orders.
@@ -42,11 +43,11 @@ struct Pinging {
     pinged: Arc<AtomicBool>,
 }
 
-// What the start of a driver's thread gives: the thread, an end for the server's link and one for pings.
+// What the start of a driver's thread gives: the thread, the line for the server's link and an end for pings.
 #[derive(Drop)]
 struct Spawned {
     worker: Worker,
-    orders: Sender<Order>,
+    orders: OrderLine,
     pinging: Pinging,
 }
 
@@ -115,6 +116,7 @@ impl<N: Room + Send + Sync + 'static, D: BlockDriver + 'static, G: Gate + 'stati
         let (mut orders, taken) = bounded::<Order>(self.alloc, ORDERS)?;
         let for_pings = orders.another()?;
         let for_end = orders.another()?;
+        let orders = OrderLine::new(self.alloc, orders, ORDERS)?;
         let pinged = Arc::new(self.alloc, AtomicBool::new(false))?;
         let theirs = Arc::try_clone(&pinged)?;
         let news = self.news.another(endpoint)?;
