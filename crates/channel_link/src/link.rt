@@ -27,7 +27,7 @@ const BUDGET: u64 = 1099511627776;
 /// was started last, and an end of the reincarnation server's line.
 ///
 /// - `post` hands a request to the driver that was started last: `DeadEndpoint` where the endpoint isn't that one's or the driver has
-///   ended, else `Full` where 32 requests are under way to it or its channel is full. It doesn't wait.
+///   ended, else `Full` where as many requests are under way to it as may be. It doesn't wait.
 /// - `complain` tells the reincarnation server. It doesn't wait: where its line is full, the complaint is made at the next message.
 /// - `take` waits for the next message. It costs one of the budget, 2^40 at first; once that is spent, and not before, it gives End.
 ///

@@ -26,8 +26,11 @@ use std::thread::{JoinHandle, Threads};
 /// The last tick that there is (own).
 const LAST_TICK: u64 = 281474976710655;
 
-/// How many orders the channel of a driver holds, and how many requests may be under way to it (own).
-const ORDERS: usize = 32;
+/// How many requests may be under way to a driver: posted, and their answers not yet taken (own).
+const REQUESTS: usize = 32;
+
+/// How many orders the channel of a driver holds: so many requests, a ping and a stop.
+const ORDERS: usize = 34;
 
 /// A driver's thread, and an end of the channel of its orders.
 #[derive(Drop)]
@@ -116,7 +119,7 @@ impl<N: Room + Send + Sync + 'static, D: BlockDriver + 'static, G: Gate + 'stati
         let (mut orders, taken) = bounded::<Order>(self.alloc, ORDERS)?;
         let for_pings = orders.another()?;
         let for_end = orders.another()?;
-        let orders = OrderLine::new(self.alloc, orders, ORDERS)?;
+        let orders = OrderLine::new(self.alloc, orders, REQUESTS)?;
         let pinged = Arc::new(self.alloc, AtomicBool::new(false))?;
         let theirs = Arc::try_clone(&pinged)?;
         let news = self.news.another(endpoint)?;
