@@ -14,13 +14,14 @@ fn main(rt: HostRuntime) -> io::Result<ExitCode> {
     };
     let words = line.as_slice().get(1..).unwrap_or(&[]);
     let Some(named) = named(rt.alloc(), words)? else {
-        eprintln!(rt; "usage: bench [drivers|volumes|names|paths|bytes|threads|calls]..")?;
+        eprintln!(rt; "usage: bench [drivers|volumes|migrate|names|paths|bytes|threads|calls]..")?;
         return Ok(ExitCode::from(2));
     };
     for work in named {
         match work {
             Work::Drivers => bench_service::bench_frames::run(&rt, rt)?,
             Work::Volumes => bench_layers::bench_volumes::run(&rt)?,
+            Work::Migrate => bench_layers::bench_migration::run(&rt)?,
             Work::Names => bench_layers::bench_names::run(&rt)?,
             Work::Paths => bench_layers::bench_paths::run(&rt)?,
             Work::Bytes => bench_layers::bench_bytes::run(&rt)?,

@@ -9,6 +9,8 @@ pub(crate) enum Work {
     Drivers,
     /// Making volumes, and checking them.
     Volumes,
+    /// Migrating a volume of version 2.
+    Migrate,
     /// Looking names up in a directory.
     Names,
     /// Walking a path of eight names.
@@ -22,9 +24,10 @@ pub(crate) enum Work {
 }
 
 /// All of it, in turn.
-const ALL: [Work; 7] = [
+const ALL: [Work; 8] = [
     Work::Drivers,
     Work::Volumes,
+    Work::Migrate,
     Work::Names,
     Work::Paths,
     Work::Bytes,
@@ -38,6 +41,7 @@ impl Work {
         match self {
             Work::Drivers => "drivers",
             Work::Volumes => "volumes",
+            Work::Migrate => "migrate",
             Work::Names => "names",
             Work::Paths => "paths",
             Work::Bytes => "bytes",

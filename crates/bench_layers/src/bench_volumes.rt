@@ -1,23 +1,24 @@
 //! Measures how long it takes to make and to check volumes of 64 MiB, beside plain work over as many bytes. It does so once: the program
 //! is started again for more.
 
-mod filled;
+pub(crate) mod filled;
 
 use crate::timing::micros_since;
-use filled::{Kind, filled};
+use filled::{Kind, Version, filled};
 use fsck::{Verdict, check};
 use new_volume::mkfs;
 use std::io;
 use std::time::Instant;
 
 /// How many bytes each volume has.
-const BYTES: usize = 67108864;
+pub(crate) const BYTES: usize = 67108864;
 
 /// The volumes that are checked.
 const KINDS: [(&str, Kind); 4] = [
     (
         "large files in blocks of 4096",
         Kind {
+            version: Version::Three,
             block_size: 4096,
             inodes: 1024,
             names: 16,
@@ -26,6 +27,7 @@ const KINDS: [(&str, Kind); 4] = [
     (
         "large files in blocks of 1024",
         Kind {
+            version: Version::Three,
             block_size: 1024,
             inodes: 1024,
             names: 16,
@@ -34,6 +36,7 @@ const KINDS: [(&str, Kind); 4] = [
     (
         "65535 inodes",
         Kind {
+            version: Version::Three,
             block_size: 4096,
             inodes: 65535,
             names: 65534,
@@ -42,6 +45,7 @@ const KINDS: [(&str, Kind); 4] = [
     (
         "a directory of 30000 names",
         Kind {
+            version: Version::Three,
             block_size: 1024,
             inodes: 30016,
             names: 30000,

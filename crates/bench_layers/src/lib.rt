@@ -2,6 +2,7 @@
 #![tactic(auto)]
 
 pub mod bench_bytes;
+pub mod bench_migration;
 pub mod bench_names;
 pub mod bench_paths;
 pub mod bench_volumes;

@@ -45,7 +45,7 @@ pub(crate) fn written(
     finished(zones, &geometry)
 }
 
-/// The tables of a new volume, with no data zone taken.
+/// The tables of a new volume, with no data zone taken, and room for all of them.
 fn tables_of(empty: NewVolume) -> Result<NewZones, MigrateRefusal>
     requires sizes { IsGeometry empty.volume }
     requires block { empty.volume.block_size ≡ 1024 }
@@ -58,6 +58,7 @@ fn tables_of(empty: NewVolume) -> Result<NewZones, MigrateRefusal>
     let mut image = empty.front;
     image.truncate(size);
     image.resize(size, 0)?;
+    image.reserve(limit - size)?;
     Ok(NewZones { image, limit })
 }
 

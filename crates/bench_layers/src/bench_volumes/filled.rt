@@ -5,9 +5,30 @@ use layout::Geometry;
 use new_volume::mkfs;
 use std::alloc::Global;
 
+/// The version of a volume: its superblock and its directories' entries go by it.
+#[derive(Clone, Copy)]
+pub(crate) enum Version {
+    /// With names of 14 bytes.
+    Two,
+    /// With names of 60 bytes.
+    Three,
+}
+
+impl Version {
+    /// How many bytes an entry has.
+    fn entry_size(self) -> u32 {
+        match self {
+            Version::Two => 16,
+            Version::Three => 64,
+        }
+    }
+}
+
 /// Which volume of 64 MiB.
 #[derive(Clone, Copy)]
 pub(crate) struct Kind {
+    /// Version 2 has blocks of 1024 bytes.
+    pub(crate) version: Version,
     /// Bytes of a block.
     pub(crate) block_size: u32,
     /// Inodes.
@@ -19,6 +40,7 @@ pub(crate) struct Kind {
 /// A volume that is being filled.
 #[derive(Drop)]
 struct Filling {
+    version: Version,
     image: Vec<u8>,
     volume: Geometry,
     /// How many data zones are used.
@@ -127,15 +149,54 @@ impl Filling {
 
     /// Writes the root's entries of a page.
     fn put_entries(&mut self, zone: u32, page: u32, names: u32) {
-        let entries = self.volume.block_size / 64;
+        let size = self.version.entry_size();
+        let entries = self.volume.block_size.checked_div(size).unwrap_or(0);
         for entry in 0..entries {
             let number = page.saturating_mul(entries).saturating_add(entry);
             if number >= 2 && number - 2 < names {
-                let at = self.place(zone).saturating_add(64 * entry as usize);
-                self.put(at, number);
-                self.put(at.saturating_add(4), name_of(number));
+                let at = (size as usize).saturating_mul(entry as usize);
+                self.put_entry(self.place(zone).saturating_add(at), number, name_of(number));
             }
         }
+    }
+
+    /// Writes an entry with a name of four letters, at most.
+    fn put_entry(&mut self, at: usize, number: u32, name: u32) {
+        match self.version {
+            Version::Two => {
+                self.put(at, number % 65536 + 65536 * (name % 65536));
+                self.put(at.saturating_add(4), name / 65536);
+            }
+            Version::Three => {
+                self.put(at, number);
+                self.put(at.saturating_add(4), name);
+            }
+        }
+    }
+
+    /// Gives a new volume of version 3 the superblock and the first two entries of version 2.
+    fn make_version_2(&mut self) {
+        let maps = self.volume.inode_map_blocks % 65536
+            + 65536 * (self.volume.zone_map_blocks % 65536);
+        let fields = [
+            self.volume.inodes,
+            maps,
+            self.volume.first_zone,
+            0x7fff_ffff,
+            0x0001_2468,
+            self.volume.zones,
+            0,
+            0,
+        ];
+        for (field, value) in fields.iter().enumerate() {
+            self.put(1024 + 4 * field, *value);
+        }
+        let root = self.place(self.volume.first_zone);
+        for at in [0, 4, 64, 68] {
+            self.put(root.saturating_add(at), 0);
+        }
+        self.put_entry(root, 1, DOT);
+        self.put_entry(root.saturating_add(16), 1, DOT_DOT);
     }
 
     /// Makes an inode a file of so many pages.
@@ -157,6 +218,12 @@ struct Indirect {
     double: u32,
 }
 
+/// The name `.`, as a number.
+const DOT: u32 = 0x2e;
+
+/// The name `..`, as a number.
+const DOT_DOT: u32 = 0x2e2e;
+
 /// Four letters that no other number has, as a number.
 fn name_of(number: u32) -> u32 {
     let letter = |power: u32| 97 + (number / power) % 26;
@@ -172,11 +239,16 @@ pub(crate) fn filled(alloc: Global, kind: Kind) -> Option<Vec<u8>> {
     let image = mkfs(alloc, blocks, kind.block_size, kind.inodes, 50).ok()?;
     let volume = Geometry::parse(&image).ok()?;
     let mut filling = Filling {
+        version: kind.version,
         image,
         volume,
         used: 1,
     };
-    let size = kind.names.saturating_add(2).saturating_mul(64);
+    if let Version::Two = kind.version {
+        filling.make_version_2();
+    }
+    let entries = kind.names.saturating_add(2);
+    let size = entries.saturating_mul(kind.version.entry_size());
     let pages = size.div_ceil(kind.block_size);
     filling.put_entries(volume.first_zone, 0, kind.names);
     filling.grow(1, 1, pages, kind.names);
