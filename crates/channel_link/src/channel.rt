@@ -10,9 +10,9 @@ use std::alloc::{AllocError, Global};
 use std::sync::Wait;
 use std::thread;
 
-/// How often a receiver looks for a message that is about to come before it sleeps (own). A look and a turn for other threads take about
-/// half a microsecond, and to wake a sleeping thread takes five and more.
-pub(crate) const LOOKS: u32 = 32;
+/// How often a receiver looks for a message that is about to come before it sleeps (own). A look and a turn for other threads take some
+/// tenths of a microsecond. All of them take about as long as it takes to wake a sleeping thread, and longer than a driver's request.
+pub(crate) const LOOKS: u32 = 160;
 
 /// Why a message wasn't sent.
 #[derive(Drop)]
