@@ -7,18 +7,18 @@ use Rattle.records.specs.Marks.{Mark}
 use Rattle.records.specs.Marks as marks
 use Rattle.records.specs.Open.{counts}
 use Rattle.records.specs.Told.{Told, Posted, Complained, Received, grown, received, heard, took_end}
-use Rattle.reissue.specs.declared.ask.Settled.{Settled}
-use Rattle.reissue.specs.declared.ask.Settled.TheVariants as settled
+use Rattle.reissue.specs.Settlements.{Settlement}
+use Rattle.reissue.specs.Settlements as settled
 use Rattle.reissue.specs.Posts.{OnlyPosts}
 use Rattle.reissue.specs.Calls.{IsAnswerTo, IsOfReply}
 use Rattle.cache.specs.Calls.{flushes_in, some_of, FlushFollows}
 use Rattle.cache.specs.Settling.{IsWantedFor}
 
 -- whether a flush is wanted for a message is so as for what it came to
-pub wanted_for : (m : Incoming) (r : Settled) (old new : Bool) → IsAnswerTo m r → IsWantedFor (r ≡ settled.Flush) old new
+pub wanted_for : (m : Incoming) (r : Settlement) (old new : Bool) → IsAnswerTo m r → IsWantedFor (r ≡ settled.Flush) old new
     → IsWantedFor (m ≡ incoming.Flush) old new
 wanted_for (incoming.Reply a) r old new answer w =
-    ((λ e. absurd (let k = e in cc)), (λ _. w.1 (λ e. subst (λ (x : Settled). IsOfReply x) e answer)))
+    ((λ e. absurd (let k = e in cc)), (λ _. w.1 (λ e. subst (λ (x : Settlement). IsOfReply x) e answer)))
 wanted_for (incoming.Started e) r old new answer w =
     ((λ k. absurd (let z = k in cc)), (λ _. w.1 (λ k. absurd (let z : settled.Nothing ≡ settled.Flush = sym answer ∙ k in cc))))
 wanted_for incoming.GaveUp r old new answer w =

@@ -7,7 +7,7 @@ use Rattle.message.specs.declared.Incoming.TheVariants as incoming
 use Rattle.records.specs.Marks.{Mark}
 use Rattle.records.specs.Told.{Told, Posted, Complained, Received, received, grown, took_nothing}
 use Rattle.records.specs.Acts.{Act, Began, Absorbed, AtLink, told_of, has_absorbed}
-use Rattle.reissue.specs.declared.ask.Settled.{Settled}
+use Rattle.reissue.specs.Settlements.{Settlement}
 use Rattle.reissue.specs.declared.pending.Pending.{Pending}
 use Rattle.reissue.specs.declared.table.Table.{Table}
 use Rattle.reissue.specs.Entries.{AllOfMinor}
@@ -94,7 +94,7 @@ pub record Done (m : Incoming) (old new : Table) (before after : List Told) (pos
       → KeepsRulesBy (acts ++ Absorbed m ∷ []) minor old new before after marks (grown posts (received m marks))
 
 -- any message but End
-done_other : (m : Incoming) (res : Settled) (old new : Table) (before after : List Told) (was is : Truth)
+done_other : (m : Incoming) (res : Settlement) (old new : Table) (before after : List Told) (was is : Truth)
     → (m ≡ incoming.End → ⊥) → (x : Absorbs m res old new before after was is) → Done m old new before after x.posts
 done_other m res old new before after was is other x = record {
   acts = acts_then x.posts old x.mid x.complaints;
@@ -111,7 +111,7 @@ done_other m res old new before after was is other x = record {
         ∙ ap (λ (l : List Act). at_link x.posts ++ l) (append_assoc (began_on old x.mid) (at_link x.complaints) (Absorbed m ∷ []))
 
 -- an End
-done_end : (res : Settled) (old new : Table) (before after : List Told) (was is : Truth) → after ≡ before
+done_end : (res : Settlement) (old new : Table) (before after : List Told) (was is : Truth) → after ≡ before
     → (x : Absorbs incoming.End res old new before after was is) → Done incoming.End old new before after x.posts
 done_end res old new before after was is stays x = record {
   acts = [];
@@ -137,7 +137,7 @@ done_end res old new before after was is stays x = record {
         ∙ ap (λ (l : List Act). l ++ Absorbed incoming.End ∷ []) (began x.mid.ids (x.hears marks k).0.ids (drop (length x.mid.pending - 1) x.mid.pending))
 
 -- each message
-pub done_on : (m : Incoming) (res : Settled) (old new : Table) (before after : List Told) (was is : Truth) → (m ≡ incoming.End → after ≡ before)
+pub done_on : (m : Incoming) (res : Settlement) (old new : Table) (before after : List Told) (was is : Truth) → (m ≡ incoming.End → after ≡ before)
     → (x : Absorbs m res old new before after was is) → Done m old new before after x.posts
 done_on (incoming.Reply a) res old new before after was is stays x = done_other (incoming.Reply a) res old new before after was is (λ e. cc) x
 done_on (incoming.Started d) res old new before after was is stays x = done_other (incoming.Started d) res old new before after was is (λ e. cc) x

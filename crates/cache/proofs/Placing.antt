@@ -16,8 +16,8 @@ use Rattle.cache.specs.Slots.{held, ticket_of, dirtied, is_clean, is_unclean_slo
 use Rattle.cache.specs.Edits.{IsSetAt, IsFilledAt, IsSlotAt, IsFreeAt, IsAt}
 use Rattle.cache.specs.Frames.{Tied, CacheAgrees, HasSure, view, frame_of, disk_block, with_bytes}
 use Rattle.cache.specs.Calls.{Caching, IsReady, Runs, Serves, Keeps, Rewrites, Blanks, unless_clean, forgotten}
-use Rattle.cache.specs.declared.settling.Took.{Took}
-use Rattle.cache.specs.declared.settling.Took.TheVariants as took
+use Rattle.cache.specs.Settling.{Taking}
+use Rattle.cache.specs.Settling as took
 use Rattle.cache.specs.Takes.{Reads, AreDisk, BytesOf, Takes, ReadTells, ReadsStay, is_read_of, IsReadAt}
 use Rattle.cache.proofs.Held.{place_of, held_at, held_set, held_vacated}
 use Rattle.cache.proofs.Filling.{vacated_held, filled_held}
@@ -45,7 +45,7 @@ pub keeps_none : (c : Caching) → IsReady c → Keeps c c
 keeps_none c ready = runs_none c (λ w v. Serves c c w v) ready (λ w. record { agrees = λ a. a; same = λ a. refl })
 
 -- after a call, a message taken
-pub keeps_took : (r : Result Took Cut) (a b c : Caching) → Keeps a b → Runs None b c (λ w v. Takes r b c w v) → Keeps a c
+pub keeps_took : (r : Result Taking Cut) (a b c : Caching) → Keeps a b → Runs None b c (λ w v. Takes r b c w v) → Keeps a c
 keeps_took r a b c x y =
     runs_then None a b c (λ w v. Serves a b w v) (λ w v. Takes r b c w v) (λ w v. Serves a c w v) (λ u v w p q. serves_then a b c u v w p q.serves) x y
 
@@ -63,7 +63,7 @@ pub keeps_read : (r : Result (List ℕ) Cut) (start size : ℕ) (a b : Caching) 
 keeps_read r start size a b x = runs_as None a b (λ w v. Reads r start size a b w v) (λ w v. Serves a b w v) (λ w v p. p.serves) x
 
 -- a read is pending still
-pub still_reading : (r : Result Took Cut) (pending pending' : ℕ → Option Begun) (ticket start size : ℕ) → ReadsStay r pending pending'
+pub still_reading : (r : Result Taking Cut) (pending pending' : ℕ → Option Begun) (ticket start size : ℕ) → ReadsStay r pending pending'
     → is_read_of r ticket ≡ false → IsReadAt pending ticket start size → IsReadAt pending' ticket start size
 still_reading r pending pending' ticket start size stay other x = record {
   request = x.request;
@@ -74,7 +74,7 @@ still_reading r pending pending' ticket start size stay other x = record {
 }
 
 -- the read is settled
-pub reads_done : (r : Result Took Cut) (a b c : Caching) (settled ticket start size : ℕ) (bytes : List ℕ) → r ≡ Ok (took.Read settled bytes) → settled ≡ ticket
+pub reads_done : (r : Result Taking Cut) (a b c : Caching) (settled ticket start size : ℕ) (bytes : List ℕ) → r ≡ Ok (took.Read settled bytes) → settled ≡ ticket
     → IsReadAt (pending_of b.table.pending) ticket start size → Keeps a b → Runs None b c (λ w v. Takes r b c w v)
     → Runs None a c (λ w v. Reads (Ok bytes) start size a c w v)
 reads_done r a b c settled ticket start size bytes e same at x y =
@@ -84,7 +84,7 @@ reads_done r a b c settled ticket start size bytes e same at x y =
     told : (w : DiskState) → ReadTells r (pending_of b.table.pending) w → AreDisk start size bytes w
     told w h =
         let one : ReadTells (Ok (took.Read settled bytes)) (pending_of b.table.pending) w =
-        subst (λ (k : Result Took Cut). ReadTells k (pending_of b.table.pending) w) e h in
+        subst (λ (k : Result Taking Cut). ReadTells k (pending_of b.table.pending) w) e h in
         let all = one at.request (ap (pending_of b.table.pending) same ∙ at.is) in
         subst (λ (n : ℕ). AreDisk n size bytes w) at.start_is (subst (λ (n : ℕ). AreDisk at.request.start n bytes w) at.size_is all)
 

@@ -10,8 +10,8 @@ use Rattle.records.specs.Told.{Told, Posted, Complained, Received, grown, receiv
 use Rattle.records.specs.Acts.{Act, Absorbed, Outbox, KeepsRules, told_of, marks_after, outbox_after}
 use Rattle.records.proofs.ActLaws.{acts_compose}
 use Rattle.reissue.specs.declared.ask.Ask.{Ask}
-use Rattle.reissue.specs.declared.ask.Settled.{Settled}
-use Rattle.reissue.specs.declared.ask.Settled.TheVariants as settled
+use Rattle.reissue.specs.Settlements.{Settlement}
+use Rattle.reissue.specs.Settlements as settled
 use Rattle.reissue.specs.declared.table.Table.{Table}
 use Rattle.reissue.specs.Moves.{DiskState, Spares, Moves, state_after, IsBusy}
 use Rattle.reissue.specs.Entries.{pending_of, AllOfMinor}
@@ -261,7 +261,7 @@ heard_news incoming.End before = by (took_end before) refl
     by false e = (false, rw e refl, λ marks. refl)
 
 -- what taking a message did, where the frames may have changed too
-pub step_runs : (res : Settled) (old new : Caching) (R : DiskState → DiskState → Type 0)
+pub step_runs : (res : Settlement) (old new : Caching) (R : DiskState → DiskState → Type 0)
     → Steps res old.table new.table old.told new.told old.truth new.truth
     → IsReady new → AllOfMinor old.minor old.table.pending → IsBusy (pending_of old.table.pending) → old.table.given_up ≡ false
     → new.minor ≡ old.minor → new.size ≡ old.size → old.ended ≡ false → new.ended ≡ is_ended_by res
@@ -325,7 +325,7 @@ step_runs res old new R x ready minors busy going same_minor same_size alive end
     open_told : old.ended ≡ took_end old.told → took_end old.told ≡ false
     open_told e = sym e ∙ alive
 
-    by_end : (r : Settled) → old.ended ≡ took_end old.told → is_ended_by r ≡ (not (more_may_come r) || took_end old.told)
+    by_end : (r : Settlement) → old.ended ≡ took_end old.told → is_ended_by r ≡ (not (more_may_come r) || took_end old.told)
     by_end settled.End e = refl
     by_end settled.Nothing e = sym (open_told e)
     by_end settled.Flush e = sym (open_told e)
@@ -336,7 +336,7 @@ step_runs res old new R x ready minors busy going same_minor same_size alive end
 -- ---- a message is handed over, as a call
 
 -- what absorbing a message did, where the frames may have changed too
-pub absorb_runs : (m : Incoming) (res : Settled) (old new : Caching) (R : DiskState → DiskState → Type 0)
+pub absorb_runs : (m : Incoming) (res : Settlement) (old new : Caching) (R : DiskState → DiskState → Type 0)
     → (x : Absorbs m res old.table new.table old.told new.told old.truth new.truth)
     → IsReady new → AllOfMinor old.minor old.table.pending
     → new.minor ≡ old.minor → new.size ≡ old.size → new.ended ≡ old.ended → new.budget ≤ old.budget

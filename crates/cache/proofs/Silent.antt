@@ -9,8 +9,8 @@ use Rattle.message.specs.declared.Incoming.TheVariants as incoming
 use Rattle.records.specs.Marks.{Mark, gave_up, last_started, is_endpoint}
 use Rattle.records.specs.Open.{open_requests, with_id, moved_by}
 use Rattle.records.specs.Told.{Told}
-use Rattle.reissue.specs.declared.ask.Settled.{Settled}
-use Rattle.reissue.specs.declared.ask.Settled.TheVariants as settled
+use Rattle.reissue.specs.Settlements.{Settlement}
+use Rattle.reissue.specs.Settlements as settled
 use Rattle.reissue.specs.declared.pending.Pending.{Pending}
 use Rattle.reissue.specs.declared.table.Table.{Table}
 use Rattle.reissue.specs.Moves.{Begun, Closes}
@@ -22,7 +22,7 @@ use Rattle.reissue.specs.Calls.{Absorbs}
 use Rattle.cache.specs.Calls.{Caching, IsIdle}
 
 -- nothing can be taken out of nothing
-none_closed : (res : Settled) (new : ℕ → Option Begun) → Closes res (pending_of []) new → (t : ℕ) → new t ≡ None
+none_closed : (res : Settlement) (new : ℕ → Option Begun) → Closes res (pending_of []) new → (t : ℕ) → new t ≡ None
 none_closed (settled.Read u bytes) new closes t = absurd (let e : None ≡ Some closes.0 = closes.1 in cc)
 none_closed (settled.Written u) new closes t = absurd (let e : None ≡ Some closes.0 = closes.2 in cc)
 none_closed settled.Nothing new closes t = ap (λ (f : ℕ → Option Begun). f t) closes
@@ -71,7 +71,7 @@ drop_none (suc n) = refl
 none_unposted : (table : Table) → table.pending ≡ [] → unposted table ≡ []
 none_unposted table none = ap (λ (l : List Pending). map request_of (drop table.posted l)) none ∙ ap (λ (l : List Pending). map request_of l) (drop_none table.posted)
 
-pub silent : (m : Incoming) (res : Settled) (old new : Caching)
+pub silent : (m : Incoming) (res : Settlement) (old new : Caching)
     → Absorbs m res old.table new.table old.told new.told old.truth new.truth → IsIdle old → new.told ≡ old.told
 silent m res old new x idle =
     let closes : Closes res (pending_of []) (pending_of new.table.pending) =

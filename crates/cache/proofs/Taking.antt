@@ -2,8 +2,8 @@
 use Rattle.std.proofs.Common.{◌≡◌, ◌≢◌, ℕ, ◌+◌, ◌^◌, ◌<◌, ◌≤◌, List, length, refl, sym, ap, subst, ◌∙◌, arith, true, false, Option, Some, None, Result, Ok, Err, IsErr}
 use mathlib.Core.Logic.{inl, inr}
 use Rattle.std.proofs.lemmas.Bool.{eq-eqb}
-use Rattle.reissue.specs.declared.ask.Settled.{Settled}
-use Rattle.reissue.specs.declared.ask.Settled.TheVariants as settled
+use Rattle.reissue.specs.Settlements.{Settlement}
+use Rattle.reissue.specs.Settlements as settled
 use Rattle.reissue.specs.Moves.{DiskState, Begun, put, Closes, Moves, Tells, IsBusy}
 use Rattle.reissue.specs.Entries.{pending_of, AllOfMinor}
 use Rattle.message.specs.declared.Incoming.{Incoming}
@@ -13,6 +13,8 @@ use Rattle.reissue.specs.Calls.{Steps, Absorbs, more_may_come}
 use Rattle.reissue.proofs.Maps.{put-other, put_cases}
 use Rattle.cache.specs.declared.slot.Slot.{Slot}
 use Rattle.cache.specs.declared.settling.Took.{Took}
+use Rattle.cache.specs.Settling as took
+use Rattle.cache.specs.Settling.{Taking}
 use Rattle.cache.specs.declared.refusals.Cut.{Cut}
 use Rattle.cache.specs.Slots.{held}
 use Rattle.cache.specs.Edits.{Leaves}
@@ -21,8 +23,8 @@ use Rattle.cache.specs.Calls.{Caching, IsReady, Serves, Runs, HandsOver}
 use Rattle.records.specs.Told.{took_nothing}
 use Rattle.records.specs.Acts.{Act, told_of}
 use Rattle.cache.proofs.Handing.{Done, done_on}
-use Rattle.cache.specs.Settling.{Settles, took_of, is_ended_by}
-use Rattle.cache.specs.Takes.{Takes, ReadTells, ReadsStay, NoReadBegun, IsHandedOut, is_read_of}
+use Rattle.cache.specs.Settling.{Settles, taking_in, took_of, is_ended_by}
+use Rattle.cache.specs.Takes.{read_into, Takes, ReadTells, ReadsStay, NoReadBegun, IsHandedOut, is_read_of}
 use Rattle.cache.proofs.Tied.{tied_read_settled, tied_written, same_begun}
 use Rattle.cache.proofs.Agreeing.{agrees_moved, view_moved, agrees_written, view_written}
 use Rattle.cache.proofs.Edits.{leaves_none}
@@ -35,7 +37,7 @@ tied_same size old new pending pending' e same k =
     subst (λ (l : List Slot). Tied size (held l) pending') (sym same) (subst (λ (o : ℕ → Option Begun). Tied size (held old) o) (sym e) k)
 
 -- slots and pending requests stay tied
-pub tied_settled : (size : ℕ) (res : Settled) (old new : List Slot) (pending pending' : ℕ → Option Begun)
+pub tied_settled : (size : ℕ) (res : Settlement) (old new : List Slot) (pending pending' : ℕ → Option Begun)
     → Closes res pending pending' → Settles res old new → Tied size (held old) pending → Tied size (held new) pending'
 tied_settled size (settled.Read n bytes) old new pending pending' closes same k =
     subst (λ (l : List Slot). Tied size (held l) pending') (sym same)
@@ -48,7 +50,7 @@ tied_settled size settled.GaveUp old new pending pending' closes same k = tied_s
 tied_settled size settled.End old new pending pending' closes same k = tied_same size old new pending pending' closes same k
 
 -- as said of a cache
-tied_after : (res : Settled) (old new : Caching) (items items' : List Slot)
+tied_after : (res : Settlement) (old new : Caching) (items items' : List Slot)
     → Closes res (pending_of old.table.pending) (pending_of new.table.pending) → Settles res items items'
     → old.held ≡ held items → new.held ≡ held items' → new.size ≡ old.size
     → Tied old.size old.held (pending_of old.table.pending) → Tied new.size new.held (pending_of new.table.pending)
@@ -64,7 +66,7 @@ record Moved (size : ℕ) (old new : ℕ → Option Slot) (w v : DiskState) : Ty
   same : CacheAgrees size old w → view size new v ≡ view size old w
 
 -- where the slots stay
-moved_same : (size : ℕ) (old new : List Slot) (pending : ℕ → Option Begun) (res : Settled) (w v : DiskState)
+moved_same : (size : ℕ) (old new : List Slot) (pending : ℕ → Option Begun) (res : Settlement) (w v : DiskState)
     → Moves res pending w v → new ≡ old → Tied size (held old) pending → Moved size (held old) (held new) w v
 moved_same size old new pending res w v m same k = subst (λ (l : List Slot). Moved size (held old) (held l) w v) (sym same) (record {
   agrees = λ a. agrees_moved size (held old) pending w v m.spares k a;
@@ -72,7 +74,7 @@ moved_same size old new pending res w v m same k = subst (λ (l : List Slot). Mo
 })
 
 -- and in each case
-moved_settled : (size : ℕ) (res : Settled) (old new : List Slot) (pending pending' : ℕ → Option Begun) (w v : DiskState)
+moved_settled : (size : ℕ) (res : Settlement) (old new : List Slot) (pending pending' : ℕ → Option Begun) (w v : DiskState)
     → Closes res pending pending' → Settles res old new → Tied size (held old) pending → Moves res pending w v
     → Moved size (held old) (held new) w v
 moved_settled size (settled.Written n) old new pending pending' w v closes ack k m = record {
@@ -87,7 +89,7 @@ moved_settled size settled.GaveUp old new pending pending' w v closes same k m =
 moved_settled size settled.End old new pending pending' w v closes same k m = moved_same size old new pending settled.End w v m same k
 
 -- as said of a cache
-pub serves_settled : (res : Settled) (old new : Caching) (items items' : List Slot) (w v : DiskState)
+pub serves_settled : (res : Settlement) (old new : Caching) (items items' : List Slot) (w v : DiskState)
     → Closes res (pending_of old.table.pending) (pending_of new.table.pending) → Settles res items items'
     → old.held ≡ held items → new.held ≡ held items' → new.size ≡ old.size
     → Tied old.size old.held (pending_of old.table.pending) → Moves res (pending_of old.table.pending) w v → Serves old new w v
@@ -102,7 +104,7 @@ serves_settled res old new items items' w v closes settles here there size k m =
     }
 
 -- a settled read tells the disk's bytes
-read_tells : (res : Settled) (pending : ℕ → Option Begun) (v : DiskState) → Tells res pending v → ReadTells (Ok (took_of res)) pending v
+read_tells : (res : Settlement) (pending : ℕ → Option Begun) (v : DiskState) → Tells res pending v → ReadTells (Ok (took_of res)) pending v
 read_tells (settled.Read t bytes) pending v h = λ r is. record { each = h r is }
 read_tells (settled.Written t) pending v h = tt
 read_tells settled.Nothing pending v h = tt
@@ -120,7 +122,7 @@ unless pending pending' u t r e is =
     ]
 
 -- a message begins nothing
-pub none_begun : (res : Settled) (pending pending' : ℕ → Option Begun) → Closes res pending pending' → NoReadBegun pending pending'
+pub none_begun : (res : Settlement) (pending pending' : ℕ → Option Begun) → Closes res pending pending' → NoReadBegun pending pending'
 none_begun (settled.Read u bytes) pending pending' closes t r is read = unless pending pending' u t r closes.3 is
 none_begun (settled.Written u) pending pending' closes t r is read = unless pending pending' u t r closes.4 is
 none_begun settled.Nothing pending pending' closes t r is read = ap (λ (f : ℕ → Option Begun). f t) (sym closes) ∙ is
@@ -129,11 +131,11 @@ none_begun settled.GaveUp pending pending' closes t r is read = ap (λ (f : ℕ 
 none_begun settled.End pending pending' closes t r is read = ap (λ (f : ℕ → Option Begun). f t) (sym closes) ∙ is
 
 -- reads stay pending until they are handed out
-pub reads_stay : (res : Settled) (pending pending' : ℕ → Option Begun) → Closes res pending pending' → ReadsStay (Ok (took_of res)) pending pending'
+pub reads_stay : (res : Settlement) (pending pending' : ℕ → Option Begun) → Closes res pending pending' → ReadsStay (Ok (took_of res)) pending pending'
 reads_stay res pending pending' closes =
     record { stays = by res closes; none_begun = none_begun res pending pending' closes; handed_out = handed res closes }
   where
-    handed : (x : Settled) → Closes x pending pending' → IsHandedOut (Ok (took_of x)) pending
+    handed : (x : Settlement) → Closes x pending pending' → IsHandedOut (Ok (took_of x)) pending
     handed (settled.Read u bytes) closes = (closes.0, closes.1, closes.2)
     handed (settled.Written u) closes = tt
     handed settled.Nothing closes = tt
@@ -141,7 +143,7 @@ reads_stay res pending pending' closes =
     handed settled.GaveUp closes = tt
     handed settled.End closes = tt
 
-    by : (x : Settled) → Closes x pending pending' → (t : ℕ) (r : Begun) → pending t ≡ Some r → r.written ≡ None
+    by : (x : Settlement) → Closes x pending pending' → (t : ℕ) (r : Begun) → pending t ≡ Some r → r.written ≡ None
         → is_read_of (Ok (took_of x)) t ≡ false → pending' t ≡ Some r
     by (settled.Read u bytes) closes t r is read other =
         let ne : t ≢ u = λ e. (let z : true ≡ false = sym (eq-eqb u t (sym e)) ∙ other in cc) in
@@ -158,7 +160,7 @@ reads_stay res pending pending' closes =
     by settled.End closes t r is read other = ap (λ (f : ℕ → Option Begun). f t) closes ∙ is
 
 -- what the slots leave
-pub leaves_settled : (res : Settled) (old new : List Slot) → Settles res old new → Leaves old new
+pub leaves_settled : (res : Settlement) (old new : List Slot) → Settles res old new → Leaves old new
 leaves_settled (settled.Written t) old new h = h.leaves
 leaves_settled (settled.Read t bytes) old new h = subst (λ (l : List Slot). Leaves old l) (sym h) (leaves_none old)
 leaves_settled settled.Nothing old new h = subst (λ (l : List Slot). Leaves old l) (sym h) (leaves_none old)
@@ -167,7 +169,7 @@ leaves_settled settled.GaveUp old new h = subst (λ (l : List Slot). Leaves old 
 leaves_settled settled.End old new h = subst (λ (l : List Slot). Leaves old l) (sym h) (leaves_none old)
 
 -- unless it ended, more may come
-pub goes : (res : Settled) → is_ended_by res ≡ false → more_may_come res ≡ true
+pub goes : (res : Settlement) → is_ended_by res ≡ false → more_may_come res ≡ true
 goes (settled.Written t) h = refl
 goes (settled.Read t bytes) h = refl
 goes settled.Nothing h = refl
@@ -176,7 +178,7 @@ goes settled.GaveUp h = refl
 goes settled.End h = cc
 
 -- a message taken, as a call
-pub takes_one : (res : Settled) (old new : Caching) (items items' : List Slot)
+pub takes_one : (res : Settlement) (old new : Caching) (items items' : List Slot)
     → Steps res old.table new.table old.told new.told old.truth new.truth
     → Settles res items items' → old.held ≡ held items → new.held ≡ held items'
     → IsReady old → IsBusy (pending_of old.table.pending) → old.ended ≡ false → old.table.given_up ≡ false
@@ -200,12 +202,22 @@ takes_one res old new items items' x settles here there ready busy alive going m
     }
 
 -- a call that was cut before it took anything
-pub takes_none : (r : Result Took Cut) (c : Caching) (w : DiskState) → IsErr r → Takes r c c w w
+pub takes_none : (r : Result Taking Cut) (c : Caching) (w : DiskState) → IsErr r → Takes r c c w w
 takes_none (Err cut) c w h = record { serves = record { agrees = λ a. a; same = λ a. refl }; tells = tt }
 takes_none (Ok t) c w h = cc
 
+-- a take that was cut
+pub cut_off : (r : Result Took Cut) (bytes : List ℕ) → IsErr r → IsErr (taking_in r bytes)
+cut_off (Ok t) bytes h = cc
+cut_off (Err cut) bytes h = h
+
+-- and a read
+pub read_cut_off : (r : Result (Unit {0}) Cut) (bytes : List ℕ) → IsErr r → IsErr (read_into r bytes)
+read_cut_off (Ok done) bytes h = cc
+read_cut_off (Err cut) bytes h = h
+
 -- a message that is handed over, as a call
-pub absorbs_one : (m : Incoming) (res : Settled) (old new : Caching) (items items' : List Slot)
+pub absorbs_one : (m : Incoming) (res : Settlement) (old new : Caching) (items items' : List Slot)
     → Absorbs m res old.table new.table old.told new.told old.truth new.truth
     → Settles res items items' → old.held ≡ held items → new.held ≡ held items'
     → IsReady old → (old.ended ≡ false → old.table.ids + old.budget + 17 < 2 ^ 60 + length old.table.pending)

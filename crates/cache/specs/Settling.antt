@@ -1,14 +1,15 @@
 -- What a message taken does to the slots of blocks.
-use Rattle.std.specs.Prelude.{◌≡◌, List, Bool, true, false}
-use Rattle.reissue.specs.declared.ask.Settled.{Settled}
-use Rattle.reissue.specs.declared.ask.Settled.TheVariants as settled
+use Rattle.std.specs.Prelude.{◌≡◌, ℕ, List, Bool, true, false, Result, Ok, Err}
+use Rattle.reissue.specs.Settlements.{Settlement}
+use Rattle.reissue.specs.Settlements as settled
 use Rattle.cache.specs.declared.slot.Slot.{Slot}
 use Rattle.cache.specs.Edits.{IsWritten}
+use Rattle.cache.specs.declared.refusals.Cut.{Cut}
 use Rattle.cache.specs.declared.settling.Took.{Took}
 use Rattle.cache.specs.declared.settling.Took.TheVariants as took
 
 -- what each message does to the slots
-abbrev pub Settles : Settled → List Slot → List Slot → Type 0
+abbrev pub Settles : Settlement → List Slot → List Slot → Type 0
 Settles (settled.Written t) old new = IsWritten t old new
 Settles (settled.Read t bytes) old new = new ≡ old
 Settles settled.Nothing old new = new ≡ old
@@ -16,17 +17,31 @@ Settles settled.Flush old new = new ≡ old
 Settles settled.GaveUp old new = new ≡ old
 Settles settled.End old new = new ≡ old
 
--- what comes of it
-abbrev pub took_of : Settled → Took
-took_of (settled.Read t bytes) = took.Read t bytes
-took_of (settled.Written t) = took.Nothing
-took_of settled.Nothing = took.Nothing
-took_of settled.Flush = took.Nothing
-took_of settled.GaveUp = took.Nothing
-took_of settled.End = took.Nothing
+-- what comes of it, with the bytes of a read
+pub data Taking : Type 0 where
+  Nothing : Taking
+  Read : ℕ → List ℕ → Taking
+
+-- what the code answers, and the bytes that it leaves where the caller had room
+abbrev pub taking : Took → List ℕ → Taking
+taking took.Nothing bytes = Nothing
+taking (took.Read t) bytes = Read t bytes
+
+-- the same, unless it was cut
+abbrev pub taking_in : Result Took Cut → List ℕ → Result Taking Cut
+taking_in (Ok t) bytes = Ok (taking t bytes)
+taking_in (Err cut) bytes = Err cut
+
+abbrev pub took_of : Settlement → Taking
+took_of (settled.Read t bytes) = Read t bytes
+took_of (settled.Written t) = Nothing
+took_of settled.Nothing = Nothing
+took_of settled.Flush = Nothing
+took_of settled.GaveUp = Nothing
+took_of settled.End = Nothing
 
 -- the link gives no message any more
-abbrev pub is_ended_by : Settled → Bool
+abbrev pub is_ended_by : Settlement → Bool
 is_ended_by settled.End = true
 is_ended_by (settled.Read t bytes) = false
 is_ended_by (settled.Written t) = false

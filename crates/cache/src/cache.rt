@@ -52,13 +52,13 @@ impl<L: Link> Cache<L> {
     ghost use Rattle.cache.specs.Calls.{caching, held_by, frame_count, IsReady, IsIdle, IsLive, IsWhyCut, IsFrame, IsFrameOf, IsMade, IsStuck};
     ghost use Rattle.cache.specs.Calls.{IsRefusing, PostsAlone, messages_left, Does, Keeps, HandsOver, Blanks, Rewrites, LinkGoesOn};
     ghost use Rattle.cache.specs.Calls.{WantsFlush, forgotten, with_cache_link, without_flush};
-    ghost use Rattle.cache.specs.Settling.{IsWantedFor};
+    ghost use Rattle.cache.specs.Settling.{IsWantedFor, taking_in};
     ghost use Rattle.cache.specs.Runs.{IsRunBegun, BeginsRun};
     ghost use Rattle.cache.specs.contracts.cache.Cache.{the_row};
     ghost use Rattle.cache.specs.declared.frame.Frame.{Frame as FrameValue};
     ghost use Rattle.cache.specs.declared.slot.Slot.{Slot};
     ghost use Rattle.cache.specs.Fetches.{Hits, Misses, BlanksFrame, MakesRoom, IsAtOnce};
-    ghost use Rattle.cache.specs.Takes.{Takes, ReadsStay, NoReadBegun, IsBlockRead, Reads};
+    ghost use Rattle.cache.specs.Takes.{Takes, ReadsStay, NoReadBegun, IsBlockRead, Reads, read_into};
 
     /// A cache with so many frames, none of them in use, over transfers with nothing pending: 1 BadFrames unless they are 16 to
     /// 4096, looked at first; 2 OutOfMemory.
@@ -144,14 +144,14 @@ impl<L: Link> Cache<L> {
         Ok(())
     }
 
-    /// Takes a message and does what it asks for; a settled read is handed out.
-    pub fn take(&mut self) -> Result<Took, Cut>
+    /// Takes a message and does what it asks for; a settled read is handed out, and its bytes stand in `into` then.
+    pub fn take(&mut self, into: &mut [u8; 4096]) -> Result<Took, Cut>
         requires ready { IsReady (caching L.Link self.old) }
         requires busy { IsLive (caching L.Link self.old) → IsBusy (begun_in self.old.transfers) }
-        ensures runs { Does L.Link self.old self.new (Takes result) }
+        ensures runs { Does L.Link self.old self.new (Takes (taking_in result into.new)) }
         ensures goes { LinkGoesOn L.Link self.old self.new }
         ensures left { OnOk result (messages_left (caching L.Link self.new) < messages_left (caching L.Link self.old)) }
-        ensures reads { ReadsStay result (begun_in self.old.transfers) (begun_in self.new.transfers) }
+        ensures reads { ReadsStay (taking_in result into.new) (begun_in self.old.transfers) (begun_in self.new.transfers) }
         ensures leaves { Leaves self.old.slots.items.items self.new.slots.items.items }
         ensures stay { AllStay self.old.slots self.new.slots }
         ensures cut { IfErr result (λ cut. IsWhyCut (caching L.Link self.new) cut) }
@@ -159,7 +159,7 @@ impl<L: Link> Cache<L> {
         ensures flush { WantsFlush L.Link self.old self.new }
     {
         self.live()?;
-        let settled = self.transfers.step();
+        let settled = self.transfers.step(into);
         self.ended = is_end(&settled);
         Ok(settle(&mut self.slots, &mut self.flush, settled))
     }
@@ -262,13 +262,14 @@ impl<L: Link> Cache<L> {
         ensures cut { IfErr result (λ cut. IsWhyCut (caching L.Link self.new) cut) }
         ensures flush { WantsFlush L.Link self.old self.new }
     {
+        let mut bytes = zeros();
         'tries: loop {
             if !self.slots.get(at).is_unclean() {
                 return Ok(());
             }
             self.live()?;
             self.write_out(at);
-            self.take()?;
+            self.take(&mut bytes)?;
         }
     }
 
@@ -330,8 +331,8 @@ impl<L: Link> Cache<L> {
         }
     }
 
-    /// Begins the read of a block, as soon as there is a place for it.
-    fn begin_read(&mut self, block: u32) -> Result<Reading, Cut>
+    /// Begins the read of a block, as soon as there is a place for it. Until then it takes messages, for which there is room in `into`.
+    fn begin_read(&mut self, block: u32, into: &mut [u8; 4096]) -> Result<Reading, Cut>
         requires ready { IsReady (caching L.Link self.old) }
         ensures keeps { Keeps (caching L.Link self.old) (caching L.Link self.new) }
         ensures goes { LinkGoesOn L.Link self.old self.new }
@@ -347,15 +348,16 @@ impl<L: Link> Cache<L> {
             if let Some(reading) = self.try_read(block) {
                 return Ok(reading);
             }
-            self.take()?;
+            self.take(into)?;
         }
     }
 
-    /// Takes messages until a read is settled.
-    fn wait(&mut self, reading: Reading) -> Result<[u8; 4096], Cut>
+    /// Takes messages until a read is settled: its bytes stand in `into` then.
+    fn wait(&mut self, reading: Reading, into: &mut [u8; 4096]) -> Result<(), Cut>
         requires ready { IsReady (caching L.Link self.old) }
         requires reading { IsBlockRead (begun_in self.old.transfers) reading.ticket reading.block self.old.shape.block_size }
-        ensures runs { Does L.Link self.old self.new (Reads result (reading.block * self.old.shape.block_size) self.old.shape.block_size) }
+        ensures runs { Does L.Link self.old self.new
+            (Reads (read_into result into.new) (reading.block * self.old.shape.block_size) self.old.shape.block_size) }
         ensures goes { LinkGoesOn L.Link self.old self.new }
         ensures leaves { Leaves self.old.slots.items.items self.new.slots.items.items }
         ensures stay { AllStay self.old.slots self.new.slots }
@@ -363,27 +365,28 @@ impl<L: Link> Cache<L> {
         ensures flush { WantsFlush L.Link self.old self.new }
     {
         'messages: loop {
-            let Took::Read(settled, bytes) = self.take()? else {
+            let Took::Read(settled) = self.take(into)? else {
                 continue;
             };
             if settled == reading.ticket {
-                return Ok(bytes);
+                return Ok(());
             }
         }
     }
 
-    /// The bytes of a block without a frame, as they are read.
-    fn read(&mut self, block: u32) -> Result<[u8; 4096], Cut>
+    /// Reads a block without a frame: its bytes stand in `into` then.
+    fn read(&mut self, block: u32, into: &mut [u8; 4096]) -> Result<(), Cut>
         requires ready { IsReady (caching L.Link self.old) }
-        ensures runs { Does L.Link self.old self.new (Reads result (block * self.old.shape.block_size) self.old.shape.block_size) }
+        ensures runs { Does L.Link self.old self.new
+            (Reads (read_into result into.new) (block * self.old.shape.block_size) self.old.shape.block_size) }
         ensures goes { LinkGoesOn L.Link self.old self.new }
         ensures leaves { Leaves self.old.slots.items.items self.new.slots.items.items }
         ensures stay { AllStay self.old.slots self.new.slots }
         ensures cut { IfErr result (λ cut. IsWhyCut (caching L.Link self.new) cut) }
         ensures flush { WantsFlush L.Link self.old self.new }
     {
-        let reading = self.begin_read(block)?;
-        self.wait(reading)
+        let reading = self.begin_read(block, into)?;
+        self.wait(reading, into)
     }
 
     /// The frame of a block, if it has one. No frame is used by it. A step is an entry of the index that is compared: 13 at most.
@@ -434,7 +437,8 @@ impl<L: Link> Cache<L> {
         ensures flush { WantsFlush L.Link self.old self.new }
     {
         let at = self.make_room()?;
-        let bytes = self.read(block)?;
+        let mut bytes = zeros();
+        self.read(block, &mut bytes)?;
         self.slots.fill(at, block, &bytes, State::Clean);
         Ok(Frame { block, at })
     }
@@ -626,7 +630,7 @@ impl<L: Link> Cache<L> {
         ensures end { message ≡ Incoming.End → self.new ≡ self.old }
         ensures reads { NoReadBegun (begun_in self.old.transfers) (begun_in self.new.transfers) }
     {
-        let settled = self.transfers.absorb(message);
+        let settled = self.transfers.absorb(&message, &mut zeros());
         settle(&mut self.slots, &mut self.flush, settled);
     }
 }

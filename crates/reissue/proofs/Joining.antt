@@ -11,8 +11,8 @@ use Rattle.records.specs.Disk.{Contents, HasTrueReplies}
 use Rattle.records.specs.Told.{Told, Posted, Complained, Received, grown, received, heard, took_end}
 use Rattle.records.specs.Acts.{Act, Began, AtLink, told_of, has_absorbed}
 use Rattle.reissue.specs.declared.ask.Ask.{Ask}
-use Rattle.reissue.specs.declared.ask.Settled.{Settled}
-use Rattle.reissue.specs.declared.ask.Settled.TheVariants as settled
+use Rattle.reissue.specs.Settlements.{Settlement}
+use Rattle.reissue.specs.Settlements as settled
 use Rattle.reissue.specs.declared.pending.Pending.{Pending}
 use Rattle.reissue.specs.declared.table.Table.{Table}
 use Rattle.records.specs.Opening.{Opening}
@@ -58,7 +58,7 @@ ended_after : (es before after : List Told) → OnlyPosts es → after ≡ es ++
 ended_after es before after o history = ap took_end history ∙ ended_posts es before o
 
 -- an answer of End is that to an End
-ended_heard : (m : Incoming) (res : Settled) (before : List Told) → IsAnswerTo m res
+ended_heard : (m : Incoming) (res : Settlement) (before : List Told) → IsAnswerTo m res
     → took_end (heard m before) ≡ (not (more_may_come res) || took_end before)
 ended_heard incoming.End res before a = rw a (by (took_end before) refl) where
   by : (b : Bool) → took_end before ≡ b → took_end (cond b before (Received incoming.End ∷ before)) ≡ true
@@ -198,7 +198,7 @@ told_began posts before after r history =
     history ∙ sym (ap (λ (l : List Told). l ++ before) (told_first posts (Began r ∷ [])) ∙ append_assoc posts [] before)
 
 -- the posts after what was done on a message
-pub absorbs_then : (m : Incoming) (res : Settled) (s t u : Table) (before between after : List Told) (was mid is : Truth)
+pub absorbs_then : (m : Incoming) (res : Settlement) (s t u : Table) (before between after : List Told) (was mid is : Truth)
     → TakesIn m res s t before between was mid → Leads t u between after mid is
     → MatchBool (is_message m) (PostsInOrder t.current (unposted t) between after) (after ≡ between) → u.current ≡ t.current
     → Absorbs m res s u before after was is
@@ -239,7 +239,7 @@ absorbs_then m res s t u before between after was mid is x l posts current =
     }
 
 -- a message taken, and what was done on it
-pub steps_one : (m : Incoming) (res : Settled) (t u : Table) (before taken after : List Told) (was mid is : Truth)
+pub steps_one : (m : Incoming) (res : Settlement) (t u : Table) (before taken after : List Told) (was mid is : Truth)
     → taken ≡ heard m before
     → ((opening : Opening) (marks : List Mark) → was opening marks → mid opening (received m marks))
     → Absorbs m res t u taken after mid is → IsAnswerTo m res → Steps res t u before after was is
@@ -381,7 +381,7 @@ only_end incoming.GaveUp e = cc
 only_end incoming.Flush e = cc
 
 -- where another message may come, this was one
-pub went_on : (m : Incoming) (res : Settled) → IsAnswerTo m res → more_may_come res ≡ true → is_message m ≡ true
+pub went_on : (m : Incoming) (res : Settlement) → IsAnswerTo m res → more_may_come res ≡ true → is_message m ≡ true
 went_on incoming.End res a g = absurd (ended (ap more_may_come (sym a) ∙ g)) where
   ended : false ≡ true → ⊥
   ended e = cc
@@ -391,7 +391,7 @@ went_on incoming.GaveUp res a g = refl
 went_on incoming.Flush res a g = refl
 
 -- a message came, so the budget wasn't spent, and fell
-pub falls_to : (m : Incoming) (res : Settled) (a b : ℕ) → IsAnswerTo m res → more_may_come res ≡ true → (0 < a → b < a) → (a ≡ 0 → m ≡ incoming.End) → b < a
+pub falls_to : (m : Incoming) (res : Settlement) (a b : ℕ) → IsAnswerTo m res → more_may_come res ≡ true → (0 < a → b < a) → (a ≡ 0 → m ≡ incoming.End) → b < a
 falls_to m res zero b answer on less spent = absurd (nothing (ap is_message (sym (spent refl)) ∙ went_on m res answer on)) where
   nothing : is_message incoming.End ≡ true → ⊥
   nothing e = cc

@@ -12,8 +12,8 @@ use Rattle.reissue.specs.declared.pending.Pending.{Pending}
 use Rattle.reissue.specs.declared.table.Table.{Table}
 use Rattle.reissue.specs.declared.table.Answer.{Answer}
 use Rattle.reissue.specs.declared.table.Answer.TheVariants as answer
-use Rattle.reissue.specs.declared.ask.Settled.{Settled}
-use Rattle.reissue.specs.declared.ask.Settled.TheVariants as settled
+use Rattle.reissue.specs.Settlements.{Settlement}
+use Rattle.reissue.specs.Settlements as settled
 use Rattle.records.specs.Opening.{Opening}
 use Rattle.reissue.specs.Moves.{Closes}
 use Rattle.reissue.specs.Entries.{pending_of, AllOfMinor}
@@ -132,29 +132,29 @@ complaint_ends_none true e before = refl
 complaint_ends_none false e before = refl
 
 -- no answer gives the device up
-reply_gives_none_up : (r : Answer) → gives_up (settled_of r) ≡ false
-reply_gives_none_up answer.Dropped = refl
-reply_gives_none_up answer.Bad = refl
-reply_gives_none_up answer.Rest = refl
-reply_gives_none_up (answer.Read t bytes) = refl
-reply_gives_none_up (answer.Written t) = refl
+reply_gives_none_up : (r : Answer) (bytes : List ℕ) → gives_up (settled_of r bytes) ≡ false
+reply_gives_none_up answer.Dropped bytes = refl
+reply_gives_none_up answer.Bad bytes = refl
+reply_gives_none_up answer.Rest bytes = refl
+reply_gives_none_up (answer.Read t) bytes = refl
+reply_gives_none_up (answer.Written t) bytes = refl
 
 -- a reply
-pub takes_reply : (message : Incoming) (a : BlockReply) (r : Answer) (t u : Table) (before after : List Told) (was is : Truth)
+pub takes_reply : (message : Incoming) (a : BlockReply) (r : Answer) (bytes : List ℕ) (t u : Table) (before after : List Told) (was is : Truth)
     → message ≡ incoming.Reply a
     → ((marks : List Mark) → Agrees t marks → Agrees u (received (incoming.Reply a) marks))
     → ((marks : List Mark) → Agrees t marks → HearsAnswer t u a.id (counted_move marks a))
     → ((marks : List Mark) → Agrees t marks → complained r a ≡ complaints_about (complaint_due a marks))
-    → Closes (settled_of r) (pending_of t.pending) (pending_of u.pending)
-    → ((marks : List Mark) → Agrees t marks → Closing (settled_of r) t.pending u.pending marks (received (incoming.Reply a) marks))
+    → Closes (settled_of r bytes) (pending_of t.pending) (pending_of u.pending)
+    → ((marks : List Mark) → Agrees t marks → Closing (settled_of r bytes) t.pending u.pending marks (received (incoming.Reply a) marks))
     → ((minor : ℕ) → AllOfMinor minor t.pending → AllOfMinor minor u.pending)
     → u.current ≡ t.current → u.given_up ≡ t.given_up
     → after ≡ complained r a ++ before
     → ((opening : Opening) (marks : List Mark) → was opening marks → is opening marks)
-    → TakesIn message (settled_of r) t u before after was is
-takes_reply message a r t u before after was is same agrees hears due closes closing minors current up told truth =
+    → TakesIn message (settled_of r bytes) t u before after was is
+takes_reply message a r bytes t u before after was is same agrees hears due closes closing minors current up told truth =
     rw same (record {
-      given_up = up ∙ ap (λ (b : Bool). b || t.given_up) (sym (reply_gives_none_up r));
+      given_up = up ∙ ap (λ (b : Bool). b || t.given_up) (sym (reply_gives_none_up r bytes));
       ended = ap took_end told ∙ complaint_ends_none (is_bad r) a.from before;
       complaints = complained r a;
       history = told;
@@ -170,7 +170,7 @@ takes_reply message a r t u before after was is same agrees hears due closes clo
     })
 
 -- the disk and what is sure stay
-closing_same : (result : Settled) (ps us : List Pending) (marks more : List Mark)
+closing_same : (result : Settlement) (ps us : List Pending) (marks more : List Mark)
     → ((image : Contents) (p : ℕ) → disk_after image more p ≡ disk_after image marks p) → ((p : ℕ) → unsure more p ≡ unsure marks p)
     → ReadsOn ps us marks more → Closing settled.Nothing ps us marks more
 closing_same result ps us marks more d u on = record {

@@ -1,8 +1,8 @@
 -- What posts leave of what an answer told.
 use Rattle.std.proofs.Common.{◌≡◌, ℕ, ◌+◌, ◌<◌, List, [], ◌∷◌, Bool, true, false, refl, sym, ◌∙◌, subst, inl, inr, Option, Some, None, arith, length}
 use Rattle.std.specs.Prelude.{◌||◌}
-use Rattle.reissue.specs.declared.ask.Settled.{Settled}
-use Rattle.reissue.specs.declared.ask.Settled.TheVariants as settled
+use Rattle.reissue.specs.Settlements.{Settlement}
+use Rattle.reissue.specs.Settlements as settled
 use Rattle.reissue.proofs.Maps.{put_cases}
 use Rattle.reissue.specs.declared.pending.Pending.{Pending}
 use Rattle.reissue.proofs.Writes.{spares_then}
@@ -29,7 +29,7 @@ quiet_put f t p h = record {
   none_some h = cc
 
 -- and on each message
-quiet_closed : (res : Settled) (f g : ℕ → Option Begun) → Closes res f g → (p : ℕ) → IsQuiet f p → IsQuiet g p
+quiet_closed : (res : Settlement) (f g : ℕ → Option Begun) → Closes res f g → (p : ℕ) → IsQuiet f p → IsQuiet g p
 quiet_closed (settled.Read t b) f g c p h = subst (λ (x : ℕ → Option Begun). IsQuiet x p) (sym c.3) (quiet_put f t p h)
 quiet_closed (settled.Written t) f g c p h = subst (λ (x : ℕ → Option Begun). IsQuiet x p) (sym c.4) (quiet_put f t p h)
 quiet_closed settled.Nothing f g c p h = subst (λ (x : ℕ → Option Begun). IsQuiet x p) (sym c) h
@@ -54,7 +54,7 @@ sure_posted (Complained e ∷ es) marks p o h = absurd o
 sure_posted (Received m ∷ es) marks p o h = absurd o
 
 -- what a settled request tells still holds after posts
-tells_posted : (res : Settled) (f g : ℕ → Option Begun) (es : List Told) (image : Contents) (marks : List Mark) → OnlyPosts es
+tells_posted : (res : Settlement) (f g : ℕ → Option Begun) (es : List Told) (image : Contents) (marks : List Mark) → OnlyPosts es
     → LeavesQuiet res f g → Spares g (state_after image marks) (state_after image (grown es marks))
     → Tells res f (state_after image marks) → Tells res f (state_after image (grown es marks))
 tells_posted (settled.Read t b) f g es image marks o l s h = λ r is k lt sure.
@@ -85,7 +85,7 @@ is_read_posted (Complained e ∷ es) marks p o = absurd o
 is_read_posted (Received m ∷ es) marks p o = absurd o
 
 -- and so what a settled read has
-joins_posted : (res : Settled) (f : ℕ → Option Begun) (es : List Told) (marks : List Mark) → OnlyPosts es
+joins_posted : (res : Settlement) (f : ℕ → Option Begun) (es : List Told) (marks : List Mark) → OnlyPosts es
     → Joins res f marks → Joins res f (grown es marks)
 joins_posted (settled.Read t b) f es marks o h = λ r is k lt.
     let was = h r is k lt in
@@ -107,7 +107,7 @@ reads_posted ps ts us marks mid es o same h = record {
 }
 
 -- what a message did, and then posts
-pub closing_posted : (res : Settled) (ps ts us : List Pending) (marks mid : List Mark) (es : List Told)
+pub closing_posted : (res : Settlement) (ps ts us : List Pending) (marks mid : List Mark) (es : List Told)
     → OnlyPosts es → us ≡ ts → Closes res (pending_of ps) (pending_of ts)
     → ((image : Contents) → HasTrueReplies image (grown es mid) → HasTrueReplies image mid)
     → ((image : Contents) → Spares (pending_of ts) (state_after image mid) (state_after image (grown es mid)))

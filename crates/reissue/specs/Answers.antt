@@ -1,28 +1,28 @@
 -- What an answer did to the table, as an answer of `absorb` and as a complaint.
-use Rattle.std.specs.Prelude.{List, [], ◌∷◌, Bool, true, false, Option, Some, None, if◌then◌else◌}
+use Rattle.std.specs.Prelude.{ℕ, List, [], ◌∷◌, Bool, true, false, Option, Some, None, if◌then◌else◌}
 use Rattle.message.specs.declared.endpoint.Endpoint.{Endpoint}
 use Rattle.message.specs.declared.BlockReply.{BlockReply}
 use Rattle.records.specs.Told.{Told, Complained}
 use Rattle.reissue.specs.declared.table.Answer.{Answer}
 use Rattle.reissue.specs.declared.table.Answer.TheVariants as answer
-use Rattle.reissue.specs.declared.ask.Settled.{Settled}
-use Rattle.reissue.specs.declared.ask.Settled.TheVariants as settled
+use Rattle.reissue.specs.Settlements.{Settlement}
+use Rattle.reissue.specs.Settlements as settled
 
 -- the answer counts and isn't good
 abbrev pub is_bad : Answer → Bool
 is_bad answer.Bad = true
 is_bad answer.Dropped = false
 is_bad answer.Rest = false
-is_bad (answer.Read t bytes) = false
+is_bad (answer.Read t) = false
 is_bad (answer.Written t) = false
 
--- what is settled by it
-abbrev pub settled_of : Answer → Settled
-settled_of answer.Dropped = settled.Nothing
-settled_of answer.Rest = settled.Nothing
-settled_of answer.Bad = settled.Nothing
-settled_of (answer.Read t bytes) = settled.Read t bytes
-settled_of (answer.Written t) = settled.Written t
+-- what is settled by it, with the bytes that it leaves where the caller had room
+abbrev pub settled_of : Answer → List ℕ → Settlement
+settled_of answer.Dropped bytes = settled.Nothing
+settled_of answer.Rest bytes = settled.Nothing
+settled_of answer.Bad bytes = settled.Nothing
+settled_of (answer.Read t) bytes = settled.Read t bytes
+settled_of (answer.Written t) bytes = settled.Written t
 
 -- the complaint about its driver, where it isn't good
 abbrev pub complained : Answer → BlockReply → List Told

@@ -7,8 +7,8 @@ use Rattle.records.specs.Marks.{Mark}
 use Rattle.records.specs.Disk.{Contents}
 use Rattle.records.specs.Told.{Told, Received, grown, received, heard, took_end, took_nothing}
 use Rattle.reissue.specs.declared.ask.Ask.{Ask}
-use Rattle.reissue.specs.declared.ask.Settled.{Settled}
-use Rattle.reissue.specs.declared.ask.Settled.TheVariants as settled
+use Rattle.reissue.specs.Settlements.{Settlement}
+use Rattle.reissue.specs.Settlements as settled
 use Rattle.reissue.specs.declared.pending.Pending.{Pending}
 use Rattle.reissue.specs.declared.table.Table.{Table}
 use Rattle.records.specs.Opening.{Opening}
@@ -42,7 +42,7 @@ pub record Leads (old new : Table) (before after : List Told) (was is : Truth) :
       → was opening marks → is opening (grown posts marks)
 
 -- the device was given up by it
-abbrev pub gives_up : Settled → Bool
+abbrev pub gives_up : Settlement → Bool
 gives_up settled.GaveUp = true
 gives_up (settled.Read t bytes) = false
 gives_up (settled.Written t) = false
@@ -51,7 +51,7 @@ gives_up settled.Flush = false
 gives_up settled.End = false
 
 -- what is done on a message before anything is posted: the complaint that is due
-pub record TakesIn (message : Incoming) (result : Settled) (old mid : Table) (before after : List Told) (was is : Truth) : Type 0 where
+pub record TakesIn (message : Incoming) (result : Settlement) (old mid : Table) (before after : List Told) (was is : Truth) : Type 0 where
   pub complaints : List Told
   pub history : after ≡ complaints ++ before
   pub quiet : took_nothing complaints ≡ true
@@ -67,7 +67,7 @@ pub record TakesIn (message : Incoming) (result : Settled) (old mid : Table) (be
   pub truth : (opening : Opening) (marks : List Mark) → was opening marks → is opening marks
 
 -- what is done on a message: the complaint that is due, and then the posts
-pub record Absorbs (message : Incoming) (result : Settled) (old new : Table) (before after : List Told) (was is : Truth) : Type 0 where
+pub record Absorbs (message : Incoming) (result : Settlement) (old new : Table) (before after : List Told) (was is : Truth) : Type 0 where
   pub mid : Table
   pub posts : List Told
   pub complaints : List Told
@@ -96,7 +96,7 @@ pub record Absorbs (message : Incoming) (result : Settled) (old new : Table) (be
       → KeepsRulesBy (acts_on posts old mid complaints (Absorbed message ∷ [])) minor old new before after marks (grown posts (received message marks))
 
 -- a reply settles a request or nothing
-abbrev pub IsOfReply : Settled → Type 0
+abbrev pub IsOfReply : Settlement → Type 0
 IsOfReply settled.Nothing = Unit {0}
 IsOfReply (settled.Read t bytes) = Unit {0}
 IsOfReply (settled.Written t) = Unit {0}
@@ -105,7 +105,7 @@ IsOfReply settled.GaveUp = ⊥
 IsOfReply settled.End = ⊥
 
 -- what is answered to each message
-abbrev pub IsAnswerTo : Incoming → Settled → Type 0
+abbrev pub IsAnswerTo : Incoming → Settlement → Type 0
 IsAnswerTo (incoming.Reply a) result = IsOfReply result
 IsAnswerTo (incoming.Started e) result = result ≡ settled.Nothing
 IsAnswerTo incoming.GaveUp result = result ≡ settled.GaveUp
@@ -113,7 +113,7 @@ IsAnswerTo incoming.Flush result = result ≡ settled.Flush
 IsAnswerTo incoming.End result = result ≡ settled.End
 
 -- another message may come
-abbrev pub more_may_come : Settled → Bool
+abbrev pub more_may_come : Settlement → Bool
 more_may_come settled.End = false
 more_may_come settled.Nothing = true
 more_may_come (settled.Read t bytes) = true
@@ -122,7 +122,7 @@ more_may_come settled.Flush = true
 more_may_come settled.GaveUp = true
 
 -- a message was taken and absorbed; what was told after it
-pub record Steps (result : Settled) (old new : Table) (before after : List Told) (was is : Truth) : Type 0 where
+pub record Steps (result : Settlement) (old new : Table) (before after : List Told) (was is : Truth) : Type 0 where
   pub acts : List Act
   pub told : after ≡ told_of acts ++ before
   pub none_absorbed : has_absorbed acts ≡ false

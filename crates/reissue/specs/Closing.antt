@@ -2,14 +2,14 @@
 use Rattle.std.specs.Prelude.{◌≡◌, ℕ, List, Option, Some}
 use Rattle.records.specs.Marks.{Mark}
 use Rattle.records.specs.Disk.{Contents, HasTrueReplies, bytes_read, is_read}
-use Rattle.reissue.specs.declared.ask.Settled.{Settled}
-use Rattle.reissue.specs.declared.ask.Settled.TheVariants as settled
+use Rattle.reissue.specs.Settlements.{Settlement}
+use Rattle.reissue.specs.Settlements as settled
 use Rattle.reissue.specs.declared.pending.Pending.{Pending}
 use Rattle.reissue.specs.Moves.{Begun, Touches, IsQuiet, Moves, Joins, state_after}
 use Rattle.reissue.specs.Entries.{pending_of, AllAsk, IsLeft}
 
 -- no pending write has a place of a write that was settled
-abbrev pub LeavesQuiet : Settled → (ℕ → Option Begun) → (ℕ → Option Begun) → Type 0
+abbrev pub LeavesQuiet : Settlement → (ℕ → Option Begun) → (ℕ → Option Begun) → Type 0
 LeavesQuiet (settled.Written t) old new = (r : Begun) → old t ≡ Some r → (place : ℕ) → Touches r place → IsQuiet new place
 LeavesQuiet (settled.Read t bytes) old new = Unit {0}
 LeavesQuiet settled.Nothing old new = Unit {0}
@@ -26,7 +26,7 @@ pub record ReadsOn (old new : List Pending) (marks more : List Mark) : Type 0 wh
   pub ask : AllAsk old → AllAsk new
 
 -- what a message does to the disk and to what was read, from the one record to the other
-pub record Closing (result : Settled) (old new : List Pending) (marks more : List Mark) : Type 0 where
+pub record Closing (result : Settlement) (old new : List Pending) (marks more : List Mark) : Type 0 where
   pub moves : (image : Contents) → HasTrueReplies image more
       → Moves result (pending_of old) (state_after image marks) (state_after image more)
   pub joins : Joins result (pending_of old) more

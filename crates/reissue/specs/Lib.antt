@@ -16,5 +16,6 @@ pub mod Posts
 pub mod Calls
 pub mod Transfers
 pub mod Rules
+pub mod Settlements
 pub mod Notes
 pub mod Grows

@@ -7,8 +7,8 @@ use Rattle.records.specs.Marks.{Mark}
 use Rattle.records.specs.Disk.{Contents, disk_after, bytes_read, is_read, unsure}
 use Rattle.reissue.specs.declared.ask.Ask.{Ask}
 use Rattle.reissue.specs.declared.ask.BeginRefusal.{BeginRefusal}
-use Rattle.reissue.specs.declared.ask.Settled.{Settled}
-use Rattle.reissue.specs.declared.ask.Settled.TheVariants as settled
+use Rattle.reissue.specs.Settlements.{Settlement}
+use Rattle.reissue.specs.Settlements as settled
 
 -- the bytes of the disk, and the places that are unsure
 pub record DiskState : Type 0 where
@@ -68,7 +68,7 @@ Opens (Ok t) r old new = (old t ≡ None) × (new ≡ put old t (Some r))
 Opens (Err e) r old new = (new ≡ old) × IsBusy old
 
 -- what a message does to those that are pending: nothing of a settled one stays
-abbrev pub Closes : Settled → (ℕ → Option Begun) → (ℕ → Option Begun) → Type 0
+abbrev pub Closes : Settlement → (ℕ → Option Begun) → (ℕ → Option Begun) → Type 0
 Closes (settled.Read t bytes) old new = (r : Begun) × (old t ≡ Some r) × (r.written ≡ None) × (new ≡ put old t None)
 Closes (settled.Written t) old new =
     (r : Begun) × (bytes : List ℕ) × (old t ≡ Some r) × (r.written ≡ Some bytes) × (new ≡ put old t None)
@@ -78,7 +78,7 @@ Closes settled.GaveUp old new = new ≡ old
 Closes settled.End old new = new ≡ old
 
 -- a settled read has the disk's bytes where the disk is sure; after a settled write the disk has its bytes, and is sure of them
-abbrev pub Tells : Settled → (ℕ → Option Begun) → DiskState → Type 0
+abbrev pub Tells : Settlement → (ℕ → Option Begun) → DiskState → Type 0
 Tells (settled.Read t bytes) pending w =
     (r : Begun) → pending t ≡ Some r → (k : ℕ) → k < r.size → w.unsure (r.start + k) ≡ false
     → slice_index bytes k ≡ w.disk (r.start + k)
@@ -95,7 +95,7 @@ abbrev pub WasRead : List Mark → ℕ → ℕ → Type 0
 WasRead marks place byte = (byte ≡ bytes_read marks place) × (is_read marks place ≡ true)
 
 -- a settled read has the bytes of the good answers to it, joined: each of its places was read
-abbrev pub Joins : Settled → (ℕ → Option Begun) → List Mark → Type 0
+abbrev pub Joins : Settlement → (ℕ → Option Begun) → List Mark → Type 0
 Joins (settled.Read t bytes) pending marks =
     (r : Begun) → pending t ≡ Some r → (k : ℕ) → k < r.size → WasRead marks (r.start + k) (slice_index bytes k)
 Joins (settled.Written t) pending marks = Unit {0}
@@ -105,6 +105,6 @@ Joins settled.GaveUp pending marks = Unit {0}
 Joins settled.End pending marks = Unit {0}
 
 -- what a message does to the disk
-pub record Moves (result : Settled) (pending : ℕ → Option Begun) (old new : DiskState) : Type 0 where
+pub record Moves (result : Settlement) (pending : ℕ → Option Begun) (old new : DiskState) : Type 0 where
   pub spares : Spares pending old new
   pub tells : Tells result pending new

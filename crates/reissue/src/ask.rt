@@ -119,12 +119,12 @@ impl BeginRefusal {
 }
 
 /// What a message came to.
-#[derive(Clone, Copy)]
+#[derive(Clone, Copy, Debug, PartialEq, Eq)]
 pub enum Settled {
     /// No request was settled.
     Nothing,
-    /// This read was answered good over its whole range: its bytes, the first of its range first.
-    Read(Ticket, [u8; 4096]),
+    /// This read was answered good over its whole range: its bytes were put where the caller had room, the first of its range first.
+    Read(Ticket),
     /// This write was answered good over its whole range.
     Written(Ticket),
     /// Dirty frames are to be written.

@@ -3,7 +3,7 @@
 ghost use Rattle.std.specs.Prelude.{◌≡◌, ◌+◌, ◌<◌, ◌≤◌, ◌^◌, ◌-◌, ◌%◌, ℕ, length, slice_index, true, false};
 ghost use Rattle.message.specs.Good.{is_write};
 
-use crate::ask::Ticket;
+use crate::ask::{Ask, Ticket};
 use message::{BlockRequest, Kind};
 
 /// A request that isn't settled: the range that was asked for, and the request for what is left of it.
@@ -40,7 +40,8 @@ fn shifted(bytes: &[u8; 4096], n: usize) -> [u8; 4096]
 }
 
 impl Pending {
-    ghost use Rattle.reissue.specs.Entries.{meets};
+    ghost use Rattle.reissue.specs.Entries.{begun_of, meets};
+    ghost use Rattle.reissue.specs.Moves.{begun_by, request_for};
 
     /// Whether a byte of this range was asked for.
     #[inline]
@@ -51,40 +52,81 @@ impl Pending {
         start < self.start + self.size as u64 && self.start < start + size as u64
     }
 
-    /// What is pending of it after an answer that moved so many bytes, under a new id.
-    pub fn with_answer(&self, moved: u32, bytes: &[u8; 4096], id: u64) -> Pending
-        requires within { moved ≤ self.now.request.count }
+    /// A request that nobody asked for: the room of one that is to come.
+    pub(crate) fn unused() -> Pending {
+        Pending {
+            ticket: Ticket::of_id(0),
+            start: 0,
+            size: 512,
+            bytes: [0; 4096],
+            request: BlockRequest {
+                id: 0,
+                kind: Kind::Read,
+                minor: 0,
+                position: 0,
+                count: 512,
+                bytes: [0; 4096],
+            },
+        }
+    }
+
+    /// It is what is asked for from now on, under this id.
+    pub(crate) fn begin(&mut self, ask: &Ask, id: u64)
+        ensures ticket { self.new.ticket ≡ id }
+        ensures start { self.new.start ≡ ask.now.position }
+        ensures size { self.new.size ≡ ask.now.count }
+        ensures bytes { self.new.bytes ≡ ask.now.bytes }
+        ensures begun { begun_of self.new ≡ begun_by ask.now }
+        ensures request { self.new.request ≡ request_for ask.now id }
+    {
+        self.ticket = Ticket::of_id(id);
+        self.start = ask.position;
+        self.size = ask.count;
+        self.bytes = ask.bytes;
+        self.request.id = id;
+        self.request.kind = ask.kind;
+        self.request.minor = ask.minor;
+        self.request.position = ask.position;
+        self.request.count = ask.count;
+        self.request.bytes = ask.bytes;
+    }
+
+    /// An answer moved so many bytes of it: what is left is pending under a new id.
+    pub(crate) fn answer(&mut self, moved: u32, bytes: &[u8; 4096], id: u64)
+        requires within { moved ≤ self.old.request.count }
         requires whole { moved % 512 ≡ 0 }
-        ensures ticket { result.ticket ≡ self.now.ticket }
-        ensures start { result.start ≡ self.now.start }
-        ensures size { result.size ≡ self.now.size }
-        ensures id { result.request.id ≡ id }
-        ensures kind { result.request.kind ≡ self.now.request.kind }
-        ensures minor { result.request.minor ≡ self.now.request.minor }
-        ensures position { result.request.position ≡ self.now.request.position + moved }
-        ensures count { result.request.count + moved ≡ self.now.request.count }
+        ensures ticket { self.new.ticket ≡ self.old.ticket }
+        ensures start { self.new.start ≡ self.old.start }
+        ensures size { self.new.size ≡ self.old.size }
+        ensures id { self.new.request.id ≡ id }
+        ensures kind { self.new.request.kind ≡ self.old.request.kind }
+        ensures minor { self.new.request.minor ≡ self.old.request.minor }
+        ensures position { self.new.request.position ≡ self.old.request.position + moved }
+        ensures count { self.new.request.count + moved ≡ self.old.request.count }
 
         // A read keeps what was read before, and goes on with what was read now.
-        ensures before { is_write self.now.request.kind ≡ false → (k : ℕ) → self.now.start + k < self.now.request.position
-            → slice_index result.bytes k ≡ slice_index self.now.bytes k }
-        ensures moved { is_write self.now.request.kind ≡ false → (k : ℕ) → k < moved
-            → slice_index result.bytes (self.now.request.position - self.now.start + k) ≡ slice_index bytes.now k }
+        ensures before { is_write self.old.request.kind ≡ false → (k : ℕ) → self.old.start + k < self.old.request.position
+            → slice_index self.new.bytes k ≡ slice_index self.old.bytes k }
+        ensures moved { is_write self.old.request.kind ≡ false → (k : ℕ) → k < moved
+            → slice_index self.new.bytes (self.old.request.position - self.old.start + k) ≡ slice_index bytes.now k }
 
         // A write keeps its bytes, and those that are left go to the front of its request.
-        ensures begun { is_write self.now.request.kind ≡ true → result.bytes ≡ self.now.bytes }
-        ensures rest { is_write self.now.request.kind ≡ true → (k : ℕ) → k < result.request.count
-            → slice_index result.request.bytes k ≡ slice_index self.now.request.bytes (moved + k) }
+        ensures begun { is_write self.old.request.kind ≡ true → self.new.bytes ≡ self.old.bytes }
+        ensures rest { is_write self.old.request.kind ≡ true → (k : ℕ) → k < self.new.request.count
+            → slice_index self.new.request.bytes k ≡ slice_index self.old.request.bytes (moved + k) }
     {
-        let mut next = *self;
         let done = (self.request.position - self.start) as usize;
         let n = moved as usize;
-        next.request.id = id;
-        next.request.position += moved as u64;
-        next.request.count -= moved;
+        self.request.id = id;
+        self.request.position += moved as u64;
+        self.request.count -= moved;
         match self.request.kind {
-            Kind::Read => next.bytes[done..done + n].copy_from_slice(&bytes[..n]),
-            Kind::Write => next.request.bytes = shifted(&self.request.bytes, n),
+            Kind::Read => self.bytes[done..done + n].copy_from_slice(&bytes[..n]),
+            Kind::Write => {
+                if self.request.count > 0 {
+                    self.request.bytes = shifted(&self.request.bytes, n);
+                }
+            }
         }
-        next
     }
 }

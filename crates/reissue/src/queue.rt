@@ -1,7 +1,7 @@
 //! Up to sixteen pending requests in a fixed order.
 
 ghost use Rattle.std.specs.Prelude.{◌≡◌, ◌+◌, ◌<◌, ◌≤◌, ◌∷◌, ◌++◌, [], length, remove, IfOk, slice_get, slice_index_or, Some, position};
-ghost use Rattle.std.specs.Prelude.{take, ◌==◌, ◌^◌};
+ghost use Rattle.std.specs.Prelude.{take, ◌==◌, ◌^◌, vec_capacity};
 ghost use Rattle.std.specs.List.{list_any};
 ghost use Rattle.reissue.specs.Entries.{meets};
 
@@ -9,16 +9,20 @@ use crate::pending::Pending;
 use slab::Slab;
 use std::alloc::{AllocError, Global};
 use std::marker::Model;
+use std::mem;
 
 /// How many requests may be pending.
 pub const PLACES: usize = 16;
 
-/// A list of pending requests, at most sixteen: contracts see that list. Its memory is taken when it is made.
+/// A list of pending requests, at most sixteen: contracts see that list. Its memory is taken when it is made. A request goes in and out by
+/// the pointer to its room.
 #[derive(Drop)]
 pub struct Queue {
-    entries: Slab<Pending>,
+    entries: Slab<Box<Pending>>,
     // The places of the entries, in their order.
     keys: Vec<usize>,
+    // Rooms for as many as may still come.
+    spare: Vec<Box<Pending>>,
 }
 
 impl Model for Queue {
@@ -31,7 +35,19 @@ impl Model for Queue {
 
     ghost view = { λ q. entries_at q.entries q.keys.items };
 
-    ghost invariant = { λ q. IsQueue q.entries q.keys.items (vec_capacity q.keys) };
+    ghost invariant = { λ q. IsQueue q.entries q.keys.items (vec_capacity q.keys) q.spare.items (vec_capacity q.spare) };
+}
+
+/// Rooms for sixteen requests.
+fn rooms(alloc: Global) -> Result<Vec<Box<Pending>>, AllocError>
+    ensures count { IfOk result (λ rooms. length rooms.items ≡ 16) }
+    ensures room { IfOk result (λ rooms. 16 ≤ vec_capacity rooms) }
+{
+    let mut rooms = Vec::with_capacity(alloc, PLACES)?;
+    for _ in 0..PLACES {
+        rooms.push_reserved(Box::new(alloc, Pending::unused())?);
+    }
+    Ok(rooms)
 }
 
 impl Queue {
@@ -42,6 +58,7 @@ impl Queue {
         Ok(Queue {
             entries: Slab::with_capacity(alloc, PLACES)?,
             keys: Vec::with_capacity(alloc, PLACES)?,
+            spare: rooms(alloc)?,
         })
     }
 
@@ -58,7 +75,7 @@ impl Queue {
         ensures { result.now ≡ slice_index_or self.now at result.now }
     {
         match self.entries.get(self.keys[at]) {
-            Some(entry) => entry,
+            Some(entry) => &**entry,
             None => unreachable!(),
         }
     }
@@ -89,22 +106,27 @@ impl Queue {
         false
     }
 
-    /// Puts one at the end.
-    pub fn push(&mut self, entry: Pending)
+    /// Puts the one in hand at the end; another room is in hand then.
+    pub fn push(&mut self, hand: &mut Box<Pending>)
         requires { length self.old < 16 }
-        ensures { self.new ≡ self.old ++ entry ∷ [] }
+        ensures { self.new ≡ self.old ++ hand.old.value ∷ [] }
     {
+        let Some(room) = self.spare.pop() else {
+            unreachable!()
+        };
+        let entry = mem::replace(hand, room);
         let key = self.entries.insert_reserved(entry);
         self.keys.push_reserved(key);
     }
 
-    /// Takes out the one at this place; the others stay in order.
-    pub fn remove(&mut self, at: usize) -> Pending
+    /// Takes the one at this place in hand; the others stay in order. What was in hand is let go.
+    pub fn remove(&mut self, at: usize, hand: &mut Box<Pending>)
         requires { at < length self.old }
         ensures items { self.new ≡ remove self.old at }
-        ensures value { result ≡ slice_index_or self.old at result }
+        ensures value { hand.new.value ≡ slice_index_or self.old at hand.new.value }
     {
         let key = self.keys.remove(at);
-        self.entries.remove(key)
+        let entry = self.entries.remove(key);
+        self.spare.push_reserved(mem::replace(hand, entry));
     }
 }

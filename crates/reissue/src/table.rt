@@ -16,7 +16,7 @@ use message::{BlockReply, BlockRequest, Kind, moved_bytes};
 use std::alloc::{AllocError, Global};
 
 /// What an answer did.
-#[derive(Clone, Copy)]
+#[derive(Clone, Copy, PartialEq, Eq)]
 pub enum Answer {
     /// It doesn't count.
     Dropped,
@@ -24,8 +24,8 @@ pub enum Answer {
     Bad,
     /// It was good; what is left is pending under a new id.
     Rest,
-    /// It was good, and nothing is left of this read: its bytes.
-    Read(Ticket, [u8; 4096]),
+    /// It was good, and nothing is left of this read.
+    Read(Ticket),
     /// It was good, and nothing is left of this write.
     Written(Ticket),
 }
@@ -36,6 +36,8 @@ pub enum Answer {
 pub struct Table {
     /// The pending requests.
     pub pending: Queue,
+    /// Room for a request that is put in or taken out: between two calls what it holds has no meaning.
+    pub hand: Box<Pending>,
     /// How many of them were ever issued.
     pub issued: usize,
     /// How many of them were posted to the present endpoint.
@@ -66,6 +68,7 @@ impl Table {
     {
         Ok(Table {
             pending: Queue::new(alloc)?,
+            hand: Box::new(alloc, Pending::unused())?,
             issued: 0,
             posted: 0,
             ids: 0,
@@ -132,14 +135,14 @@ impl Table {
         }
     }
 
-    /// Adds a request at the end, under the next id.
-    fn push(&mut self, entry: Pending)
+    /// Adds the request in hand at the end, under the next id.
+    fn push(&mut self)
         requires room { length self.old.pending < 16 }
         requires ids { self.old.ids < 2 ^ 60 }
-        requires next { entry.request.id ≡ self.old.ids + 1 }
-        requires fresh { IsFresh entry.ticket self.old.pending }
-        requires ticket { entry.ticket ≤ self.old.ids + 1 }
-        ensures items { self.new.pending ≡ self.old.pending ++ entry ∷ [] }
+        requires next { self.old.hand.value.request.id ≡ self.old.ids + 1 }
+        requires fresh { IsFresh self.old.hand.value.ticket self.old.pending }
+        requires ticket { self.old.hand.value.ticket ≤ self.old.ids + 1 }
+        ensures items { self.new.pending ≡ self.old.pending ++ self.old.hand.value ∷ [] }
         ensures ids { self.new.ids ≡ self.old.ids + 1 }
         ensures posted { self.new.posted ≡ self.old.posted }
         ensures issued { self.new.issued ≡ self.old.issued }
@@ -147,14 +150,14 @@ impl Table {
         ensures given_up { self.new.given_up ≡ self.old.given_up }
     {
         self.ids += 1;
-        self.pending.push(entry);
+        self.pending.push(&mut self.hand);
     }
 
-    /// Takes an issued request out.
-    fn take_out(&mut self, at: usize) -> Pending
+    /// Takes an issued request out, in hand.
+    fn take_out(&mut self, at: usize)
         requires { at < self.old.issued }
         ensures items { self.new.pending ≡ remove self.old.pending at }
-        ensures value { result ≡ slice_index_or self.old.pending at result }
+        ensures value { self.new.hand.value ≡ slice_index_or self.old.pending at self.new.hand.value }
         ensures posted { self.new.posted ≡ (if nat_lt at self.old.posted then self.old.posted - 1 else self.old.posted) }
         ensures issued { self.new.issued + 1 ≡ self.old.issued }
         ensures ids { self.new.ids ≡ self.old.ids }
@@ -165,7 +168,7 @@ impl Table {
         if at < self.posted {
             self.posted -= 1;
         }
-        self.pending.remove(at)
+        self.pending.remove(at, &mut self.hand);
     }
 
     /// Whether replies from this endpoint count.
@@ -223,8 +226,8 @@ impl Table {
     ghost use Rattle.reissue.specs.Hears.{IsAnswered, HearsAnswer, counted_move};
     ghost use Rattle.reissue.specs.Closing.{Closing};
 
-    /// The request at this place was answered: so many bytes were moved.
-    fn settle(&mut self, at: usize, n: u32, reply: &BlockReply) -> Answer
+    /// The request at this place was answered: so many bytes were moved. The bytes of a read of which nothing is left stand in `into` then.
+    fn settle(&mut self, at: usize, n: u32, reply: &BlockReply, into: &mut [u8; 4096]) -> Answer
         requires at { at < self.old.issued }
         requires ids { self.old.ids < 2 ^ 60 }
         requires within { (p : Pending) → p ≡ slice_index_or self.old.pending at p → n ≤ p.request.count }
@@ -237,27 +240,31 @@ impl Table {
             → Agrees self.new (Answered reply.now ∷ marks) }
         ensures hears { IsAnswered self.old self.new reply.now.id n }
         ensures good { is_bad result ≡ false }
-        ensures closes { Closes (settled_of result) (pending_of self.old.pending) (pending_of self.new.pending) }
+        ensures closes { Closes (settled_of result into.new) (pending_of self.old.pending) (pending_of self.new.pending) }
         ensures closing { (marks : List Mark) → Agrees self.old marks
             → position (λ p. p.request.id == reply.now.id) (take self.old.issued self.old.pending) ≡ Some at
             → moved_by reply.now marks ≡ Some n
             → IsTrue (is_endpoint reply.now.from self.old.current)
-            → Closing (settled_of result) self.old.pending self.new.pending marks (Answered reply.now ∷ marks) }
+            → Closing (settled_of result into.new) self.old.pending self.new.pending marks (Answered reply.now ∷ marks) }
         ensures minors { (minor : ℕ) → AllOfMinor minor self.old.pending → AllOfMinor minor self.new.pending }
         ensures ids { self.new.ids ≤ self.old.ids + 1 }
         ensures closed { self.new.ids + length self.old.pending ≤ self.old.ids + length self.new.pending + 1 }
         ensures current { self.new.current ≡ self.old.current }
         ensures given_up { self.new.given_up ≡ self.old.given_up }
     {
-        let entry = self.take_out(at);
-        let rest = entry.with_answer(n, &reply.bytes, self.ids + 1);
-        if rest.request.count > 0 {
-            self.push(rest);
+        self.take_out(at);
+        self.hand.answer(n, &reply.bytes, self.ids + 1);
+        let left = &*self.hand;
+        if left.request.count > 0 {
+            self.push();
             return Answer::Rest;
         }
-        match rest.request.kind {
-            Kind::Read => Answer::Read(rest.ticket, rest.bytes),
-            Kind::Write => Answer::Written(rest.ticket),
+        match left.request.kind {
+            Kind::Read => {
+                *into = left.bytes;
+                Answer::Read(left.ticket)
+            }
+            Kind::Write => Answer::Written(left.ticket),
         }
     }
 
@@ -269,17 +276,18 @@ impl Table {
         self.pending.get(at).request.count
     }
 
-    /// Does what a reply asks for. It needs one more id.
-    pub fn answer(&mut self, reply: &BlockReply) -> Answer
+    /// Does what a reply asks for. It needs one more id. The bytes of a read of which nothing is left stand in `into` then.
+    pub fn answer(&mut self, reply: &BlockReply, into: &mut [u8; 4096]) -> Answer
         requires { self.old.ids < 2 ^ 60 }
         ensures agrees { (marks : List Mark) → Agrees self.old marks → Agrees self.new (received (incoming.Reply reply.now) marks) }
         ensures hears { (marks : List Mark) → Agrees self.old marks
             → HearsAnswer self.old self.new reply.now.id (counted_move marks reply.now) }
         ensures due { (marks : List Mark) → Agrees self.old marks
             → complained result reply.now ≡ complaints_about (complaint_due reply.now marks) }
-        ensures closes { Closes (settled_of result) (pending_of self.old.pending) (pending_of self.new.pending) }
+        ensures closes { Closes (settled_of result into.new) (pending_of self.old.pending) (pending_of self.new.pending) }
         ensures closing { (marks : List Mark) → Agrees self.old marks
-            → Closing (settled_of result) self.old.pending self.new.pending marks (received (incoming.Reply reply.now) marks) }
+            → Closing (settled_of result into.new) self.old.pending self.new.pending marks
+            (received (incoming.Reply reply.now) marks) }
         ensures minors { (minor : ℕ) → AllOfMinor minor self.old.pending → AllOfMinor minor self.new.pending }
         ensures ids { self.new.ids ≤ self.old.ids + 1 }
         ensures closed { self.new.ids + length self.old.pending ≤ self.old.ids + length self.new.pending + 1 }
@@ -295,7 +303,7 @@ impl Table {
         let Some(n) = moved_bytes(self.count_at(at), &reply.outcome) else {
             return Answer::Bad;
         };
-        self.settle(at, n, reply)
+        self.settle(at, n, reply, into)
     }
 
     /// Adds what is asked for at the end, under the next id.
@@ -316,22 +324,8 @@ impl Table {
         ensures given_up { self.new.given_up ≡ self.old.given_up }
     {
         let id = self.ids + 1;
-        let ticket = Ticket::of_id(id);
-        let entry = Pending {
-            ticket,
-            start: ask.position,
-            size: ask.count,
-            bytes: ask.bytes,
-            request: BlockRequest {
-                id,
-                kind: ask.kind,
-                minor: ask.minor,
-                position: ask.position,
-                count: ask.count,
-                bytes: ask.bytes,
-            },
-        };
-        self.push(entry);
-        ticket
+        self.hand.begin(ask, id);
+        self.push();
+        Ticket::of_id(id)
     }
 }

@@ -7,6 +7,7 @@ ghost use Rattle.std.specs.List.{list_any};
 ghost use Rattle.reissue.specs.Room.{room_needed};
 ghost use Rattle.reissue.specs.Posts.{is_message};
 ghost use Rattle.reissue.specs.Moves.{Opens, begun_by};
+ghost use Rattle.reissue.specs.Settlements.{settlement};
 ghost use Rattle.reissue.specs.Entries.{pending_of, meets};
 
 use crate::ask::{Ask, BeginRefusal, Settled, Ticket};
@@ -146,11 +147,11 @@ impl<L: Link> Transfers<L> {
     }
 
     /// Does what a message asks for, but for posts.
-    fn take_in(&mut self, message: &Incoming) -> Settled
+    fn take_in(&mut self, message: &Incoming, into: &mut [u8; 4096]) -> Settled
         requires ids { (table_of self.old).ids < 2 ^ 60 }
         requires room { room_needed message.now ≤ L.room (link_of self.old) }
-        ensures takes { Between L.Link (TakesIn message.now result) self.old self.new }
-        ensures answer { IsAnswerTo message.now result }
+        ensures takes { Between L.Link (TakesIn message.now (settlement result into.new)) self.old self.new }
+        ensures answer { IsAnswerTo message.now (settlement result into.new) }
         ensures ended { message.now ≡ Incoming.End → self.new ≡ self.old }
         ensures budget { L.budget_left (link_of self.new) ≤ L.budget_left (link_of self.old) }
         ensures goes { L.goes_on (link_of self.old) (link_of self.new) }
@@ -160,14 +161,14 @@ impl<L: Link> Transfers<L> {
             ≤ (table_of self.old).ids + length (table_of self.new).pending + 1 }
     {
         match message {
-            Incoming::Reply(reply) => match self.table.answer(reply) {
+            Incoming::Reply(reply) => match self.table.answer(reply, into) {
                 Answer::Dropped => Settled::Nothing,
                 Answer::Rest => Settled::Nothing,
                 Answer::Bad => {
                     self.link.complain(reply.from);
                     Settled::Nothing
                 }
-                Answer::Read(ticket, bytes) => Settled::Read(ticket, bytes),
+                Answer::Read(ticket) => Settled::Read(ticket),
                 Answer::Written(ticket) => Settled::Written(ticket),
             },
             Incoming::Started(endpoint) => {
@@ -184,36 +185,37 @@ impl<L: Link> Transfers<L> {
     }
 
     /// Does what a message asks for: a complaint where an answer counts and isn't good, then the posts that are due. End changes nothing.
-    pub fn absorb(&mut self, message: Incoming) -> Settled
+    /// The bytes of a read that is settled stand in `into` then.
+    pub fn absorb(&mut self, message: &Incoming, into: &mut [u8; 4096]) -> Settled
         requires ids { (table_of self.old).ids < 2 ^ 60 }
-        requires room { room_needed message ≤ L.room (link_of self.old) }
-        ensures absorbs { Between L.Link (Absorbs message result) self.old self.new }
-        ensures answer { IsAnswerTo message result }
-        ensures ended { message ≡ Incoming.End → self.new ≡ self.old }
+        requires room { room_needed message.now ≤ L.room (link_of self.old) }
+        ensures absorbs { Between L.Link (Absorbs message.now (settlement result into.new)) self.old self.new }
+        ensures answer { IsAnswerTo message.now (settlement result into.new) }
+        ensures ended { message.now ≡ Incoming.End → self.new ≡ self.old }
         ensures budget { L.budget_left (link_of self.new) ≤ L.budget_left (link_of self.old) }
         ensures goes { L.goes_on (link_of self.old) (link_of self.new) }
-        ensures room { is_message message ≡ true → HasRoom (table_of self.new) (L.room (link_of self.new)) }
+        ensures room { is_message message.now ≡ true → HasRoom (table_of self.new) (L.room (link_of self.new)) }
         ensures tried { IsTried (table_of self.old) (L.history (link_of self.old))
             → IsTried (table_of self.new) (L.history (link_of self.new)) }
         ensures ids { (table_of self.new).ids ≤ (table_of self.old).ids + 1 }
         ensures closed { (table_of self.new).ids + length (table_of self.old).pending
             ≤ (table_of self.old).ids + length (table_of self.new).pending + 1 }
     {
-        let due = posts_after(&message);
-        let settled = self.take_in(&message);
+        let due = posts_after(message);
+        let settled = self.take_in(message, into);
         self.post_if(due);
         settled
     }
 
-    /// Takes a message and absorbs it.
-    pub fn step(&mut self) -> Settled
+    /// Takes a message and absorbs it. The bytes of a read that is settled stand in `into` then.
+    pub fn step(&mut self, into: &mut [u8; 4096]) -> Settled
         requires { (table_of self.old).ids < 2 ^ 60 }
-        ensures steps { Between L.Link (Steps result) self.old self.new }
+        ensures steps { Between L.Link (Steps (settlement result into.new)) self.old self.new }
         ensures budget { 0 < L.budget_left (link_of self.old) → L.budget_left (link_of self.new) < L.budget_left (link_of self.old) }
         ensures spent { L.budget_left (link_of self.old) ≡ 0 → result ≡ Settled.End }
         ensures goes { L.goes_on (link_of self.old) (link_of self.new) }
-        ensures falls { more_may_come result ≡ true → L.budget_left (link_of self.new) < L.budget_left (link_of self.old) }
-        ensures room { more_may_come result ≡ true → HasRoom (table_of self.new) (L.room (link_of self.new)) }
+        ensures falls { more_may_come (settlement result into.new) ≡ true → L.budget_left (link_of self.new) < L.budget_left (link_of self.old) }
+        ensures room { more_may_come (settlement result into.new) ≡ true → HasRoom (table_of self.new) (L.room (link_of self.new)) }
         ensures tried { IsTried (table_of self.old) (L.history (link_of self.old))
             → IsTried (table_of self.new) (L.history (link_of self.new)) }
         ensures ids { (table_of self.new).ids ≤ (table_of self.old).ids + 1 }
@@ -221,7 +223,7 @@ impl<L: Link> Transfers<L> {
             ≤ (table_of self.old).ids + length (table_of self.new).pending + 1 }
     {
         let message = self.link.take();
-        self.absorb(message)
+        self.absorb(&message, into)
     }
 
     /// Takes a request up, for any range of whole sectors: 1 TableFull where sixteen are pending, 2 BlockPending where a byte of its range

@@ -8,8 +8,8 @@ use Rattle.cache.proofs.Silent.{silent}
 use Rattle.cache.proofs.Taking.{absorbs_one, room_after, leaves_settled, none_begun}
 use Rattle.message.specs.declared.Incoming.{Incoming}
 use Rattle.reissue.specs.Calls.{IsAnswerTo}
-use Rattle.reissue.specs.declared.ask.Settled.{Settled}
-use Rattle.reissue.specs.declared.ask.Settled.TheVariants as settled
+use Rattle.reissue.specs.Settlements.{Settlement, settlement}
+use Rattle.reissue.specs.Settlements as settled
 use Rattle.cache.specs.Slots.{held}
 use Rattle.cache.specs.Settling.{Settles}
 use Rattle.cache.proofs.cache.Cache.absorb.Goals as goal
@@ -23,27 +23,29 @@ returns g c =
     let x = c.absorb-settled.ensures in
     let old = caching g.L.Link s in
     let items = c.settle.new.slots.items.items in
+    let bytes = c.absorb-settled.new.into in
+    let came = settlement c.absorb-settled.result bytes in
     let new = caching_of g.L.Link c.absorb-settled.new.self s.shape items s.ended in
     record {
-      hands_over = absorbs_one c.args.message c.absorb-settled.result old new s.slots.items.items items x.absorbs e.slots refl refl
+      hands_over = absorbs_one c.args.message came old new s.slots.items.items items x.absorbs (e.slots bytes) refl refl
           c.requires.ready c.requires.spare
           refl refl refl x.budget
           (λ alive. room_after c.args.message (HasRoom (table_of c.absorb-settled.new.self) (r (link_of c.absorb-settled.new.self))) x.room
           (λ end. subst (λ (u : Transfers _). HasRoom (table_of u) (r (link_of u))) (sym (x.ended end)) (c.requires.ready.room alive))) x.closed
           (λ end. ap (λ (u : Transfers _). h (link_of u)) (x.ended end));
-      silent = λ idle. silent c.args.message c.absorb-settled.result old new x.absorbs idle;
+      silent = λ idle. silent c.args.message came old new x.absorbs idle;
       goes = x.goes;
       stay = e.stay;
-      reads = none_begun c.absorb-settled.result _ _ x.absorbs.closes;
-      leaves = leaves_settled c.absorb-settled.result _ _ e.slots;
+      reads = none_begun came _ _ x.absorbs.closes;
+      leaves = leaves_settled came _ _ (e.slots bytes);
       end = λ is.
-          let ends : c.absorb-settled.result ≡ settled.End = subst (λ (m : Incoming). IsAnswerTo m c.absorb-settled.result) is x.answer in
-          let none : (c.absorb-settled.result ≡ settled.Flush) → ⊥ = λ f. (let z = ends in cc) in
-          let slots = e.end ends in
-          let flush = e.wanted.1 none in
+          let ends : came ≡ settled.End = subst (λ (m : Incoming). IsAnswerTo m came) is x.answer in
+          let none : (came ≡ settled.Flush) → ⊥ = λ f. (let z = ends in cc) in
+          let slots = e.end bytes ends in
+          let flush = (e.wanted bytes).1 none in
           λ i. record s { transfers = x.ended is i; slots = slots i; flush = flush i };
       asked = λ is.
-          let flushes : c.absorb-settled.result ≡ settled.Flush = subst (λ (m : Incoming). IsAnswerTo m c.absorb-settled.result) is x.answer in
-          ap held (subst (λ (r : Settled). Settles r s.slots.items.items items) flushes e.slots);
-      wanted = wanted_for c.args.message c.absorb-settled.result _ _ x.answer e.wanted;
+          let flushes : came ≡ settled.Flush = subst (λ (m : Incoming). IsAnswerTo m came) is x.answer in
+          ap held (subst (λ (r : Settlement). Settles r s.slots.items.items items) flushes (e.slots bytes));
+      wanted = wanted_for c.args.message came _ _ x.answer (e.wanted bytes);
     }

@@ -11,8 +11,8 @@ use Rattle.cache.proofs.Fetching.{misses_cut, misses_filled}
 use Rattle.cache.proofs.Flushes.{follows_then}
 use Rattle.cache.proofs.cache.Cache.fetch_missing.Goals as goal
 
-pub returns-in_err-bytes-clause-keeps : goal.returns-in_err-bytes-clause-keeps
-returns-in_err-bytes-clause-keeps g c = keeps_then _ _ _ c.make_room.ensures.keeps (keeps_read _ _ _ _ _ c.read.ensures.runs)
+pub returns-in_err-read-clause-keeps : goal.returns-in_err-read-clause-keeps
+returns-in_err-read-clause-keeps g c = keeps_then _ _ _ c.make_room.ensures.keeps (keeps_read _ _ _ _ _ c.read.ensures.runs)
 
 pub fill-requires-clause-at : goal.fill-requires-clause-at
 fill-requires-clause-at g c =
@@ -26,29 +26,29 @@ pub returns-clause-keeps : goal.returns-clause-keeps
 returns-clause-keeps g c =
     let m = c.read.new.self in
     let none = c.read.ensures.leaves.none c.args.block (c.make_room.ensures.none c.args.block c.requires.missing) in
-    let x = reads_after _ _ _ _ c.args.block c.args.block refl c.make_room.ensures.keeps c.in_ok-bytes.ensures.runs in
+    let x = reads_after _ _ _ _ c.args.block c.args.block refl c.make_room.ensures.keeps c.in_ok-read.ensures.runs in
     placed (caching g.L.Link m) (caching_of g.L.Link m.transfers m.shape c.fill.new.self.items.items m.ended) m.slots.items.items c.fill.new.self.items.items
-    c.in_ok-at.at c.args.block _ _ c.in_ok-bytes.bytes (caching g.L.Link c.args.self.now) m.slots.distinct
+    c.in_ok-at.at c.args.block _ _ c.read.new.into (caching g.L.Link c.args.self.now) m.slots.distinct
     (c.read.ensures.leaves.free c.in_ok-at.at c.in_ok-at.ensures.free) none c.fill.ensures.filled refl refl refl x.size x.ready x
 
 pub returns-clause-frame : goal.returns-clause-frame
-returns-clause-frame g c = (refl, filled_at _ c.fill.new.self.items.items c.in_ok-at.at c.args.block c.in_ok-bytes.bytes Clean c.fill.ensures.filled)
+returns-clause-frame g c = (refl, filled_at _ c.fill.new.self.items.items c.in_ok-at.at c.args.block c.read.new.into Clean c.fill.ensures.filled)
 
 pub returns-in_err-at-clause-miss : goal.returns-in_err-at-clause-miss
 returns-in_err-at-clause-miss g c =
     let m = c.make_room.ensures.made in
     misses_cut Clean c.from_residual.result _ _ m.at c.from_residual.ensures.0 m.goes m.stay c.make_room.ensures.none
 
-pub returns-in_err-bytes-clause-miss : goal.returns-in_err-bytes-clause-miss
-returns-in_err-bytes-clause-miss g c =
+pub returns-in_err-read-clause-miss : goal.returns-in_err-read-clause-miss
+returns-in_err-read-clause-miss g c =
     let m = c.in_ok-at.ensures.made in
-    misses_cut Clean c.from_residual-in_err-bytes.result _ _ m.at c.from_residual-in_err-bytes.ensures.0 m.goes
+    misses_cut Clean c.from_residual-in_err-read.result _ _ m.at c.from_residual-in_err-read.ensures.0 m.goes
     (but_then m.at _ _ _ m.stay (all_but m.at _ _ c.read.ensures.stay)) (λ b h. c.read.ensures.leaves.none b (c.make_room.ensures.none b h))
 
 pub returns-clause-miss : goal.returns-clause-miss
 returns-clause-miss g c =
     let m = c.in_ok-at.ensures.made in
-    misses_filled _ _ c.read.new.self.slots _ c.in_ok-at.at c.args.block c.in_ok-bytes.bytes Clean refl refl
+    misses_filled _ _ c.read.new.self.slots _ c.in_ok-at.at c.args.block c.read.new.into Clean refl refl
     (subst (λ (n : ℕ). IsVictim c.args.self.now.slots.items.items c.args.self.now.slots.uses.numbers.items n) (sym m.is) m.goes)
     (subst (λ (n : ℕ). StayBut n c.args.self.now.slots c.read.new.self.slots) (sym m.is)
     (but_then m.at _ _ _ m.stay (all_but m.at _ _ c.read.ensures.stay)))
@@ -57,14 +57,14 @@ returns-clause-miss g c =
     (c.read.ensures.leaves.none c.args.block (c.make_room.ensures.none c.args.block c.requires.missing))
     c.fill.ensures.filled c.fill.ensures.used
 
-pub returns-in_err-bytes-clause-flush : goal.returns-in_err-bytes-clause-flush
-returns-in_err-bytes-clause-flush g c = follows_then _ _ _ _ _ _ c.make_room.ensures.flush c.read.ensures.flush
+pub returns-in_err-read-clause-flush : goal.returns-in_err-read-clause-flush
+returns-in_err-read-clause-flush g c = follows_then _ _ _ _ _ _ c.make_room.ensures.flush c.read.ensures.flush
 
 pub returns-clause-flush : goal.returns-clause-flush
 returns-clause-flush g c = follows_then _ _ _ _ _ _ c.make_room.ensures.flush c.read.ensures.flush
 
-pub returns-in_err-bytes-clause-goes : goal.returns-in_err-bytes-clause-goes
-returns-in_err-bytes-clause-goes g c = g.met.L.Link.joins _ _ _ c.make_room.ensures.goes c.read.ensures.goes
+pub returns-in_err-read-clause-goes : goal.returns-in_err-read-clause-goes
+returns-in_err-read-clause-goes g c = g.met.L.Link.joins _ _ _ c.make_room.ensures.goes c.read.ensures.goes
 
 pub returns-clause-goes : goal.returns-clause-goes
 returns-clause-goes g c = g.met.L.Link.joins _ _ _ c.make_room.ensures.goes c.read.ensures.goes

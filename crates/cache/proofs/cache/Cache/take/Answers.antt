@@ -1,15 +1,16 @@
 use Rattle.std.proofs.Common.{◌≡◌, refl, sym, subst, None, Ok}
 use Rattle.cache.specs.Calls.{Caching, caching, caching_of, Runs}
 use Rattle.cache.specs.Takes.{Takes}
+use Rattle.reissue.specs.Settlements.{settlement}
 use Rattle.cache.specs.Settling.{took_of, is_ended_by}
 use Rattle.cache.proofs.Runs.{runs_none}
 use Rattle.cache.proofs.Staying.{all_none}
-use Rattle.cache.proofs.Taking.{takes_none, takes_one, leaves_settled}
+use Rattle.cache.proofs.Taking.{cut_off, takes_none, takes_one, leaves_settled}
 use Rattle.cache.proofs.Flushes.{follows_none, follows_take, wanted_for}
 use Rattle.cache.proofs.cache.Cache.take.Goals as goal
 
 pub returns-in_err-live-clause-runs : goal.returns-in_err-live-clause-runs
-returns-in_err-live-clause-runs g c = runs_none _ _ c.requires.ready (λ w. takes_none c.from_residual.result _ w c.from_residual.ensures.0)
+returns-in_err-live-clause-runs g c = runs_none _ _ c.requires.ready (λ w. takes_none _ _ w (cut_off c.from_residual.result _ c.from_residual.ensures.0))
 
 pub returns-clause-runs : goal.returns-clause-runs
 returns-clause-runs g c =
@@ -18,16 +19,18 @@ returns-clause-runs g c =
     let l = c.in_ok-live.ensures.live in
     let old = caching g.L.Link c.args.self.now in
     let items = c.settle.new.slots.items.items in
+    let bytes = c.step-settled.new.into in
+    let came = settlement c.step-settled.result bytes in
     let as_it_ends = caching_of g.L.Link c.step-settled.new.self c.args.self.now.shape items in
-    let mid = as_it_ends (is_ended_by c.step-settled.result) in
-    let same : as_it_ends c.is_end-self.result ≡ mid = λ i. as_it_ends (c.is_end-self.ensures i) in
-    let one : Runs None old mid (λ w v. Takes (Ok (took_of c.step-settled.result)) old mid w v) =
-    takes_one c.step-settled.result old mid c.args.self.now.slots.items.items items s.steps e.slots refl refl c.requires.ready
+    let mid = as_it_ends (is_ended_by came) in
+    let same : as_it_ends c.is_end-self.result ≡ mid = λ i. as_it_ends (c.is_end-self.ensures bytes i) in
+    let one : Runs None old mid (λ w v. Takes (Ok (took_of came)) old mid w v) =
+    takes_one came old mid c.args.self.now.slots.items.items items s.steps (e.slots bytes) refl refl c.requires.ready
     (c.requires.busy l) l.not_ended l.not_given_up refl refl refl s.falls s.room s.closed in
     let new = as_it_ends c.is_end-self.result in
-    let both : Runs None old new (λ w v. Takes (Ok (took_of c.step-settled.result)) old new w v) =
-    subst (λ (n : Caching). Runs None old n (λ w v. Takes (Ok (took_of c.step-settled.result)) old n w v)) (sym same) one in
-    rw e.took both
+    let both : Runs None old new (λ w v. Takes (Ok (took_of came)) old new w v) =
+    subst (λ (n : Caching). Runs None old n (λ w v. Takes (Ok (took_of came)) old n w v)) (sym same) one in
+    rw (e.took bytes) both
 
 pub returns-in_err-live-clause-stay : goal.returns-in_err-live-clause-stay
 returns-in_err-live-clause-stay g c = all_none _
@@ -36,10 +39,10 @@ pub returns-clause-flush : goal.returns-clause-flush
 returns-clause-flush g c =
     let s = c.step-settled.ensures.steps in
     follows_take s.message s.posts s.complaints _ _ _ _ s.history s.only_posts s.grows
-    (wanted_for s.message c.step-settled.result _ _ s.answer c.settle.ensures.wanted)
+    (wanted_for s.message _ _ _ s.answer (c.settle.ensures.wanted c.step-settled.new.into))
 
 pub returns-in_err-live-clause-flush : goal.returns-in_err-live-clause-flush
 returns-in_err-live-clause-flush g c = follows_none _ _
 
 pub returns-clause-leaves : goal.returns-clause-leaves
-returns-clause-leaves g c = leaves_settled c.step-settled.result _ _ c.settle.ensures.slots
+returns-clause-leaves g c = leaves_settled _ _ _ (c.settle.ensures.slots c.step-settled.new.into)

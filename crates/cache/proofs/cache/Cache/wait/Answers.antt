@@ -1,10 +1,12 @@
 use Rattle.std.proofs.Common.{sym, ap, ◌∙◌, Ok, Result}
 use Rattle.std.proofs.lemmas.Bool.{eqb-true}
 use Rattle.cache.specs.declared.settling.Took.{Took}
+use Rattle.cache.specs.Settling.{taking_in}
 use Rattle.cache.specs.declared.refusals.Cut.{Cut}
 use Rattle.cache.specs.Takes.{is_read_of}
 use Rattle.cache.proofs.Edits.{leaves_none, leaves_then}
 use Rattle.cache.proofs.Placing.{keeps_none, keeps_took, reads_cut, still_reading, reads_done}
+use Rattle.cache.proofs.Taking.{read_cut_off}
 use Rattle.cache.proofs.Staying.{all_none, all_then}
 use Rattle.cache.proofs.Flushes.{follows_none, follows_then}
 use Rattle.cache.proofs.cache.Cache.wait.Goals as goal
@@ -21,15 +23,16 @@ messages-init g c = record {
 
 pub returns-in_err-settled-clause-runs : goal.returns-in_err-settled-clause-runs
 returns-in_err-settled-clause-runs g c =
-    reads_cut c.from_residual.result _ _ _ _ c.from_residual.ensures.0 (keeps_took _ _ _ _ c.messages.invariant.keeps c.take.ensures.runs)
+    reads_cut _ _ _ _ _ (read_cut_off c.from_residual.result _ c.from_residual.ensures.0) (keeps_took _ _ _ _ c.messages.invariant.keeps c.take.ensures.runs)
 
 pub messages-preserved-in_default : goal.messages-preserved-in_default
 messages-preserved-in_default g c = record {
   keeps = keeps_took _ _ _ _ c.messages.invariant.keeps c.take.ensures.runs;
   leaves = leaves_then _ _ _ c.messages.invariant.leaves c.take.ensures.leaves;
   stay = all_then _ _ _ c.messages.invariant.stay c.take.ensures.stay;
-  pending = still_reading c.take.result _ _ c.args.reading.ticket _ _ c.take.ensures.reads
-      (ap (λ (r : Result Took Cut). is_read_of r c.args.reading.ticket) (c.in_ok-settled.was ∙ ap Ok c.in_default.is)) c.messages.invariant.pending;
+  pending = still_reading _ _ _ c.args.reading.ticket _ _ c.take.ensures.reads
+      (ap (λ (r : Result Took Cut). is_read_of (taking_in r c.take.new.into) c.args.reading.ticket) (c.in_ok-settled.was ∙ ap Ok c.in_default.is))
+      c.messages.invariant.pending;
   flush = follows_then _ _ _ _ _ _ c.messages.invariant.flush c.take.ensures.flush;
   goes = g.met.L.Link.joins _ _ _ c.messages.invariant.goes c.take.ensures.goes;
 }
@@ -37,7 +40,8 @@ messages-preserved-in_default g c = record {
 pub returns-then-eq-clause-runs : goal.returns-then-eq-clause-runs
 returns-then-eq-clause-runs g c =
     let same = eqb-true c.in-Read.settled c.args.reading.ticket (sym c.eq.ensures ∙ c.if-eq.true) in
-    reads_done c.take.result _ _ _ c.in-Read.settled c.args.reading.ticket _ _ c.in-Read.bytes (c.in_ok-settled.was ∙ ap Ok c.in-Read.is) same
+    reads_done _ _ _ _ c.in-Read.settled c.args.reading.ticket _ _ c.take.new.into
+    (ap (λ (r : Result Took Cut). taking_in r c.take.new.into) (c.in_ok-settled.was ∙ ap Ok c.in-Read.is)) same
     c.messages.invariant.pending c.messages.invariant.keeps c.take.ensures.runs
 
 pub returns-then-eq-clause-stay : goal.returns-then-eq-clause-stay
@@ -48,8 +52,9 @@ messages-preserved g c = record {
   keeps = keeps_took _ _ _ _ c.messages.invariant.keeps c.take.ensures.runs;
   leaves = leaves_then _ _ _ c.messages.invariant.leaves c.take.ensures.leaves;
   stay = all_then _ _ _ c.messages.invariant.stay c.take.ensures.stay;
-  pending = still_reading c.take.result _ _ c.args.reading.ticket _ _ c.take.ensures.reads
-      (ap (λ (r : Result Took Cut). is_read_of r c.args.reading.ticket) (c.in_ok-settled.was ∙ ap Ok c.in-Read.is) ∙ (sym c.eq.ensures ∙ c.if-eq.false)) c.messages.invariant.pending;
+  pending = still_reading _ _ _ c.args.reading.ticket _ _ c.take.ensures.reads
+      (ap (λ (r : Result Took Cut). is_read_of (taking_in r c.take.new.into) c.args.reading.ticket) (c.in_ok-settled.was ∙ ap Ok c.in-Read.is)
+      ∙ (sym c.eq.ensures ∙ c.if-eq.false)) c.messages.invariant.pending;
   flush = follows_then _ _ _ _ _ _ c.messages.invariant.flush c.take.ensures.flush;
   goes = g.met.L.Link.joins _ _ _ c.messages.invariant.goes c.take.ensures.goes;
 }

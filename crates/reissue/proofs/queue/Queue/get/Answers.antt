@@ -19,6 +19,7 @@ unreachable-requires c =
 pub returns : goal.returns
 returns c =
     let lt = place_below c.self.inside.entries c.self.inside.keys.items _ c.args.at c.self.invariant.holds c.self.view_is c.requires in
-    let e = entry_at c.self.inside.entries c.self.inside.keys.items c.args.at c.index.result.now c.in-Some.entry.now c.self.invariant.holds lt c.index.ensures in
     let same : Some c.in-Some.entry.now ≡ get c.self.inside.entries c.index.result.now = ap option_copied (sym c.in-Some.is) ∙ c.get.ensures in
-    rw (← c.self.view_is) cc
+    let e = entry_at c.self.inside.entries c.self.inside.keys.items c.args.at c.index.result.now c.in-Some.entry.now c.self.invariant.holds lt c.index.ensures
+    (sym same) in
+    rw (c.deref.ensures, ← c.self.view_is) e

@@ -1,21 +1,30 @@
-use Rattle.std.proofs.Common.{refl, arith, ◌∙◌, ap}
+use Rattle.std.proofs.Common.{ℕ, List, arith, refl, sym, ◌∙◌, ap, slice_index}
+use Rattle.message.specs.declared.BlockRequest.{BlockRequest}
 use Rattle.reissue.specs.Entries.{pending_of}
 use Rattle.reissue.proofs.Tickets.{fresh_above, pending_none, pending_pushed}
 use Rattle.reissue.proofs.Answering.{agrees_add}
 use Rattle.reissue.proofs.table.Table.add.Goals as goal
 
 pub push-requires-clause-fresh : goal.push-requires-clause-fresh
-push-requires-clause-fresh c = fresh_above c.args.self.now.ids _ c.args.self.now.pending c.args.self.now.numbers.up_to (omega (arith, c.of_id-ticket.ensures))
+push-requires-clause-fresh c = fresh_above c.args.self.now.ids _ c.args.self.now.pending c.args.self.now.numbers.up_to (omega (arith, c.begin.ensures.ticket))
 
 pub returns-clause-agrees : goal.returns-clause-agrees
 returns-clause-agrees c = λ marks h.
     let p = c.push.ensures in
-    agrees_add c.args.self.now c.push.new.self marks _ h p.items p.ids refl p.posted p.issued p.current p.given_up c.requires.room refl (λ k. refl) c.requires.free
+    let b = c.begin.ensures in
+    agrees_add c.args.self.now c.push.new.self marks c.begin.new.self h p.items p.ids (ap (λ (r : BlockRequest). r.id) b.request)
+    p.posted p.issued p.current p.given_up c.requires.room (ap (λ (r : BlockRequest). r.position) b.request ∙ sym b.start)
+    (λ k. ap (λ (r : BlockRequest). slice_index r.bytes k) b.request ∙ ap (λ (l : List ℕ). slice_index l k) (sym b.bytes))
+    (rw (b.start, b.size) c.requires.free)
 
 pub returns-clause-fresh : goal.returns-clause-fresh
 returns-clause-fresh c = pending_none c.args.self.now.pending _
-    (fresh_above c.args.self.now.ids _ c.args.self.now.pending c.args.self.now.numbers.up_to (omega (arith, c.of_id-ticket.ensures)))
+    (fresh_above c.args.self.now.ids _ c.args.self.now.pending c.args.self.now.numbers.up_to (omega (arith, c.of_id.ensures)))
 
 pub returns-clause-opens : goal.returns-clause-opens
-returns-clause-opens c = ap pending_of c.push.ensures.items ∙ pending_pushed _ c.args.self.now.pending
-    (fresh_above c.args.self.now.ids _ c.args.self.now.pending c.args.self.now.numbers.up_to (omega (arith, c.of_id-ticket.ensures)))
+returns-clause-opens c =
+    let b = c.begin.ensures in
+    ap pending_of c.push.ensures.items
+    ∙ pending_pushed c.begin.new.self c.args.self.now.pending
+    (fresh_above c.args.self.now.ids _ c.args.self.now.pending c.args.self.now.numbers.up_to (omega (arith, b.ticket)))
+    ∙ rw (b.ticket, b.begun, c.of_id.ensures) refl

@@ -11,37 +11,37 @@ use Rattle.reissue.proofs.table.Table.settle.Goals as goal
 
 pub push-requires-clause-fresh : goal.push-requires-clause-fresh
 push-requires-clause-fresh c =
-    let o = c.take_out-entry.ensures in
+    let o = c.take_out.ensures in
     let lt = issued_within c.args.self.now c.args.at c.requires.at in
-    let x = tickets_out c.args.self.now.ids c.args.self.now.pending c.args.at c.take_out-entry.result lt o.value c.args.self.now.numbers in
-    rw (c.with_answer-rest.ensures.ticket, o.items) x.1
+    let x = tickets_out c.args.self.now.ids c.args.self.now.pending c.args.at c.deref_mut.result.now lt (rw c.deref_mut.ensures.value o.value) c.args.self.now.numbers in
+    rw (c.answer.ensures.ticket, o.items) x.1
 
 pub push-requires-clause-ticket : goal.push-requires-clause-ticket
 push-requires-clause-ticket c =
-    let o = c.take_out-entry.ensures in
+    let o = c.take_out.ensures in
     let lt = issued_within c.args.self.now c.args.at c.requires.at in
-    let x = tickets_out c.args.self.now.ids c.args.self.now.pending c.args.at c.take_out-entry.result lt o.value c.args.self.now.numbers in
-    omega (arith, x.2, c.with_answer-rest.ensures.ticket, o.ids)
+    let x = tickets_out c.args.self.now.ids c.args.self.now.pending c.args.at c.deref_mut.result.now lt (rw c.deref_mut.ensures.value o.value) c.args.self.now.numbers in
+    omega (arith, x.2, c.answer.ensures.ticket, o.ids)
 
-pub returns-then-rest-gt0-clause-agrees : goal.returns-then-rest-gt0-clause-agrees
-returns-then-rest-gt0-clause-agrees c = λ marks h place m from.
-    let o = c.take_out-entry.ensures in
-    let w = c.with_answer-rest.ensures in
+pub returns-then-left-gt0-clause-agrees : goal.returns-then-left-gt0-clause-agrees
+returns-then-left-gt0-clause-agrees c = λ marks h place m from.
+    let o = c.take_out.ensures in
+    let w = c.answer.ensures in
     let p = c.push.ensures in
-    let x = taken c.args.self.now c.take_out-entry.new.self marks c.args.reply.now c.take_out-entry.result c.args.at c.args.n
-    h place m from o.value o.items o.issued o.ids o.current o.given_up in
-    agrees_rest c.args.self.now c.take_out-entry.new.self c.push.new.self marks c.args.reply.now
-    c.take_out-entry.result c.with_answer-rest.result c.args.n
+    let x = taken c.args.self.now c.take_out.new.self marks c.args.reply.now c.deref_mut.result.now c.args.at c.args.n
+    h place m from (rw c.deref_mut.ensures.value o.value) o.items o.issued o.ids o.current o.given_up in
+    agrees_rest c.args.self.now c.take_out.new.self c.push.new.self marks c.args.reply.now
+    c.deref_mut.result.now c.answer.new.self c.args.n
     x m p.items p.ids w.id p.posted p.issued p.current p.given_up w.start w.size w.kind w.position w.before w.moved w.count (λ h k. rw (w.begun h) refl) w.rest
 
-pub returns-then-rest-gt0-clause-hears : goal.returns-then-rest-gt0-clause-hears
-returns-then-rest-gt0-clause-hears c =
-    let o = c.take_out-entry.ensures in
-    let w = c.with_answer-rest.ensures in
+pub returns-then-left-gt0-clause-hears : goal.returns-then-left-gt0-clause-hears
+returns-then-left-gt0-clause-hears c =
+    let o = c.take_out.ensures in
+    let w = c.answer.ensures in
     let p = c.push.ensures in
-    answered_part c.args.self.now _ _ c.args.at c.args.n c.take_out-entry.result c.with_answer-rest.result c.requires.at o.value
-    (c.requires.there c.take_out-entry.result o.value) (omega (arith, w.count, c.if-rest-gt0.true))
-    (p.items ∙ ap (λ (l : List Pending). l ++ c.with_answer-rest.result ∷ []) o.items) (omega (arith, p.ids, o.ids))
+    answered_part c.args.self.now _ _ c.args.at c.args.n c.deref_mut.result.now c.answer.new.self c.requires.at (rw c.deref_mut.ensures.value o.value)
+    (c.requires.there c.deref_mut.result.now (rw c.deref_mut.ensures.value o.value)) (omega (arith, w.count, c.if-left-gt0.true, ap (λ (p : Pending). p.request.count) c.deref-left.ensures))
+    (p.items ∙ ap (λ (l : List Pending). l ++ c.answer.new.self ∷ []) o.items) (omega (arith, p.ids, o.ids))
     (record {
       ticket = w.ticket;
       start = w.start;
@@ -55,121 +55,121 @@ returns-then-rest-gt0-clause-hears c =
     })
     (p.posted ∙ o.posted) (omega (arith, p.issued, o.issued))
 
-pub returns-then-rest-gt0-clause-closes : goal.returns-then-rest-gt0-clause-closes
-returns-then-rest-gt0-clause-closes c =
-    let o = c.take_out-entry.ensures in
-    let w = c.with_answer-rest.ensures in
+pub returns-then-left-gt0-clause-closes : goal.returns-then-left-gt0-clause-closes
+returns-then-left-gt0-clause-closes c =
+    let o = c.take_out.ensures in
+    let w = c.answer.ensures in
     let lt = issued_within c.args.self.now c.args.at c.requires.at in
-    closes_rest c.args.self.now.pending c.take_out-entry.new.self.pending _ c.args.at c.take_out-entry.result c.with_answer-rest.result c.args.self.now.ids
-    lt o.value c.args.self.now.numbers o.items c.push.ensures.items w.ticket w.start w.size w.kind w.begun
+    closes_rest c.args.self.now.pending c.take_out.new.self.pending _ c.args.at c.deref_mut.result.now c.answer.new.self c.args.self.now.ids
+    lt (rw c.deref_mut.ensures.value o.value) c.args.self.now.numbers o.items c.push.ensures.items w.ticket w.start w.size w.kind w.begun
 
-pub returns-then-rest-gt0-clause-closing : goal.returns-then-rest-gt0-clause-closing
-returns-then-rest-gt0-clause-closing c = λ marks h place m from.
-    let o = c.take_out-entry.ensures in
+pub returns-then-left-gt0-clause-closing : goal.returns-then-left-gt0-clause-closing
+returns-then-left-gt0-clause-closing c = λ marks h place m from.
+    let o = c.take_out.ensures in
     let lt = issued_within c.args.self.now c.args.at c.requires.at in
-    let x = taken c.args.self.now c.take_out-entry.new.self marks c.args.reply.now c.take_out-entry.result c.args.at c.args.n
-    h place m from o.value o.items o.issued o.ids o.current o.given_up in
-    let i = among_here c.args.self.now.pending c.args.at c.take_out-entry.result lt o.value in
-    closing_nothing _ _ marks _ (λ image. spares_answered image marks c.args.reply.now c.take_out-entry.result c.args.n c.args.self.now.pending x.there m x.within c.args.self.now.numbers.distinct i)
-    (reads_rest c.args.self.now.pending c.take_out-entry.new.self.pending _ marks c.args.reply.now c.take_out-entry.result c.with_answer-rest.result c.args.at c.args.n
-    x.there m x.within lt o.value o.items c.push.ensures.items (rw x.holds.items x.apart) c.with_answer-rest.ensures.start c.with_answer-rest.ensures.size
-    c.with_answer-rest.ensures.position (omega (arith, c.if-rest-gt0.true)))
+    let x = taken c.args.self.now c.take_out.new.self marks c.args.reply.now c.deref_mut.result.now c.args.at c.args.n
+    h place m from (rw c.deref_mut.ensures.value o.value) o.items o.issued o.ids o.current o.given_up in
+    let i = among_here c.args.self.now.pending c.args.at c.deref_mut.result.now lt (rw c.deref_mut.ensures.value o.value) in
+    closing_nothing _ _ marks _ (λ image. spares_answered image marks c.args.reply.now c.deref_mut.result.now c.args.n c.args.self.now.pending x.there m x.within c.args.self.now.numbers.distinct i)
+    (reads_rest c.args.self.now.pending c.take_out.new.self.pending _ marks c.args.reply.now c.deref_mut.result.now c.answer.new.self c.args.at c.args.n
+    x.there m x.within lt (rw c.deref_mut.ensures.value o.value) o.items c.push.ensures.items (rw x.holds.items x.apart) c.answer.ensures.start c.answer.ensures.size
+    c.answer.ensures.position (omega (arith, c.if-left-gt0.true, ap (λ (p : Pending). p.request.count) c.deref-left.ensures)))
 
-pub returns-then-rest-gt0-clause-minors : goal.returns-then-rest-gt0-clause-minors
-returns-then-rest-gt0-clause-minors c = λ minor h.
-    let o = c.take_out-entry.ensures in
-    let w = c.with_answer-rest.ensures in
+pub returns-then-left-gt0-clause-minors : goal.returns-then-left-gt0-clause-minors
+returns-then-left-gt0-clause-minors c = λ minor h.
+    let o = c.take_out.ensures in
+    let w = c.answer.ensures in
     let lt = issued_within c.args.self.now c.args.at c.requires.at in
     rw (c.push.ensures.items, o.items)
-    (minors_push minor _ c.with_answer-rest.result (minors_rest minor c.args.self.now.pending c.args.at h)
-    (w.minor ∙ minor_there minor c.args.self.now.pending c.args.at c.take_out-entry.result lt o.value h))
+    (minors_push minor _ c.answer.new.self (minors_rest minor c.args.self.now.pending c.args.at h)
+    (w.minor ∙ minor_there minor c.args.self.now.pending c.args.at c.deref_mut.result.now lt (rw c.deref_mut.ensures.value o.value) h))
 
 pub returns-in-Read-clause-agrees : goal.returns-in-Read-clause-agrees
 returns-in-Read-clause-agrees c = λ marks h place m from.
-    let o = c.take_out-entry.ensures in
-    agrees_done c.args.self.now c.take_out-entry.new.self marks c.args.reply.now c.take_out-entry.result c.args.n
-    (taken c.args.self.now c.take_out-entry.new.self marks c.args.reply.now c.take_out-entry.result c.args.at c.args.n
-    h place m from o.value o.items o.issued o.ids o.current o.given_up)
+    let o = c.take_out.ensures in
+    agrees_done c.args.self.now _ marks c.args.reply.now c.deref_mut.result.now c.args.n
+    (taken c.args.self.now _ marks c.args.reply.now c.deref_mut.result.now c.args.at c.args.n
+    h place m from (rw c.deref_mut.ensures.value o.value) o.items o.issued o.ids o.current o.given_up)
 
 pub returns-in-Read-clause-hears : goal.returns-in-Read-clause-hears
 returns-in-Read-clause-hears c =
-    let o = c.take_out-entry.ensures in
-    let w = c.with_answer-rest.ensures in
-    answered_whole c.args.self.now _ _ c.args.at c.args.n c.take_out-entry.result c.requires.at o.value
-    (c.requires.there c.take_out-entry.result o.value) (omega (arith, w.count, c.if-rest-gt0.false)) o.items o.ids o.posted o.issued
+    let o = c.take_out.ensures in
+    let w = c.answer.ensures in
+    answered_whole c.args.self.now _ _ c.args.at c.args.n c.deref_mut.result.now c.requires.at (rw c.deref_mut.ensures.value o.value)
+    (c.requires.there c.deref_mut.result.now (rw c.deref_mut.ensures.value o.value)) (omega (arith, w.count, c.if-left-gt0.false, ap (λ (p : Pending). p.request.count) c.deref-left.ensures)) o.items o.ids o.posted o.issued
 
 pub returns-in-Read-clause-closes : goal.returns-in-Read-clause-closes
 returns-in-Read-clause-closes c =
-    let o = c.take_out-entry.ensures in
-    let w = c.with_answer-rest.ensures in
+    let o = c.take_out.ensures in
+    let w = c.answer.ensures in
     let lt = issued_within c.args.self.now c.args.at c.requires.at in
-    let k : is_write c.take_out-entry.result.request.kind ≡ false = ap is_write (sym w.kind ∙ c.in-Read.is) in
-    closes_read c.args.self.now.pending c.take_out-entry.new.self.pending c.args.at c.with_answer-rest.result.ticket c.with_answer-rest.result.bytes c.take_out-entry.result c.args.self.now.ids
-    lt o.value c.args.self.now.numbers o.items w.ticket k
+    let k : is_write c.deref_mut.result.now.request.kind ≡ false = ap is_write (sym w.kind ∙ ap (λ (p : Pending). p.request.kind) (sym c.deref-left.ensures) ∙ c.in-Read.is) in
+    rw c.deref-left.ensures (closes_read c.args.self.now.pending c.take_out.new.self.pending c.args.at c.answer.new.self.ticket c.answer.new.self.bytes c.deref_mut.result.now c.args.self.now.ids
+    lt (rw c.deref_mut.ensures.value o.value) c.args.self.now.numbers o.items w.ticket k)
 
 pub returns-in-Read-clause-closing : goal.returns-in-Read-clause-closing
 returns-in-Read-clause-closing c = λ marks h place m from.
-    let o = c.take_out-entry.ensures in
-    let w = c.with_answer-rest.ensures in
+    let o = c.take_out.ensures in
+    let w = c.answer.ensures in
     let lt = issued_within c.args.self.now c.args.at c.requires.at in
-    let k : is_write c.take_out-entry.result.request.kind ≡ false = ap is_write (sym w.kind ∙ c.in-Read.is) in
-    let none : c.with_answer-rest.result.request.count ≡ 0 = omega (arith, c.if-rest-gt0.false) in
-    let x = taken c.args.self.now c.take_out-entry.new.self marks c.args.reply.now c.take_out-entry.result c.args.at c.args.n
-    h place m from o.value o.items o.issued o.ids o.current o.given_up in
-    let i = among_here c.args.self.now.pending c.args.at c.take_out-entry.result lt o.value in
+    let k : is_write c.deref_mut.result.now.request.kind ≡ false = ap is_write (sym w.kind ∙ ap (λ (p : Pending). p.request.kind) (sym c.deref-left.ensures) ∙ c.in-Read.is) in
+    let none : c.answer.new.self.request.count ≡ 0 = omega (arith, c.if-left-gt0.false, ap (λ (p : Pending). p.request.count) c.deref-left.ensures) in
+    let x = taken c.args.self.now c.take_out.new.self marks c.args.reply.now c.deref_mut.result.now c.args.at c.args.n
+    h place m from (rw c.deref_mut.ensures.value o.value) o.items o.issued o.ids o.current o.given_up in
+    let i = among_here c.args.self.now.pending c.args.at c.deref_mut.result.now lt (rw c.deref_mut.ensures.value o.value) in
     let d = c.args.self.now.numbers.distinct in
-    closing_read _ _ marks (Answered c.args.reply.now ∷ marks) c.take_out-entry.result _ _ d i w.ticket
-    (λ image. spares_answered image marks c.args.reply.now c.take_out-entry.result c.args.n c.args.self.now.pending x.there m x.within d i)
-    (λ image tr. done_reads c.args.self.now c.take_out-entry.new.self marks image c.args.reply.now c.take_out-entry.result c.with_answer-rest.result c.args.n
+    rw c.deref-left.ensures (closing_read _ _ marks (Answered c.args.reply.now ∷ marks) c.deref_mut.result.now _ _ d i w.ticket
+    (λ image. spares_answered image marks c.args.reply.now c.deref_mut.result.now c.args.n c.args.self.now.pending x.there m x.within d i)
+    (λ image tr. done_reads c.args.self.now c.take_out.new.self marks image c.args.reply.now c.deref_mut.result.now c.answer.new.self c.args.n
     x m tr k w.start w.size w.position none (w.before k) (w.moved k))
-    (done_joined c.args.self.now c.take_out-entry.new.self marks c.args.reply.now c.take_out-entry.result c.with_answer-rest.result c.args.n
+    (done_joined c.args.self.now c.take_out.new.self marks c.args.reply.now c.deref_mut.result.now c.answer.new.self c.args.n
     x m k w.start w.size w.position none (w.before k) (w.moved k))
-    (reads_out c.args.self.now.pending c.take_out-entry.new.self.pending marks c.args.reply.now c.take_out-entry.result c.args.at c.args.n
-    x.there m x.within lt o.value o.items (rw x.holds.items x.apart))
+    (reads_out c.args.self.now.pending c.take_out.new.self.pending marks c.args.reply.now c.deref_mut.result.now c.args.at c.args.n
+    x.there m x.within lt (rw c.deref_mut.ensures.value o.value) o.items (rw x.holds.items x.apart)))
 
 pub returns-in-Read-clause-minors : goal.returns-in-Read-clause-minors
-returns-in-Read-clause-minors c = λ minor h. rw c.take_out-entry.ensures.items (minors_rest minor c.args.self.now.pending c.args.at h)
+returns-in-Read-clause-minors c = λ minor h. rw c.take_out.ensures.items (minors_rest minor c.args.self.now.pending c.args.at h)
 
 pub returns-in-Write-clause-agrees : goal.returns-in-Write-clause-agrees
 returns-in-Write-clause-agrees c = λ marks h place m from.
-    let o = c.take_out-entry.ensures in
-    agrees_done c.args.self.now c.take_out-entry.new.self marks c.args.reply.now c.take_out-entry.result c.args.n
-    (taken c.args.self.now c.take_out-entry.new.self marks c.args.reply.now c.take_out-entry.result c.args.at c.args.n
-    h place m from o.value o.items o.issued o.ids o.current o.given_up)
+    let o = c.take_out.ensures in
+    agrees_done c.args.self.now _ marks c.args.reply.now c.deref_mut.result.now c.args.n
+    (taken c.args.self.now _ marks c.args.reply.now c.deref_mut.result.now c.args.at c.args.n
+    h place m from (rw c.deref_mut.ensures.value o.value) o.items o.issued o.ids o.current o.given_up)
 
 pub returns-in-Write-clause-hears : goal.returns-in-Write-clause-hears
 returns-in-Write-clause-hears c =
-    let o = c.take_out-entry.ensures in
-    let w = c.with_answer-rest.ensures in
-    answered_whole c.args.self.now _ _ c.args.at c.args.n c.take_out-entry.result c.requires.at o.value
-    (c.requires.there c.take_out-entry.result o.value) (omega (arith, w.count, c.if-rest-gt0.false)) o.items o.ids o.posted o.issued
+    let o = c.take_out.ensures in
+    let w = c.answer.ensures in
+    answered_whole c.args.self.now _ _ c.args.at c.args.n c.deref_mut.result.now c.requires.at (rw c.deref_mut.ensures.value o.value)
+    (c.requires.there c.deref_mut.result.now (rw c.deref_mut.ensures.value o.value)) (omega (arith, w.count, c.if-left-gt0.false, ap (λ (p : Pending). p.request.count) c.deref-left.ensures)) o.items o.ids o.posted o.issued
 
 pub returns-in-Write-clause-closes : goal.returns-in-Write-clause-closes
 returns-in-Write-clause-closes c =
-    let o = c.take_out-entry.ensures in
-    let w = c.with_answer-rest.ensures in
+    let o = c.take_out.ensures in
+    let w = c.answer.ensures in
     let lt = issued_within c.args.self.now c.args.at c.requires.at in
-    let k : is_write c.take_out-entry.result.request.kind ≡ true = ap is_write (sym w.kind ∙ c.in-Write.is) in
-    closes_written c.args.self.now.pending c.take_out-entry.new.self.pending c.args.at _ c.take_out-entry.result c.args.self.now.ids
-    lt o.value c.args.self.now.numbers o.items w.ticket k
+    let k : is_write c.deref_mut.result.now.request.kind ≡ true = ap is_write (sym w.kind ∙ ap (λ (p : Pending). p.request.kind) (sym c.deref-left.ensures) ∙ c.in-Write.is) in
+    rw c.deref-left.ensures (closes_written c.args.self.now.pending c.take_out.new.self.pending c.args.at _ c.deref_mut.result.now c.args.self.now.ids
+    lt (rw c.deref_mut.ensures.value o.value) c.args.self.now.numbers o.items w.ticket k)
 
 pub returns-in-Write-clause-closing : goal.returns-in-Write-clause-closing
 returns-in-Write-clause-closing c = λ marks h place m from.
-    let o = c.take_out-entry.ensures in
-    let w = c.with_answer-rest.ensures in
+    let o = c.take_out.ensures in
+    let w = c.answer.ensures in
     let lt = issued_within c.args.self.now c.args.at c.requires.at in
-    let k : is_write c.take_out-entry.result.request.kind ≡ true = ap is_write (sym w.kind ∙ c.in-Write.is) in
-    let x = taken c.args.self.now c.take_out-entry.new.self marks c.args.reply.now c.take_out-entry.result c.args.at c.args.n
-    h place m from o.value o.items o.issued o.ids o.current o.given_up in
-    let i = among_here c.args.self.now.pending c.args.at c.take_out-entry.result lt o.value in
+    let k : is_write c.deref_mut.result.now.request.kind ≡ true = ap is_write (sym w.kind ∙ ap (λ (p : Pending). p.request.kind) (sym c.deref-left.ensures) ∙ c.in-Write.is) in
+    let x = taken c.args.self.now c.take_out.new.self marks c.args.reply.now c.deref_mut.result.now c.args.at c.args.n
+    h place m from (rw c.deref_mut.ensures.value o.value) o.items o.issued o.ids o.current o.given_up in
+    let i = among_here c.args.self.now.pending c.args.at c.deref_mut.result.now lt (rw c.deref_mut.ensures.value o.value) in
     let d = c.args.self.now.numbers.distinct in
-    closing_written _ _ marks (Answered c.args.reply.now ∷ marks) c.take_out-entry.result _ d i w.ticket k
-    (λ image. spares_answered image marks c.args.reply.now c.take_out-entry.result c.args.n c.args.self.now.pending x.there m x.within d i)
-    (λ image. done_writes c.args.self.now c.take_out-entry.new.self marks image c.args.reply.now c.take_out-entry.result c.with_answer-rest.result c.args.n
-    x m k w.start w.size w.position w.count (omega (arith, c.if-rest-gt0.false)) (w.begun k))
+    rw c.deref-left.ensures (closing_written _ _ marks (Answered c.args.reply.now ∷ marks) c.deref_mut.result.now _ d i w.ticket k
+    (λ image. spares_answered image marks c.args.reply.now c.deref_mut.result.now c.args.n c.args.self.now.pending x.there m x.within d i)
+    (λ image. done_writes c.args.self.now c.take_out.new.self marks image c.args.reply.now c.deref_mut.result.now c.answer.new.self c.args.n
+    x m k w.start w.size w.position w.count (omega (arith, c.if-left-gt0.false, ap (λ (p : Pending). p.request.count) c.deref-left.ensures)) (w.begun k))
     (rw x.holds.items x.apart)
-    (reads_out c.args.self.now.pending c.take_out-entry.new.self.pending marks c.args.reply.now c.take_out-entry.result c.args.at c.args.n
-    x.there m x.within lt o.value o.items (rw x.holds.items x.apart))
+    (reads_out c.args.self.now.pending c.take_out.new.self.pending marks c.args.reply.now c.deref_mut.result.now c.args.at c.args.n
+    x.there m x.within lt (rw c.deref_mut.ensures.value o.value) o.items (rw x.holds.items x.apart)))
 
 pub returns-in-Write-clause-minors : goal.returns-in-Write-clause-minors
-returns-in-Write-clause-minors c = λ minor h. rw c.take_out-entry.ensures.items (minors_rest minor c.args.self.now.pending c.args.at h)
+returns-in-Write-clause-minors c = λ minor h. rw c.take_out.ensures.items (minors_rest minor c.args.self.now.pending c.args.at h)
