@@ -11,8 +11,8 @@ use Rattle.records.specs.Disk.{Contents, HasTrueReplies, disk_after, unsure}
 use Rattle.records.specs.Told.{Told, received, grown, took_end}
 use Rattle.records.specs.Acts.{marks_after}
 use Rattle.reissue.specs.declared.ask.Ask.{Ask}
-use Rattle.reissue.specs.declared.ask.Settled.{Settled}
-use Rattle.reissue.specs.declared.ask.Settled.TheVariants as settled
+use Rattle.reissue.specs.Settlements.{Settlement}
+use Rattle.reissue.specs.Settlements as settled
 use Rattle.reissue.specs.declared.link.Link.{Ghosts as LinkWords}
 use Rattle.reissue.specs.declared.pending.Pending.{Pending}
 use Rattle.reissue.specs.declared.table.Table.{Table}
@@ -81,7 +81,7 @@ begins_further minor start size asked ask t u between after mid is m same b = re
 }
 
 -- what a message is as further acts
-steps_further : (minor start size : ℕ) (asked more : List Sought) (res : Settled) (t u : Table) (between after : List Told) (mid is : Truth)
+steps_further : (minor start size : ℕ) (asked more : List Sought) (res : Settlement) (t u : Table) (between after : List Told) (mid is : Truth)
     → pending_of t.pending ≡ pieces_of start size asked → pending_of u.pending ≡ pieces_of start size more
     → IsBusy (pending_of t.pending) → t.given_up ≡ false → Steps res t u between after mid is → Further minor t u between after mid is
 steps_further minor start size asked more res t u between after mid is same now busy live x = record {
@@ -210,7 +210,7 @@ busy_sought start size ps (x ∷ asked) same some = record {
 }
 
 -- a message that settles nothing
-pub midway_step : (minor start size next : ℕ) (asked : List Sought) (bytes : List ℕ) (res : Settled) (s t u : Table) (before between after : List Told)
+pub midway_step : (minor start size next : ℕ) (asked : List Sought) (bytes : List ℕ) (res : Settlement) (s t u : Table) (before between after : List Told)
     (was mid is : Truth) → Midway minor start size next asked bytes s t before between was mid → pending_of u.pending ≡ pending_of t.pending
     → 0 < length asked → t.given_up ≡ false → Steps res t u between after mid is
     → Midway minor start size next asked bytes s u before after was is

@@ -112,6 +112,7 @@ pub fn read_range<L: Link>(
     };
     let size = into.len();
     let mut next = 0;
+    let mut bytes = [0; 4096];
     'messages: loop {
         if let Some(after) = begin_next(transfers, &mut asked, minor, start, size, next) {
             next = after;
@@ -120,8 +121,8 @@ pub fn read_range<L: Link>(
         if asked.is_empty() {
             return Ok(());
         }
-        match transfers.step() {
-            Settled::Read(ticket, bytes) => put_bytes(&mut asked, into, ticket, &bytes),
+        match transfers.step(&mut bytes) {
+            Settled::Read(ticket) => put_bytes(&mut asked, into, ticket, &bytes),
             Settled::GaveUp => return Err(Stop::GaveUp),
             Settled::End => return Err(Stop::Ended),
             Settled::Nothing => {}

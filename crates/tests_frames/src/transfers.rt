@@ -24,16 +24,17 @@ fn over(alloc: Global, messages: &[Incoming]) -> Result<Transfers<ListLink>, All
     Transfers::new(alloc, ListLink::new(alloc, list)?)
 }
 
-/// Takes so many messages, 16 at most; what the last one came to.
-fn take<L: Link>(transfers: &mut Transfers<L>, count: u8) -> Settled
+/// Takes so many messages, 16 at most; what the last one came to, and the bytes of the read that was settled last.
+fn take<L: Link>(transfers: &mut Transfers<L>, count: u8) -> (Settled, [u8; 4096])
     requires { (table_of transfers.old).ids < 2 ^ 50 }
     ensures { (table_of transfers.new).ids < 2 ^ 50 + 256 }
 {
     let mut settled = Settled::Nothing;
+    let mut bytes = [0; 4096];
     'messages: for _ in 0..count {
-        settled = transfers.step();
+        settled = transfers.step(&mut bytes);
     }
-    settled
+    (settled, bytes)
 }
 
 /// Begins the read of a block of 4096 bytes; why not, where it is refused.
@@ -162,11 +163,11 @@ fn a_rest_goes_on(alloc: Global) -> Result<(), Fail> {
     ];
     let mut transfers = over(alloc, &messages)?;
     let ticket = transfers.begin(&Ask::read(0, 16384, 4096));
-    let settled = take(&mut transfers, 7);
+    let (settled, bytes) = take(&mut transfers, 7);
     row_is_told(1, told(alloc, transfers.link())?.as_str(), RESTS)?;
-    let (read, bytes) = match settled {
-        Settled::Read(read, bytes) => (Some(read), bytes),
-        _ => (None, [0; 4096]),
+    let read = match settled {
+        Settled::Read(read) => Some(read),
+        _ => None,
     };
     if ticket.ok() != read {
         return Err(Fail::from("another ticket was read"));
@@ -179,7 +180,7 @@ fn a_whole_write_again(alloc: Global) -> Result<(), Fail> {
     let messages = [started(1), started(2), moved(2, 1, 4096, 0)];
     let mut transfers = over(alloc, &messages)?;
     let ticket = transfers.begin(&Ask::write(0, 40960, 4096, &[49; 4096]));
-    let settled = take(&mut transfers, 3);
+    let (settled, _) = take(&mut transfers, 3);
     let lines = "write 1 40960 4096 49\nwrite 1 40960 4096 49\n";
     row_is_told(2, told(alloc, transfers.link())?.as_str(), lines)?;
     let written = match settled {

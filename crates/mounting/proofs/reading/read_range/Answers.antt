@@ -1,6 +1,6 @@
 use Rattle.std.proofs.Common.{◌≡◌, ◌<◌, ℕ, length, arith, refl, sym, ◌∙◌, ap, rules}
 use Rattle.std.specs.Prelude.{vec_len, ◌==◌}
-use Rattle.reissue.specs.declared.ask.Settled.TheVariants as settled
+use Rattle.reissue.specs.Settlements as settled
 use Rattle.reissue.specs.Transfers.{link_of, table_of}
 use Rattle.mounting.specs.Sought.{place_of}
 use Rattle.mounting.proofs.Searching.{before_later}
@@ -112,7 +112,7 @@ messages-preserved-in-Read g c =
     let x = c.in-Read.ensures in
     let p = c.put_bytes.ensures in
     record {
-      midway = midway_put c.args.minor c.args.start size c.messages.next c.in-Read.ticket asked c.put_bytes.new.asked.items c.in-Read.bytes c.messages.into c.put_bytes.new.into
+      midway = midway_put c.args.minor c.args.start size c.messages.next c.in-Read.ticket asked c.put_bytes.new.asked.items c.step.new.into c.messages.into c.put_bytes.new.into
           s (table_of between) (table_of after) (h (link_of before)) (h (link_of between)) (h (link_of after)) (w (link_of before)) (w (link_of between)) (w (link_of after))
           m p.left i.many p.puts some live x.steps;
       goes = g.met.L.Link.joins _ _ _ (g.met.L.Link.joins _ _ _ i.goes e.goes) x.goes;
@@ -120,7 +120,7 @@ messages-preserved-in-Read g c =
       unended = x.steps.ended ∙ unended;
       room = x.room refl;
       capacity = omega (arith, p.capacity, e.capacity, i.capacity);
-      many = puts_length (place_of asked c.in-Read.ticket) c.in-Read.bytes c.messages.into c.put_bytes.new.into p.puts ∙ i.many;
+      many = puts_length (place_of asked c.in-Read.ticket) c.step.new.into c.messages.into c.put_bytes.new.into p.puts ∙ i.many;
       all = i.all;
       place = i.place;
       within = i.within;
