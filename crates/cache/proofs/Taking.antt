@@ -13,7 +13,6 @@ use Rattle.reissue.specs.Calls.{Steps, Absorbs, more_may_come}
 use Rattle.reissue.proofs.Maps.{put-other, put_cases}
 use Rattle.cache.specs.declared.slot.Slot.{Slot}
 use Rattle.cache.specs.declared.settling.Took.{Took}
-use Rattle.cache.specs.Settling as took
 use Rattle.cache.specs.Settling.{Taking}
 use Rattle.cache.specs.declared.refusals.Cut.{Cut}
 use Rattle.cache.specs.Slots.{held}

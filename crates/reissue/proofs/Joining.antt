@@ -18,7 +18,7 @@ use Rattle.reissue.specs.declared.table.Table.{Table}
 use Rattle.records.specs.Opening.{Opening}
 use Rattle.reissue.specs.Room.{room_needed}
 use Rattle.reissue.specs.Moves.{Closes, Spares, state_after}
-use Rattle.reissue.specs.Entries.{pending_of, begun_of, request_of, AllOfMinor, IsAmong}
+use Rattle.reissue.specs.Entries.{pending_of, request_of, AllOfMinor, IsAmong}
 use Rattle.reissue.specs.Agrees.{Agrees, unposted}
 use Rattle.reissue.specs.Posts.{OnlyPosts, PostsInOrder, PostsAfter, is_message}
 use Rattle.reissue.specs.Calls.{Truth, Leads, TakesIn, Absorbs, Steps, Begins, PostsNew, IsAnswerTo, more_may_come}
@@ -27,7 +27,6 @@ use Rattle.reissue.specs.Rules.{BeganAmong, at_link, all_began, began_on, acts_o
 use Rattle.reissue.proofs.StepRules.{arrival}
 use Rattle.reissue.proofs.CallRules.{absorb_rules, step_rules, begin_rules}
 use Rattle.reissue.proofs.Settling.{minors_push}
-use Rattle.reissue.proofs.Tickets.{pending_among}
 
 -- the record after both
 pub grown_append : (es fs : List Told) (marks : List Mark) → grown (es ++ fs) marks ≡ grown es (grown fs marks)

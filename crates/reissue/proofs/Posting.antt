@@ -1,6 +1,5 @@
 -- What posts leave of what an answer told.
 use Rattle.std.proofs.Common.{◌≡◌, ℕ, ◌+◌, ◌<◌, List, [], ◌∷◌, Bool, true, false, refl, sym, ◌∙◌, subst, inl, inr, Option, Some, None, arith, length}
-use Rattle.std.specs.Prelude.{◌||◌}
 use Rattle.reissue.specs.Settlements.{Settlement}
 use Rattle.reissue.specs.Settlements as settled
 use Rattle.reissue.proofs.Maps.{put_cases}

@@ -2,7 +2,7 @@
 use Rattle.std.proofs.Common.{◌≡◌, ℕ, suc, zero, ◌+◌, ◌-◌, ◌<◌, ◌≤◌, List, [], ◌∷◌, ◌++◌, length, take, drop, map, max, Bool, true, false, cond, refl, sym, ◌∙◌, ap, subst, inl, inr, arith, Option, Some, None}
 use Rattle.std.proofs.lemmas.Bool.Decides.{leb_tells, nat_tests}
 use Rattle.std.proofs.lemmas.List.{take-append-drop, length-drop, length-append}
-use Rattle.std.specs.Prelude.{nat_lt, is_some, ◌&&◌, not, ◌||◌, IsTrue}
+use Rattle.std.specs.Prelude.{nat_lt, is_some, ◌&&◌, not, IsTrue}
 use Rattle.lemmas.proofs.Bools.{or_right}
 use Rattle.message.specs.declared.endpoint.Endpoint.{Endpoint}
 use Rattle.records.specs.Marks.{Mark, last_started, gave_up}

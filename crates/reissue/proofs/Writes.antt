@@ -2,7 +2,7 @@
 use Rattle.std.proofs.Common.{◌≡◌, ◌⊎◌, ℕ, ◌+◌, ◌-◌, ◌<◌, ◌≤◌, List, [], ◌∷◌, ◌++◌, Bool, true, false, cond, refl, sym, ◌∙◌, ap, subst, inl, inr, arith, Option, Some}
 use Rattle.std.proofs.lemmas.Bool.{cond-true}
 use Rattle.std.proofs.lemmas.Bool.Decides.{leb_tells, nat_tests}
-use Rattle.std.specs.Prelude.{nat_lt, nat_le, ◌&&◌, ◌||◌, not, slice_index}
+use Rattle.std.specs.Prelude.{◌&&◌, ◌||◌, not, slice_index}
 use Rattle.lemmas.proofs.Numbers.{outside_fails, within_holds}
 use Rattle.lemmas.proofs.Bools.{or_neither}
 use Rattle.message.specs.declared.endpoint.Endpoint.{Endpoint}

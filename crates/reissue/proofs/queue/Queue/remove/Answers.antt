@@ -1,4 +1,4 @@
-use Rattle.std.proofs.Common.{rules, arith, ◌≡◌, Some, sym, ◌∙◌, length-append}
+use Rattle.std.proofs.Common.{rules, arith, length-append}
 use Rattle.std.specs.Global.{Box}
 use Rattle.reissue.specs.declared.pending.Pending.{Pending}
 use Rattle.reissue.proofs.Places.{place_below, entry_at, held_at, entries_remove, holds_remove, length_rest}
