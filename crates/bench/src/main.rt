@@ -14,7 +14,7 @@ fn main(rt: HostRuntime) -> io::Result<ExitCode> {
     };
     let words = line.as_slice().get(1..).unwrap_or(&[]);
     let Some(named) = named(rt.alloc(), words)? else {
-        eprintln!(rt; "usage: bench [drivers|volumes|migrate|names|paths|bytes|threads|calls]..")?;
+        eprintln!(rt; "usage: bench [drivers|volumes|migrate|names|paths|maps|bytes|threads|calls]..")?;
         return Ok(ExitCode::from(2));
     };
     for work in named {
@@ -24,6 +24,7 @@ fn main(rt: HostRuntime) -> io::Result<ExitCode> {
             Work::Migrate => bench_layers::bench_migration::run(&rt)?,
             Work::Names => bench_layers::bench_names::run(&rt)?,
             Work::Paths => bench_layers::bench_paths::run(&rt)?,
+            Work::Maps => bench_layers::bench_maps::run(&rt)?,
             Work::Bytes => bench_layers::bench_bytes::run(&rt)?,
             Work::Threads => bench_service::bench_threads::run(&rt, rt)?,
             Work::Calls => bench_service::bench_calls::run(&rt, rt)?,

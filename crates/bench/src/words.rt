@@ -15,6 +15,8 @@ pub(crate) enum Work {
     Names,
     /// Walking a path of eight names.
     Paths,
+    /// Counting the free zones.
+    Maps,
     /// Reading and writing the bytes of a file.
     Bytes,
     /// Round trips between threads, and ticks.
@@ -24,12 +26,13 @@ pub(crate) enum Work {
 }
 
 /// All of it, in turn.
-const ALL: [Work; 8] = [
+const ALL: [Work; 9] = [
     Work::Drivers,
     Work::Volumes,
     Work::Migrate,
     Work::Names,
     Work::Paths,
+    Work::Maps,
     Work::Bytes,
     Work::Threads,
     Work::Calls,
@@ -44,6 +47,7 @@ impl Work {
             Work::Migrate => "migrate",
             Work::Names => "names",
             Work::Paths => "paths",
+            Work::Maps => "maps",
             Work::Bytes => "bytes",
             Work::Threads => "threads",
             Work::Calls => "calls",

@@ -2,6 +2,7 @@
 #![tactic(auto)]
 
 pub mod bench_bytes;
+pub mod bench_maps;
 pub mod bench_migration;
 pub mod bench_names;
 pub mod bench_paths;
