@@ -45,10 +45,9 @@ fn is_there<B: Blocks>(
     ensures { IsOn B.world geometry.now blocks.new }
 {
     let user = User { uid: 0, gid: 0 };
-    matches!(
-        stat(blocks, names, geometry, user, path),
-        Ok(Reply::Inode(_))
-    )
+    let mut reply = Reply::Done;
+    let ended = stat(blocks, names, geometry, user, path, &mut reply);
+    ended.is_ok() && matches!(reply, Reply::Inode(_))
 }
 
 /// The least time of a stat of a path, in nanoseconds, and how many led to an inode: by one cache for all, or by a new one for each.

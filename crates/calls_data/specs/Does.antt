@@ -46,10 +46,13 @@ pub record Does (g : Geometry) (effect : Tree → Effect) (answer : Answer) (Bef
 pub record DoesOrLacks (g : Geometry) (effect : Tree → Effect) (answer : Answer) (Before After : Tree → Type 0) (d e : Disk) : Type 0 where
   pub each : (t : Tree) → HoldsVolume g d t → Before t → IsMade g t (effect t) answer After e ⊎ IsLacking g t (effect t) answer After e
 
--- a body does this, or it is cut off; that the volume isn't sound it says of none that holds a tree
-abbrev pub Meets : Geometry → (Tree → Effect) → Result Reply Halt → (Tree → Type 0) → (Tree → Type 0) → Disk → Disk → Type 0
-Meets g effect result Before After d e = Ends result (λ r. Does g effect (answer_of r) Before After d e) (IsHeld g Before d)
+-- a body does this, with this reply, or it is cut off; that the volume isn't sound it says of none that holds a tree
+abbrev pub Meets : Geometry → (Tree → Effect) → Result (Unit {0}) Halt → Reply → (Tree → Type 0) → (Tree → Type 0) → Disk → Disk
+    → Type 0
+Meets g effect result reply Before After d e = Ends result (λ u. Does g effect (answer_of reply) Before After d e) (IsHeld g Before d)
 
 -- the same, but that memory may be wanting
-abbrev pub MeetsOrLacks : Geometry → (Tree → Effect) → Result Reply Halt → (Tree → Type 0) → (Tree → Type 0) → Disk → Disk → Type 0
-MeetsOrLacks g effect result Before After d e = Ends result (λ r. DoesOrLacks g effect (answer_of r) Before After d e) (IsHeld g Before d)
+abbrev pub MeetsOrLacks : Geometry → (Tree → Effect) → Result (Unit {0}) Halt → Reply → (Tree → Type 0) → (Tree → Type 0) → Disk → Disk
+    → Type 0
+MeetsOrLacks g effect result reply Before After d e =
+    Ends result (λ u. DoesOrLacks g effect (answer_of reply) Before After d e) (IsHeld g Before d)

@@ -1,6 +1,6 @@
 //! The calls on the attributes of a node.
 
-ghost use Rattle.std.specs.Prelude.{◌≡◌, ◌≢◌, ℕ, IfOk, IfErr};
+ghost use Rattle.std.specs.Prelude.{◌≡◌, ◌≢◌, ℕ, IfErr, OnOk};
 ghost use Rattle.tree.specs.Tree.{Tree};
 ghost use Rattle.tree.specs.Answers.{answer_of, refused};
 ghost use Rattle.tree.specs.NodeCalls.{stat, chmod, chown, utime};
@@ -26,21 +26,26 @@ pub fn stat<B: Blocks>(
     geometry: &Geometry,
     user: User,
     path: &[u8],
-) -> Result<Reply, Halt>
+    reply: &mut Reply,
+) -> Result<(), Halt>
     requires on { IsOn B.world geometry.now blocks.old }
     ensures turns { Turns B.world blocks.old blocks.new (λ d e. (f : Files) →
-        Meets geometry.now (λ t. stat t user path.now) result (HasFiles f) (HasFiles f) d e) }
+        Meets geometry.now (λ t. stat t user path.now) result reply.new (HasFiles f) (HasFiles f) d e) }
     ensures halt { IfErr result (λ h. IsHalt B.world blocks.new h) }
-    ensures proper { IfOk result (λ r. answer_of r ≢ refused Errno.EIO) }
+    ensures proper { OnOk result (answer_of reply.new ≢ refused Errno.EIO) }
 {
     match find_node(blocks, names, geometry, user, path)? {
         Ok((number, inode)) => {
             if number > 65535 {
                 return Err(Halt::Unsound);
             }
-            Ok(Reply::Inode(attributes(&inode, number as u16)))
+            *reply = Reply::Inode(attributes(&inode, number as u16));
+            Ok(())
         }
-        Err(errno) => Ok(Reply::Refused(errno)),
+        Err(errno) => {
+            *reply = Reply::Refused(errno);
+            Ok(())
+        }
     }
 }
 
@@ -53,27 +58,34 @@ pub fn chmod<B: Blocks>(
     now: u32,
     path: &[u8],
     mode: u16,
-) -> Result<Reply, Halt>
+    reply: &mut Reply,
+) -> Result<(), Halt>
     requires on { IsOn B.world geometry.now blocks.old }
     ensures turns { Turns B.world blocks.old blocks.new (λ d e. (f : Files) →
-        Meets geometry.now (λ t. chmod t user now path.now mode) result (HasFiles f) (HasFiles f) d e) }
+        Meets geometry.now (λ t. chmod t user now path.now mode) result reply.new (HasFiles f) (HasFiles f) d e) }
     ensures halt { IfErr result (λ h. IsHalt B.world blocks.new h) }
-    ensures proper { IfOk result (λ r. answer_of r ≢ refused Errno.EIO) }
+    ensures proper { OnOk result (answer_of reply.new ≢ refused Errno.EIO) }
 {
     if mode > MAX_PERMISSIONS {
-        return Ok(Reply::Refused(Errno::EINVAL));
+        *reply = Reply::Refused(Errno::EINVAL);
+        return Ok(());
     }
     match find_node(blocks, names, geometry, user, path)? {
         Ok((number, mut inode)) => {
             if !is_owner(user, inode.uid) {
-                return Ok(Reply::Refused(Errno::EPERM));
+                *reply = Reply::Refused(Errno::EPERM);
+                return Ok(());
             }
             inode.mode = inode.mode / 4096 * 4096 + mode;
             inode.ctime = now;
             store(blocks, geometry, number, &inode)?;
-            Ok(Reply::Done)
+            *reply = Reply::Done;
+            Ok(())
         }
-        Err(errno) => Ok(Reply::Refused(errno)),
+        Err(errno) => {
+            *reply = Reply::Refused(errno);
+            Ok(())
+        }
     }
 }
 
@@ -87,25 +99,31 @@ pub fn chown<B: Blocks>(
     path: &[u8],
     uid: u16,
     gid: u16,
-) -> Result<Reply, Halt>
+    reply: &mut Reply,
+) -> Result<(), Halt>
     requires on { IsOn B.world geometry.now blocks.old }
     ensures turns { Turns B.world blocks.old blocks.new (λ d e. (f : Files) →
-        Meets geometry.now (λ t. chown t user now path.now uid gid) result (HasFiles f) (HasFiles f) d e) }
+        Meets geometry.now (λ t. chown t user now path.now uid gid) result reply.new (HasFiles f) (HasFiles f) d e) }
     ensures halt { IfErr result (λ h. IsHalt B.world blocks.new h) }
-    ensures proper { IfOk result (λ r. answer_of r ≢ refused Errno.EIO) }
+    ensures proper { OnOk result (answer_of reply.new ≢ refused Errno.EIO) }
 {
     match find_node(blocks, names, geometry, user, path)? {
         Ok((number, mut inode)) => {
             if user.uid != 0 {
-                return Ok(Reply::Refused(Errno::EPERM));
+                *reply = Reply::Refused(Errno::EPERM);
+                return Ok(());
             }
             inode.uid = uid;
             inode.gid = gid;
             inode.ctime = now;
             store(blocks, geometry, number, &inode)?;
-            Ok(Reply::Done)
+            *reply = Reply::Done;
+            Ok(())
         }
-        Err(errno) => Ok(Reply::Refused(errno)),
+        Err(errno) => {
+            *reply = Reply::Refused(errno);
+            Ok(())
+        }
     }
 }
 
@@ -119,24 +137,30 @@ pub fn utime<B: Blocks>(
     path: &[u8],
     atime: u32,
     mtime: u32,
-) -> Result<Reply, Halt>
+    reply: &mut Reply,
+) -> Result<(), Halt>
     requires on { IsOn B.world geometry.now blocks.old }
     ensures turns { Turns B.world blocks.old blocks.new (λ d e. (f : Files) →
-        Meets geometry.now (λ t. utime t user now path.now atime mtime) result (HasFiles f) (HasFiles f) d e) }
+        Meets geometry.now (λ t. utime t user now path.now atime mtime) result reply.new (HasFiles f) (HasFiles f) d e) }
     ensures halt { IfErr result (λ h. IsHalt B.world blocks.new h) }
-    ensures proper { IfOk result (λ r. answer_of r ≢ refused Errno.EIO) }
+    ensures proper { OnOk result (answer_of reply.new ≢ refused Errno.EIO) }
 {
     match find_node(blocks, names, geometry, user, path)? {
         Ok((number, mut inode)) => {
             if !is_owner(user, inode.uid) {
-                return Ok(Reply::Refused(Errno::EPERM));
+                *reply = Reply::Refused(Errno::EPERM);
+                return Ok(());
             }
             inode.atime = atime;
             inode.mtime = mtime;
             inode.ctime = now;
             store(blocks, geometry, number, &inode)?;
-            Ok(Reply::Done)
+            *reply = Reply::Done;
+            Ok(())
         }
-        Err(errno) => Ok(Reply::Refused(errno)),
+        Err(errno) => {
+            *reply = Reply::Refused(errno);
+            Ok(())
+        }
     }
 }

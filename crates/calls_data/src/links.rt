@@ -1,6 +1,6 @@
 //! The calls on a symbolic link that stands last in its path.
 
-ghost use Rattle.std.specs.Prelude.{◌≡◌, ◌≢◌, IfOk, IfErr, length};
+ghost use Rattle.std.specs.Prelude.{◌≡◌, ◌≢◌, IfOk, IfErr, OnOk, length};
 ghost use Rattle.tree.specs.Tree.{most_target};
 ghost use Rattle.tree.specs.NodeCalls.{lstat, readlink};
 ghost use Rattle.tree.specs.Answers.{answer_of, refused};
@@ -31,21 +31,26 @@ pub fn lstat<B: Blocks>(
     geometry: &Geometry,
     user: User,
     path: &[u8],
-) -> Result<Reply, Halt>
+    reply: &mut Reply,
+) -> Result<(), Halt>
     requires on { IsOn B.world geometry.now blocks.old }
     ensures turns { Turns B.world blocks.old blocks.new (λ d e. (f : Files) →
-        Meets geometry.now (λ t. lstat t user path.now) result (HasFiles f) (HasFiles f) d e) }
+        Meets geometry.now (λ t. lstat t user path.now) result reply.new (HasFiles f) (HasFiles f) d e) }
     ensures halt { IfErr result (λ h. IsHalt B.world blocks.new h) }
-    ensures proper { IfOk result (λ r. answer_of r ≢ refused Errno.EIO) }
+    ensures proper { OnOk result (answer_of reply.new ≢ refused Errno.EIO) }
 {
     match find_last(blocks, names, geometry, user, path)? {
         Ok((number, inode)) => {
             if number > 65535 {
                 return Err(Halt::Unsound);
             }
-            Ok(Reply::Inode(attributes(&inode, number as u16)))
+            *reply = Reply::Inode(attributes(&inode, number as u16));
+            Ok(())
         }
-        Err(errno) => Ok(Reply::Refused(errno)),
+        Err(errno) => {
+            *reply = Reply::Refused(errno);
+            Ok(())
+        }
     }
 }
 
@@ -70,20 +75,26 @@ pub fn readlink<B: Blocks>(
     geometry: &Geometry,
     user: User,
     path: &[u8],
-) -> Result<Reply, Halt>
+    reply: &mut Reply,
+) -> Result<(), Halt>
     requires on { IsOn B.world geometry.now blocks.old }
     ensures turns { Turns B.world blocks.old blocks.new (λ d e. (f : Files) →
-        Meets geometry.now (λ t. readlink t user path.now) result (HasFiles f) (HasFiles f) d e) }
+        Meets geometry.now (λ t. readlink t user path.now) result reply.new (HasFiles f) (HasFiles f) d e) }
     ensures halt { IfErr result (λ h. IsHalt B.world blocks.new h) }
-    ensures proper { IfOk result (λ r. answer_of r ≢ refused Errno.EIO) }
+    ensures proper { OnOk result (answer_of reply.new ≢ refused Errno.EIO) }
 {
     match find_last(blocks, names, geometry, user, path)? {
         Ok((_, inode)) => {
             if !is_link(&inode) {
-                return Ok(Reply::Refused(Errno::EINVAL));
+                *reply = Reply::Refused(Errno::EINVAL);
+                return Ok(());
             }
-            Ok(Reply::Target(target(blocks, geometry, &inode)?))
+            *reply = Reply::Target(target(blocks, geometry, &inode)?);
+            Ok(())
         }
-        Err(errno) => Ok(Reply::Refused(errno)),
+        Err(errno) => {
+            *reply = Reply::Refused(errno);
+            Ok(())
+        }
     }
 }

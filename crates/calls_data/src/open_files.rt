@@ -1,6 +1,6 @@
 //! The calls on open files that change no node.
 
-ghost use Rattle.std.specs.Prelude.{◌≡◌, ◌≢◌, ◌<◌, IfOk, IfErr};
+ghost use Rattle.std.specs.Prelude.{◌≡◌, ◌≢◌, ◌<◌, IfErr, OnOk};
 ghost use Rattle.tree.specs.Tree.{Tree, most_sessions};
 ghost use Rattle.tree.specs.FileCalls.{dup, fstat};
 ghost use Rattle.tree.specs.Answers.{answer_of, refused};
@@ -28,30 +28,37 @@ pub fn fstat<B: Blocks>(
     geometry: &Geometry,
     session: u8,
     fd: u32,
-) -> Result<Reply, Halt>
+    reply: &mut Reply,
+) -> Result<(), Halt>
     requires on { IsOn B.world geometry.now blocks.old }
     requires session { session < most_sessions }
     ensures turns { let f = files_of opens.now in Turns B.world blocks.old blocks.new (λ d e.
-        Meets geometry.now (λ t. fstat t session fd) result (HasFiles f) (HasFiles f) d e) }
+        Meets geometry.now (λ t. fstat t session fd) result reply.new (HasFiles f) (HasFiles f) d e) }
     ensures halt { IfErr result (λ h. IsHalt B.world blocks.new h) }
-    ensures proper { IfOk result (λ r. answer_of r ≢ refused Errno.EIO) }
+    ensures proper { OnOk result (answer_of reply.new ≢ refused Errno.EIO) }
 {
     match find(blocks, opens, geometry, session, fd)? {
-        None => Ok(Reply::Refused(Errno::EBADF)),
-        Some(file) => Ok(Reply::Inode(attributes(&file.inode, file.number))),
+        None => {
+            *reply = Reply::Refused(Errno::EBADF);
+            Ok(())
+        }
+        Some(file) => {
+            *reply = Reply::Inode(attributes(&file.inode, file.number));
+            Ok(())
+        }
     }
 }
 
 /// dup: the lowest free descriptor leads to the same open file then. EBADF where the descriptor leads to none, else EMFILE where the
 /// session has no free one.
-pub fn dup(opens: &mut Descriptors, session: u8, fd: u32) -> Reply
+pub fn dup(opens: &mut Descriptors, session: u8, fd: u32, reply: &mut Reply)
     requires session { session < most_sessions }
     ensures does { (g : Geometry) (d e : Disk) → e ≡ d
-        → Does g (λ t. dup t session fd) (answer_of result) (HasFiles (files_of opens.old)) (HasFiles (files_of opens.new)) d e }
-    ensures proper { answer_of result ≢ refused Errno.EIO }
+        → Does g (λ t. dup t session fd) (answer_of reply.new) (HasFiles (files_of opens.old)) (HasFiles (files_of opens.new)) d e }
+    ensures proper { answer_of reply.new ≢ refused Errno.EIO }
 {
     match opens.dup(session, fd) {
-        Ok(other) => Reply::Descriptor(other),
-        Err(refusal) => Reply::Refused(refusal),
+        Ok(other) => *reply = Reply::Descriptor(other),
+        Err(refusal) => *reply = Reply::Refused(refusal),
     }
 }

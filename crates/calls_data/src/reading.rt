@@ -1,6 +1,6 @@
 //! Reads of open files.
 
-ghost use Rattle.std.specs.Prelude.{◌≡◌, ◌≢◌, ◌<◌, ◌≤◌, IfOk, IfErr, IfSome, length};
+ghost use Rattle.std.specs.Prelude.{◌≡◌, ◌≢◌, ◌<◌, ◌≤◌, IfOk, IfErr, OnOk, IfSome, length};
 ghost use Rattle.tree.specs.Tree.{most_sessions};
 ghost use Rattle.tree.specs.FileCalls.{read, bytes_read};
 ghost use Rattle.tree.specs.Answers.{answer_of, refused};
@@ -75,19 +75,22 @@ pub fn read<B: Blocks>(
     session: u8,
     fd: u32,
     count: u32,
-) -> Result<Reply, Halt>
+    reply: &mut Reply,
+) -> Result<(), Halt>
     requires on { IsOn B.world geometry.now blocks.old }
     requires session { session < most_sessions }
-    ensures turns { Turns B.world blocks.old blocks.new (λ d e. MeetsOrLacks geometry.now (λ t. read t session fd count) result
+    ensures turns { Turns B.world blocks.old blocks.new (λ d e. MeetsOrLacks geometry.now (λ t. read t session fd count) result reply.new
         (HasFiles (files_of opens.old)) (HasFiles (files_of opens.new)) d e) }
     ensures halt { IfErr result (λ h. IsHalt B.world blocks.new h) }
-    ensures proper { IfOk result (λ r. answer_of r ≢ refused Errno.EIO) }
+    ensures proper { OnOk result (answer_of reply.new ≢ refused Errno.EIO) }
 {
     let Some(file) = find(blocks, opens, geometry, session, fd)? else {
-        return Ok(Reply::Refused(Errno::EBADF));
+        *reply = Reply::Refused(Errno::EBADF);
+        return Ok(());
     };
     if let Some(refusal) = refusal(&file, count) {
-        return Ok(Reply::Refused(refusal));
+        *reply = Reply::Refused(refusal);
+        return Ok(());
     }
     if file.inode.size > MAX_SIZE {
         return Err(Halt::Unsound);
@@ -95,8 +98,12 @@ pub fn read<B: Blocks>(
     match bytes_at(alloc, blocks, geometry, &file.inode, file.position, count)? {
         Ok(bytes) => {
             opens.set_position(session, fd, file.position + bytes.len() as u32);
-            Ok(Reply::Bytes(bytes))
+            *reply = Reply::Bytes(bytes);
+            Ok(())
         }
-        Err(_) => Ok(Reply::Refused(Errno::ENOMEM)),
+        Err(_) => {
+            *reply = Reply::Refused(Errno::ENOMEM);
+            Ok(())
+        }
     }
 }

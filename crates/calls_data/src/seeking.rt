@@ -1,6 +1,6 @@
 //! Seeks in open files.
 
-ghost use Rattle.std.specs.Prelude.{◌≡◌, ◌≢◌, ◌<◌, ◌≤◌, IfOk, IfErr, IfSome};
+ghost use Rattle.std.specs.Prelude.{◌≡◌, ◌≢◌, ◌<◌, ◌≤◌, IfErr, OnOk, IfSome};
 ghost use Rattle.tree.specs.Tree.{most_sessions, most_size};
 ghost use Rattle.tree.specs.FileCalls.{seek, seek_place};
 ghost use Rattle.tree.specs.Answers.{answer_of, refused};
@@ -63,25 +63,32 @@ pub fn seek<B: Blocks>(
     fd: u32,
     whence: Whence,
     offset: i64,
-) -> Result<Reply, Halt>
+    reply: &mut Reply,
+) -> Result<(), Halt>
     requires on { IsOn B.world geometry.now blocks.old }
     requires session { session < most_sessions }
-    ensures turns { Turns B.world blocks.old blocks.new (λ d e. Meets geometry.now (λ t. seek t session fd whence offset) result
+    ensures turns { Turns B.world blocks.old blocks.new (λ d e. Meets geometry.now (λ t. seek t session fd whence offset) result reply.new
         (HasFiles (files_of opens.old)) (HasFiles (files_of opens.new)) d e) }
     ensures halt { IfErr result (λ h. IsHalt B.world blocks.new h) }
-    ensures proper { IfOk result (λ r. answer_of r ≢ refused Errno.EIO) }
+    ensures proper { OnOk result (answer_of reply.new ≢ refused Errno.EIO) }
 {
     let Some(file) = find(blocks, opens, geometry, session, fd)? else {
-        return Ok(Reply::Refused(Errno::EBADF));
+        *reply = Reply::Refused(Errno::EBADF);
+        return Ok(());
     };
     if is_directory(&file.inode) {
-        return Ok(Reply::Refused(Errno::EISDIR));
+        *reply = Reply::Refused(Errno::EISDIR);
+        return Ok(());
     }
     match place(base(&file, whence), offset) {
         Some(position) => {
             opens.set_position(session, fd, position);
-            Ok(Reply::At(position))
+            *reply = Reply::At(position);
+            Ok(())
         }
-        None => Ok(Reply::Refused(Errno::EINVAL)),
+        None => {
+            *reply = Reply::Refused(Errno::EINVAL);
+            Ok(())
+        }
     }
 }

@@ -1,6 +1,6 @@
 //! Sizes of files, set by their paths.
 
-ghost use Rattle.std.specs.Prelude.{◌≡◌, ◌≢◌, IfOk, IfErr};
+ghost use Rattle.std.specs.Prelude.{◌≡◌, ◌≢◌, IfErr, OnOk};
 ghost use Rattle.tree.specs.NodeCalls.{truncate};
 ghost use Rattle.tree.specs.Answers.{answer_of, refused};
 ghost use Rattle.descriptors.specs.Files.{Files, HasFiles};
@@ -28,27 +28,35 @@ pub fn truncate<B: Blocks>(
     now: u32,
     path: &[u8],
     size: u32,
-) -> Result<Reply, Halt>
+    reply: &mut Reply,
+) -> Result<(), Halt>
     requires on { IsOn B.world geometry.now blocks.old }
     ensures turns { Turns B.world blocks.old blocks.new (λ d e. (f : Files) →
-        Meets geometry.now (λ t. truncate geometry.now t user now path.now size) result (HasFiles f) (HasFiles f) d e) }
+        Meets geometry.now (λ t. truncate geometry.now t user now path.now size) result reply.new (HasFiles f) (HasFiles f) d e) }
     ensures halt { IfErr result (λ h. IsHalt B.world blocks.new h) }
-    ensures proper { IfOk result (λ r. answer_of r ≢ refused Errno.EIO) }
+    ensures proper { OnOk result (answer_of reply.new ≢ refused Errno.EIO) }
 {
     if size > MAX_SIZE {
-        return Ok(Reply::Refused(Errno::EFBIG));
+        *reply = Reply::Refused(Errno::EFBIG);
+        return Ok(());
     }
     match find_node(blocks, names, geometry, user, path)? {
         Ok((number, inode)) => {
             if is_directory(&inode) {
-                return Ok(Reply::Refused(Errno::EISDIR));
+                *reply = Reply::Refused(Errno::EISDIR);
+                return Ok(());
             }
             if !may(user, inode.mode % 512, inode.uid, inode.gid, Wish::Write) {
-                return Ok(Reply::Refused(Errno::EACCES));
+                *reply = Reply::Refused(Errno::EACCES);
+                return Ok(());
             }
             set_size_at(blocks, geometry, number, size, now)?;
-            Ok(Reply::Done)
+            *reply = Reply::Done;
+            Ok(())
         }
-        Err(errno) => Ok(Reply::Refused(errno)),
+        Err(errno) => {
+            *reply = Reply::Refused(errno);
+            Ok(())
+        }
     }
 }

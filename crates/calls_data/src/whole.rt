@@ -1,6 +1,6 @@
 //! The calls on the volume as a whole.
 
-ghost use Rattle.std.specs.Prelude.{◌≡◌, ◌≢◌, IfOk, IfErr, OnOk, Ok};
+ghost use Rattle.std.specs.Prelude.{◌≡◌, ◌≢◌, IfErr, OnOk, Ok};
 ghost use Rattle.tree.specs.Tree.{Tree};
 ghost use Rattle.tree.specs.NodeCalls.{statfs};
 ghost use Rattle.tree.specs.Answers.{answer_of, refused, done};
@@ -17,33 +17,35 @@ use store::{Blocks, Halt};
 use tree::{Reply, Room};
 
 /// sync: writes all that was changed.
-pub fn sync<B: Blocks>(blocks: &mut B, geometry: &Geometry) -> Result<Reply, Halt>
+pub fn sync<B: Blocks>(blocks: &mut B, geometry: &Geometry, reply: &mut Reply) -> Result<(), Halt>
     requires on { IsOn B.world geometry.now blocks.old }
     ensures turns { Turns B.world blocks.old blocks.new (λ d e. (f : Files) →
-        Meets geometry.now (λ t. Ok (done, t)) result (HasFiles f) (HasFiles f) d e) }
+        Meets geometry.now (λ t. Ok (done, t)) result reply.new (HasFiles f) (HasFiles f) d e) }
     ensures synced { OnOk result (B.world.synced blocks.new) }
     ensures halt { IfErr result (λ h. IsHalt B.world blocks.new h) }
-    ensures proper { IfOk result (λ r. answer_of r ≢ refused Errno.EIO) }
+    ensures proper { OnOk result (answer_of reply.new ≢ refused Errno.EIO) }
 {
     blocks.sync()?;
-    Ok(Reply::Done)
+    *reply = Reply::Done;
+    Ok(())
 }
 
 /// statfs: the sizes of the volume, and how many zones and inodes are free, counted in its maps.
-pub fn statfs<B: Blocks>(blocks: &mut B, geometry: &Geometry) -> Result<Reply, Halt>
+pub fn statfs<B: Blocks>(blocks: &mut B, geometry: &Geometry, reply: &mut Reply) -> Result<(), Halt>
     requires on { IsOn B.world geometry.now blocks.old }
     ensures turns { Turns B.world blocks.old blocks.new (λ d e. (f : Files) →
-        Meets geometry.now (λ t. statfs geometry.now t) result (HasFiles f) (HasFiles f) d e) }
+        Meets geometry.now (λ t. statfs geometry.now t) result reply.new (HasFiles f) (HasFiles f) d e) }
     ensures halt { IfErr result (λ h. IsHalt B.world blocks.new h) }
-    ensures proper { IfOk result (λ r. answer_of r ≢ refused Errno.EIO) }
+    ensures proper { OnOk result (answer_of reply.new ≢ refused Errno.EIO) }
 {
     let free_zones = count_free(blocks, geometry, Map::Zones)?;
     let free_inodes = count_free(blocks, geometry, Map::Inodes)?;
-    Ok(Reply::Space(Room {
+    *reply = Reply::Space(Room {
         block_size: geometry.block_size,
         zones: geometry.zones - geometry.first_zone,
         free_zones,
         inodes: geometry.inodes,
         free_inodes,
-    }))
+    });
+    Ok(())
 }

@@ -1,6 +1,6 @@
 //! Writes to open files.
 
-ghost use Rattle.std.specs.Prelude.{◌≡◌, ◌≢◌, ◌<◌, IfOk, IfErr, length};
+ghost use Rattle.std.specs.Prelude.{◌≡◌, ◌≢◌, ◌<◌, IfErr, OnOk, length};
 ghost use Rattle.tree.specs.Tree.{most_sessions};
 ghost use Rattle.tree.specs.FileCalls.{write};
 ghost use Rattle.tree.specs.Answers.{answer_of, refused};
@@ -60,28 +60,34 @@ pub fn write<B: Blocks>(
     session: u8,
     fd: u32,
     bytes: &[u8],
-) -> Result<Reply, Halt>
+    reply: &mut Reply,
+) -> Result<(), Halt>
     requires on { IsOn B.world geometry.now blocks.old }
     requires session { session < most_sessions }
     ensures turns { Turns B.world blocks.old blocks.new (λ d e. Meets geometry.now (λ t. write geometry.now t now session fd bytes.now)
-        result (HasFiles (files_of opens.old)) (HasFiles (files_of opens.new)) d e) }
+        result reply.new (HasFiles (files_of opens.old)) (HasFiles (files_of opens.new)) d e) }
     ensures halt { IfErr result (λ h. IsHalt B.world blocks.new h) }
-    ensures proper { IfOk result (λ r. answer_of r ≢ refused Errno.EIO) }
+    ensures proper { OnOk result (answer_of reply.new ≢ refused Errno.EIO) }
 {
     let Some(file) = find(blocks, opens, geometry, session, fd)? else {
-        return Ok(Reply::Refused(Errno::EBADF));
+        *reply = Reply::Refused(Errno::EBADF);
+        return Ok(());
     };
     if let Some(refusal) = refusal(&file, bytes.len()) {
-        return Ok(Reply::Refused(refusal));
+        *reply = Reply::Refused(refusal);
+        return Ok(());
     }
     if bytes.is_empty() {
-        return Ok(Reply::Wrote(0));
+        *reply = Reply::Wrote(0);
+        return Ok(());
     }
     let at = write_place(&file);
     if !write_if_room(blocks, geometry, u32::from(file.number), at, bytes, now)? {
-        return Ok(Reply::Refused(Errno::ENOSPC));
+        *reply = Reply::Refused(Errno::ENOSPC);
+        return Ok(());
     }
     let count = bytes.len() as u32;
     opens.set_position(session, fd, at + count);
-    Ok(Reply::Wrote(count))
+    *reply = Reply::Wrote(count);
+    Ok(())
 }

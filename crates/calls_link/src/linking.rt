@@ -1,6 +1,6 @@
 //! The call that gives a file a name more.
 
-ghost use Rattle.std.specs.Prelude.{◌≡◌, ◌≢◌, ◌≤◌, IfErr, IfOk, IsTrue, length, true};
+ghost use Rattle.std.specs.Prelude.{◌≡◌, ◌≢◌, ◌≤◌, IfErr, IfOk, OnOk, IsTrue, length, true};
 ghost use Rattle.tree.specs.Answers.{answer_of, refused};
 ghost use Rattle.tree.specs.NameCalls.{link};
 ghost use Rattle.tree.specs.Walk.{has_last_name, last_part};
@@ -125,33 +125,48 @@ pub fn link<B: Blocks>(
     now: u32,
     old: &[u8],
     new: &[u8],
-) -> Result<Reply, Halt>
+    reply: &mut Reply,
+) -> Result<(), Halt>
     requires on { IsOn B.world geometry.now blocks.old }
     ensures turns { Turns B.world blocks.old blocks.new (λ d e. (f : Files) →
-        Meets geometry.now (λ t. link geometry.now t user now old.now new.now) result (HasFiles f) (HasFiles f) d e) }
+        Meets geometry.now (λ t. link geometry.now t user now old.now new.now) result reply.new (HasFiles f) (HasFiles f) d e) }
     ensures halt { IfErr result (λ h. IsHalt B.world blocks.new h) }
-    ensures proper { IfOk result (λ r. answer_of r ≢ refused Errno.EIO) }
+    ensures proper { OnOk result (answer_of reply.new ≢ refused Errno.EIO) }
 {
     let from = match Path::parse(old) {
         Ok(path) => path,
-        Err(errno) => return Ok(Reply::Refused(errno)),
+        Err(errno) => {
+            *reply = Reply::Refused(errno);
+            return Ok(());
+        }
     };
     let to = match Path::parse(new) {
         Ok(path) => path,
-        Err(errno) => return Ok(Reply::Refused(errno)),
+        Err(errno) => {
+            *reply = Reply::Refused(errno);
+            return Ok(());
+        }
     };
     let number = match find_file(blocks, names, geometry, user, &from)? {
         Ok(number) => number,
-        Err(errno) => return Ok(Reply::Refused(errno)),
+        Err(errno) => {
+            *reply = Reply::Refused(errno);
+            return Ok(());
+        }
     };
     let free = match find_free(blocks, names, geometry, user, &to)? {
         Ok(free) => free,
-        Err(errno) => return Ok(Reply::Refused(errno)),
+        Err(errno) => {
+            *reply = Reply::Refused(errno);
+            return Ok(());
+        }
     };
     if !has_room_for(blocks, geometry, &free)? {
-        return Ok(Reply::Refused(Errno::ENOSPC));
+        *reply = Reply::Refused(Errno::ENOSPC);
+        return Ok(());
     }
     add_link(blocks, geometry, number, now)?;
     insert(blocks, geometry, free.directory, free.name, number, now)?;
-    Ok(Reply::Done)
+    *reply = Reply::Done;
+    Ok(())
 }

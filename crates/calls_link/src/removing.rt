@@ -1,6 +1,6 @@
 //! The calls that take a name away.
 
-ghost use Rattle.std.specs.Prelude.{◌≡◌, ◌≢◌, ◌≤◌, IfErr, IfOk, IfSome};
+ghost use Rattle.std.specs.Prelude.{◌≡◌, ◌≢◌, ◌≤◌, IfErr, OnOk, IfSome};
 ghost use Rattle.tree.specs.Answers.{answer_of, refused};
 ghost use Rattle.tree.specs.NameCalls.{rmdir, unlink};
 ghost use Rattle.descriptors.specs.Files.{HasFiles};
@@ -33,23 +33,29 @@ pub fn unlink<B: Blocks>(
     user: User,
     now: u32,
     path: &[u8],
-) -> Result<Reply, Halt>
+    reply: &mut Reply,
+) -> Result<(), Halt>
     requires on { IsOn B.world geometry.now blocks.old }
     ensures turns { let f = files_of opens.now in Turns B.world blocks.old blocks.new (λ d e.
-        Meets geometry.now (λ t. unlink t user now path.now) result (HasFiles f) (HasFiles f) d e) }
+        Meets geometry.now (λ t. unlink t user now path.now) result reply.new (HasFiles f) (HasFiles f) d e) }
     ensures halt { IfErr result (λ h. IsHalt B.world blocks.new h) }
-    ensures proper { IfOk result (λ r. answer_of r ≢ refused Errno.EIO) }
+    ensures proper { OnOk result (answer_of reply.new ≢ refused Errno.EIO) }
 {
     match find_name(blocks, names, geometry, user, path)? {
         Ok(named) => {
             if is_directory(&named.inode) {
-                return Ok(Reply::Refused(Errno::EPERM));
+                *reply = Reply::Refused(Errno::EPERM);
+                return Ok(());
             }
             remove(blocks, geometry, named.directory, named.name, now)?;
             lose_name(blocks, opens, geometry, named.number, now)?;
-            Ok(Reply::Done)
+            *reply = Reply::Done;
+            Ok(())
         }
-        Err(errno) => Ok(Reply::Refused(errno)),
+        Err(errno) => {
+            *reply = Reply::Refused(errno);
+            Ok(())
+        }
     }
 }
 
@@ -81,23 +87,29 @@ pub fn rmdir<B: Blocks>(
     user: User,
     now: u32,
     path: &[u8],
-) -> Result<Reply, Halt>
+    reply: &mut Reply,
+) -> Result<(), Halt>
     requires on { IsOn B.world geometry.now blocks.old }
     ensures turns { let f = files_of opens.now in Turns B.world blocks.old blocks.new (λ d e.
-        Meets geometry.now (λ t. rmdir t user now path.now) result (HasFiles f) (HasFiles f) d e) }
+        Meets geometry.now (λ t. rmdir t user now path.now) result reply.new (HasFiles f) (HasFiles f) d e) }
     ensures halt { IfErr result (λ h. IsHalt B.world blocks.new h) }
-    ensures proper { IfOk result (λ r. answer_of r ≢ refused Errno.EIO) }
+    ensures proper { OnOk result (answer_of reply.new ≢ refused Errno.EIO) }
 {
     match find_name(blocks, names, geometry, user, path)? {
         Ok(named) => {
             if let Some(errno) = why_kept(opens, &named) {
-                return Ok(Reply::Refused(errno));
+                *reply = Reply::Refused(errno);
+                return Ok(());
             }
             remove(blocks, geometry, named.directory, named.name, now)?;
             drop_link(blocks, geometry, named.directory, now)?;
             free_node(blocks, geometry, named.number)?;
-            Ok(Reply::Done)
+            *reply = Reply::Done;
+            Ok(())
         }
-        Err(errno) => Ok(Reply::Refused(errno)),
+        Err(errno) => {
+            *reply = Reply::Refused(errno);
+            Ok(())
+        }
     }
 }

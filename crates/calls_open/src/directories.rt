@@ -1,6 +1,6 @@
 //! New directories.
 
-ghost use Rattle.std.specs.Prelude.{◌≢◌, ◌≤◌, IfErr, IfOk};
+ghost use Rattle.std.specs.Prelude.{◌≢◌, ◌≤◌, IfErr, OnOk};
 ghost use Rattle.tree.specs.Tree.{most_permissions};
 ghost use Rattle.tree.specs.Answers.{answer_of, done, refused};
 ghost use Rattle.tree.specs.NameCalls.{mkdir};
@@ -86,16 +86,23 @@ pub fn mkdir<B: Blocks>(
     now: u32,
     path: &[u8],
     mode: u16,
-) -> Result<Reply, Halt>
+    reply: &mut Reply,
+) -> Result<(), Halt>
     requires on { IsOn B.world geometry.now blocks.old }
     ensures turns { Turns B.world blocks.old blocks.new (λ d e. (f : Files) →
-        Meets geometry.now (λ t. mkdir geometry.now t user now path.now mode) result (HasFiles f) (HasFiles f) d e) }
+        Meets geometry.now (λ t. mkdir geometry.now t user now path.now mode) result reply.new (HasFiles f) (HasFiles f) d e) }
     ensures halt { IfErr result (λ h. IsHalt B.world blocks.new h) }
-    ensures proper { IfOk result (λ r. answer_of r ≢ refused Errno.EIO) }
+    ensures proper { OnOk result (answer_of reply.new ≢ refused Errno.EIO) }
 {
     match make(blocks, names, geometry, user, now, path, mode) {
-        Ok(()) => Ok(Reply::Done),
-        Err(Stop::Refused(errno)) => Ok(Reply::Refused(errno)),
+        Ok(()) => {
+            *reply = Reply::Done;
+            Ok(())
+        }
+        Err(Stop::Refused(errno)) => {
+            *reply = Reply::Refused(errno);
+            Ok(())
+        }
         Err(Stop::Halted(halt)) => Err(halt),
     }
 }

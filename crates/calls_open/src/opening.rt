@@ -1,6 +1,6 @@
 //! The call open.
 
-ghost use Rattle.std.specs.Prelude.{◌≡◌, ◌≢◌, ◌<◌, IfErr, IfOk, Ok};
+ghost use Rattle.std.specs.Prelude.{◌≡◌, ◌≢◌, ◌<◌, IfErr, OnOk, Ok};
 ghost use Rattle.tree.specs.Tree.{most_sessions};
 ghost use Rattle.tree.specs.FileCalls.{open_path};
 ghost use Rattle.tree.specs.Answers.{answer_of, refused};
@@ -22,14 +22,14 @@ use store::{Blocks, Halt};
 use tree::{OpenFlags, Reply, User};
 
 /// Opens a node at position 0, under the lowest free descriptor of a session that has one.
-fn put(opens: &mut Descriptors, session: u8, inode: u16, flags: OpenFlags) -> Reply
+fn put(opens: &mut Descriptors, session: u8, inode: u16, flags: OpenFlags, reply: &mut Reply)
     requires session { session < most_sessions }
     requires room { room_for_file (files_of opens.old) session ≡ Ok tt }
-    ensures { IsPut (files_of opens.old) session inode flags.0 (answer_of result) (files_of opens.new) }
+    ensures { IsPut (files_of opens.old) session inode flags.0 (answer_of reply.new) (files_of opens.new) }
 {
     match opens.put(session, inode, flags) {
-        Ok(fd) => Reply::Descriptor(fd),
-        Err(errno) => Reply::Refused(errno),
+        Ok(fd) => *reply = Reply::Descriptor(fd),
+        Err(errno) => *reply = Reply::Refused(errno),
     }
 }
 
@@ -52,24 +52,32 @@ pub fn open<B: Blocks>(
     path: &[u8],
     flags: OpenFlags,
     mode: u16,
-) -> Result<Reply, Halt>
+    reply: &mut Reply,
+) -> Result<(), Halt>
     requires on { IsOn B.world geometry.now blocks.old }
     requires session { session < most_sessions }
     ensures turns { Turns B.world blocks.old blocks.new (λ d e.
-        Meets geometry.now (λ t. open_path geometry.now t user now session path.now flags.0 mode) result
+        Meets geometry.now (λ t. open_path geometry.now t user now session path.now flags.0 mode) result reply.new
         (HasFiles (files_of opens.old)) (HasFiles (files_of opens.new)) d e) }
     ensures halt { IfErr result (λ h. IsHalt B.world blocks.new h) }
-    ensures proper { IfOk result (λ r. answer_of r ≢ refused Errno.EIO) }
+    ensures proper { OnOk result (answer_of reply.new ≢ refused Errno.EIO) }
 {
     if let Err(errno) = may_begin(opens, session, flags, mode) {
-        return Ok(Reply::Refused(errno));
+        *reply = Reply::Refused(errno);
+        return Ok(());
     }
     match ready(blocks, names, geometry, user, now, path, flags, mode) {
         Ok(number) => match u16::try_from(number) {
-            Ok(inode) => Ok(put(opens, session, inode, flags)),
+            Ok(inode) => {
+                put(opens, session, inode, flags, reply);
+                Ok(())
+            }
             Err(_) => Err(Halt::Unsound),
         },
-        Err(Stop::Refused(errno)) => Ok(Reply::Refused(errno)),
+        Err(Stop::Refused(errno)) => {
+            *reply = Reply::Refused(errno);
+            Ok(())
+        }
         Err(Stop::Halted(halt)) => Err(halt),
     }
 }

@@ -1,6 +1,6 @@
 //! New symbolic links.
 
-ghost use Rattle.std.specs.Prelude.{◌≡◌, ◌≢◌, ◌≤◌, ◌<◌, ◌==◌, IfErr, IfOk, length};
+ghost use Rattle.std.specs.Prelude.{◌≡◌, ◌≢◌, ◌≤◌, ◌<◌, ◌==◌, IfErr, IfOk, OnOk, length};
 ghost use Rattle.std.specs.List.{list_any};
 ghost use Rattle.tree.specs.Tree.{most_target};
 ghost use Rattle.tree.specs.Answers.{answer_of, done, refused};
@@ -110,16 +110,23 @@ pub fn symlink<B: Blocks>(
     now: u32,
     target: &[u8],
     path: &[u8],
-) -> Result<Reply, Halt>
+    reply: &mut Reply,
+) -> Result<(), Halt>
     requires on { IsOn B.world geometry.now blocks.old }
     ensures turns { Turns B.world blocks.old blocks.new (λ d e. (f : Files) →
-        Meets geometry.now (λ t. symlink geometry.now t user now target.now path.now) result (HasFiles f) (HasFiles f) d e) }
+        Meets geometry.now (λ t. symlink geometry.now t user now target.now path.now) result reply.new (HasFiles f) (HasFiles f) d e) }
     ensures halt { IfErr result (λ h. IsHalt B.world blocks.new h) }
-    ensures proper { IfOk result (λ r. answer_of r ≢ refused Errno.EIO) }
+    ensures proper { OnOk result (answer_of reply.new ≢ refused Errno.EIO) }
 {
     match make(blocks, names, geometry, user, now, target, path) {
-        Ok(()) => Ok(Reply::Done),
-        Err(Stop::Refused(errno)) => Ok(Reply::Refused(errno)),
+        Ok(()) => {
+            *reply = Reply::Done;
+            Ok(())
+        }
+        Err(Stop::Refused(errno)) => {
+            *reply = Reply::Refused(errno);
+            Ok(())
+        }
         Err(Stop::Halted(halt)) => Err(halt),
     }
 }

@@ -1,6 +1,6 @@
 //! The call that moves a name.
 
-ghost use Rattle.std.specs.Prelude.{◌≡◌, ◌≢◌, IfErr, IfOk};
+ghost use Rattle.std.specs.Prelude.{◌≡◌, ◌≢◌, IfErr, OnOk};
 ghost use Rattle.tree.specs.Answers.{answer_of, refused};
 ghost use Rattle.tree.specs.NameCalls.{is_same, rename};
 ghost use Rattle.descriptors.specs.Files.{HasFiles};
@@ -44,26 +44,34 @@ pub fn rename<B: Blocks>(
     now: u32,
     old: &[u8],
     new: &[u8],
-) -> Result<Reply, Halt>
+    reply: &mut Reply,
+) -> Result<(), Halt>
     requires on { IsOn B.world geometry.now blocks.old }
     ensures turns { let f = files_of opens.now in Turns B.world blocks.old blocks.new (λ d e.
-        Meets geometry.now (λ t. rename geometry.now t user now old.now new.now) result (HasFiles f) (HasFiles f) d e) }
+        Meets geometry.now (λ t. rename geometry.now t user now old.now new.now) result reply.new (HasFiles f) (HasFiles f) d e) }
     ensures halt { IfErr result (λ h. IsHalt B.world blocks.new h) }
-    ensures proper { IfOk result (λ r. answer_of r ≢ refused Errno.EIO) }
+    ensures proper { OnOk result (answer_of reply.new ≢ refused Errno.EIO) }
 {
     let asked = match find_asked(blocks, names, geometry, user, now, old, new)? {
         Ok(asked) => asked,
-        Err(errno) => return Ok(Reply::Refused(errno)),
+        Err(errno) => {
+            *reply = Reply::Refused(errno);
+            return Ok(());
+        }
     };
     if is_same(&asked) {
-        return Ok(Reply::Done);
+        *reply = Reply::Done;
+        return Ok(());
     }
     if let Some(errno) = why_barred(blocks, opens, geometry, &asked)? {
-        return Ok(Reply::Refused(errno));
+        *reply = Reply::Refused(errno);
+        return Ok(());
     }
     if !fits(blocks, geometry, &asked)? {
-        return Ok(Reply::Refused(Errno::ENOSPC));
+        *reply = Reply::Refused(Errno::ENOSPC);
+        return Ok(());
     }
     carry(blocks, opens, geometry, &asked)?;
-    Ok(Reply::Done)
+    *reply = Reply::Done;
+    Ok(())
 }

@@ -103,12 +103,14 @@ module _ (g : Geometry) (who : Who) (now : ℕ) (call : Call) where
           made_done g t who now call answer h e (subst (λ (y : Effect). IsMade g t y answer (HasFiles h) e) (whole t) (x.each t holds files));
     }
 
-    pub call_meets : (r : Result Reply Halt) (f h : Files) (d e : Disk) → Meets g effect r (HasFiles f) (HasFiles h) d e → MeetsCall g who now call r f h d e
-    call_meets r f h d e x = ends_as r _ _ _ _ (λ (y : Reply). call_does (answer_of y) f h d e) (λ held. held) x
+    pub call_meets : (r : Result (Unit {0}) Halt) (y : Reply) (f h : Files) (d e : Disk) → Meets g effect r y (HasFiles f) (HasFiles h) d e
+        → MeetsCall g who now call r y f h d e
+    call_meets r y f h d e x = ends_as r _ _ _ _ (λ (u : Unit {0}). call_does (answer_of y) f h d e) (λ held. held) x
 
     -- of this call
-    pub kind_meets : (k : Call) → k ≡ call → (r : Result Reply Halt) (f h : Files) (d e : Disk) → Meets g effect r (HasFiles f) (HasFiles h) d e → MeetsCall g who now k r f h d e
-    kind_meets k kind r f h d e x = subst (λ (y : Call). MeetsCall g who now y r f h d e) (sym kind) (call_meets r f h d e x)
+    pub kind_meets : (k : Call) → k ≡ call → (r : Result (Unit {0}) Halt) (y : Reply) (f h : Files) (d e : Disk)
+        → Meets g effect r y (HasFiles f) (HasFiles h) d e → MeetsCall g who now k r y f h d e
+    kind_meets k kind r y f h d e x = subst (λ (z : Call). MeetsCall g who now z r y f h d e) (sym kind) (call_meets r y f h d e x)
 
     -- and where memory may be wanting
     pub call_lacks : may_want_memory call ≡ true → (answer : Answer) (f h : Files) (d e : Disk)
@@ -120,13 +122,14 @@ module _ (g : Geometry) (who : Who) (now : ℕ) (call : Call) where
       ];
     }
 
-    pub call_meets_or_lacks : may_want_memory call ≡ true → (r : Result Reply Halt) (f h : Files) (d e : Disk)
-        → MeetsOrLacks g effect r (HasFiles f) (HasFiles h) d e → MeetsCall g who now call r f h d e
-    call_meets_or_lacks may r f h d e x = ends_as r _ _ _ _ (λ (y : Reply). call_lacks may (answer_of y) f h d e) (λ held. held) x
+    pub call_meets_or_lacks : may_want_memory call ≡ true → (r : Result (Unit {0}) Halt) (y : Reply) (f h : Files) (d e : Disk)
+        → MeetsOrLacks g effect r y (HasFiles f) (HasFiles h) d e → MeetsCall g who now call r y f h d e
+    call_meets_or_lacks may r y f h d e x = ends_as r _ _ _ _ (λ (u : Unit {0}). call_lacks may (answer_of y) f h d e) (λ held. held) x
 
-    pub kind_meets_or_lacks : (k : Call) → k ≡ call → may_want_memory call ≡ true → (r : Result Reply Halt) (f h : Files) (d e : Disk)
-        → MeetsOrLacks g effect r (HasFiles f) (HasFiles h) d e → MeetsCall g who now k r f h d e
-    kind_meets_or_lacks k kind may r f h d e x = subst (λ (y : Call). MeetsCall g who now y r f h d e) (sym kind) (call_meets_or_lacks may r f h d e x)
+    pub kind_meets_or_lacks : (k : Call) → k ≡ call → may_want_memory call ≡ true → (r : Result (Unit {0}) Halt) (y : Reply) (f h : Files) (d e : Disk)
+        → MeetsOrLacks g effect r y (HasFiles f) (HasFiles h) d e → MeetsCall g who now k r y f h d e
+    kind_meets_or_lacks k kind may r y f h d e x =
+        subst (λ (z : Call). MeetsCall g who now z r y f h d e) (sym kind) (call_meets_or_lacks may r y f h d e x)
 
 -- what is unsound holds no tree
 pub call_unsound : (g : Geometry) (who : Who) (now : ℕ) (call : Call) (answer : Answer) (f h : Files) (d e : Disk) → (IsHeld g (HasFiles f) d → ⊥)

@@ -25,10 +25,10 @@ pub record IsDone (g : Geometry) (t : Tree) (who : Who) (now : ℕ) (call : Call
 pub record DoesCall (g : Geometry) (who : Who) (now : ℕ) (call : Call) (answer : Answer) (old new : Files) (d e : Disk) : Type 0 where
   pub each : (t : Tree) → HoldsVolume g d t → HasFiles old t → IsDone g t who now call answer new e
 
--- a call does this, or it is cut off; that the volume isn't sound it says of none that holds a tree
-abbrev pub MeetsCall : Geometry → Who → ℕ → Call → Result Reply Halt → Files → Files → Disk → Disk → Type 0
-MeetsCall g who now call result old new d e =
-    Ends result (λ r. DoesCall g who now call (answer_of r) old new d e) (IsHeld g (HasFiles old) d)
+-- a call does this, with this reply, or it is cut off; that the volume isn't sound it says of none that holds a tree
+abbrev pub MeetsCall : Geometry → Who → ℕ → Call → Result (Unit {0}) Halt → Reply → Files → Files → Disk → Disk → Type 0
+MeetsCall g who now call result reply old new d e =
+    Ends result (λ u. DoesCall g who now call (answer_of reply) old new d e) (IsHeld g (HasFiles old) d)
 
 -- whether some file is open
 abbrev pub is_busy : Files → Bool

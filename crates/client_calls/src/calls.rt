@@ -1,6 +1,6 @@
 //! The body of each call.
 
-ghost use Rattle.std.specs.Prelude.{◌≡◌, ◌≢◌, IfOk, IfErr, IsTrue};
+ghost use Rattle.std.specs.Prelude.{◌≡◌, ◌≢◌, IfErr, OnOk, IsTrue};
 ghost use Rattle.tree.specs.Answers.{answer_of, refused};
 ghost use Rattle.records.specs.Legal.{is_success, is_sync};
 ghost use Rattle.descriptors.specs.Table.{files_of};
@@ -37,8 +37,7 @@ fn user_of(who: Who) -> User
     }
 }
 
-/// The call by its kind.
-#[inline(always)]
+/// The call by its kind, whose reply goes to `reply`.
 fn perform<B: Blocks>(
     alloc: Global,
     blocks: &mut B,
@@ -48,58 +47,81 @@ fn perform<B: Blocks>(
     who: Who,
     now: u32,
     call: &Call,
-) -> Result<Reply, Halt>
+    reply: &mut Reply,
+) -> Result<(), Halt>
     requires on { IsOn B.world geometry.now blocks.old }
     ensures turns { Turns B.world blocks.old blocks.new (λ d e.
-        MeetsCall geometry.now who now call.now result (files_of opens.old) (files_of opens.new) d e) }
-    ensures synced { IfOk result (λ r. IsTrue (is_sync call.now) → IsTrue (is_success (answer_of r)) → B.world.synced blocks.new) }
+        MeetsCall geometry.now who now call.now result reply.new (files_of opens.old) (files_of opens.new) d e) }
+    ensures synced { OnOk result (IsTrue (is_sync call.now) → IsTrue (is_success (answer_of reply.new)) → B.world.synced blocks.new) }
     ensures halt { IfErr result (λ h. IsHalt B.world blocks.new h) }
-    ensures proper { IfOk result (λ r. answer_of r ≢ refused Errno.EIO) }
+    ensures proper { OnOk result (answer_of reply.new ≢ refused Errno.EIO) }
 {
     if who.session >= MAX_SESSIONS {
-        return Ok(Reply::Refused(Errno::EINVAL));
+        *reply = Reply::Refused(Errno::EINVAL);
+        return Ok(());
     }
     let session = who.session;
     let user = user_of(who);
     match *call {
         Call::Open { path, flags, mode } => {
             open(
-                blocks, names, opens, geometry, user, now, session, path, flags, mode,
+                blocks, names, opens, geometry, user, now, session, path, flags, mode, reply,
             )
         }
-        Call::Close { fd } => close(blocks, opens, geometry, session, fd),
-        Call::Dup { fd } => Ok(dup(opens, session, fd)),
-        Call::Read { fd, count } => read(alloc, blocks, opens, geometry, session, fd, count),
+        Call::Close { fd } => close(blocks, opens, geometry, session, fd, reply),
+        Call::Dup { fd } => {
+            dup(opens, session, fd, reply);
+            Ok(())
+        }
+        Call::Read { fd, count } => read(alloc, blocks, opens, geometry, session, fd, count, reply),
         Call::Seek { fd, whence, offset } => {
-            seek(blocks, opens, geometry, session, fd, whence, offset)
+            seek(blocks, opens, geometry, session, fd, whence, offset, reply)
         }
-        Call::Stat { path } => stat(blocks, names, geometry, user, path),
-        Call::Fstat { fd } => fstat(blocks, opens, geometry, session, fd),
-        Call::Unlink { path } => unlink(blocks, names, opens, geometry, user, now, path),
-        Call::Rmdir { path } => rmdir(blocks, names, opens, geometry, user, now, path),
-        Call::Chmod { path, mode } => chmod(blocks, names, geometry, user, now, path, mode),
-        Call::Chown { path, uid, gid } => chown(blocks, names, geometry, user, now, path, uid, gid),
+        Call::Stat { path } => stat(blocks, names, geometry, user, path, reply),
+        Call::Fstat { fd } => fstat(blocks, opens, geometry, session, fd, reply),
+        Call::Unlink { path } => unlink(blocks, names, opens, geometry, user, now, path, reply),
+        Call::Rmdir { path } => rmdir(blocks, names, opens, geometry, user, now, path, reply),
+        Call::Chmod { path, mode } => chmod(blocks, names, geometry, user, now, path, mode, reply),
+        Call::Chown { path, uid, gid } => chown(
+            blocks, names, geometry, user, now, path, uid, gid, reply,
+        ),
         Call::Utime { path, atime, mtime } => {
-            utime(blocks, names, geometry, user, now, path, atime, mtime)
+            utime(
+                blocks, names, geometry, user, now, path, atime, mtime, reply,
+            )
         }
-        Call::Readdir { fd } => readdir(alloc, blocks, opens, geometry, session, fd),
-        Call::Sync => sync(blocks, geometry),
-        Call::Statfs => statfs(blocks, geometry),
-        Call::Write { fd, bytes } => write(blocks, opens, geometry, now, session, fd, bytes),
-        Call::Truncate { path, size } => truncate(blocks, names, geometry, user, now, path, size),
-        Call::Link { old, new } => link(blocks, names, geometry, user, now, old, new),
-        Call::Mkdir { path, mode } => mkdir(blocks, names, geometry, user, now, path, mode),
-        Call::Rename { old, new } => rename(blocks, names, opens, geometry, user, now, old, new),
-        Call::Symlink { target, path } => symlink(blocks, names, geometry, user, now, target, path),
-        Call::Readlink { path } => readlink(blocks, names, geometry, user, path),
-        Call::Lstat { path } => lstat(blocks, names, geometry, user, path),
+        Call::Readdir { fd } => readdir(alloc, blocks, opens, geometry, session, fd, reply),
+        Call::Sync => sync(blocks, geometry, reply),
+        Call::Statfs => statfs(blocks, geometry, reply),
+        Call::Write { fd, bytes } => write(blocks, opens, geometry, now, session, fd, bytes, reply),
+        Call::Truncate { path, size } => truncate(
+            blocks, names, geometry, user, now, path, size, reply,
+        ),
+        Call::Link { old, new } => link(blocks, names, geometry, user, now, old, new, reply),
+        Call::Mkdir { path, mode } => mkdir(blocks, names, geometry, user, now, path, mode, reply),
+        Call::Rename { old, new } => rename(
+            blocks, names, opens, geometry, user, now, old, new, reply,
+        ),
+        Call::Symlink { target, path } => symlink(
+            blocks, names, geometry, user, now, target, path, reply,
+        ),
+        Call::Readlink { path } => readlink(blocks, names, geometry, user, path, reply),
+        Call::Lstat { path } => lstat(blocks, names, geometry, user, path, reply),
     }
 }
 
-/// Does a client call. EINVAL where the session isn't one that may be, before anything else is looked at. EIO is never answered, and
-/// after a sync that succeeded all that was changed is written. A volume that turns out not to be sound holds no tree; the call is
-/// refused with EINVAL then. Read and readdir take memory for their answer, and no other call takes any.
-#[inline(always)]
+/// What a call on a volume that isn't sound is answered.
+#[cold]
+#[inline(never)]
+fn refuse(reply: &mut Reply)
+    ensures { answer_of reply.new ≡ refused Errno.EINVAL }
+{
+    *reply = Reply::Refused(Errno::EINVAL);
+}
+
+/// Does a client call, whose reply goes to `reply`. EINVAL where the session isn't one that may be, before anything else is looked at. EIO
+/// is never answered, and after a sync that succeeded all that was changed is written. A volume that turns out not to be sound holds no
+/// tree; the call is refused with EINVAL then. Read and readdir take memory for their answer, and no other call takes any.
 pub fn body<B: Blocks>(
     alloc: Global,
     blocks: &mut B,
@@ -109,17 +131,21 @@ pub fn body<B: Blocks>(
     who: Who,
     now: u32,
     call: &Call,
-) -> Result<Reply, Cut>
+    reply: &mut Reply,
+) -> Result<(), Cut>
     requires on { IsOn B.world geometry.now blocks.old }
-    ensures turns { Turns B.world blocks.old blocks.new (λ d e. IfOk result (λ r.
-        DoesCall geometry.now who now call.now (answer_of r) (files_of opens.old) (files_of opens.new) d e)) }
-    ensures synced { IfOk result (λ r. IsTrue (is_sync call.now) → IsTrue (is_success (answer_of r)) → B.world.synced blocks.new) }
+    ensures turns { Turns B.world blocks.old blocks.new (λ d e. OnOk result
+        (DoesCall geometry.now who now call.now (answer_of reply.new) (files_of opens.old) (files_of opens.new) d e)) }
+    ensures synced { OnOk result (IsTrue (is_sync call.now) → IsTrue (is_success (answer_of reply.new)) → B.world.synced blocks.new) }
     ensures cut { IfErr result (λ c. B.world.over blocks.new c) }
-    ensures proper { IfOk result (λ r. answer_of r ≢ refused Errno.EIO) }
+    ensures proper { OnOk result (answer_of reply.new ≢ refused Errno.EIO) }
 {
-    match perform(alloc, blocks, names, opens, geometry, who, now, call) {
-        Ok(reply) => Ok(reply),
+    match perform(alloc, blocks, names, opens, geometry, who, now, call, reply) {
+        Ok(()) => Ok(()),
         Err(Halt::Cut(cut)) => Err(cut),
-        Err(Halt::Unsound) => Ok(Reply::Refused(Errno::EINVAL)),
+        Err(Halt::Unsound) => {
+            refuse(reply);
+            Ok(())
+        }
     }
 }

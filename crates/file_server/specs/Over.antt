@@ -3,6 +3,7 @@ use Rattle.std.specs.Prelude.{◌≡◌, ℕ, List, [], ◌∷◌, ◌++◌}
 use Rattle.message.specs.declared.Incoming.{Incoming}
 use Rattle.tree.specs.declared.Who.{Who}
 use Rattle.tree.specs.declared.Call.{Call}
+use Rattle.tree.specs.declared.Reply.{Reply}
 use Rattle.tree.specs.declared.Outcome.{Outcome as TreeOutcome}
 use Rattle.tree.specs.declared.Outcome.TheVariants as tree
 use Rattle.tree.specs.Tree.{Tree}
@@ -14,11 +15,18 @@ use Rattle.records.specs.Told.{received}
 use Rattle.records.specs.Acts.{Absorbed, marks_after}
 use Rattle.records.specs.ServerCall.{Serving, Serves, Outcome, Replied, Cut, CallKeeps, AbsorbKeeps}
 use Rattle.reissue.specs.Calls.{Truth}
+use Rattle.file_server.specs.declared.Ending.{Ending}
+use Rattle.file_server.specs.declared.Ending.TheVariants as ending
 
 -- what a call gave back
 abbrev pub outcome_of : TreeOutcome → Outcome
 outcome_of (tree.Reply r) = Replied (answer_of r)
 outcome_of tree.Cut = Cut
+
+-- the outcome of a call that ended so, whose reply stands where it was to be written
+abbrev pub outcome_in : Ending → Reply → TreeOutcome
+outcome_in ending.Answered r = tree.Reply r
+outcome_in ending.Cut r = tree.Cut
 
 -- One call over a link: what its link guarantees of a record that the server agrees with it guarantees after the call, up to the call's own
 -- mark, which the server doesn't note.

@@ -5,14 +5,35 @@ ghost use Rattle.std.specs.Prelude.{◌≡◌, ◌≢◌, ◌≤◌, ◌<◌, �
 ghost use Rattle.std.specs.Borrow.{Lends, sem};
 ghost use Rattle.tree.specs.declared.Call.{Call as TreeCall};
 ghost use Rattle.reissue.specs.Room.{room_needed};
-ghost use Rattle.file_server.specs.Over.{CallsOver, AbsorbsOver, SameServing, outcome_of};
+ghost use Rattle.file_server.specs.Over.{CallsOver, AbsorbsOver, SameServing, outcome_in, outcome_of};
 
 pub mod laws;
 
 use message::Incoming;
 use records::legal::Serve;
 use reissue::Link;
-use tree::{Call, Outcome, Who};
+use tree::{Call, Outcome, Reply, Who};
+
+/// How a call ended.
+#[derive(Clone, Copy, Debug, PartialEq, Eq)]
+pub enum Ending {
+    /// It was answered: its reply was written.
+    Answered,
+    /// It was cut, because the link has ended.
+    Cut,
+}
+
+impl Ending {
+    /// The outcome of a call that ended so, with its reply where it was answered.
+    pub fn with(self, reply: Reply) -> Outcome
+        ensures { result ≡ outcome_in self reply }
+    {
+        match self {
+            Ending::Answered => Outcome::Reply(reply),
+            Ending::Cut => Outcome::Cut,
+        }
+    }
+}
 
 /// A file server over a link of this type.
 ///
@@ -37,13 +58,14 @@ pub trait FileServer<L: Link + Drop>: Serve + Drop {
     // nothing is pending at its link, and no Flush is left undone
     ghost is_idle: { Self → Type 0 };
 
-    /// One call of a client, with the time in seconds since 1970. Cut once a take gave End; else EIO once the device was given up.
-    fn call(&mut self, who: Who, now: u32, call: &Call) -> Outcome
+    /// One call of a client, with the time in seconds since 1970, whose reply goes to `reply`. Cut once a take gave End; else EIO once the
+    /// device was given up.
+    fn call(&mut self, who: Who, now: u32, call: &Call, reply: &mut Reply) -> Ending
         requires ready { is_ready self.old }
         requires knows { knows call.now }
         ensures ready { is_ready self.new }
         ensures keeps { CallsOver (Self.serving self.old) (Self.serving self.new) (L.truth (line self.old)) (L.truth (line self.new))
-            who now call.now (outcome_of result) }
+            who now call.now (outcome_of (outcome_in result reply.new)) }
         ensures goes { L.goes_on (line self.old) (line self.new) }
         ensures budget { (Self.serving self.new).ended ≡ false → L.budget_left (line self.new) ≤ L.budget_left (line self.old) }
         ensures absorbed { absorbed self.new ≡ absorbed self.old };

@@ -12,10 +12,10 @@ ghost use Rattle.run_loop.specs.Ends.{RunsOut};
 
 use crate::course::Course;
 use crate::{Arrival, WorldLink};
-use file_server::FileServer;
+use file_server::{Ending, FileServer};
 use message::Incoming;
 use std::alloc::AllocError;
-use tree::{Outcome, Reply};
+use tree::Reply;
 
 /// The next event is run at the link of a server, or what is owed is told.
 fn advance<L: WorldLink, S: FileServer<L>>(server: &mut S) -> Result<Option<Incoming>, AllocError>
@@ -94,12 +94,13 @@ pub fn answer<L: WorldLink, S: FileServer<L>>(
     ensures starved { OnErr result ((L.Ran.run (S.line server.new)).starved ≡ true) }
 {
     let asked = arrived.as_arrived();
-    match server.call(asked.who, asked.now, &asked.call) {
-        Outcome::Reply(reply) => {
+    let mut reply = Reply::Done;
+    match server.call(asked.who, asked.now, &asked.call, &mut reply) {
+        Ending::Answered => {
             note_answer(server, arrived, reply)?;
             Ok(Course::More)
         }
-        Outcome::Cut => Ok(Course::Cut),
+        Ending::Cut => Ok(Course::Cut),
     }
 }
 

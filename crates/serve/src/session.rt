@@ -8,7 +8,7 @@ ghost use Rattle.records.specs.Opening.{contents_at};
 ghost use Rattle.records.specs.Legal.{IsAtFirst};
 ghost use Rattle.records.specs.Session.{caller_of, SessionCallKeeps, SessionState, DeviceKeeps, MeetKeeps};
 ghost use Rattle.board.specs.Words.{is_given_up};
-ghost use Rattle.file_server.specs.Over.{outcome_of};
+ghost use Rattle.file_server.specs.Over.{outcome_in, outcome_of};
 ghost use Rattle.serve.specs.Closing.{ClosesBelow, ClosesOne, HasClosed, IsFreed, IsLater};
 ghost use Rattle.shared_server.specs.Descriptors.{leaves_open};
 ghost use Rattle.shared_server.specs.Held.{HasEnded, HoldsIfTrue, IsCutAtEnd, IsEioOnceGivenUp, IsGuaranteed, IsSound};
@@ -17,11 +17,11 @@ use crate::service::Shared;
 use board::counting::recorder::Recorder;
 use board::counting::room::Room;
 use board::{Board, Device, Seat};
-use file_server::FileServer;
+use file_server::{Ending, FileServer};
 use shared_server::left_open::{LeftOpen, is_cut};
 use std::marker::{Model, PhantomData};
 use std::sync::{Arc, Wait};
-use tree::{Call, MAX_DESCRIPTORS, Outcome, Who};
+use tree::{Call, MAX_DESCRIPTORS, Outcome, Reply, Who};
 
 /// One client of a service: a user and a group, and what it has seen of the service's record. A session may move to another thread.
 ///
@@ -97,6 +97,7 @@ impl<N: Room, S> Session<N, S> {
 impl<N: Room, R: Wait + Copy, L: Recorder<N>, S: FileServer<L>> Session<N, Shared<N, R, L, S>> {
     /// Makes a call of the session's user and group. It may wait for the calls of other sessions. The session has then seen the record up
     /// to this call: an answer is its last mark; a cut, which comes once the link to the drivers has ended, leaves none.
+    #[inline(always)]
     pub fn call(&mut self, now: u32, call: &Call<'_>) -> Outcome
         ensures keeps { SessionCallKeeps N.geometry (contents_at N.opening) self.old (caller_of self.old) now
             call.now (outcome_of result) self.new }
@@ -106,14 +107,31 @@ impl<N: Room, R: Wait + Copy, L: Recorder<N>, S: FileServer<L>> Session<N, Share
         ensures eio { IsEioOnceGivenUp result self.new.knows.seen }
         ensures cut { IsCutAtEnd L.Link L.marks N.opening result self.new.knows.seen }
     {
+        let mut reply = Reply::Done;
+        match self.make(now, call, &mut reply) {
+            Ending::Answered => Outcome::Reply(reply),
+            Ending::Cut => Outcome::Cut,
+        }
+    }
+
+    /// The same, whose reply goes to `reply`: a reply is large, so it is written where the session's caller has it, and not handed on.
+    #[inline(never)]
+    fn make(&mut self, now: u32, call: &Call<'_>, reply: &mut Reply) -> Ending
+        ensures keeps { SessionCallKeeps N.geometry (contents_at N.opening) self.old (caller_of self.old) now
+            call.now (outcome_of (outcome_in result reply.new)) self.new }
+        ensures sound { IsSound self.new.knows.seen }
+        ensures guaranteed { IsGuaranteed L.truth N.opening self.new.knows.seen }
+        ensures volume { HoldsIfTrue N.geometry N.opening self.new.knows.seen }
+        ensures eio { IsEioOnceGivenUp (outcome_in result reply.new) self.new.knows.seen }
+        ensures cut { IsCutAtEnd L.Link L.marks N.opening (outcome_in result reply.new) self.new.knows.seen }
+    {
         let shared = &*self.shared;
-        let (outcome, seen) = shared
+        let ending = shared
             .server
             .lock(&shared.rt)
-            .call(&mut self.seat, self.who, now, call);
-        self.seen = seen;
-        self.left_open.note(call, &outcome);
-        outcome
+            .call(&mut self.seat, self.who, now, call, reply, &mut self.seen);
+        self.left_open.note(call, ending, reply);
+        ending
     }
 
     /// Closes a descriptor at the time 0, if the session's calls left it open. Whether that wasn't cut.

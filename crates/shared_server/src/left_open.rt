@@ -5,9 +5,10 @@ ghost use Rattle.tree.specs.declared.Who.{Who as Caller};
 ghost use Rattle.tree.specs.Answers.{answer_of};
 ghost use Rattle.records.specs.Marks.{Mark, Took};
 ghost use Rattle.records.specs.ServerCall.{with_outcome};
-ghost use Rattle.file_server.specs.Over.{outcome_of};
+ghost use Rattle.file_server.specs.Over.{outcome_in, outcome_of};
 ghost use Rattle.shared_server.specs.Descriptors.{change_of as change_by, given as given_by, is_done as is_done_by, succeeded, was_cut};
 
+use file_server::Ending;
 use tree::{Call, Outcome, Reply};
 
 /// The descriptors that the calls of a session left open, as their answers tell.
@@ -110,12 +111,13 @@ impl LeftOpen {
     }
 
     /// A call was answered so, or cut.
-    pub fn note(&mut self, call: &Call, outcome: &Outcome)
+    pub fn note(&mut self, call: &Call, ending: Ending, reply: &Reply)
         ensures { (who : Caller) (now : ℕ) (marks : List Mark) → AreLeftOpen self.old marks
-            → AreLeftOpen self.new (with_outcome who now call.now (outcome_of outcome.now) marks) }
+            → AreLeftOpen self.new (with_outcome who now call.now (outcome_of (outcome_in ending reply.now)) marks) }
     {
-        if let Outcome::Reply(reply) = outcome {
-            self.answered(call, reply);
+        match ending {
+            Ending::Answered => self.answered(call, reply),
+            Ending::Cut => {}
         }
     }
 

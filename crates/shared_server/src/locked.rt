@@ -8,7 +8,7 @@ ghost use Rattle.records.specs.Legal.{IsAtFirst};
 ghost use Rattle.records.specs.Session.{tally_of};
 ghost use Rattle.board.specs.View.{without};
 ghost use Rattle.board.specs.Steps.{SessionIsNew, SessionLearns};
-ghost use Rattle.file_server.specs.Over.{outcome_of};
+ghost use Rattle.file_server.specs.Over.{outcome_in, outcome_of};
 ghost use Rattle.shared_server.specs.Held.{AddsCall, HoldsIfTrue, IsEioOnceGivenUp, IsGood, IsGuaranteed, IsHeld, IsNotAdmitted, IsServedCall, IsSound};
 ghost use Rattle.shared_server.specs.Stopping.{IsLastLine};
 ghost use Rattle.shared_server.specs.Finishing.{sync_of};
@@ -22,9 +22,9 @@ use crate::sharing::{admit, release, show};
 use board::Seat;
 use board::counting::recorder::Recorder;
 use board::counting::room::Room;
-use file_server::FileServer;
+use file_server::{Ending, FileServer};
 use std::marker::{Model, PhantomData};
-use tree::{Call, Outcome, Who};
+use tree::{Call, Outcome, Reply, Who};
 
 /// How many Flushes are taken at most (own).
 const MOST_FLUSHES: u64 = 281474976710656;
@@ -78,23 +78,32 @@ impl<N: Room, L: Recorder<N>, S: FileServer<L>> Locked<N, L, S> {
     }
 
     /// A call of a session, which has then seen the whole record. An answer is a mark of it, the last; a cut isn't. No other call is made
-    /// meanwhile, and the numbers of sessions stay. With the outcome comes how many counted marks the record has, modulo 2^64.
-    pub fn call(&mut self, seat: &mut Seat, who: Who, now: u32, call: &Call) -> (Outcome, u64)
+    /// meanwhile, and the numbers of sessions stay. The reply goes to `reply`, and to `tally` how many counted marks the record has, modulo
+    /// 2^64.
+    pub fn call(
+        &mut self,
+        seat: &mut Seat,
+        who: Who,
+        now: u32,
+        call: &Call,
+        reply: &mut Reply,
+        tally: &mut u64,
+    ) -> Ending
         requires seat { (seat.old.table ≡ N.table) × (seat.old.view.number ≡ Some who.session) }
         ensures seat { (seat.new.table ≡ N.table) × (seat.new.view.number ≡ Some who.session) }
-        ensures call { IsServedCall N.geometry N.opening who now call.now seat.old.view (outcome_of result.0) seat.new.view }
-        ensures added { AddsCall who now call.now (outcome_of result.0) (L.marks self.old) (L.marks self.new) }
+        ensures call { IsServedCall N.geometry N.opening who now call.now seat.old.view (outcome_of (outcome_in result reply.new)) seat.new.view }
+        ensures added { AddsCall who now call.now (outcome_of (outcome_in result reply.new)) (L.marks self.old) (L.marks self.new) }
         ensures numbers { L.numbers self.new ≡ L.numbers self.old }
         ensures seen { seat.new.view.seen ≡ L.marks self.new }
-        ensures tally { result.1 ≡ tally_of seat.new.view.seen }
+        ensures tally { tally.new ≡ tally_of seat.new.view.seen }
         ensures sound { IsSound seat.new.view.seen }
         ensures guaranteed { IsGuaranteed L.truth N.opening seat.new.view.seen }
         ensures truth { L.truth self.new N.opening (L.marks self.new) }
         ensures volume { HoldsIfTrue N.geometry N.opening seat.new.view.seen }
-        ensures cut { (result.0 ≡ Outcome.Cut) ↔ (took_end (L.Link.history self.new) ≡ true) }
-        ensures eio { IsEioOnceGivenUp result.0 seat.new.view.seen }
+        ensures cut { (outcome_in result reply.new ≡ Outcome.Cut) ↔ (took_end (L.Link.history self.new) ≡ true) }
+        ensures eio { IsEioOnceGivenUp (outcome_in result reply.new) seat.new.view.seen }
     {
-        make_call(&mut self.server, seat, who, now, call)
+        make_call(&mut self.server, seat, who, now, call, reply, tally)
     }
 
     /// A Flush is taken between two calls, while fewer than 2^48 were. The numbers of sessions stay.
@@ -117,7 +126,9 @@ impl<N: Room, L: Recorder<N>, S: FileServer<L>> Locked<N, L, S> {
             of: _,
             over: _,
         } = self;
-        let outcome = server.call(SYNCER, 0, &Call::Sync);
+        let mut reply = Reply::Done;
+        let ending = server.call(SYNCER, 0, &Call::Sync, &mut reply);
+        let outcome = ending.with(reply);
         if is_cut(&outcome) {
             return LastSync::Cut;
         }

@@ -14,7 +14,7 @@ use std::alloc::{AllocError, Global};
 use std::test::Fail;
 use stored::{Caches, Stored};
 use tests_texts::{are_told, is_told};
-use tree::{Call, OpenFlags, Who};
+use tree::{Call, OpenFlags, Reply, Who};
 use vfs::Server;
 use vfs::unmounting::UnmountRefusal;
 
@@ -150,7 +150,9 @@ fn does<B: Caches>(alloc: Global, server: &mut Server<B>, step: &Step) -> Result
     };
     match step {
         Step::Call(now, call) => {
-            let outcome = server.call(who, *now, call);
+            let mut reply = Reply::Done;
+            let ending = server.call(who, *now, call, &mut reply);
+            let outcome = ending.with(reply);
             let shown = OutcomeText(&outcome);
             format!(in alloc; "{shown}")
         }

@@ -27,7 +27,11 @@ fn done<B: Blocks>(
     requires on { IsOn B.world geometry.now blocks.old }
     ensures { IsOn B.world geometry.now blocks.new }
 {
-    body(alloc, blocks, names, opens, geometry, who, 60, call)
+    let mut reply = Reply::Done;
+    body(
+        alloc, blocks, names, opens, geometry, who, 60, call, &mut reply,
+    )?;
+    Ok(reply)
 }
 
 /// 64 blocks of 1024 bytes, with 32 inodes.

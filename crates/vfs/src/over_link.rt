@@ -3,11 +3,11 @@
 ghost use Rattle.vfs.specs.OverLink.{IsIdleOver, IsReadyOver, line_of as link_there, with_line as with_link_there};
 
 use crate::server::Server;
-use file_server::FileServer;
+use file_server::{Ending, FileServer};
 use message::Incoming;
 use reissue::Link;
 use stored::Stored;
-use tree::{Call, Outcome, Who};
+use tree::{Call, Reply, Who};
 
 impl<L: Link + Drop> FileServer<L> for Server<Stored<L>> {
     ghost use Rattle.std.specs.Prelude.{refl};
@@ -25,9 +25,8 @@ impl<L: Link + Drop> FileServer<L> for Server<Stored<L>> {
 
     ghost is_idle = { IsIdleOver L.Link };
 
-    #[inline(always)]
-    fn call(&mut self, who: Who, now: u32, call: &Call) -> Outcome {
-        self.call(who, now, call)
+    fn call(&mut self, who: Who, now: u32, call: &Call, reply: &mut Reply) -> Ending {
+        self.call(who, now, call, reply)
     }
 
     fn absorb(&mut self, message: Incoming) {

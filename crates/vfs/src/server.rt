@@ -5,12 +5,13 @@ ghost use Rattle.std.specs.Prelude.{◌≡◌, ◌≢◌, ◌<◌, ◌+◌, ◌^
 use crate::answer;
 use client_calls::NameCache;
 use descriptors::Descriptors;
+use file_server::Ending;
 use layout::Geometry;
 use message::Incoming;
 use records::legal::Serve;
 use std::alloc::Global;
 use stored::Caches;
-use tree::{Call, Outcome, Who};
+use tree::{Call, Reply, Who};
 
 /// A file server of one volume, over blocks that have a cache, and the memory that it takes for answers of read and readdir.
 ///
@@ -50,20 +51,19 @@ impl<B> Server<B> {
 impl<B: Caches> Server<B> {
     ghost use Rattle.cache.specs.Calls.{IsIdle};
     ghost use Rattle.stored.specs.Cached.{MayAbsorb};
-    ghost use Rattle.file_server.specs.Over.{outcome_of};
+    ghost use Rattle.file_server.specs.Over.{outcome_in, outcome_of};
     ghost use Rattle.vfs.specs.Outcomes.{OnAnswered};
     ghost use Rattle.vfs.specs.Serving.{Spends};
     ghost use Rattle.vfs.specs.Server.{IsOpen, Answers, Absorbs};
 
-    /// Answers a client call, with the time in seconds since 1970. Cut once a take gave End, else EIO once the device was given up. No
-    /// Flush is left undone where the call is answered otherwise.
-    #[inline(always)]
-    pub fn call(&mut self, who: Who, now: u32, call: &Call) -> Outcome
+    /// Answers a client call, with the time in seconds since 1970; the reply goes to `reply`. Cut once a take gave End, else EIO once the
+    /// device was given up. No Flush is left undone where the call is answered otherwise.
+    pub fn call(&mut self, who: Who, now: u32, call: &Call, reply: &mut Reply) -> Ending
         requires may { IsOpen B.caching self.old }
         ensures may { IsOpen B.caching self.new }
-        ensures calls { Answers B.caching B.frame_count self.old self.new who now call.now (outcome_of result) }
+        ensures calls { Answers B.caching B.frame_count self.old self.new who now call.now (outcome_of (outcome_in result reply.new)) }
         ensures goes { B.goes_on self.old.blocks self.new.blocks }
-        ensures flushed { OnAnswered (outcome_of result) (B.wanted self.new.blocks ≡ false) }
+        ensures flushed { OnAnswered (outcome_of (outcome_in result reply.new)) (B.wanted self.new.blocks ≡ false) }
         ensures spends { Spends 0 (B.caching self.old.blocks) (B.caching self.new.blocks) }
         ensures absorbed { self.new.absorbed ≡ self.old.absorbed }
     {
@@ -76,6 +76,7 @@ impl<B: Caches> Server<B> {
             who,
             now,
             call,
+            reply,
         )
     }
 

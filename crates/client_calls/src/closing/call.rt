@@ -1,6 +1,6 @@
 //! The call close.
 
-ghost use Rattle.std.specs.Prelude.{◌≢◌, ◌<◌, IfOk, IfErr};
+ghost use Rattle.std.specs.Prelude.{◌≢◌, ◌<◌, IfErr, OnOk};
 ghost use Rattle.tree.specs.Tree.{most_sessions};
 ghost use Rattle.tree.specs.FileCalls.{close};
 ghost use Rattle.tree.specs.Answers.{answer_of, refused};
@@ -26,20 +26,28 @@ pub fn close<B: Blocks>(
     geometry: &Geometry,
     session: u8,
     fd: u32,
-) -> Result<Reply, Halt>
+    reply: &mut Reply,
+) -> Result<(), Halt>
     requires on { IsOn B.world geometry.now blocks.old }
     requires session { session < most_sessions }
-    ensures turns { Turns B.world blocks.old blocks.new (λ d e. Meets geometry.now (λ t. close t session fd) result
+    ensures turns { Turns B.world blocks.old blocks.new (λ d e. Meets geometry.now (λ t. close t session fd) result reply.new
         (HasFiles (files_of opens.old)) (HasFiles (files_of opens.new)) d e) }
     ensures halt { IfErr result (λ h. IsHalt B.world blocks.new h) }
-    ensures proper { IfOk result (λ r. answer_of r ≢ refused Errno.EIO) }
+    ensures proper { OnOk result (answer_of reply.new ≢ refused Errno.EIO) }
 {
     match opens.close(session, fd) {
         Ok(Some(inode)) => {
             lose_node(blocks, opens, geometry, u32::from(inode))?;
-            Ok(Reply::Done)
+            *reply = Reply::Done;
+            Ok(())
         }
-        Ok(None) => Ok(Reply::Done),
-        Err(refusal) => Ok(Reply::Refused(refusal)),
+        Ok(None) => {
+            *reply = Reply::Done;
+            Ok(())
+        }
+        Err(refusal) => {
+            *reply = Reply::Refused(refusal);
+            Ok(())
+        }
     }
 }

@@ -1,6 +1,6 @@
 //! The call readdir.
 
-ghost use Rattle.std.specs.Prelude.{◌≡◌, ◌≢◌, ◌<◌, IfOk, IfErr};
+ghost use Rattle.std.specs.Prelude.{◌≡◌, ◌≢◌, ◌<◌, IfErr, OnOk};
 ghost use Rattle.tree.specs.Tree.{most_sessions};
 ghost use Rattle.tree.specs.FileCalls.{readdir};
 ghost use Rattle.tree.specs.Answers.{answer_of, refused};
@@ -43,22 +43,31 @@ pub fn readdir<B: Blocks>(
     geometry: &Geometry,
     session: u8,
     fd: u32,
-) -> Result<Reply, Halt>
+    reply: &mut Reply,
+) -> Result<(), Halt>
     requires on { IsOn B.world geometry.now blocks.old }
     requires session { session < most_sessions }
     ensures turns { let f = files_of opens.now in Turns B.world blocks.old blocks.new (λ d e.
-        MeetsOrLacks geometry.now (λ t. readdir t session fd) result (HasFiles f) (HasFiles f) d e) }
+        MeetsOrLacks geometry.now (λ t. readdir t session fd) result reply.new (HasFiles f) (HasFiles f) d e) }
     ensures halt { IfErr result (λ h. IsHalt B.world blocks.new h) }
-    ensures proper { IfOk result (λ r. answer_of r ≢ refused Errno.EIO) }
+    ensures proper { OnOk result (answer_of reply.new ≢ refused Errno.EIO) }
 {
     let Some(file) = find(blocks, opens, geometry, session, fd)? else {
-        return Ok(Reply::Refused(Errno::EBADF));
+        *reply = Reply::Refused(Errno::EBADF);
+        return Ok(());
     };
     if let Some(refusal) = refusal(&file) {
-        return Ok(Reply::Refused(refusal));
+        *reply = Reply::Refused(refusal);
+        return Ok(());
     }
     match entries_of(alloc, blocks, geometry, &file.inode)? {
-        Ok(entries) => Ok(Reply::Names(entries)),
-        Err(_) => Ok(Reply::Refused(Errno::ENOMEM)),
+        Ok(entries) => {
+            *reply = Reply::Names(entries);
+            Ok(())
+        }
+        Err(_) => {
+            *reply = Reply::Refused(Errno::ENOMEM);
+            Ok(())
+        }
     }
 }

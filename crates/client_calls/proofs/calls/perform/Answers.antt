@@ -22,7 +22,7 @@ pub returns-in-Dup-clause-turns : goal.returns-in-Dup-clause-turns
 returns-in-Dup-clause-turns g c =
     let a = c.args in let f = files_of a.opens.now in let w = c.in-Dup in let early = c.if-who-ge-MAX_SESSIONS.false in
     let h = files_of c.dup.new.opens in
-    turns_as _ _ _ _ _ (λ d e same. kind_meets a.geometry.now a.who a.now (Dup w.fd) early (λ t. dup t a.who.session w.fd) (λ t. refl) a.call.now w.is (Ok c.dup.result) f h d e
+    turns_as _ _ _ _ _ (λ d e same. kind_meets a.geometry.now a.who a.now (Dup w.fd) early (λ t. dup t a.who.session w.fd) (λ t. refl) a.call.now w.is (Ok tt) c.dup.new.reply f h d e
     (c.dup.ensures.does a.geometry.now d e same))
     (turns_none _ g.met.B.Blocks.lawful _ c.requires.on.ready)
 
@@ -30,7 +30,7 @@ pub returns-in-Read-clause-turns : goal.returns-in-Read-clause-turns
 returns-in-Read-clause-turns g c =
     let a = c.args in let f = files_of a.opens.now in let w = c.in-Read in let early = c.if-who-ge-MAX_SESSIONS.false in
     turns_as _ _ _ _ _ (λ d e x. kind_meets_or_lacks a.geometry.now a.who a.now (Read w.fd w.count) early (λ t. read t a.who.session w.fd w.count)
-    (λ t. refl) a.call.now w.is refl c.read.result f (files_of c.read.new.opens) d e x)
+    (λ t. refl) a.call.now w.is refl c.read.result c.read.new.reply f (files_of c.read.new.opens) d e x)
     c.read.ensures.turns
 
 pub returns-in-Seek-clause-turns : goal.returns-in-Seek-clause-turns
@@ -38,112 +38,112 @@ returns-in-Seek-clause-turns g c =
     let a = c.args in let f = files_of a.opens.now in let w = c.in-Seek in let early = c.if-who-ge-MAX_SESSIONS.false in
     let fits : SFits w64 w.offset = search rules in
     turns_as _ _ _ _ _ (λ d e x. kind_meets a.geometry.now a.who a.now (Seek w.fd w.whence w.offset) early (λ t. seek t a.who.session w.fd w.whence (to_z w64 (of_z w64 w.offset)))
-    (λ t. ap (λ z. seek t a.who.session w.fd w.whence z) (sym (to_z-of_z w64 w.offset fits))) a.call.now w.is c.seek.result f (files_of c.seek.new.opens) d e x)
+    (λ t. ap (λ z. seek t a.who.session w.fd w.whence z) (sym (to_z-of_z w64 w.offset fits))) a.call.now w.is c.seek.result c.seek.new.reply f (files_of c.seek.new.opens) d e x)
     c.seek.ensures.turns
 
 pub returns-in-Stat-clause-turns : goal.returns-in-Stat-clause-turns
 returns-in-Stat-clause-turns g c =
     let a = c.args in let f = files_of a.opens.now in let w = c.in-Stat in let early = c.if-who-ge-MAX_SESSIONS.false in
     turns_as _ _ _ _ _ (λ d e x. kind_meets a.geometry.now a.who a.now (Stat w.path) early (λ t. stat t c.user_of-user.result w.path.now)
-    (λ t. ap (λ (u : User). stat t u w.path.now) (sym c.user_of-user.ensures)) a.call.now w.is c.stat.result f f d e (x f))
+    (λ t. ap (λ (u : User). stat t u w.path.now) (sym c.user_of-user.ensures)) a.call.now w.is c.stat.result c.stat.new.reply f f d e (x f))
     c.stat.ensures.turns
 
 pub returns-in-Fstat-clause-turns : goal.returns-in-Fstat-clause-turns
 returns-in-Fstat-clause-turns g c =
     let a = c.args in let f = files_of a.opens.now in let w = c.in-Fstat in let early = c.if-who-ge-MAX_SESSIONS.false in
     turns_as _ _ _ _ _ (λ d e x. kind_meets a.geometry.now a.who a.now (Fstat w.fd) early (λ t. fstat t a.who.session w.fd)
-    (λ t. refl) a.call.now w.is c.fstat.result f f d e x)
+    (λ t. refl) a.call.now w.is c.fstat.result c.fstat.new.reply f f d e x)
     c.fstat.ensures.turns
 
 pub returns-in-Chmod-clause-turns : goal.returns-in-Chmod-clause-turns
 returns-in-Chmod-clause-turns g c =
     let a = c.args in let f = files_of a.opens.now in let w = c.in-Chmod in let early = c.if-who-ge-MAX_SESSIONS.false in
     turns_as _ _ _ _ _ (λ d e x. kind_meets a.geometry.now a.who a.now (Chmod w.path w.mode) early (λ t. chmod t c.user_of-user.result a.now w.path.now w.mode)
-    (λ t. ap (λ (u : User). chmod t u a.now w.path.now w.mode) (sym c.user_of-user.ensures)) a.call.now w.is c.chmod.result f f d e (x f))
+    (λ t. ap (λ (u : User). chmod t u a.now w.path.now w.mode) (sym c.user_of-user.ensures)) a.call.now w.is c.chmod.result c.chmod.new.reply f f d e (x f))
     c.chmod.ensures.turns
 
 pub returns-in-Chown-clause-turns : goal.returns-in-Chown-clause-turns
 returns-in-Chown-clause-turns g c =
     let a = c.args in let f = files_of a.opens.now in let w = c.in-Chown in let early = c.if-who-ge-MAX_SESSIONS.false in
     turns_as _ _ _ _ _ (λ d e x. kind_meets a.geometry.now a.who a.now (Chown w.path w.uid w.gid) early (λ t. chown t c.user_of-user.result a.now w.path.now w.uid w.gid)
-    (λ t. ap (λ (u : User). chown t u a.now w.path.now w.uid w.gid) (sym c.user_of-user.ensures)) a.call.now w.is c.chown.result f f d e (x f))
+    (λ t. ap (λ (u : User). chown t u a.now w.path.now w.uid w.gid) (sym c.user_of-user.ensures)) a.call.now w.is c.chown.result c.chown.new.reply f f d e (x f))
     c.chown.ensures.turns
 
 pub returns-in-Utime-clause-turns : goal.returns-in-Utime-clause-turns
 returns-in-Utime-clause-turns g c =
     let a = c.args in let f = files_of a.opens.now in let w = c.in-Utime in let early = c.if-who-ge-MAX_SESSIONS.false in
     turns_as _ _ _ _ _ (λ d e x. kind_meets a.geometry.now a.who a.now (Utime w.path w.atime w.mtime) early (λ t. utime t c.user_of-user.result a.now w.path.now w.atime w.mtime)
-    (λ t. ap (λ (u : User). utime t u a.now w.path.now w.atime w.mtime) (sym c.user_of-user.ensures)) a.call.now w.is c.utime.result f f d e (x f))
+    (λ t. ap (λ (u : User). utime t u a.now w.path.now w.atime w.mtime) (sym c.user_of-user.ensures)) a.call.now w.is c.utime.result c.utime.new.reply f f d e (x f))
     c.utime.ensures.turns
 
 pub returns-in-Readdir-clause-turns : goal.returns-in-Readdir-clause-turns
 returns-in-Readdir-clause-turns g c =
     let a = c.args in let f = files_of a.opens.now in let w = c.in-Readdir in let early = c.if-who-ge-MAX_SESSIONS.false in
     turns_as _ _ _ _ _ (λ d e x. kind_meets_or_lacks a.geometry.now a.who a.now (Readdir w.fd) early (λ t. readdir t a.who.session w.fd)
-    (λ t. refl) a.call.now w.is refl c.readdir.result f f d e x)
+    (λ t. refl) a.call.now w.is refl c.readdir.result c.readdir.new.reply f f d e x)
     c.readdir.ensures.turns
 
 pub returns-in-Sync-clause-turns : goal.returns-in-Sync-clause-turns
 returns-in-Sync-clause-turns g c =
     let a = c.args in let f = files_of a.opens.now in let w = c.in-Sync in let early = c.if-who-ge-MAX_SESSIONS.false in
     turns_as _ _ _ _ _ (λ d e x. kind_meets a.geometry.now a.who a.now Sync early (λ t. Ok (done, t))
-    (λ t. refl) a.call.now w.is c.sync.result f f d e (x f))
+    (λ t. refl) a.call.now w.is c.sync.result c.sync.new.reply f f d e (x f))
     c.sync.ensures.turns
 
 pub returns-in-Statfs-clause-turns : goal.returns-in-Statfs-clause-turns
 returns-in-Statfs-clause-turns g c =
     let a = c.args in let f = files_of a.opens.now in let w = c.in-Statfs in let early = c.if-who-ge-MAX_SESSIONS.false in
     turns_as _ _ _ _ _ (λ d e x. kind_meets a.geometry.now a.who a.now Statfs early (λ t. statfs a.geometry.now t)
-    (λ t. refl) a.call.now w.is c.statfs.result f f d e (x f))
+    (λ t. refl) a.call.now w.is c.statfs.result c.statfs.new.reply f f d e (x f))
     c.statfs.ensures.turns
 
 pub returns-in-Close-clause-turns : goal.returns-in-Close-clause-turns
 returns-in-Close-clause-turns g c =
     let a = c.args in let f = files_of a.opens.now in let w = c.in-Close in let early = c.if-who-ge-MAX_SESSIONS.false in
     turns_as _ _ _ _ _ (λ d e x. kind_meets a.geometry.now a.who a.now (Close w.fd) early (λ t. close t a.who.session w.fd)
-    (λ t. refl) a.call.now w.is c.close.result f (files_of c.close.new.opens) d e x)
+    (λ t. refl) a.call.now w.is c.close.result c.close.new.reply f (files_of c.close.new.opens) d e x)
     c.close.ensures.turns
 
 pub returns-in-Unlink-clause-turns : goal.returns-in-Unlink-clause-turns
 returns-in-Unlink-clause-turns g c =
     let a = c.args in let f = files_of a.opens.now in let w = c.in-Unlink in let early = c.if-who-ge-MAX_SESSIONS.false in
     turns_as _ _ _ _ _ (λ d e x. kind_meets a.geometry.now a.who a.now (Unlink w.path) early (λ t. unlink t c.user_of-user.result a.now w.path.now)
-    (λ t. ap (λ (u : User). unlink t u a.now w.path.now) (sym c.user_of-user.ensures)) a.call.now w.is c.unlink.result f f d e x)
+    (λ t. ap (λ (u : User). unlink t u a.now w.path.now) (sym c.user_of-user.ensures)) a.call.now w.is c.unlink.result c.unlink.new.reply f f d e x)
     c.unlink.ensures.turns
 
 pub returns-in-Rmdir-clause-turns : goal.returns-in-Rmdir-clause-turns
 returns-in-Rmdir-clause-turns g c =
     let a = c.args in let f = files_of a.opens.now in let w = c.in-Rmdir in let early = c.if-who-ge-MAX_SESSIONS.false in
     turns_as _ _ _ _ _ (λ d e x. kind_meets a.geometry.now a.who a.now (Rmdir w.path) early (λ t. rmdir t c.user_of-user.result a.now w.path.now)
-    (λ t. ap (λ (u : User). rmdir t u a.now w.path.now) (sym c.user_of-user.ensures)) a.call.now w.is c.rmdir.result f f d e x)
+    (λ t. ap (λ (u : User). rmdir t u a.now w.path.now) (sym c.user_of-user.ensures)) a.call.now w.is c.rmdir.result c.rmdir.new.reply f f d e x)
     c.rmdir.ensures.turns
 
 pub returns-in-Write-clause-turns : goal.returns-in-Write-clause-turns
 returns-in-Write-clause-turns g c =
     let a = c.args in let f = files_of a.opens.now in let w = c.in-Write in let early = c.if-who-ge-MAX_SESSIONS.false in
     turns_as _ _ _ _ _ (λ d e x. kind_meets a.geometry.now a.who a.now (Write w.fd w.bytes) early (λ t. write a.geometry.now t a.now a.who.session w.fd w.bytes.now)
-    (λ t. refl) a.call.now w.is c.write.result f (files_of c.write.new.opens) d e x)
+    (λ t. refl) a.call.now w.is c.write.result c.write.new.reply f (files_of c.write.new.opens) d e x)
     c.write.ensures.turns
 
 pub returns-in-Truncate-clause-turns : goal.returns-in-Truncate-clause-turns
 returns-in-Truncate-clause-turns g c =
     let a = c.args in let f = files_of a.opens.now in let w = c.in-Truncate in let early = c.if-who-ge-MAX_SESSIONS.false in
     turns_as _ _ _ _ _ (λ d e x. kind_meets a.geometry.now a.who a.now (Truncate w.path w.size) early (λ t. truncate a.geometry.now t c.user_of-user.result a.now w.path.now w.size)
-    (λ t. ap (λ (u : User). truncate a.geometry.now t u a.now w.path.now w.size) (sym c.user_of-user.ensures)) a.call.now w.is c.truncate.result f f d e (x f))
+    (λ t. ap (λ (u : User). truncate a.geometry.now t u a.now w.path.now w.size) (sym c.user_of-user.ensures)) a.call.now w.is c.truncate.result c.truncate.new.reply f f d e (x f))
     c.truncate.ensures.turns
 
 pub returns-in-Link-clause-turns : goal.returns-in-Link-clause-turns
 returns-in-Link-clause-turns g c =
     let a = c.args in let f = files_of a.opens.now in let w = c.in-Link in let early = c.if-who-ge-MAX_SESSIONS.false in
     turns_as _ _ _ _ _ (λ d e x. kind_meets a.geometry.now a.who a.now (Link w.old w.new) early (λ t. link a.geometry.now t c.user_of-user.result a.now w.old.now w.new.now)
-    (λ t. ap (λ (u : User). link a.geometry.now t u a.now w.old.now w.new.now) (sym c.user_of-user.ensures)) a.call.now w.is c.link.result f f d e (x f))
+    (λ t. ap (λ (u : User). link a.geometry.now t u a.now w.old.now w.new.now) (sym c.user_of-user.ensures)) a.call.now w.is c.link.result c.link.new.reply f f d e (x f))
     c.link.ensures.turns
 
 pub returns-in-Mkdir-clause-turns : goal.returns-in-Mkdir-clause-turns
 returns-in-Mkdir-clause-turns g c =
     let a = c.args in let f = files_of a.opens.now in let w = c.in-Mkdir in let early = c.if-who-ge-MAX_SESSIONS.false in
     turns_as _ _ _ _ _ (λ d e x. kind_meets a.geometry.now a.who a.now (Mkdir w.path w.mode) early (λ t. mkdir a.geometry.now t c.user_of-user.result a.now w.path.now w.mode)
-    (λ t. ap (λ (u : User). mkdir a.geometry.now t u a.now w.path.now w.mode) (sym c.user_of-user.ensures)) a.call.now w.is c.mkdir.result f f d e (x f))
+    (λ t. ap (λ (u : User). mkdir a.geometry.now t u a.now w.path.now w.mode) (sym c.user_of-user.ensures)) a.call.now w.is c.mkdir.result c.mkdir.new.reply f f d e (x f))
     c.mkdir.ensures.turns
 
 pub returns-in-Open-clause-turns : goal.returns-in-Open-clause-turns
@@ -151,7 +151,7 @@ returns-in-Open-clause-turns g c =
     let a = c.args in let f = files_of a.opens.now in let w = c.in-Open in let early = c.if-who-ge-MAX_SESSIONS.false in
     turns_as _ _ _ _ _ (λ d e x. kind_meets a.geometry.now a.who a.now (Open w.path w.flags w.mode) early
     (λ t. open_path a.geometry.now t c.user_of-user.result a.now a.who.session w.path.now w.flags.0 w.mode)
-    (λ t. ap (λ (u : User). open_path a.geometry.now t u a.now a.who.session w.path.now w.flags.0 w.mode) (sym c.user_of-user.ensures)) a.call.now w.is c.open.result f
+    (λ t. ap (λ (u : User). open_path a.geometry.now t u a.now a.who.session w.path.now w.flags.0 w.mode) (sym c.user_of-user.ensures)) a.call.now w.is c.open.result c.open.new.reply f
     (files_of c.open.new.opens) d e x)
     c.open.ensures.turns
 
@@ -160,7 +160,7 @@ returns-in-Rename-clause-turns g c =
     let a = c.args in let f = files_of a.opens.now in let w = c.in-Rename in let early = c.if-who-ge-MAX_SESSIONS.false in
     turns_as _ _ _ _ _ (λ d e x. kind_meets a.geometry.now a.who a.now (Rename w.old w.new) early
     (λ t. rename a.geometry.now t c.user_of-user.result a.now w.old.now w.new.now)
-    (λ t. ap (λ (u : User). rename a.geometry.now t u a.now w.old.now w.new.now) (sym c.user_of-user.ensures)) a.call.now w.is c.rename.result f f d e x)
+    (λ t. ap (λ (u : User). rename a.geometry.now t u a.now w.old.now w.new.now) (sym c.user_of-user.ensures)) a.call.now w.is c.rename.result c.rename.new.reply f f d e x)
     c.rename.ensures.turns
 
 pub returns-in-Symlink-clause-turns : goal.returns-in-Symlink-clause-turns
@@ -169,7 +169,7 @@ returns-in-Symlink-clause-turns g c =
     turns_as _ _ _ _ _ (λ d e x. kind_meets a.geometry.now a.who a.now (Symlink w.target w.path) early
     (λ t. symlink a.geometry.now t c.user_of-user.result a.now w.target.now w.path.now)
     (λ t. ap (λ (u : User). symlink a.geometry.now t u a.now w.target.now w.path.now) (sym c.user_of-user.ensures))
-    a.call.now w.is c.symlink.result f f d e (x f))
+    a.call.now w.is c.symlink.result c.symlink.new.reply f f d e (x f))
     c.symlink.ensures.turns
 
 pub returns-in-Readlink-clause-turns : goal.returns-in-Readlink-clause-turns
@@ -177,12 +177,12 @@ returns-in-Readlink-clause-turns g c =
     let a = c.args in let f = files_of a.opens.now in let w = c.in-Readlink in let early = c.if-who-ge-MAX_SESSIONS.false in
     turns_as _ _ _ _ _ (λ d e x. kind_meets a.geometry.now a.who a.now (Readlink w.path) early
     (λ t. readlink t c.user_of-user.result w.path.now)
-    (λ t. ap (λ (u : User). readlink t u w.path.now) (sym c.user_of-user.ensures)) a.call.now w.is c.readlink.result f f d e (x f))
+    (λ t. ap (λ (u : User). readlink t u w.path.now) (sym c.user_of-user.ensures)) a.call.now w.is c.readlink.result c.readlink.new.reply f f d e (x f))
     c.readlink.ensures.turns
 
 pub returns-in-Lstat-clause-turns : goal.returns-in-Lstat-clause-turns
 returns-in-Lstat-clause-turns g c =
     let a = c.args in let f = files_of a.opens.now in let w = c.in-Lstat in let early = c.if-who-ge-MAX_SESSIONS.false in
     turns_as _ _ _ _ _ (λ d e x. kind_meets a.geometry.now a.who a.now (Lstat w.path) early (λ t. lstat t c.user_of-user.result w.path.now)
-    (λ t. ap (λ (u : User). lstat t u w.path.now) (sym c.user_of-user.ensures)) a.call.now w.is c.lstat.result f f d e (x f))
+    (λ t. ap (λ (u : User). lstat t u w.path.now) (sym c.user_of-user.ensures)) a.call.now w.is c.lstat.result c.lstat.new.reply f f d e (x f))
     c.lstat.ensures.turns

@@ -1,16 +1,17 @@
-use Rattle.std.proofs.Common.{◌∙◌}
+use Rattle.std.proofs.Common.{◌∙◌, refl}
 use Rattle.tree.specs.Answers.{answer_of}
-use Rattle.file_server.specs.Over.{outcome_of}
+use Rattle.tree.specs.declared.Outcome.TheVariants as tree
+use Rattle.records.specs.ServerCall.{Replied, Cut}
 use Rattle.shared_server.proofs.HeldLaws.{adds_call, cut_given, eio_after, eio_given, held_after, held_sound, held_guaranteed, held_volume, session_answered, session_cut}
 use Rattle.shared_server.proofs.calling.make_call.Goals as goal
 
-pub returns-in-Reply-clause-held : goal.returns-in-Reply-clause-held
-returns-in-Reply-clause-held g c =
+pub returns-in-Answered-clause-held : goal.returns-in-Answered-clause-held
+returns-in-Answered-clause-held g c =
     held_after
     g.N.Room g.L.Link g.S.Serve.serving g.S.FileServer.line g.S.FileServer.is_ready g.S.FileServer.knows
     g.L.Supplied.runs_on g.L.Recorder.marks
-    c.args.who c.args.now c.args.call.now (outcome_of c.call-outcome.result)
-    c.args.server.now c.call-outcome.new.self c.count_call-count.new.server
+    c.args.who c.args.now c.args.call.now (Replied (answer_of c.call.new.reply))
+    c.args.server.now c.call.new.self c.count_call.new.server
     (record {
       tells = g.met.S.FileServer.tells;
       is_record = λ l older truth. g.met.L.Recorder.is_record l g.N.Room.opening older truth;
@@ -18,11 +19,11 @@ returns-in-Reply-clause-held g c =
       keeps_on = λ l m goes runs. g.met.L.Supplied.keeps_on l m g.N.Room.policy g.N.Room.supply goes runs;
     })
     (record {
-      calls = c.call-outcome.ensures.keeps;
-      ready = c.call-outcome.ensures.ready;
-      goes = c.call-outcome.ensures.goes;
-      same = c.count_call-count.ensures.same;
-      counted = λ older truth. rw c.in-Reply.is (c.count_call-count.ensures.truth g.N.Room.opening older truth);
+      calls = c.in-Answered.ensures.keeps;
+      ready = c.call.ensures.ready;
+      goes = c.call.ensures.goes;
+      same = c.count_call.ensures.same;
+      counted = λ older truth. c.count_call.ensures.truth g.N.Room.opening older truth;
     })
     c.requires.held
 
@@ -31,8 +32,8 @@ returns-in-Cut-clause-held g c =
     held_after
     g.N.Room g.L.Link g.S.Serve.serving g.S.FileServer.line g.S.FileServer.is_ready g.S.FileServer.knows
     g.L.Supplied.runs_on g.L.Recorder.marks
-    c.args.who c.args.now c.args.call.now (outcome_of c.call-outcome.result)
-    c.args.server.now c.call-outcome.new.self c.show.new.server
+    c.args.who c.args.now c.args.call.now (Cut)
+    c.args.server.now c.call.new.self c.show.new.server
     (record {
       tells = g.met.S.FileServer.tells;
       is_record = λ l older truth. g.met.L.Recorder.is_record l g.N.Room.opening older truth;
@@ -40,49 +41,49 @@ returns-in-Cut-clause-held g c =
       keeps_on = λ l m goes runs. g.met.L.Supplied.keeps_on l m g.N.Room.policy g.N.Room.supply goes runs;
     })
     (record {
-      calls = c.call-outcome.ensures.keeps;
-      ready = c.call-outcome.ensures.ready;
-      goes = c.call-outcome.ensures.goes;
+      calls = c.in-Cut.ensures.keeps;
+      ready = c.call.ensures.ready;
+      goes = c.call.ensures.goes;
       same = c.show.ensures.same;
-      counted = λ older truth. rw c.in-Cut.is (c.show.ensures.truth g.N.Room.opening older truth);
+      counted = λ older truth. c.show.ensures.truth g.N.Room.opening older truth;
     })
     c.requires.held
 
-pub returns-in-Reply-clause-call : goal.returns-in-Reply-clause-call
-returns-in-Reply-clause-call g c =
-    let e = c.count_call-count.ensures in
+pub returns-in-Answered-clause-call : goal.returns-in-Answered-clause-call
+returns-in-Answered-clause-call g c =
+    let e = c.count_call.ensures in
     session_answered
     g.N.Room g.L.Link g.S.Serve.serving g.S.FileServer.line g.S.FileServer.is_ready g.S.FileServer.knows
     g.L.Supplied.runs_on g.L.Recorder.marks
-    c.count_call-count.new.server (g.L.Recorder.marks (g.S.FileServer.line c.call-outcome.new.self))
-    c.args.who c.args.now c.args.call.now (answer_of c.in-Reply.reply) c.args.seat.now.view c.count_call-count.new.caller.view
-    (returns-in-Reply-clause-held g c) c.requires.seat.1 e.session e.seen e.marks e.mine
+    c.count_call.new.server (g.L.Recorder.marks (g.S.FileServer.line c.call.new.self))
+    c.args.who c.args.now c.args.call.now (answer_of c.call.new.reply) c.args.seat.now.view c.count_call.new.caller.view
+    (returns-in-Answered-clause-held g c) c.requires.seat.1 e.session e.seen e.marks e.mine
 
-pub returns-in-Reply-clause-sound : goal.returns-in-Reply-clause-sound
-returns-in-Reply-clause-sound g c = held_sound
+pub returns-in-Answered-clause-sound : goal.returns-in-Answered-clause-sound
+returns-in-Answered-clause-sound g c = held_sound
     g.N.Room g.L.Link g.S.Serve.serving g.S.FileServer.line g.S.FileServer.is_ready g.S.FileServer.knows
     g.L.Supplied.runs_on g.L.Recorder.marks
-    c.count_call-count.new.server c.count_call-count.new.caller.view.seen c.count_call-count.ensures.seen (returns-in-Reply-clause-held g c)
+    c.count_call.new.server c.count_call.new.caller.view.seen c.count_call.ensures.seen (returns-in-Answered-clause-held g c)
 
-pub returns-in-Reply-clause-guaranteed : goal.returns-in-Reply-clause-guaranteed
-returns-in-Reply-clause-guaranteed g c = held_guaranteed
+pub returns-in-Answered-clause-guaranteed : goal.returns-in-Answered-clause-guaranteed
+returns-in-Answered-clause-guaranteed g c = held_guaranteed
     g.N.Room g.L.Link g.S.Serve.serving g.S.FileServer.line g.S.FileServer.is_ready g.S.FileServer.knows
     g.L.Supplied.runs_on g.L.Recorder.marks
-    c.count_call-count.new.server c.count_call-count.new.caller.view.seen c.count_call-count.ensures.seen (returns-in-Reply-clause-held g c)
+    c.count_call.new.server c.count_call.new.caller.view.seen c.count_call.ensures.seen (returns-in-Answered-clause-held g c)
 
-pub returns-in-Reply-clause-volume : goal.returns-in-Reply-clause-volume
-returns-in-Reply-clause-volume g c = held_volume
+pub returns-in-Answered-clause-volume : goal.returns-in-Answered-clause-volume
+returns-in-Answered-clause-volume g c = held_volume
     g.N.Room g.L.Link g.S.Serve.serving g.S.FileServer.line g.S.FileServer.is_ready g.S.FileServer.knows
     g.L.Supplied.runs_on g.L.Recorder.marks
-    c.count_call-count.new.server c.count_call-count.new.caller.view.seen c.count_call-count.ensures.seen (returns-in-Reply-clause-held g c)
+    c.count_call.new.server c.count_call.new.caller.view.seen c.count_call.ensures.seen (returns-in-Answered-clause-held g c)
 
-pub returns-in-Reply-clause-cut : goal.returns-in-Reply-clause-cut
-returns-in-Reply-clause-cut g c =
+pub returns-in-Answered-clause-cut : goal.returns-in-Answered-clause-cut
+returns-in-Answered-clause-cut g c =
     cut_given
     g.N.Room g.L.Link g.S.Serve.serving g.S.FileServer.line g.S.FileServer.is_ready g.S.FileServer.knows
     g.L.Supplied.runs_on g.L.Recorder.marks
-    c.args.who c.args.now c.args.call.now c.call-outcome.result _
-    c.args.server.now c.call-outcome.new.self c.count_call-count.new.server c.in-Reply.is
+    c.args.who c.args.now c.args.call.now (tree.Reply c.call.new.reply) _
+    c.args.server.now c.call.new.self c.count_call.new.server refl
     (record {
       tells = g.met.S.FileServer.tells;
       is_record = λ l older truth. g.met.L.Recorder.is_record l g.N.Room.opening older truth;
@@ -90,22 +91,22 @@ returns-in-Reply-clause-cut g c =
       keeps_on = λ l m goes runs. g.met.L.Supplied.keeps_on l m g.N.Room.policy g.N.Room.supply goes runs;
     })
     (record {
-      calls = c.call-outcome.ensures.keeps;
-      ready = c.call-outcome.ensures.ready;
-      goes = c.call-outcome.ensures.goes;
-      same = c.count_call-count.ensures.same;
-      counted = λ older truth. rw c.in-Reply.is (c.count_call-count.ensures.truth g.N.Room.opening older truth);
+      calls = c.in-Answered.ensures.keeps;
+      ready = c.call.ensures.ready;
+      goes = c.call.ensures.goes;
+      same = c.count_call.ensures.same;
+      counted = λ older truth. c.count_call.ensures.truth g.N.Room.opening older truth;
     })
     c.requires.held
 
-pub returns-in-Reply-clause-eio : goal.returns-in-Reply-clause-eio
-returns-in-Reply-clause-eio g c =
-    eio_given _ _ c.count_call-count.new.caller.view.seen c.in-Reply.is
+pub returns-in-Answered-clause-eio : goal.returns-in-Answered-clause-eio
+returns-in-Answered-clause-eio g c =
+    eio_given _ _ c.count_call.new.caller.view.seen refl
     (eio_after
     g.N.Room g.L.Link g.S.Serve.serving g.S.FileServer.line g.S.FileServer.is_ready g.S.FileServer.knows
     g.L.Supplied.runs_on g.L.Recorder.marks
-    c.args.who c.args.now c.args.call.now c.call-outcome.result
-    c.args.server.now c.call-outcome.new.self c.count_call-count.new.server c.count_call-count.new.caller.view.seen c.count_call-count.ensures.seen
+    c.args.who c.args.now c.args.call.now (tree.Reply c.call.new.reply)
+    c.args.server.now c.call.new.self c.count_call.new.server c.count_call.new.caller.view.seen c.count_call.ensures.seen
     (record {
       tells = g.met.S.FileServer.tells;
       is_record = λ l older truth. g.met.L.Recorder.is_record l g.N.Room.opening older truth;
@@ -113,11 +114,11 @@ returns-in-Reply-clause-eio g c =
       keeps_on = λ l m goes runs. g.met.L.Supplied.keeps_on l m g.N.Room.policy g.N.Room.supply goes runs;
     })
     (record {
-      calls = c.call-outcome.ensures.keeps;
-      ready = c.call-outcome.ensures.ready;
-      goes = c.call-outcome.ensures.goes;
-      same = c.count_call-count.ensures.same;
-      counted = λ older truth. rw c.in-Reply.is (c.count_call-count.ensures.truth g.N.Room.opening older truth);
+      calls = c.in-Answered.ensures.keeps;
+      ready = c.call.ensures.ready;
+      goes = c.call.ensures.goes;
+      same = c.count_call.ensures.same;
+      counted = λ older truth. c.count_call.ensures.truth g.N.Room.opening older truth;
     })
     c.requires.held)
 
@@ -154,8 +155,8 @@ returns-in-Cut-clause-cut g c =
     cut_given
     g.N.Room g.L.Link g.S.Serve.serving g.S.FileServer.line g.S.FileServer.is_ready g.S.FileServer.knows
     g.L.Supplied.runs_on g.L.Recorder.marks
-    c.args.who c.args.now c.args.call.now c.call-outcome.result _
-    c.args.server.now c.call-outcome.new.self c.show.new.server c.in-Cut.is
+    c.args.who c.args.now c.args.call.now tree.Cut _
+    c.args.server.now c.call.new.self c.show.new.server refl
     (record {
       tells = g.met.S.FileServer.tells;
       is_record = λ l older truth. g.met.L.Recorder.is_record l g.N.Room.opening older truth;
@@ -163,22 +164,22 @@ returns-in-Cut-clause-cut g c =
       keeps_on = λ l m goes runs. g.met.L.Supplied.keeps_on l m g.N.Room.policy g.N.Room.supply goes runs;
     })
     (record {
-      calls = c.call-outcome.ensures.keeps;
-      ready = c.call-outcome.ensures.ready;
-      goes = c.call-outcome.ensures.goes;
+      calls = c.in-Cut.ensures.keeps;
+      ready = c.call.ensures.ready;
+      goes = c.call.ensures.goes;
       same = c.show.ensures.same;
-      counted = λ older truth. rw c.in-Cut.is (c.show.ensures.truth g.N.Room.opening older truth);
+      counted = λ older truth. c.show.ensures.truth g.N.Room.opening older truth;
     })
     c.requires.held
 
 pub returns-in-Cut-clause-eio : goal.returns-in-Cut-clause-eio
 returns-in-Cut-clause-eio g c =
-    eio_given _ _ c.show.new.caller.view.seen c.in-Cut.is
+    eio_given _ _ c.show.new.caller.view.seen refl
     (eio_after
     g.N.Room g.L.Link g.S.Serve.serving g.S.FileServer.line g.S.FileServer.is_ready g.S.FileServer.knows
     g.L.Supplied.runs_on g.L.Recorder.marks
-    c.args.who c.args.now c.args.call.now c.call-outcome.result
-    c.args.server.now c.call-outcome.new.self c.show.new.server c.show.new.caller.view.seen c.show.ensures.seen
+    c.args.who c.args.now c.args.call.now tree.Cut
+    c.args.server.now c.call.new.self c.show.new.server c.show.new.caller.view.seen c.show.ensures.seen
     (record {
       tells = g.met.S.FileServer.tells;
       is_record = λ l older truth. g.met.L.Recorder.is_record l g.N.Room.opening older truth;
@@ -186,21 +187,21 @@ returns-in-Cut-clause-eio g c =
       keeps_on = λ l m goes runs. g.met.L.Supplied.keeps_on l m g.N.Room.policy g.N.Room.supply goes runs;
     })
     (record {
-      calls = c.call-outcome.ensures.keeps;
-      ready = c.call-outcome.ensures.ready;
-      goes = c.call-outcome.ensures.goes;
+      calls = c.in-Cut.ensures.keeps;
+      ready = c.call.ensures.ready;
+      goes = c.call.ensures.goes;
       same = c.show.ensures.same;
-      counted = λ older truth. rw c.in-Cut.is (c.show.ensures.truth g.N.Room.opening older truth);
+      counted = λ older truth. c.show.ensures.truth g.N.Room.opening older truth;
     })
     c.requires.held)
 
-pub returns-in-Reply-clause-added : goal.returns-in-Reply-clause-added
-returns-in-Reply-clause-added g c =
+pub returns-in-Answered-clause-added : goal.returns-in-Answered-clause-added
+returns-in-Answered-clause-added g c =
     adds_call
     g.N.Room g.L.Link g.S.Serve.serving g.S.FileServer.line g.S.FileServer.is_ready g.S.FileServer.knows
     g.L.Supplied.runs_on g.L.Recorder.marks
-    c.args.who c.args.now c.args.call.now c.call-outcome.result _
-    c.args.server.now c.call-outcome.new.self c.count_call-count.new.server c.in-Reply.is
+    c.args.who c.args.now c.args.call.now (tree.Reply c.call.new.reply) _
+    c.args.server.now c.call.new.self c.count_call.new.server refl
     (record {
       tells = g.met.S.FileServer.tells;
       is_record = λ l older truth. g.met.L.Recorder.is_record l g.N.Room.opening older truth;
@@ -208,11 +209,11 @@ returns-in-Reply-clause-added g c =
       keeps_on = λ l m goes runs. g.met.L.Supplied.keeps_on l m g.N.Room.policy g.N.Room.supply goes runs;
     })
     (record {
-      calls = c.call-outcome.ensures.keeps;
-      ready = c.call-outcome.ensures.ready;
-      goes = c.call-outcome.ensures.goes;
-      same = c.count_call-count.ensures.same;
-      counted = λ older truth. rw c.in-Reply.is (c.count_call-count.ensures.truth g.N.Room.opening older truth);
+      calls = c.in-Answered.ensures.keeps;
+      ready = c.call.ensures.ready;
+      goes = c.call.ensures.goes;
+      same = c.count_call.ensures.same;
+      counted = λ older truth. c.count_call.ensures.truth g.N.Room.opening older truth;
     })
     c.requires.held
 
@@ -221,8 +222,8 @@ returns-in-Cut-clause-added g c =
     adds_call
     g.N.Room g.L.Link g.S.Serve.serving g.S.FileServer.line g.S.FileServer.is_ready g.S.FileServer.knows
     g.L.Supplied.runs_on g.L.Recorder.marks
-    c.args.who c.args.now c.args.call.now c.call-outcome.result _
-    c.args.server.now c.call-outcome.new.self c.show.new.server c.in-Cut.is
+    c.args.who c.args.now c.args.call.now tree.Cut _
+    c.args.server.now c.call.new.self c.show.new.server refl
     (record {
       tells = g.met.S.FileServer.tells;
       is_record = λ l older truth. g.met.L.Recorder.is_record l g.N.Room.opening older truth;
@@ -230,23 +231,23 @@ returns-in-Cut-clause-added g c =
       keeps_on = λ l m goes runs. g.met.L.Supplied.keeps_on l m g.N.Room.policy g.N.Room.supply goes runs;
     })
     (record {
-      calls = c.call-outcome.ensures.keeps;
-      ready = c.call-outcome.ensures.ready;
-      goes = c.call-outcome.ensures.goes;
+      calls = c.in-Cut.ensures.keeps;
+      ready = c.call.ensures.ready;
+      goes = c.call.ensures.goes;
       same = c.show.ensures.same;
-      counted = λ older truth. rw c.in-Cut.is (c.show.ensures.truth g.N.Room.opening older truth);
+      counted = λ older truth. c.show.ensures.truth g.N.Room.opening older truth;
     })
     c.requires.held
 
-pub returns-in-Reply-clause-truth : goal.returns-in-Reply-clause-truth
-returns-in-Reply-clause-truth g c = (returns-in-Reply-clause-held g c).stands.truth
+pub returns-in-Answered-clause-truth : goal.returns-in-Answered-clause-truth
+returns-in-Answered-clause-truth g c = (returns-in-Answered-clause-held g c).stands.truth
 
 pub returns-in-Cut-clause-truth : goal.returns-in-Cut-clause-truth
 returns-in-Cut-clause-truth g c = (returns-in-Cut-clause-held g c).stands.truth
 
-pub returns-in-Reply-clause-numbers : goal.returns-in-Reply-clause-numbers
-returns-in-Reply-clause-numbers g c =
-    c.count_call-count.ensures.numbers ∙ g.met.L.Recorder.numbers_stay _ _ c.call-outcome.ensures.goes
+pub returns-in-Answered-clause-numbers : goal.returns-in-Answered-clause-numbers
+returns-in-Answered-clause-numbers g c =
+    c.count_call.ensures.numbers ∙ g.met.L.Recorder.numbers_stay _ _ c.call.ensures.goes
 
 pub returns-in-Cut-clause-numbers : goal.returns-in-Cut-clause-numbers
-returns-in-Cut-clause-numbers g c = c.show.ensures.numbers ∙ g.met.L.Recorder.numbers_stay _ _ c.call-outcome.ensures.goes
+returns-in-Cut-clause-numbers g c = c.show.ensures.numbers ∙ g.met.L.Recorder.numbers_stay _ _ c.call.ensures.goes

@@ -4,6 +4,7 @@ use Rattle.tree.specs.Answers.{answer_of}
 use Rattle.store.proofs.Turns.{turns_then}
 use Rattle.descriptors.specs.Table.{files_of}
 use Rattle.client_calls.specs.Calls.{DoesCall}
+use Rattle.file_server.specs.Over.{outcome_in}
 use Rattle.vfs.proofs.Spending.{spends_none, spends_on}
 use Rattle.vfs.proofs.Ending.{stopped_at_once, stopped_later, ends_well}
 use Rattle.vfs.proofs.calls.answer.Goals as goal
@@ -13,7 +14,7 @@ returns-in-Err-clause-calls g c =
     let a = c.args.blocks.now in
     let F = g.B.Caches.caching in
     let k = g.met.B.Caches.is_cached in
-    stopped_at_once c.args.geometry.now (F a) (g.B.Caches.frame_count a) (files_of c.args.opens.now) c.requires.may c.args.who c.args.now c.args.call.now c.in-Err.cut c.stop.result
+    stopped_at_once c.args.geometry.now (F a) (g.B.Caches.frame_count a) (files_of c.args.opens.now) c.requires.may c.args.who c.args.now c.args.call.now c.in-Err.cut (outcome_in c.stop.result c.stop.new.reply)
     c.stop.ensures (k.over a c.in-Err.cut c.in-Err.ensures.cut)
 
 pub returns-in-Err-body-clause-calls : goal.returns-in-Err-body-clause-calls
@@ -25,7 +26,7 @@ returns-in-Err-body-clause-calls g c =
     let b = c.body.new.blocks in
     stopped_later c.args.geometry.now (F a) (F b) (N a) (N b) (g.met.B.Caches.counts a b (k.on a b c.body.ensures.turns.leads))
     (files_of c.args.opens.now) (files_of c.body.new.opens) c.requires.may (k.live a c.in_default.ensures.live)
-    (k.leads a b c.body.ensures.turns.leads) c.args.who c.args.now c.args.call.now c.in-Err-body.cut c.stop-in-Err-body.result
+    (k.leads a b c.body.ensures.turns.leads) c.args.who c.args.now c.args.call.now c.in-Err-body.cut (outcome_in c.stop-in-Err-body.result c.stop-in-Err-body.new.reply)
     c.stop-in-Err-body.ensures (k.over b c.in-Err-body.cut c.in-Err-body.ensures.cut)
 
 pub returns-in-Err-live-clause-calls : goal.returns-in-Err-live-clause-calls
@@ -38,7 +39,7 @@ returns-in-Err-live-clause-calls g c =
     let leads = g.met.B.Blocks.lawful.chain a c.body.new.blocks b c.body.ensures.turns.leads c.flush_wanted.ensures.turns.leads in
     stopped_later c.args.geometry.now (F a) (F b) (N a) (N b) (g.met.B.Caches.counts a b (k.on a b leads))
     (files_of c.args.opens.now) (files_of c.body.new.opens) c.requires.may (k.live a c.in_default.ensures.live)
-    (k.leads a b leads) c.args.who c.args.now c.args.call.now c.in-Err-live.cut c.stop-in-Err-live.result
+    (k.leads a b leads) c.args.who c.args.now c.args.call.now c.in-Err-live.cut (outcome_in c.stop-in-Err-live.result c.stop-in-Err-live.new.reply)
     c.stop-in-Err-live.ensures (k.over b c.in-Err-live.cut c.in-Err-live.ensures.cut)
 
 pub returns-clause-calls : goal.returns-clause-calls
@@ -50,14 +51,14 @@ returns-clause-calls g c =
     let b = c.flush_wanted.new.self in
     let f = files_of c.args.opens.now in
     let h = files_of c.body.new.opens in
-    let answer = answer_of c.in-Ok.reply in
+    let answer = answer_of c.body.new.reply in
     let whole = turns_then g.B.Blocks.world g.met.B.Blocks.lawful a c.body.new.blocks b _ _
     (λ d e. DoesCall c.args.geometry.now c.args.who c.args.now c.args.call.now answer f h d e)
     (λ d e i p q. subst (λ (z : Disk). DoesCall c.args.geometry.now c.args.who c.args.now c.args.call.now answer f h d z) (sym q) p)
-    c.in-Ok.ensures.turns c.flush_wanted.ensures.turns in
+    c.in_default-body.ensures.turns c.flush_wanted.ensures.turns in
     ends_well c.args.geometry.now (F a) (F b) (N a) (N b) (g.met.B.Caches.counts a b (k.on a b whole.leads)) f h c.requires.may
-    (k.leads a b whole.leads) (k.live b c.in_default-live.ensures.live) c.args.who c.args.now c.args.call.now answer c.in-Ok.ensures.proper
-    (λ is ok. c.flush_wanted.ensures.clean (k.synced c.body.new.blocks (c.in-Ok.ensures.synced is ok)))
+    (k.leads a b whole.leads) (k.live b c.in_default-live.ensures.live) c.args.who c.args.now c.args.call.now answer c.in_default-body.ensures.proper
+    (λ is ok. c.flush_wanted.ensures.clean (k.synced c.body.new.blocks (c.in_default-body.ensures.synced is ok)))
     (λ d e x. whole.related d e (k.sees a b d e x))
 
 pub returns-in-Err-clause-spends : goal.returns-in-Err-clause-spends

@@ -1,15 +1,18 @@
-use Rattle.file_server.specs.Over.{outcome_of}
+use Rattle.std.proofs.Common.{◌∙◌, ap}
+use Rattle.tree.specs.declared.Outcome.{Outcome}
+use Rattle.file_server.specs.Over.{outcome_in, outcome_of}
+use Rattle.shared_server.specs.Descriptors.{was_cut, succeeded}
 use Rattle.shared_server.specs.Stopping.{Went, WasGivenUp, WasCut}
 use Rattle.shared_server.proofs.StoppingLaws.{last_line, cut_end, given_up_end, went_end}
 use Rattle.shared_server.proofs.locked.Locked.finish.Goals as goal
 
 pub returns-then-is_cut : goal.returns-then-is_cut
 returns-then-is_cut g c = (
-  g.S.FileServer.line c.call-outcome.new.self,
+  g.S.FileServer.line c.call-ending.new.self,
   last_line
       g.N.Room g.L.Link g.S.Serve.serving g.S.FileServer.line g.S.FileServer.is_ready g.S.FileServer.knows
       g.L.Supplied.runs_on g.L.Recorder.marks
-      c.self.inside.server c.call-outcome.new.self c.args.self (outcome_of c.call-outcome.result) WasCut
+      c.self.inside.server c.call-ending.new.self c.args.self (outcome_of (outcome_in c.call-ending.result c.call-ending.new.reply)) WasCut
       c.self.view_is
       (record {
         tells = g.met.S.FileServer.tells;
@@ -17,17 +20,17 @@ returns-then-is_cut g c = (
         end_last = λ l older truth. g.met.L.Recorder.end_last l g.N.Room.opening older truth;
         keeps_on = λ l m goes runs. g.met.L.Supplied.keeps_on l m g.N.Room.policy g.N.Room.supply goes runs;
       })
-      c.self.invariant.0 c.call-outcome.ensures.keeps
-      (cut_end (outcome_of c.call-outcome.result) c.is_cut.result c.is_cut.ensures c.if-is_cut.true),
+      c.self.invariant.0 c.call-ending.ensures.keeps
+      (cut_end (outcome_of (outcome_in c.call-ending.result c.call-ending.new.reply)) c.is_cut.result (c.is_cut.ensures ∙ ap (λ (o : Outcome). was_cut (outcome_of o)) c.with-outcome.ensures) c.if-is_cut.true),
 )
 
 pub returns-then-not-was_done : goal.returns-then-not-was_done
 returns-then-not-was_done g c = (
-  g.S.FileServer.line c.call-outcome.new.self,
+  g.S.FileServer.line c.call-ending.new.self,
   last_line
       g.N.Room g.L.Link g.S.Serve.serving g.S.FileServer.line g.S.FileServer.is_ready g.S.FileServer.knows
       g.L.Supplied.runs_on g.L.Recorder.marks
-      c.self.inside.server c.call-outcome.new.self c.args.self (outcome_of c.call-outcome.result) WasGivenUp
+      c.self.inside.server c.call-ending.new.self c.args.self (outcome_of (outcome_in c.call-ending.result c.call-ending.new.reply)) WasGivenUp
       c.self.view_is
       (record {
         tells = g.met.S.FileServer.tells;
@@ -35,17 +38,17 @@ returns-then-not-was_done g c = (
         end_last = λ l older truth. g.met.L.Recorder.end_last l g.N.Room.opening older truth;
         keeps_on = λ l m goes runs. g.met.L.Supplied.keeps_on l m g.N.Room.policy g.N.Room.supply goes runs;
       })
-      c.self.invariant.0 c.call-outcome.ensures.keeps
-      (given_up_end (outcome_of c.call-outcome.result) c.is_cut.result c.was_done.result c.is_cut.ensures c.if-is_cut.false c.was_done.ensures c.if-not-was_done.true),
+      c.self.invariant.0 c.call-ending.ensures.keeps
+      (given_up_end (outcome_of (outcome_in c.call-ending.result c.call-ending.new.reply)) c.is_cut.result c.was_done.result (c.is_cut.ensures ∙ ap (λ (o : Outcome). was_cut (outcome_of o)) c.with-outcome.ensures) c.if-is_cut.false (c.was_done.ensures ∙ ap (λ (o : Outcome). succeeded (outcome_of o)) c.with-outcome.ensures) c.if-not-was_done.true),
 )
 
 pub returns : goal.returns
 returns g c = (
-  g.S.FileServer.line c.call-outcome.new.self,
+  g.S.FileServer.line c.call-ending.new.self,
   last_line
       g.N.Room g.L.Link g.S.Serve.serving g.S.FileServer.line g.S.FileServer.is_ready g.S.FileServer.knows
       g.L.Supplied.runs_on g.L.Recorder.marks
-      c.self.inside.server c.call-outcome.new.self c.args.self (outcome_of c.call-outcome.result) Went
+      c.self.inside.server c.call-ending.new.self c.args.self (outcome_of (outcome_in c.call-ending.result c.call-ending.new.reply)) Went
       c.self.view_is
       (record {
         tells = g.met.S.FileServer.tells;
@@ -53,6 +56,6 @@ returns g c = (
         end_last = λ l older truth. g.met.L.Recorder.end_last l g.N.Room.opening older truth;
         keeps_on = λ l m goes runs. g.met.L.Supplied.keeps_on l m g.N.Room.policy g.N.Room.supply goes runs;
       })
-      c.self.invariant.0 c.call-outcome.ensures.keeps
-      (went_end (outcome_of c.call-outcome.result) c.is_cut.result c.was_done.result c.is_cut.ensures c.if-is_cut.false c.was_done.ensures c.if-not-was_done.false),
+      c.self.invariant.0 c.call-ending.ensures.keeps
+      (went_end (outcome_of (outcome_in c.call-ending.result c.call-ending.new.reply)) c.is_cut.result c.was_done.result (c.is_cut.ensures ∙ ap (λ (o : Outcome). was_cut (outcome_of o)) c.with-outcome.ensures) c.if-is_cut.false (c.was_done.ensures ∙ ap (λ (o : Outcome). succeeded (outcome_of o)) c.with-outcome.ensures) c.if-not-was_done.false),
 )
