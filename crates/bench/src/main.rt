@@ -14,7 +14,9 @@ fn main(rt: HostRuntime) -> io::Result<ExitCode> {
     };
     let words = line.as_slice().get(1..).unwrap_or(&[]);
     let Some(named) = named(rt.alloc(), words)? else {
-        eprintln!(rt; "usage: bench [drivers|volumes|migrate|names|paths|maps|bytes|threads|calls]..")?;
+        eprintln!(rt;
+            "usage: bench [drivers|volumes|migrate|names|paths|maps|bytes|threads|calls].."
+        )?;
         return Ok(ExitCode::from(2));
     };
     for work in named {
