@@ -6,7 +6,7 @@ use Rattle.ninep.specs.Fields.{Kind, Field}
 use Rattle.ninep.specs.Parts.{Gives, ◌>>=◌}
 use Rattle.ninep.specs.Reading.{fields_at, typed_at}
 use Rattle.ninep.specs.Requests.{Body, kinds_of}
-use Rattle.ninep.specs.Readers.{Takes, TakesAll}
+use Rattle.ninep.specs.Readers.{TakesAll}
 
 -- behind a fault nothing is read
 none_taken : (kinds : List Kind) (fields : List Field) (fault : Fault) (new : Result (Bor (List ℕ)) Fault)
