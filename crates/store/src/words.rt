@@ -1,6 +1,6 @@
 //! Numbers and bytes in blocks.
 
-ghost use Rattle.std.specs.Prelude.{◌≡◌, ℕ, ◌+◌, ◌<◌, ◌≤◌, length, OnOk, OnErr, IfOk, IfErr};
+ghost use Rattle.std.specs.Prelude.{◌≡◌, ◌⊎◌, ℕ, ◌+◌, ◌<◌, ◌≤◌, length, OnOk, OnErr, IfOk, IfErr};
 ghost use Rattle.std.specs.Int.{w32, to_le_bytes};
 ghost use Rattle.store.specs.World.{Turns, Reads};
 ghost use Rattle.volume.specs.Reading.{u32_in};
@@ -52,7 +52,33 @@ pub fn read_bytes<B: Blocks>(
     Ok(())
 }
 
-/// Writes these bytes into a block, from a place on.
+/// The frame of a block all of whose bytes are to be replaced: one that is at hand stays as it is, another gets zeros, and isn't read.
+fn frame_to_fill<B: Blocks>(blocks: &mut B, block: u32) -> Result<B::Frame, Cut>
+    requires ready { B.world.ready blocks.old }
+    ensures turns { Turns B.world blocks.old blocks.new (λ d e. OnOk result ((e ≡ d) ⊎ (e ≡ cleared block d))) }
+    ensures frame { IfOk result (λ f. B.names blocks.new f block) }
+    ensures cut { IfErr result (λ c. B.world.over blocks.new c) }
+{
+    if blocks.is_at_hand(block) {
+        blocks.fetch(block)
+    } else {
+        blocks.fresh(block)
+    }
+}
+
+/// Writes these bytes into a block, all that it has.
+fn replace<B: Blocks>(blocks: &mut B, block: u32, bytes: &[u8]) -> Result<(), Cut>
+    requires ready { B.world.ready blocks.old }
+    requires whole { length bytes.now ≡ B.world.size blocks.old }
+    ensures turns { Turns B.world blocks.old blocks.new (λ d e. OnOk result (e ≡ written block 0 bytes.now d)) }
+    ensures cut { IfErr result (λ c. B.world.over blocks.new c) }
+{
+    let frame = frame_to_fill(blocks, block)?;
+    blocks.change(frame, 0, bytes);
+    Ok(())
+}
+
+/// Writes these bytes into a block, from a place on. A block that gets all its bytes isn't read before.
 pub fn write_bytes<B: Blocks>(
     blocks: &mut B,
     block: u32,
@@ -64,6 +90,9 @@ pub fn write_bytes<B: Blocks>(
     ensures turns { Turns B.world blocks.old blocks.new (λ d e. OnOk result (e ≡ written block from bytes.now d)) }
     ensures cut { IfErr result (λ c. B.world.over blocks.new c) }
 {
+    if bytes.len() == blocks.block_size() as usize {
+        return replace(blocks, block, bytes);
+    }
     let frame = blocks.fetch(block)?;
     blocks.change(frame, from, bytes);
     Ok(())

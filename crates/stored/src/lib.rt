@@ -14,6 +14,7 @@ use cache::{Cache, Frame};
 use flusher::flush_some;
 use message::Incoming;
 use reissue::Link;
+use step_count::Steps;
 use store::{Blocks, Cut};
 
 /// Blocks in the frames of a cache. A block without a frame is read when it is fetched, and a changed one is written when a Flush asks for
@@ -181,6 +182,10 @@ impl<L: Link> Blocks for Stored<L> {
 
     fn block_size(&self) -> u32 {
         self.cache.block_size()
+    }
+
+    fn is_at_hand(&self, block: u32) -> bool {
+        self.cache.find(block, &mut Steps::new()).is_some()
     }
 
     // Within its caller's code a frame is handed on in registers: by way of the stack it would wait for all bytes that were written before

@@ -19,6 +19,10 @@ impl Blocks for Memory {
         self.block_size
     }
 
+    fn is_at_hand(&self, block: u32) -> bool {
+        self.place(block).is_ok()
+    }
+
     fn fetch(&mut self, block: u32) -> Result<Place, Cut> {
         self.place(block)
     }
