@@ -18,6 +18,8 @@ enum Step {
     Read(u32, usize),
     /// Three bytes are put into a block, from a place on.
     Put(u32, usize, &'static [u8; 3]),
+    /// Each byte of a block becomes this one.
+    Replace(u32, u8),
     /// So many blocks are made zero, from the first on; how many were.
     Clear(u32, u32),
     /// All that was changed is written.
@@ -55,6 +57,10 @@ fn does<L: Link>(blocks: &mut Stored<L>, step: &Step) -> Result<u32, Cut>
         Step::Read(block, at) => Ok(read_byte(blocks, *block, at % 4096)? as u32),
         Step::Put(block, from, bytes) => {
             write_bytes(blocks, *block, from % 4000, *bytes)?;
+            Ok(0)
+        }
+        Step::Replace(block, byte) => {
+            write_bytes(blocks, *block, 0, &[*byte; 4096])?;
             Ok(0)
         }
         Step::Clear(first, count) => Ok(clear_run(blocks, *first, *count)),
@@ -97,7 +103,7 @@ type Row = (
     &'static str,
 );
 
-static ROWS: [Row; 4] = [
+static ROWS: [Row; 5] = [
     // blocks are read, changed, cleared and written; then the link ends
     (
         false,
@@ -116,6 +122,24 @@ static ROWS: [Row; 4] = [
             (Step::Read(5, 10), Ok(97)),
         ],
         "read 1 20480 4096\nwrite 2 20480 4096 7\nwrite 3 24576 4096 0\nread 4 28672 4096\n",
+    ),
+    // a block that gets all its bytes isn't read, at hand or not; one that gets some is
+    (
+        false,
+        (true, &[Some(0), Some(7), Some(0), Some(0)]),
+        &[
+            (Step::Replace(5, 8), Ok(0)),
+            (Step::Read(5, 4095), Ok(8)),
+            (Step::Sync, Ok(0)),
+            (Step::Replace(5, 9), Ok(0)),
+            (Step::Read(5, 0), Ok(9)),
+            (Step::Put(6, 0, b"abc"), Ok(0)),
+            (Step::Read(6, 3), Ok(7)),
+            (Step::Replace(6, 1), Ok(0)),
+            (Step::Read(6, 3), Ok(1)),
+            (Step::Sync, Ok(0)),
+        ],
+        "write 1 20480 4096 8\nread 2 24576 4096\nwrite 3 20480 4096 9\nwrite 4 24576 4096 1\n",
     ),
     // no Flush came
     (
