@@ -187,7 +187,7 @@ pub enum Request<'a> {
 }
 
 /// A request with the tag by which its answer names it.
-#[derive(Clone, Copy, Debug)]
+#[derive(Clone, Copy)]
 pub struct Message<'a> {
     pub tag: u16,
     pub request: Request<'a>,

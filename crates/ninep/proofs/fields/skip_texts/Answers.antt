@@ -1,4 +1,3 @@
-use Rattle.std.proofs.Common.{refl, ◌∙◌, arith}
 use Rattle.std.proofs.lemmas.Result.{err_from_is_err_and}
 use Rattle.ninep.proofs.TextLaws.{nothing_read, goes_on, ends, is_done}
 use Rattle.ninep.proofs.fields.skip_texts.Goals as goal
