@@ -1,5 +1,6 @@
 -- The bytes of fields, one list behind another.
-use Rattle.std.proofs.Common.{◌≡◌, ℕ, zero, suc, get_or, ◌+◌, ◌-◌, ◌*◌, ◌<◌, ◌≤◌, List, [], ◌∷◌, ◌++◌, length, take, drop, refl, sym, ap, ◌∙◌, append_assoc, arith}
+use Rattle.std.proofs.Common.{◌≡◌, ℕ, zero, suc, get_or, ◌+◌, ◌-◌, ◌*◌, ◌<◌, ◌≤◌, List, [], ◌∷◌, ◌++◌, length, take, drop, refl, sym, ap}
+use Rattle.std.proofs.Common.{◌∙◌, append_assoc, arith}
 use Rattle.std.proofs.Common.{Result, Ok, Err, OnErr}
 use Rattle.std.specs.List.{flat_map}
 use Rattle.std.proofs.lemmas.List.{set-append_right, length-append, length-take, take_at, take-append-drop}

@@ -14,5 +14,6 @@ Takes (Err fault) kind field new = new ≡ Err fault
 -- fields are read, one behind the other
 abbrev pub TakesAll : Result (Bor (List ℕ)) Fault → List Kind → List Field → Result (Bor (List ℕ)) Fault → Type 0
 TakesAll old [] [] new = new ≡ old
-TakesAll old (kind ∷ kinds) (field ∷ fields) new = (mid : Result (Bor (List ℕ)) Fault) × Takes old kind field mid × TakesAll mid kinds fields new
+TakesAll old (kind ∷ kinds) (field ∷ fields) new =
+    (mid : Result (Bor (List ℕ)) Fault) × Takes old kind field mid × TakesAll mid kinds fields new
 TakesAll old kinds fields new = ⊥

@@ -14,8 +14,8 @@ use crate::fields::{data_of, names_of, text_of, u8_at, u16_at, u32_at, u64_at};
 use crate::names::Names;
 use crate::request::Request;
 
-/// Bytes that are read from the left: those that are left, or the first fault that was met. Behind a fault each number is 0, and all else is
-/// empty.
+/// Bytes that are read from the left: those that are left, or the first fault that was met. Behind a fault each number is 0, and all
+/// else is empty.
 #[derive(Clone, Copy)]
 pub(crate) struct Reader<'a> {
     pub(crate) left: Result<&'a [u8], Fault>,

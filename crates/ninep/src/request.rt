@@ -2,8 +2,8 @@
 
 use crate::names::Names;
 
-/// A request of a client. A `fid` is a number by which the client names a file; names and targets are bytes without their lengths. Numbers of
-/// flags, modes, types and errors are Linux's.
+/// A request of a client. A `fid` is a number by which the client names a file; names and targets are bytes without their lengths. Numbers
+/// of flags, modes, types and errors are Linux's.
 #[derive(Clone, Copy, Debug)]
 pub enum Request<'a> {
     /// What is known of the volume's room.

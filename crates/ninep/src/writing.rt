@@ -51,7 +51,8 @@ fn put_data(out: &mut Vec<u8>, bytes: &[u8]) -> Result<(), AllocError>
     requires { length bytes.now < 2 ^ 32 }
     ensures ok { OnOk result (out.new.items ≡ out.old.items ++ (number_bytes Four (length bytes.now) ++ bytes.now)) }
     ensures kept { OnErr result (StandsFirst out.old.items out.new.items) }
-    ensures full { OnErr result (vec_capacity out.old < length out.old.items + length ((number_bytes Four (length bytes.now) ++ bytes.now))) }
+    ensures full { OnErr result
+        (vec_capacity out.old < length out.old.items + length (number_bytes Four (length bytes.now) ++ bytes.now)) }
     ensures capacity { vec_capacity out.old ≤ vec_capacity out.new }
 {
     put_u32(out, bytes.len() as u32)?;
@@ -165,7 +166,8 @@ fn put_room(out: &mut Vec<u8>, room: &Room) -> Result<(), AllocError>
 fn put_file(out: &mut Vec<u8>, a: &Attributes) -> Result<(), AllocError>
     ensures ok { OnOk result (out.new.items ≡ out.old.items ++ fields_bytes (owner_fields a.now ++ size_fields a.now)) }
     ensures kept { OnErr result (StandsFirst out.old.items out.new.items) }
-    ensures full { OnErr result (vec_capacity out.old < length out.old.items + length (fields_bytes (owner_fields a.now ++ size_fields a.now))) }
+    ensures full { OnErr result
+        (vec_capacity out.old < length out.old.items + length (fields_bytes (owner_fields a.now ++ size_fields a.now))) }
     ensures capacity { vec_capacity out.old ≤ vec_capacity out.new }
 {
     put_all(
@@ -192,7 +194,8 @@ fn put_file(out: &mut Vec<u8>, a: &Attributes) -> Result<(), AllocError>
 fn put_times(out: &mut Vec<u8>, a: &Attributes) -> Result<(), AllocError>
     ensures ok { OnOk result (out.new.items ≡ out.old.items ++ fields_bytes (times_fields a.now ++ version_fields a.now)) }
     ensures kept { OnErr result (StandsFirst out.old.items out.new.items) }
-    ensures full { OnErr result (vec_capacity out.old < length out.old.items + length (fields_bytes (times_fields a.now ++ version_fields a.now))) }
+    ensures full { OnErr result
+        (vec_capacity out.old < length out.old.items + length (fields_bytes (times_fields a.now ++ version_fields a.now))) }
     ensures capacity { vec_capacity out.old ≤ vec_capacity out.new }
 {
     put_all(
@@ -244,9 +247,11 @@ fn put_held(out: &mut Vec<u8>, held: &Held<'_>) -> Result<(), AllocError>
 
 fn put_qids(out: &mut Vec<u8>, qids: &[Qid]) -> Result<(), AllocError>
     requires { length qids.now < 2 ^ 16 }
-    ensures ok { OnOk result (out.new.items ≡ out.old.items ++ (number_bytes Two (length qids.now) ++ fields_bytes (flat_map qid_fields qids.now))) }
+    ensures ok { OnOk result
+        (out.new.items ≡ out.old.items ++ (number_bytes Two (length qids.now) ++ fields_bytes (flat_map qid_fields qids.now))) }
     ensures kept { OnErr result (StandsFirst out.old.items out.new.items) }
-    ensures full { OnErr result (vec_capacity out.old < length out.old.items + length ((number_bytes Two (length qids.now) ++ fields_bytes (flat_map qid_fields qids.now)))) }
+    ensures full { OnErr result (vec_capacity out.old
+        < length out.old.items + length (number_bytes Two (length qids.now) ++ fields_bytes (flat_map qid_fields qids.now))) }
     ensures capacity { vec_capacity out.old ≤ vec_capacity out.new }
 {
     put_u16(out, qids.len() as u16)?;
@@ -259,7 +264,8 @@ fn put_qids(out: &mut Vec<u8>, qids: &[Qid]) -> Result<(), AllocError>
 fn put_opened(out: &mut Vec<u8>, qid: &Qid, unit: u32) -> Result<(), AllocError>
     ensures ok { OnOk result (out.new.items ≡ out.old.items ++ fields_bytes (qid_fields qid.now ++ Number Four unit ∷ [])) }
     ensures kept { OnErr result (StandsFirst out.old.items out.new.items) }
-    ensures full { OnErr result (vec_capacity out.old < length out.old.items + length (fields_bytes (qid_fields qid.now ++ Number Four unit ∷ []))) }
+    ensures full { OnErr result
+        (vec_capacity out.old < length out.old.items + length (fields_bytes (qid_fields qid.now ++ Number Four unit ∷ []))) }
     ensures capacity { vec_capacity out.old ≤ vec_capacity out.new }
 {
     put_all(
