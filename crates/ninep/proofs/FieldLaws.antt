@@ -133,7 +133,7 @@ number_again size n rest lt =
     let is = wide size in
     let len = is.len n in
     let long : ltb (length (to_le_bytes w n ++ rest)) (byte_len w) ≡ false =
-        le-ltb _ _ (omega (arith, length-append (to_le_bytes w n) rest)) in
+    le-ltb _ _ (omega (arith, length-append (to_le_bytes w n) rest)) in
     rw (long, take_at (to_le_bytes w n) rest (byte_len w) len, drop_at (to_le_bytes w n) rest (byte_len w) len, is.again n lt) refl
 
 pub number_length : (size : Size) (n : ℕ) → length (number_bytes size n) ≡ byte_len (width size)
@@ -166,8 +166,12 @@ unfolding text_at
 text_again size text rest lt =
     let long : ltb (length (text ++ rest)) (length text) ≡ false = le-ltb _ _ (omega (arith, length-append text rest)) in
     ap (λ (bytes : List ℕ). number_at (width size) bytes >>= bytes_at) (append_assoc (number_bytes size (length text)) text rest)
-    ∙ rw (number_again size (length text) (text ++ rest) lt, long, take_at text rest (length text) refl,
-        drop_at text rest (length text) refl) refl
+    ∙ rw (
+      number_again size (length text) (text ++ rest) lt,
+      long,
+      take_at text rest (length text) refl,
+      drop_at text rest (length text) refl,
+    ) refl
 
 -- ---- the names of a walk
 
@@ -195,7 +199,7 @@ texts_again (name ∷ names) rest fits =
     let others = flat_map text_bytes names ++ rest in
     let regrouped : flat_map text_bytes (name ∷ names) ++ rest ≡ text_bytes name ++ others =
     ap (λ (x : List ℕ). x ++ rest) (flat_map-cons text_bytes name names)
-        ∙ append_assoc (text_bytes name) (flat_map text_bytes names) rest in
+    ∙ append_assoc (text_bytes name) (flat_map text_bytes names) rest in
     ap (texts_at (suc (length names))) regrouped ∙ rw (text_again Two name others fits.0, texts_again names rest fits.1) refl
 
 pub names_take : (bytes : List ℕ) (x : List (List ℕ) × List ℕ) → IsBytes bytes → names_at bytes ≡ Ok x
@@ -208,9 +212,11 @@ names_take bytes x fits e =
     let few : n.0 ≤ most_names = ltb-false _ _ g.0 in
     let first = number_takes Two bytes n fits b.1 in
     let second = texts_take n.0 n.1 x first.0.rest_fits g.1 in
-    let both = takes_then bytes (number_bytes Two n.0) n.1 (flat_map text_bytes x.0) x.1 first.0 second.0 in
-    (subst (λ (k : ℕ). Takes bytes (number_bytes Two k ++ flat_map text_bytes x.0) x.1) (sym second.1) both, omega (arith, second.1, few),
-        second.2)
+    let both = takes_then bytes (number_bytes Two n.0) n.1 (flat_map text_bytes x.0) x.1 first.0 second.0 in (
+      subst (λ (k : ℕ). Takes bytes (number_bytes Two k ++ flat_map text_bytes x.0) x.1) (sym second.1) both,
+      omega (arith, second.1, few),
+      second.2,
+    )
 
 pub names_again : (names : List (List ℕ)) (rest : List ℕ) → length names ≤ most_names → AllByRecursion IsShort names
     → names_at ((number_bytes Two (length names) ++ flat_map text_bytes names) ++ rest) ≡ Ok (names, rest)

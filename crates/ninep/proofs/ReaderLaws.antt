@@ -20,7 +20,7 @@ none_taken (kind ∷ kinds) [] fault new e = absurd e
 goes_on : (kinds : List Kind) (fields : List Field) (field : Field) (rest : Bor (List ℕ)) (new : Result (Bor (List ℕ)) Fault)
     → Gives {Y = List Field × List ℕ} (λ rest. (fields, rest.now)) new (fields_at kinds rest.now)
     → Gives {Y = List Field × List ℕ} (λ rest. (field ∷ fields, rest.now)) new
-        (fields_at kinds rest.now >>= λ fields. Ok (field ∷ fields.0, fields.1))
+    (fields_at kinds rest.now >>= λ fields. Ok (field ∷ fields.0, fields.1))
 goes_on kinds fields field rest (Ok after) e = rw e refl
 goes_on kinds fields field rest (Err fault) e = rw e refl
 
@@ -38,7 +38,7 @@ all_taken (kind ∷ kinds) [] bytes new e = absurd e
 made_of : (body : Body) (read : Result (List Field × List ℕ) Fault) (new : Result (Bor (List ℕ)) Fault)
     → Gives {Y = List Field × List ℕ} (λ rest. (body.fields, rest.now)) new read
     → Gives {Y = Body × List ℕ} (λ rest. (body, rest.now)) new
-        (read >>= λ fields. Ok (record { number = body.number; fields = fields.0 }, fields.1))
+    (read >>= λ fields. Ok (record { number = body.number; fields = fields.0 }, fields.1))
 made_of body read (Ok rest) e = rw e refl
 made_of body read (Err fault) e = rw e refl
 

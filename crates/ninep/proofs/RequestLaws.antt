@@ -118,9 +118,9 @@ unfolding rest_at
 rest_takes bytes m fits e =
     let a = bind_ok (number_at w8 bytes)
     (λ number. number_at w16 number.1 >>= λ tag.
-        (typed_at number.0 tag.1 >>= whole) >>= λ body. Ok (record { tag = tag.0; body = body })) m e in
+    (typed_at number.0 tag.1 >>= whole) >>= λ body. Ok (record { tag = tag.0; body = body })) m e in
     let b = bind_ok (number_at w16 a.0.1)
-        (λ tag. (typed_at a.0.0 tag.1 >>= whole) >>= λ body. Ok (record { tag = tag.0; body = body })) m a.2 in
+    (λ tag. (typed_at a.0.0 tag.1 >>= whole) >>= λ body. Ok (record { tag = tag.0; body = body })) m a.2 in
     let c = bind_ok (typed_at a.0.0 b.0.1 >>= whole) (λ body. Ok (record { tag = b.0.0; body = body })) m b.2 in
     let d = bind_ok (typed_at a.0.0 b.0.1) whole c.0 c.1 in
     let g = guard_ended (eqb (length d.0.1) 0) Trailing d.0.0 c.0 d.2 in
@@ -135,7 +135,7 @@ rest_takes bytes m fits e =
     let whole_text : bytes ≡ text = all ∙ ap (λ (r : List ℕ). text ++ r) nothing ∙ append-nil text in
     let made : Tagged = record { tag = b.0.0; body = d.0.0 } in
     let same : made ≡ m =
-        ap (λ (body : Body). record { tag = b.0.0; body = body }) g.1 ∙ ok_is (record { tag = b.0.0; body = c.0 }) m c.2 in
+    ap (λ (body : Body). record { tag = b.0.0; body = body }) g.1 ∙ ok_is (record { tag = b.0.0; body = c.0 }) m c.2 in
     subst (λ (y : Tagged). (bytes ≡ rest_bytes y) × (y.body.number < 2 ^ 8) × (y.tag < 2 ^ 16)
     × (kinds_of y.body.number ≡ Some (map kind_of y.body.fields)) × AllByRecursion Fits y.body.fields) same (
       whole_text ∙ ap (λ (n : ℕ). number_bytes One n ++ (number_bytes Two b.0.0 ++ fields_bytes d.0.0.fields)) (sym third.number_is),
@@ -165,10 +165,10 @@ request_takes bytes m fits e =
     let size : a.0.0 ≡ length bytes = eqb-true _ _ g.0 in
     let rest = rest_takes a.0.1 m first.0.rest_fits g.1 in
     let parts : bytes ≡ number_bytes Four a.0.0 ++ rest_bytes m =
-        first.0.parts ∙ ap (λ (r : List ℕ). number_bytes Four a.0.0 ++ r) rest.0 in
+    first.0.parts ∙ ap (λ (r : List ℕ). number_bytes Four a.0.0 ++ r) rest.0 in
     let long : a.0.0 ≡ 4 + length (rest_bytes m) =
     size ∙ ap length parts ∙ length-append (number_bytes Four a.0.0) (rest_bytes m)
-        ∙ ap (λ n. n + length (rest_bytes m)) (number_length Four a.0.0) in (
+    ∙ ap (λ n. n + length (rest_bytes m)) (number_length Four a.0.0) in (
       record { kinds = rest.3; fields = rest.4; number = rest.1; tag = rest.2; size = omega (arith, first.1, long) },
       parts ∙ ap (λ n. number_bytes Four n ++ rest_bytes m) long,
     )

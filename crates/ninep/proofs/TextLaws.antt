@@ -37,7 +37,7 @@ unfolding texts_at
 goes_on count i bytes rest text after below is so_far =
     let k : count - i ≡ suc (count - (i + 1)) = omega arith in
     let one : with_front so_far.front (texts_at (count - i) rest)
-        ≡ with_front (so_far.front ++ text ∷ []) (texts_at (count - (i + 1)) after) =
+    ≡ with_front (so_far.front ++ text ∷ []) (texts_at (count - (i + 1)) after) =
     rw (k, is) (regroup so_far.front text (texts_at (count - (i + 1)) after)) in
     record { front = so_far.front ++ text ∷ []; total = sym one ∙ so_far.total }
 

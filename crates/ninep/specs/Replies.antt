@@ -26,7 +26,7 @@ pair_fields a b = Number Eight a ∷ Number Eight b ∷ []
 unfoldable pub block_fields : Room → List Field
 block_fields room =
     Number Four room.kind ∷ Number Four room.block_size ∷ Number Eight room.blocks ∷ Number Eight room.free ∷ Number Eight room.available
-        ∷ []
+    ∷ []
 
 -- how many files there may be
 unfoldable pub file_fields : Room → List Field

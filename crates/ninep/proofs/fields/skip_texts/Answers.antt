@@ -10,7 +10,7 @@ returns-in_err-after c =
     let p = err_from_is_err_and c.from_residual.result c.from_residual.ensures.1 in
     rw (p.1, p.2)
     (ends c.args.count c.loop.counter c.args.bytes.now c.loop.rest.now c.in_err-after.field-0.0 c.loop-test.true
-        c.in_err-after.ensures c.loop.invariant)
+    c.in_err-after.ensures c.loop.invariant)
 
 pub loop-preserved : goal.loop-preserved
 loop-preserved c =
