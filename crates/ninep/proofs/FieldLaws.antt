@@ -1,11 +1,13 @@
 -- A field that is read has the bytes that it was read from, and its bytes are read again.
-use Rattle.std.proofs.Common.{◌≡◌, ℕ, zero, suc, ◌+◌, ◌*◌, ◌^◌, ◌<◌, ◌≤◌, Bool, true, false, cond, ltb, List, [], ◌∷◌, ◌++◌, length, get_or, take, drop, Result, Ok, Err, refl, sym, ap, subst, ◌∙◌, append_assoc, arith, inl, inr}
+use Rattle.std.proofs.Common.{◌≡◌, ℕ, zero, suc, ◌+◌, ◌*◌, ◌^◌, ◌<◌, ◌≤◌, Bool, true, false, cond, ltb, List, [], ◌∷◌, ◌++◌, length, get_or}
+use Rattle.std.proofs.Common.{take, drop, Result, Ok, Err, refl, sym, ap, subst, ◌∙◌, append_assoc, arith, inl, inr}
 use Rattle.std.specs.Int.{Width, w8, w16, w32, w64, byte_len, from_le_bytes, to_le_bytes}
 use Rattle.std.specs.List.{flat_map, AllByRecursion}
 use Rattle.std.proofs.lemmas.Bool.{cases_lt, ltb-false, le-ltb}
 use Rattle.std.proofs.lemmas.List.{take_at, drop_at, take-append-drop, length-append, length-take, get_or-drop, get_or-take, get_or_past}
 use Rattle.std.proofs.lemmas.List.Concat.{flat_map-cons}
-use Rattle.std.proofs.lemmas.Nat.{le_bytes_2, le_bytes_4, le_bytes_8, from_le_bytes-to_le_bytes_2, from_le_bytes-to_le_bytes_4, from_le_bytes-to_le_bytes_8}
+use Rattle.std.proofs.lemmas.Nat.{le_bytes_2, le_bytes_4, le_bytes_8, from_le_bytes-to_le_bytes_2, from_le_bytes-to_le_bytes_4}
+use Rattle.std.proofs.lemmas.Nat.{from_le_bytes-to_le_bytes_8}
 use Rattle.ninep.specs.declared.fault.Fault.{Fault}
 use Rattle.ninep.specs.declared.fault.Fault.TheVariants.{Short, ManyNames}
 use Rattle.ninep.specs.Fields.{Size, One, Two, Four, Eight, width, number_bytes, text_bytes, IsShort, most_names}
@@ -123,13 +125,15 @@ number_takes size bytes x fits e =
     subst (λ (y : ℕ × List ℕ). Takes bytes (to_le_bytes w y.0) y.1 × (y.0 < 2 ^ (8 * byte_len w)))
     (ok_is (from_le_bytes w (take k bytes), drop k bytes) x g.1) (whole, is.below (take k bytes) (bytes_take k bytes fits))
 
-pub number_again : (size : Size) (n : ℕ) (rest : List ℕ) → n < limit size → number_at (width size) (number_bytes size n ++ rest) ≡ Ok (n, rest)
+pub number_again : (size : Size) (n : ℕ) (rest : List ℕ) → n < limit size
+    → number_at (width size) (number_bytes size n ++ rest) ≡ Ok (n, rest)
 unfolding number_bytes
 number_again size n rest lt =
     let w = width size in
     let is = wide size in
     let len = is.len n in
-    let long : ltb (length (to_le_bytes w n ++ rest)) (byte_len w) ≡ false = le-ltb _ _ (omega (arith, length-append (to_le_bytes w n) rest)) in
+    let long : ltb (length (to_le_bytes w n ++ rest)) (byte_len w) ≡ false =
+    le-ltb _ _ (omega (arith, length-append (to_le_bytes w n) rest)) in
     rw (long, take_at (to_le_bytes w n) rest (byte_len w) len, drop_at (to_le_bytes w n) rest (byte_len w) len, is.again n lt) refl
 
 pub number_length : (size : Size) (n : ℕ) → length (number_bytes size n) ≡ byte_len (width size)
@@ -162,7 +166,12 @@ unfolding text_at
 text_again size text rest lt =
     let long : ltb (length (text ++ rest)) (length text) ≡ false = le-ltb _ _ (omega (arith, length-append text rest)) in
     ap (λ (bytes : List ℕ). number_at (width size) bytes >>= bytes_at) (append_assoc (number_bytes size (length text)) text rest)
-    ∙ rw (number_again size (length text) (text ++ rest) lt, long, take_at text rest (length text) refl, drop_at text rest (length text) refl) refl
+    ∙ rw (
+      number_again size (length text) (text ++ rest) lt,
+      long,
+      take_at text rest (length text) refl,
+      drop_at text rest (length text) refl,
+    ) refl
 
 -- ---- the names of a walk
 
@@ -189,7 +198,8 @@ texts_again [] rest fits = refl
 texts_again (name ∷ names) rest fits =
     let others = flat_map text_bytes names ++ rest in
     let regrouped : flat_map text_bytes (name ∷ names) ++ rest ≡ text_bytes name ++ others =
-    ap (λ (x : List ℕ). x ++ rest) (flat_map-cons text_bytes name names) ∙ append_assoc (text_bytes name) (flat_map text_bytes names) rest in
+    ap (λ (x : List ℕ). x ++ rest) (flat_map-cons text_bytes name names)
+    ∙ append_assoc (text_bytes name) (flat_map text_bytes names) rest in
     ap (texts_at (suc (length names))) regrouped ∙ rw (text_again Two name others fits.0, texts_again names rest fits.1) refl
 
 pub names_take : (bytes : List ℕ) (x : List (List ℕ) × List ℕ) → IsBytes bytes → names_at bytes ≡ Ok x
@@ -202,8 +212,11 @@ names_take bytes x fits e =
     let few : n.0 ≤ most_names = ltb-false _ _ g.0 in
     let first = number_takes Two bytes n fits b.1 in
     let second = texts_take n.0 n.1 x first.0.rest_fits g.1 in
-    let both = takes_then bytes (number_bytes Two n.0) n.1 (flat_map text_bytes x.0) x.1 first.0 second.0 in
-    (subst (λ (k : ℕ). Takes bytes (number_bytes Two k ++ flat_map text_bytes x.0) x.1) (sym second.1) both, omega (arith, second.1, few), second.2)
+    let both = takes_then bytes (number_bytes Two n.0) n.1 (flat_map text_bytes x.0) x.1 first.0 second.0 in (
+      subst (λ (k : ℕ). Takes bytes (number_bytes Two k ++ flat_map text_bytes x.0) x.1) (sym second.1) both,
+      omega (arith, second.1, few),
+      second.2,
+    )
 
 pub names_again : (names : List (List ℕ)) (rest : List ℕ) → length names ≤ most_names → AllByRecursion IsShort names
     → names_at ((number_bytes Two (length names) ++ flat_map text_bytes names) ++ rest) ≡ Ok (names, rest)

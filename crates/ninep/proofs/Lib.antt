@@ -1,4 +1,5 @@
 pub mod FieldLaws
+mod ReaderLaws
 mod RequestLaws
 pub mod TextLaws
 pub mod WritingLaws

@@ -1,19 +1,22 @@
 -- What is read is spelled so, and what is spelled so is read.
-use Rattle.std.proofs.Common.{◌≡◌, ℕ, zero, suc, ◌+◌, ◌*◌, ◌^◌, ◌<◌, ◌≤◌, Bool, true, false, cond, eqb, List, [], ◌∷◌, ◌++◌, length, map, Option, None, Some, Result, Ok, Err, refl, sym, ap, subst, ◌∙◌, append_assoc, arith}
+use Rattle.std.proofs.Common.{◌≡◌, ℕ, ◌+◌, ◌^◌, ◌<◌, Bool, true, false, cond, eqb, List, [], ◌∷◌, ◌++◌, length, map, Option, None, Some}
+use Rattle.std.proofs.Common.{Result, Ok, Err, refl, sym, ap, subst, ◌∙◌, append_assoc, arith}
 use Rattle.std.specs.Prelude.{IfOk}
 use Rattle.std.specs.Int.{w8, w16, w32}
-use Rattle.std.specs.List.{flat_map, AllByRecursion}
+use Rattle.std.specs.List.{AllByRecursion}
 use Rattle.std.proofs.lemmas.Bool.{eqb-true, eq-eqb}
 use Rattle.std.proofs.lemmas.List.{append-nil, nil_from_length, length-append}
 use Rattle.std.proofs.lemmas.List.Concat.{flat_map-cons}
 use Rattle.ninep.specs.declared.fault.Fault.{Fault}
 use Rattle.ninep.specs.declared.fault.Fault.TheVariants.{Size, Unknown, Trailing}
 use Rattle.ninep.specs.declared.request.Message.{Message}
-use Rattle.ninep.specs.Fields.{One, Two, Four, width, number_bytes, Kind, IsNumber, IsText, IsData, AreNames, Field, Number, Text, Data, Names, kind_of, field_bytes, fields_bytes, Fits}
+use Rattle.ninep.specs.Fields.{One, Two, Four, width, number_bytes, Kind, IsNumber, IsText, IsData, AreNames, Field, Number, Text, Data}
+use Rattle.ninep.specs.Fields.{Names, kind_of, field_bytes, fields_bytes, Fits}
 use Rattle.ninep.specs.Requests.{Body, Tagged, kinds_of, view, rest_bytes, spelling, IsRequest}
 use Rattle.ninep.specs.Parts.{◌>>=◌, Gives, number_at, text_at, names_at}
 use Rattle.ninep.specs.Reading.{field_at, fields_at, typed_at, whole, rest_at, request_at}
-use Rattle.ninep.proofs.FieldLaws.{IsBytes, bind_ok, ok_is, Takes, takes_then, number_takes, number_again, number_length, text_takes, text_again, names_take, names_again}
+use Rattle.ninep.proofs.FieldLaws.{IsBytes, bind_ok, ok_is, Takes, takes_then, number_takes, number_again, number_length, text_takes}
+use Rattle.ninep.proofs.FieldLaws.{text_again, names_take, names_again}
 
 field_takes : (kind : Kind) (bytes : List ℕ) (x : Field × List ℕ) → IsBytes bytes → field_at kind bytes ≡ Ok x
     → Takes bytes (field_bytes x.0) x.1 × (kind_of x.0 ≡ kind) × Fits x.0
@@ -114,8 +117,10 @@ rest_takes : (bytes : List ℕ) (m : Tagged) → IsBytes bytes → rest_at bytes
 unfolding rest_at
 rest_takes bytes m fits e =
     let a = bind_ok (number_at w8 bytes)
-    (λ number. number_at w16 number.1 >>= λ tag. (typed_at number.0 tag.1 >>= whole) >>= λ body. Ok (record { tag = tag.0; body = body })) m e in
-    let b = bind_ok (number_at w16 a.0.1) (λ tag. (typed_at a.0.0 tag.1 >>= whole) >>= λ body. Ok (record { tag = tag.0; body = body })) m a.2 in
+    (λ number. number_at w16 number.1 >>= λ tag.
+    (typed_at number.0 tag.1 >>= whole) >>= λ body. Ok (record { tag = tag.0; body = body })) m e in
+    let b = bind_ok (number_at w16 a.0.1)
+    (λ tag. (typed_at a.0.0 tag.1 >>= whole) >>= λ body. Ok (record { tag = tag.0; body = body })) m a.2 in
     let c = bind_ok (typed_at a.0.0 b.0.1 >>= whole) (λ body. Ok (record { tag = b.0.0; body = body })) m b.2 in
     let d = bind_ok (typed_at a.0.0 b.0.1) whole c.0 c.1 in
     let g = guard_ended (eqb (length d.0.1) 0) Trailing d.0.0 c.0 d.2 in
@@ -129,7 +134,8 @@ rest_takes bytes m fits e =
     let text = number_bytes One a.0.0 ++ (number_bytes Two b.0.0 ++ fields_bytes d.0.0.fields) in
     let whole_text : bytes ≡ text = all ∙ ap (λ (r : List ℕ). text ++ r) nothing ∙ append-nil text in
     let made : Tagged = record { tag = b.0.0; body = d.0.0 } in
-    let same : made ≡ m = ap (λ (body : Body). record { tag = b.0.0; body = body }) g.1 ∙ ok_is (record { tag = b.0.0; body = c.0 }) m c.2 in
+    let same : made ≡ m =
+    ap (λ (body : Body). record { tag = b.0.0; body = body }) g.1 ∙ ok_is (record { tag = b.0.0; body = c.0 }) m c.2 in
     subst (λ (y : Tagged). (bytes ≡ rest_bytes y) × (y.body.number < 2 ^ 8) × (y.tag < 2 ^ 16)
     × (kinds_of y.body.number ≡ Some (map kind_of y.body.fields)) × AllByRecursion Fits y.body.fields) same (
       whole_text ∙ ap (λ (n : ℕ). number_bytes One n ++ (number_bytes Two b.0.0 ++ fields_bytes d.0.0.fields)) (sym third.number_is),
@@ -158,9 +164,11 @@ request_takes bytes m fits e =
     let g = sized (eqb a.0.0 (length bytes)) (rest_at a.0.1) m a.2 in
     let size : a.0.0 ≡ length bytes = eqb-true _ _ g.0 in
     let rest = rest_takes a.0.1 m first.0.rest_fits g.1 in
-    let parts : bytes ≡ number_bytes Four a.0.0 ++ rest_bytes m = first.0.parts ∙ ap (λ (r : List ℕ). number_bytes Four a.0.0 ++ r) rest.0 in
+    let parts : bytes ≡ number_bytes Four a.0.0 ++ rest_bytes m =
+    first.0.parts ∙ ap (λ (r : List ℕ). number_bytes Four a.0.0 ++ r) rest.0 in
     let long : a.0.0 ≡ 4 + length (rest_bytes m) =
-    size ∙ ap length parts ∙ length-append (number_bytes Four a.0.0) (rest_bytes m) ∙ ap (λ n. n + length (rest_bytes m)) (number_length Four a.0.0) in (
+    size ∙ ap length parts ∙ length-append (number_bytes Four a.0.0) (rest_bytes m)
+    ∙ ap (λ n. n + length (rest_bytes m)) (number_length Four a.0.0) in (
       record { kinds = rest.3; fields = rest.4; number = rest.1; tag = rest.2; size = omega (arith, first.1, long) },
       parts ∙ ap (λ n. number_bytes Four n ++ rest_bytes m) long,
     )

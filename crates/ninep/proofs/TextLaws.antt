@@ -1,5 +1,6 @@
 -- Texts that are read one after the other, as a loop does.
-use Rattle.std.proofs.Common.{◌≡◌, ℕ, zero, suc, ◌-◌, ◌+◌, ◌≤◌, ◌<◌, List, [], ◌∷◌, ◌++◌, take, drop, length, Result, Ok, Err, refl, sym, ap, subst, ◌∙◌, append_assoc, arith}
+use Rattle.std.proofs.Common.{◌≡◌, ℕ, zero, suc, ◌-◌, ◌+◌, ◌≤◌, ◌<◌, List, [], ◌∷◌, ◌++◌, take, length, Result, Ok, Err, refl, sym, ap}
+use Rattle.std.proofs.Common.{subst, ◌∙◌, append_assoc, arith}
 use Rattle.std.specs.Int.{w16}
 use Rattle.std.specs.List.{flat_map}
 use Rattle.std.proofs.lemmas.List.{append-nil, take_at, length-append}
@@ -35,7 +36,8 @@ pub goes_on : (count i : ℕ) (bytes rest text after : List ℕ) → i < count �
 unfolding texts_at
 goes_on count i bytes rest text after below is so_far =
     let k : count - i ≡ suc (count - (i + 1)) = omega arith in
-    let one : with_front so_far.front (texts_at (count - i) rest) ≡ with_front (so_far.front ++ text ∷ []) (texts_at (count - (i + 1)) after) =
+    let one : with_front so_far.front (texts_at (count - i) rest)
+    ≡ with_front (so_far.front ++ text ∷ []) (texts_at (count - (i + 1)) after) =
     rw (k, is) (regroup so_far.front text (texts_at (count - (i + 1)) after)) in
     record { front = so_far.front ++ text ∷ []; total = sym one ∙ so_far.total }
 
@@ -77,7 +79,8 @@ is_shorter count bytes rest texts fits is =
     omega (arith, ap length t.0.parts, length-append (flat_map text_bytes texts) rest)
 
 -- what was read whole
-own_texts : (read : Result (List (List ℕ) × List ℕ) Fault) (texts : List (List ℕ)) → read ≡ Ok (texts, []) → read ≡ Ok (texts_or_none read, [])
+own_texts : (read : Result (List (List ℕ) × List ℕ) Fault) (texts : List (List ℕ)) → read ≡ Ok (texts, [])
+    → read ≡ Ok (texts_or_none read, [])
 own_texts read texts is = is ∙ ap (λ (ts : List (List ℕ)). Ok (ts, [])) (sym (ap texts_or_none is))
 
 -- the bytes of texts alone are these texts, and nothing else
@@ -127,7 +130,8 @@ unfolding texts_at
 none_at n bytes is = ap (λ k. texts_or_none (texts_at k bytes)) is
 
 -- where there are some, the first can be read
-pub first_is_read : {X : Type 0} (n : ℕ) (bytes : List ℕ) (fault : Fault) → (n ≡ 0 → ⊥) → AreTexts n bytes → text_at w16 bytes ≡ Err fault → X
+pub first_is_read : {X : Type 0} (n : ℕ) (bytes : List ℕ) (fault : Fault) → (n ≡ 0 → ⊥) → AreTexts n bytes → text_at w16 bytes ≡ Err fault
+    → X
 unfolding texts_at
 first_is_read zero bytes fault some are is = absurd (some refl)
 first_is_read (suc n) bytes fault some are is =

@@ -1,5 +1,6 @@
 -- The bytes of fields, one list behind another.
-use Rattle.std.proofs.Common.{◌≡◌, ℕ, ◌+◌, ◌-◌, ◌*◌, ◌<◌, ◌≤◌, List, [], ◌∷◌, ◌++◌, length, take, drop, refl, sym, ap, ◌∙◌, append_assoc, arith}
+use Rattle.std.proofs.Common.{◌≡◌, ℕ, zero, suc, get_or, ◌+◌, ◌-◌, ◌*◌, ◌<◌, ◌≤◌, List, [], ◌∷◌, ◌++◌, length, take, drop, refl, sym, ap}
+use Rattle.std.proofs.Common.{◌∙◌, append_assoc, arith}
 use Rattle.std.proofs.Common.{Result, Ok, Err, OnErr}
 use Rattle.std.specs.List.{flat_map}
 use Rattle.std.proofs.lemmas.List.{set-append_right, length-append, length-take, take_at, take-append-drop}
@@ -7,7 +8,8 @@ use Rattle.std.proofs.Math.ListN.{set}
 use Rattle.std.proofs.lemmas.List.Concat.{flat_map-cons}
 use Rattle.ninep.specs.declared.reply.Qid.{Qid}
 use Rattle.ninep.specs.declared.reply.Reply.{Reply}
-use Rattle.ninep.specs.Puts.{StandsFirst}
+use Rattle.ninep.specs.declared.writing.Part.{Part}
+use Rattle.ninep.specs.Puts.{StandsFirst, part_bytes}
 use Rattle.ninep.specs.Fields.{One, Two, Four, Eight, Field, number_bytes, field_bytes, fields_bytes}
 use Rattle.ninep.specs.Requests.{rest_bytes}
 use Rattle.ninep.specs.Replies.{number_of, reply_fields, replied, size_of, qid_fields}
@@ -112,3 +114,21 @@ no_room qids i len before at head less order full = omega (
   qids_length (take i qids),
   length-take i qids,
 )
+
+-- the bytes of the parts before one, and its own, are among those of all
+part_within : (parts : List Part) (i : ℕ) (d : Part) → i < length parts
+    → length (flat_map part_bytes (take i parts)) + length (part_bytes (get_or parts i d)) ≤ length (flat_map part_bytes parts)
+part_within [] i d less = absurd (omega arith)
+part_within (part ∷ parts) zero d less = omega (arith, length-append (part_bytes part) (flat_map part_bytes parts))
+part_within (part ∷ parts) (suc i) d less = omega (
+  arith,
+  length-append (part_bytes part) (flat_map part_bytes (take i parts)),
+  length-append (part_bytes part) (flat_map part_bytes parts),
+  part_within parts i d (omega arith),
+)
+
+-- where a part has no room, all of them have none
+pub no_room_for : (parts : List Part) (i len before at : ℕ) (d : Part) → i < length parts → before ≤ at
+    → at < len + length (flat_map part_bytes (take i parts)) + length (part_bytes (get_or parts i d))
+    → before < len + length (flat_map part_bytes parts)
+no_room_for parts i len before at d less order full = omega (arith, part_within parts i d less)

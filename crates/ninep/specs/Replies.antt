@@ -25,7 +25,8 @@ pair_fields a b = Number Eight a ∷ Number Eight b ∷ []
 -- how large blocks are, and how many of them there are
 unfoldable pub block_fields : Room → List Field
 block_fields room =
-    Number Four room.kind ∷ Number Four room.block_size ∷ Number Eight room.blocks ∷ Number Eight room.free ∷ Number Eight room.available ∷ []
+    Number Four room.kind ∷ Number Four room.block_size ∷ Number Eight room.blocks ∷ Number Eight room.free ∷ Number Eight room.available
+    ∷ []
 
 -- how many files there may be
 unfoldable pub file_fields : Room → List Field

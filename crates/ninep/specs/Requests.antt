@@ -1,7 +1,8 @@
 -- Requests, by their types and fields.
 use Rattle.std.specs.Prelude.{◌≡◌, ℕ, ◌+◌, ◌<◌, ◌^◌, List, [], ◌∷◌, ◌++◌, length, map, Option, Some, None, if◌then◌else◌, ◌==◌}
 use Rattle.std.specs.List.{AllByRecursion}
-use Rattle.ninep.specs.Fields.{One, Two, Four, Eight, Kind, IsNumber, IsText, IsData, AreNames, Field, Number, Text, Data, Names, kind_of, number_bytes, fields_bytes, Fits}
+use Rattle.ninep.specs.Fields.{One, Two, Four, Eight, Kind, IsNumber, IsText, IsData, AreNames, Field, Number, Text, Data, Names, kind_of}
+use Rattle.ninep.specs.Fields.{number_bytes, fields_bytes, Fits}
 use Rattle.ninep.specs.Parts.{texts_at, texts_or_none}
 use Rattle.ninep.specs.declared.names.Names.{Names as NamesOf}
 use Rattle.ninep.specs.declared.request.Request.{Request}
@@ -88,7 +89,8 @@ body_of (request.Readdir fid offset count) = record { number = 40; fields = Numb
 body_of (request.Fsync fid data_only) = record { number = 50; fields = Number Four fid ∷ Number Four data_only ∷ [] }
 body_of (request.Lock fid kind flags start length process client) = record {
   number = 52;
-  fields = Number Four fid ∷ Number One kind ∷ Number Four flags ∷ Number Eight start ∷ Number Eight length ∷ Number Four process ∷ Text client.now ∷ [];
+  fields = Number Four fid ∷ Number One kind ∷ Number Four flags ∷ Number Eight start ∷ Number Eight length ∷ Number Four process
+      ∷ Text client.now ∷ [];
 }
 body_of (request.Getlock fid kind start length process client) = record {
   number = 54;
@@ -101,7 +103,8 @@ body_of (request.Renameat old_directory old_name new_directory new_name) = recor
   number = 74;
   fields = Number Four old_directory ∷ Text old_name.now ∷ Number Four new_directory ∷ Text new_name.now ∷ [];
 }
-body_of (request.Unlinkat directory name flags) = record { number = 76; fields = Number Four directory ∷ Text name.now ∷ Number Four flags ∷ [] }
+body_of (request.Unlinkat directory name flags) =
+    record { number = 76; fields = Number Four directory ∷ Text name.now ∷ Number Four flags ∷ [] }
 body_of (request.Version message_size version) = record { number = 100; fields = Number Four message_size ∷ Text version.now ∷ [] }
 body_of (request.Auth auth_fid user_name tree uid) =
     record { number = 102; fields = Number Four auth_fid ∷ Text user_name.now ∷ Text tree.now ∷ Number Four uid ∷ [] }
@@ -110,7 +113,8 @@ body_of (request.Attach fid auth_fid user_name tree uid) = record {
   fields = Number Four fid ∷ Number Four auth_fid ∷ Text user_name.now ∷ Text tree.now ∷ Number Four uid ∷ [];
 }
 body_of (request.Flush old_tag) = record { number = 108; fields = Number Two old_tag ∷ [] }
-body_of (request.Walk fid new_fid names) = record { number = 110; fields = Number Four fid ∷ Number Four new_fid ∷ Names (names_in names) ∷ [] }
+body_of (request.Walk fid new_fid names) =
+    record { number = 110; fields = Number Four fid ∷ Number Four new_fid ∷ Names (names_in names) ∷ [] }
 body_of (request.Read fid offset count) = record { number = 116; fields = Number Four fid ∷ Number Eight offset ∷ Number Four count ∷ [] }
 body_of (request.Write fid offset bytes) = record { number = 118; fields = Number Four fid ∷ Number Eight offset ∷ Data bytes.now ∷ [] }
 body_of (request.Clunk fid) = record { number = 120; fields = Number Four fid ∷ [] }

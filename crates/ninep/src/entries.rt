@@ -6,11 +6,11 @@ ghost use Rattle.ninep.specs.Puts.{StandsFirst};
 ghost use Rattle.ninep.specs.Replies.{entry_fields};
 
 use crate::reply::Qid;
-use crate::writing::{put_qid, put_text, put_u8, put_u64};
+use crate::writing::{Part, put_all};
 use std::alloc::AllocError;
 
 /// An entry of a directory.
-#[derive(Clone, Copy, Debug)]
+#[derive(Clone, Copy)]
 pub struct Entry<'a> {
     pub qid: Qid,
     /// The offset by which a later request goes on behind this entry.
@@ -40,8 +40,15 @@ fn put_entry(out: &mut Vec<u8>, entry: &Entry<'_>) -> Result<(), AllocError>
     ensures ok { OnOk result (out.new.items ≡ out.old.items ++ fields_bytes (entry_fields entry.now)) }
     ensures kept { OnErr result (StandsFirst out.old.items out.new.items) }
 {
-    put_qid(out, &entry.qid)?;
-    put_u64(out, entry.next)?;
-    put_u8(out, entry.kind)?;
-    put_text(out, entry.name)
+    put_all(
+        out,
+        &[
+            Part::U8(entry.qid.kind),
+            Part::U32(entry.qid.version),
+            Part::U64(entry.qid.path),
+            Part::U64(entry.next),
+            Part::U8(entry.kind),
+            Part::Text(entry.name),
+        ],
+    )
 }

@@ -5,6 +5,7 @@ pub mod entries;
 pub mod fault;
 mod fields;
 pub mod names;
+mod reader;
 pub mod reading;
 pub mod reply;
 pub mod request;

@@ -22,6 +22,17 @@ impl<'a> Names<'a> {
     ghost use Rattle.std.specs.Prelude.{◌≡◌, ◌∷◌, [], IfNone, IfSome, length, ◌==◌};
     ghost use Rattle.ninep.specs.Requests.{names_in};
 
+    /// None.
+    #[tactic(auto, unfolding(crate::specs::Parts::texts_at))]
+    pub(crate) fn none() -> Names<'a>
+        ensures { names_in result ≡ [] }
+    {
+        Names {
+            count: 0,
+            bytes: &[],
+        }
+    }
+
     /// How many they are.
     pub fn len(&self) -> usize
         ensures { result ≡ length (names_in self.now) }

@@ -36,8 +36,8 @@ fn whole_of(bytes: &[u8]) -> Result<Message<'_>, Fault>
     rest_of(rest)
 }
 
-/// The request that the bytes say, all of the bytes, or the first fault from left to right. It takes no memory: names, targets and data stay
-/// where they are.
+/// The request that the bytes say, all of the bytes, or the first fault from left to right. It takes no memory: names, targets and data
+/// stay where they are.
 pub fn read(bytes: &[u8]) -> Result<Message<'_>, Fault>
     ensures found { IfOk result (λ m. IsRequest (view m) × (bytes.now ≡ spelling (view m))) }
     ensures only { (m : Tagged) → IsRequest m → bytes.now ≡ spelling m → Gives (λ r. view r) result (Ok m) }

@@ -2,8 +2,8 @@
 
 use crate::names::Names;
 
-/// A request of a client. A `fid` is a number by which the client names a file; names and targets are bytes without their lengths. Numbers of
-/// flags, modes, types and errors are Linux's.
+/// A request of a client. A `fid` is a number by which the client names a file; names and targets are bytes without their lengths. Numbers
+/// of flags, modes, types and errors are Linux's.
 #[derive(Clone, Copy, Debug)]
 pub enum Request<'a> {
     /// What is known of the volume's room.
@@ -187,7 +187,7 @@ pub enum Request<'a> {
 }
 
 /// A request with the tag by which its answer names it.
-#[derive(Clone, Copy, Debug)]
+#[derive(Clone, Copy)]
 pub struct Message<'a> {
     pub tag: u16,
     pub request: Request<'a>,

@@ -1,11 +1,11 @@
 //! The bytes of an answer.
 
 ghost use Rattle.std.specs.Prelude.{◌≡◌, ◌≤◌, ◌<◌, ◌^◌, ◌+◌, ◌++◌, ◌∷◌, [], ℕ, List, length, vec_capacity, OnOk, OnErr, Err};
-ghost use Rattle.ninep.specs.Puts.{StandsFirst};
+ghost use Rattle.ninep.specs.Puts.{StandsFirst, IsPut, part_bytes};
 ghost use Rattle.std.specs.List.{flat_map, AllByRecursion};
 ghost use Rattle.ninep.specs.Fields.{One, Two, Four, Eight, Number, Fits, IsShort, number_bytes, fields_bytes, text_bytes};
 ghost use Rattle.ninep.specs.Requests.{rest_bytes, spelling};
-ghost use Rattle.ninep.specs.Replies.{qid_fields, pair_fields, time_fields, held_fields, block_fields, file_fields, room_fields};
+ghost use Rattle.ninep.specs.Replies.{qid_fields, held_fields, room_fields};
 ghost use Rattle.ninep.specs.Replies.{owner_fields, size_fields, times_fields, version_fields, attribute_fields};
 ghost use Rattle.ninep.specs.Replies.{number_of, reply_fields, replied, size_of};
 
@@ -15,7 +15,7 @@ use std::alloc::AllocError;
 
 /// A number of one byte.
 #[tactic(auto, unfolding(crate::specs::Fields::number_bytes))]
-pub(crate) fn put_u8(out: &mut Vec<u8>, n: u8) -> Result<(), AllocError>
+fn put_u8(out: &mut Vec<u8>, n: u8) -> Result<(), AllocError>
     ensures ok { OnOk result (out.new.items ≡ out.old.items ++ number_bytes One n) }
     ensures kept { OnErr result (StandsFirst out.old.items out.new.items) }
     ensures full { OnErr result (vec_capacity out.old < length out.old.items + length (number_bytes One n)) }
@@ -36,7 +36,7 @@ fn put_u16(out: &mut Vec<u8>, n: u16) -> Result<(), AllocError>
 }
 
 /// A text, behind its length of two bytes.
-pub(crate) fn put_text(out: &mut Vec<u8>, text: &[u8]) -> Result<(), AllocError>
+fn put_text(out: &mut Vec<u8>, text: &[u8]) -> Result<(), AllocError>
     requires { IsShort text.now }
     ensures ok { OnOk result (out.new.items ≡ out.old.items ++ text_bytes text.now) }
     ensures kept { OnErr result (StandsFirst out.old.items out.new.items) }
@@ -51,7 +51,8 @@ fn put_data(out: &mut Vec<u8>, bytes: &[u8]) -> Result<(), AllocError>
     requires { length bytes.now < 2 ^ 32 }
     ensures ok { OnOk result (out.new.items ≡ out.old.items ++ (number_bytes Four (length bytes.now) ++ bytes.now)) }
     ensures kept { OnErr result (StandsFirst out.old.items out.new.items) }
-    ensures full { OnErr result (vec_capacity out.old < length out.old.items + length ((number_bytes Four (length bytes.now) ++ bytes.now))) }
+    ensures full { OnErr result
+        (vec_capacity out.old < length out.old.items + length (number_bytes Four (length bytes.now) ++ bytes.now)) }
     ensures capacity { vec_capacity out.old ≤ vec_capacity out.new }
 {
     put_u32(out, bytes.len() as u32)?;
@@ -71,7 +72,7 @@ fn put_u32(out: &mut Vec<u8>, n: u32) -> Result<(), AllocError>
 
 /// A number of eight bytes.
 #[tactic(auto, unfolding(crate::specs::Fields::number_bytes))]
-pub(crate) fn put_u64(out: &mut Vec<u8>, n: u64) -> Result<(), AllocError>
+fn put_u64(out: &mut Vec<u8>, n: u64) -> Result<(), AllocError>
     ensures ok { OnOk result (out.new.items ≡ out.old.items ++ number_bytes Eight n) }
     ensures kept { OnErr result (StandsFirst out.old.items out.new.items) }
     ensures full { OnErr result (vec_capacity out.old < length out.old.items + length (number_bytes Eight n)) }
@@ -80,120 +81,138 @@ pub(crate) fn put_u64(out: &mut Vec<u8>, n: u64) -> Result<(), AllocError>
     out.extend_from_slice(&n.to_le_bytes())
 }
 
-pub(crate) fn put_qid(out: &mut Vec<u8>, qid: &Qid) -> Result<(), AllocError>
+/// A field of an answer, as it is written.
+#[derive(Clone, Copy)]
+pub(crate) enum Part<'a> {
+    U8(u8),
+    U16(u16),
+    U32(u32),
+    U64(u64),
+    Text(&'a [u8]),
+}
+
+/// A field.
+fn put(out: &mut Vec<u8>, part: &Part<'_>) -> Result<(), AllocError>
+    requires { IsPut part.now }
+    ensures ok { OnOk result (out.new.items ≡ out.old.items ++ part_bytes part.now) }
+    ensures kept { OnErr result (StandsFirst out.old.items out.new.items) }
+    ensures full { OnErr result (vec_capacity out.old < length out.old.items + length (part_bytes part.now)) }
+    ensures capacity { vec_capacity out.old ≤ vec_capacity out.new }
+{
+    match *part {
+        Part::U8(n) => put_u8(out, n),
+        Part::U16(n) => put_u16(out, n),
+        Part::U32(n) => put_u32(out, n),
+        Part::U64(n) => put_u64(out, n),
+        Part::Text(text) => put_text(out, text),
+    }
+}
+
+/// Fields, one behind the other.
+pub(crate) fn put_all(out: &mut Vec<u8>, parts: &[Part<'_>]) -> Result<(), AllocError>
+    requires { AllByRecursion IsPut parts.now }
+    ensures ok { OnOk result (out.new.items ≡ out.old.items ++ flat_map part_bytes parts.now) }
+    ensures kept { OnErr result (StandsFirst out.old.items out.new.items) }
+    ensures full { OnErr result (vec_capacity out.old < length out.old.items + length (flat_map part_bytes parts.now)) }
+    ensures capacity { vec_capacity out.old ≤ vec_capacity out.new }
+{
+    for part in parts {
+        put(out, part)?;
+    }
+    Ok(())
+}
+
+fn put_qid(out: &mut Vec<u8>, qid: &Qid) -> Result<(), AllocError>
     ensures ok { OnOk result (out.new.items ≡ out.old.items ++ fields_bytes (qid_fields qid.now)) }
     ensures kept { OnErr result (StandsFirst out.old.items out.new.items) }
     ensures full { OnErr result (vec_capacity out.old < length out.old.items + length (fields_bytes (qid_fields qid.now))) }
     ensures capacity { vec_capacity out.old ≤ vec_capacity out.new }
 {
-    put_u8(out, qid.kind)?;
-    put_u32(out, qid.version)?;
-    put_u64(out, qid.path)
+    put_all(
+        out,
+        &[
+            Part::U8(qid.kind),
+            Part::U32(qid.version),
+            Part::U64(qid.path),
+        ],
+    )
 }
 
-fn put_time(out: &mut Vec<u8>, time: (u64, u64)) -> Result<(), AllocError>
-    ensures ok { OnOk result (out.new.items ≡ out.old.items ++ fields_bytes (time_fields time)) }
-    ensures kept { OnErr result (StandsFirst out.old.items out.new.items) }
-    ensures full { OnErr result (vec_capacity out.old < length out.old.items + length (fields_bytes (time_fields time))) }
-    ensures capacity { vec_capacity out.old ≤ vec_capacity out.new }
-{
-    put_u64(out, time.0)?;
-    put_u64(out, time.1)
-}
-
-fn put_pair(out: &mut Vec<u8>, a: u64, b: u64) -> Result<(), AllocError>
-    ensures ok { OnOk result (out.new.items ≡ out.old.items ++ fields_bytes (pair_fields a b)) }
-    ensures kept { OnErr result (StandsFirst out.old.items out.new.items) }
-    ensures full { OnErr result (vec_capacity out.old < length out.old.items + length (fields_bytes (pair_fields a b))) }
-    ensures capacity { vec_capacity out.old ≤ vec_capacity out.new }
-{
-    put_u64(out, a)?;
-    put_u64(out, b)
-}
-
-#[tactic(auto, unfolding(crate::specs::Replies::block_fields))]
-fn put_blocks(out: &mut Vec<u8>, room: &Room) -> Result<(), AllocError>
-    ensures ok { OnOk result (out.new.items ≡ out.old.items ++ fields_bytes (block_fields room.now)) }
-    ensures kept { OnErr result (StandsFirst out.old.items out.new.items) }
-    ensures full { OnErr result (vec_capacity out.old < length out.old.items + length (fields_bytes (block_fields room.now))) }
-    ensures capacity { vec_capacity out.old ≤ vec_capacity out.new }
-{
-    put_u32(out, room.kind)?;
-    put_u32(out, room.block_size)?;
-    put_pair(out, room.blocks, room.free)?;
-    put_u64(out, room.available)
-}
-
-#[tactic(auto, unfolding(crate::specs::Replies::file_fields))]
-fn put_files(out: &mut Vec<u8>, room: &Room) -> Result<(), AllocError>
-    ensures ok { OnOk result (out.new.items ≡ out.old.items ++ fields_bytes (file_fields room.now)) }
-    ensures kept { OnErr result (StandsFirst out.old.items out.new.items) }
-    ensures full { OnErr result (vec_capacity out.old < length out.old.items + length (fields_bytes (file_fields room.now))) }
-    ensures capacity { vec_capacity out.old ≤ vec_capacity out.new }
-{
-    put_pair(out, room.files, room.free_files)?;
-    put_u64(out, room.id)?;
-    put_u32(out, room.name_length)
-}
-
-#[tactic(auto, using(crate::proofs::WritingLaws::fields_append))]
+#[tactic(auto, unfolding(crate::specs::Replies::block_fields, crate::specs::Replies::file_fields))]
 fn put_room(out: &mut Vec<u8>, room: &Room) -> Result<(), AllocError>
     ensures ok { OnOk result (out.new.items ≡ out.old.items ++ fields_bytes (room_fields room.now)) }
     ensures kept { OnErr result (StandsFirst out.old.items out.new.items) }
     ensures full { OnErr result (vec_capacity out.old < length out.old.items + length (fields_bytes (room_fields room.now))) }
     ensures capacity { vec_capacity out.old ≤ vec_capacity out.new }
 {
-    put_blocks(out, room)?;
-    put_files(out, room)
+    put_all(
+        out,
+        &[
+            Part::U32(room.kind),
+            Part::U32(room.block_size),
+            Part::U64(room.blocks),
+            Part::U64(room.free),
+            Part::U64(room.available),
+            Part::U64(room.files),
+            Part::U64(room.free_files),
+            Part::U64(room.id),
+            Part::U32(room.name_length),
+        ],
+    )
 }
 
-#[tactic(auto, unfolding(crate::specs::Replies::owner_fields))]
-fn put_owner(out: &mut Vec<u8>, a: &Attributes) -> Result<(), AllocError>
-    ensures ok { OnOk result (out.new.items ≡ out.old.items ++ fields_bytes (owner_fields a.now)) }
+/// Which attributes are told, of which file, and how large it is.
+#[tactic(auto, unfolding(crate::specs::Replies::owner_fields, crate::specs::Replies::size_fields))]
+fn put_file(out: &mut Vec<u8>, a: &Attributes) -> Result<(), AllocError>
+    ensures ok { OnOk result (out.new.items ≡ out.old.items ++ fields_bytes (owner_fields a.now ++ size_fields a.now)) }
     ensures kept { OnErr result (StandsFirst out.old.items out.new.items) }
-    ensures full { OnErr result (vec_capacity out.old < length out.old.items + length (fields_bytes (owner_fields a.now))) }
+    ensures full { OnErr result
+        (vec_capacity out.old < length out.old.items + length (fields_bytes (owner_fields a.now ++ size_fields a.now))) }
     ensures capacity { vec_capacity out.old ≤ vec_capacity out.new }
 {
-    put_u64(out, a.valid)?;
-    put_qid(out, &a.qid)?;
-    put_u32(out, a.mode)?;
-    put_u32(out, a.uid)?;
-    put_u32(out, a.gid)
+    put_all(
+        out,
+        &[
+            Part::U64(a.valid),
+            Part::U8(a.qid.kind),
+            Part::U32(a.qid.version),
+            Part::U64(a.qid.path),
+            Part::U32(a.mode),
+            Part::U32(a.uid),
+            Part::U32(a.gid),
+            Part::U64(a.links),
+            Part::U64(a.device),
+            Part::U64(a.size),
+            Part::U64(a.block_size),
+            Part::U64(a.blocks),
+        ],
+    )
 }
 
-#[tactic(auto, unfolding(crate::specs::Replies::size_fields))]
-fn put_size(out: &mut Vec<u8>, a: &Attributes) -> Result<(), AllocError>
-    ensures ok { OnOk result (out.new.items ≡ out.old.items ++ fields_bytes (size_fields a.now)) }
-    ensures kept { OnErr result (StandsFirst out.old.items out.new.items) }
-    ensures full { OnErr result (vec_capacity out.old < length out.old.items + length (fields_bytes (size_fields a.now))) }
-    ensures capacity { vec_capacity out.old ≤ vec_capacity out.new }
-{
-    put_pair(out, a.links, a.device)?;
-    put_pair(out, a.size, a.block_size)?;
-    put_u64(out, a.blocks)
-}
-
-#[tactic(auto, unfolding(crate::specs::Replies::times_fields))]
+/// When it was changed.
+#[tactic(auto, unfolding(crate::specs::Replies::times_fields, crate::specs::Replies::version_fields))]
 fn put_times(out: &mut Vec<u8>, a: &Attributes) -> Result<(), AllocError>
-    ensures ok { OnOk result (out.new.items ≡ out.old.items ++ fields_bytes (times_fields a.now)) }
+    ensures ok { OnOk result (out.new.items ≡ out.old.items ++ fields_bytes (times_fields a.now ++ version_fields a.now)) }
     ensures kept { OnErr result (StandsFirst out.old.items out.new.items) }
-    ensures full { OnErr result (vec_capacity out.old < length out.old.items + length (fields_bytes (times_fields a.now))) }
+    ensures full { OnErr result
+        (vec_capacity out.old < length out.old.items + length (fields_bytes (times_fields a.now ++ version_fields a.now))) }
     ensures capacity { vec_capacity out.old ≤ vec_capacity out.new }
 {
-    put_time(out, a.atime)?;
-    put_time(out, a.mtime)?;
-    put_time(out, a.ctime)?;
-    put_time(out, a.made)
-}
-
-#[tactic(auto, unfolding(crate::specs::Replies::version_fields))]
-fn put_version(out: &mut Vec<u8>, a: &Attributes) -> Result<(), AllocError>
-    ensures ok { OnOk result (out.new.items ≡ out.old.items ++ fields_bytes (version_fields a.now)) }
-    ensures kept { OnErr result (StandsFirst out.old.items out.new.items) }
-    ensures full { OnErr result (vec_capacity out.old < length out.old.items + length (fields_bytes (version_fields a.now))) }
-    ensures capacity { vec_capacity out.old ≤ vec_capacity out.new }
-{
-    put_pair(out, a.generation, a.data_version)
+    put_all(
+        out,
+        &[
+            Part::U64(a.atime.0),
+            Part::U64(a.atime.1),
+            Part::U64(a.mtime.0),
+            Part::U64(a.mtime.1),
+            Part::U64(a.ctime.0),
+            Part::U64(a.ctime.1),
+            Part::U64(a.made.0),
+            Part::U64(a.made.1),
+            Part::U64(a.generation),
+            Part::U64(a.data_version),
+        ],
+    )
 }
 
 #[tactic(auto, using(crate::proofs::WritingLaws::fields_append))]
@@ -203,10 +222,8 @@ fn put_attributes(out: &mut Vec<u8>, a: &Attributes) -> Result<(), AllocError>
     ensures full { OnErr result (vec_capacity out.old < length out.old.items + length (fields_bytes (attribute_fields a.now))) }
     ensures capacity { vec_capacity out.old ≤ vec_capacity out.new }
 {
-    put_owner(out, a)?;
-    put_size(out, a)?;
-    put_times(out, a)?;
-    put_version(out, a)
+    put_file(out, a)?;
+    put_times(out, a)
 }
 
 fn put_held(out: &mut Vec<u8>, held: &Held<'_>) -> Result<(), AllocError>
@@ -216,18 +233,25 @@ fn put_held(out: &mut Vec<u8>, held: &Held<'_>) -> Result<(), AllocError>
     ensures full { OnErr result (vec_capacity out.old < length out.old.items + length (fields_bytes (held_fields held.now))) }
     ensures capacity { vec_capacity out.old ≤ vec_capacity out.new }
 {
-    put_u8(out, held.kind)?;
-    put_u64(out, held.start)?;
-    put_u64(out, held.length)?;
-    put_u32(out, held.process)?;
-    put_text(out, held.client)
+    put_all(
+        out,
+        &[
+            Part::U8(held.kind),
+            Part::U64(held.start),
+            Part::U64(held.length),
+            Part::U32(held.process),
+            Part::Text(held.client),
+        ],
+    )
 }
 
 fn put_qids(out: &mut Vec<u8>, qids: &[Qid]) -> Result<(), AllocError>
     requires { length qids.now < 2 ^ 16 }
-    ensures ok { OnOk result (out.new.items ≡ out.old.items ++ (number_bytes Two (length qids.now) ++ fields_bytes (flat_map qid_fields qids.now))) }
+    ensures ok { OnOk result
+        (out.new.items ≡ out.old.items ++ (number_bytes Two (length qids.now) ++ fields_bytes (flat_map qid_fields qids.now))) }
     ensures kept { OnErr result (StandsFirst out.old.items out.new.items) }
-    ensures full { OnErr result (vec_capacity out.old < length out.old.items + length ((number_bytes Two (length qids.now) ++ fields_bytes (flat_map qid_fields qids.now)))) }
+    ensures full { OnErr result (vec_capacity out.old
+        < length out.old.items + length (number_bytes Two (length qids.now) ++ fields_bytes (flat_map qid_fields qids.now))) }
     ensures capacity { vec_capacity out.old ≤ vec_capacity out.new }
 {
     put_u16(out, qids.len() as u16)?;
@@ -240,11 +264,19 @@ fn put_qids(out: &mut Vec<u8>, qids: &[Qid]) -> Result<(), AllocError>
 fn put_opened(out: &mut Vec<u8>, qid: &Qid, unit: u32) -> Result<(), AllocError>
     ensures ok { OnOk result (out.new.items ≡ out.old.items ++ fields_bytes (qid_fields qid.now ++ Number Four unit ∷ [])) }
     ensures kept { OnErr result (StandsFirst out.old.items out.new.items) }
-    ensures full { OnErr result (vec_capacity out.old < length out.old.items + length (fields_bytes (qid_fields qid.now ++ Number Four unit ∷ []))) }
+    ensures full { OnErr result
+        (vec_capacity out.old < length out.old.items + length (fields_bytes (qid_fields qid.now ++ Number Four unit ∷ []))) }
     ensures capacity { vec_capacity out.old ≤ vec_capacity out.new }
 {
-    put_qid(out, qid)?;
-    put_u32(out, unit)
+    put_all(
+        out,
+        &[
+            Part::U8(qid.kind),
+            Part::U32(qid.version),
+            Part::U64(qid.path),
+            Part::U32(unit),
+        ],
+    )
 }
 
 /// The fields of an answer.
@@ -256,28 +288,20 @@ fn put_fields(out: &mut Vec<u8>, reply: &Reply<'_>) -> Result<(), AllocError>
     ensures capacity { vec_capacity out.old ≤ vec_capacity out.new }
 {
     match reply {
-        Reply::Error { number } => put_u32(out, *number),
+        Reply::Error { number } | Reply::Write { count: number } => put_u32(out, *number),
         Reply::Statfs { room } => put_room(out, room),
-        Reply::Open { qid, unit } => put_opened(out, qid, *unit),
-        Reply::Create { qid, unit } => put_opened(out, qid, *unit),
-        Reply::Symlink { qid } => put_qid(out, qid),
+        Reply::Open { qid, unit } | Reply::Create { qid, unit } => put_opened(out, qid, *unit),
+        Reply::Symlink { qid } | Reply::Mkdir { qid } | Reply::Attach { qid } => put_qid(out, qid),
         Reply::Readlink { target } => put_text(out, target),
         Reply::Getattr { attributes } => put_attributes(out, attributes),
-        Reply::Readdir { entries } => put_data(out, entries),
+        Reply::Readdir { entries: bytes } | Reply::Read { bytes } => put_data(out, bytes),
         Reply::Lock { status } => put_u8(out, *status),
         Reply::Getlock { held } => put_held(out, held),
-        Reply::Mkdir { qid } => put_qid(out, qid),
         Reply::Version {
             message_size,
             version,
-        } => {
-            put_u32(out, *message_size)?;
-            put_text(out, version)
-        }
-        Reply::Attach { qid } => put_qid(out, qid),
+        } => put_all(out, &[Part::U32(*message_size), Part::Text(version)]),
         Reply::Walk { qids } => put_qids(out, qids),
-        Reply::Read { bytes } => put_data(out, bytes),
-        Reply::Write { count } => put_u32(out, *count),
         Reply::Rename | Reply::Setattr | Reply::Fsync | Reply::Link => Ok(()),
         Reply::Renameat | Reply::Unlinkat | Reply::Flush | Reply::Clunk | Reply::Remove => Ok(()),
     }

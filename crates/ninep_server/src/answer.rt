@@ -4,7 +4,7 @@ use crate::refused::Refused;
 use ninep::reply::{Attributes, Qid, Room};
 
 /// The answer to a message that isn't an fsync done, before it is written.
-#[derive(Debug, Drop)]
+#[derive(Drop)]
 pub enum Answer {
     Refused(Refused),
     Statfs(Room),
@@ -44,7 +44,7 @@ pub enum Answer {
 }
 
 /// What is said to a message: an answer, or that all that was written lies on the disk.
-#[derive(Debug, Drop)]
+#[derive(Drop)]
 pub enum Said {
     Plain(Answer),
     /// A sync was done.

@@ -3,7 +3,7 @@
 use tree::Call;
 
 /// What is asked of the sessions.
-#[derive(Clone, Copy, Debug)]
+#[derive(Clone, Copy)]
 pub enum Ask<'a> {
     /// A session for a user and a group.
     Enter { uid: u16, gid: u16 },

@@ -71,7 +71,7 @@ fn number_of(uid: u32) -> Result<u16, Refused>
 }
 
 /// A user attaches.
-#[derive(Clone, Copy, Debug)]
+#[derive(Clone, Copy)]
 pub(crate) enum Attach {
     /// It asks for a session.
     Enter { fid: u32, uid: u16 },

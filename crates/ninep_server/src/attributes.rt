@@ -137,7 +137,7 @@ const ATIME_SET: u32 = 0x80;
 const MTIME_SET: u32 = 0x100;
 
 /// The attributes that a client wants changed: those of the bits of `valid`.
-#[derive(Clone, Copy, Debug)]
+#[derive(Clone, Copy)]
 pub(crate) struct Wanted {
     pub(crate) valid: u32,
     pub(crate) mode: u32,
@@ -194,7 +194,7 @@ fn owner(valid: u32, bit: u32, given: u32, was: u16) -> Result<u16, Refused>
 }
 
 /// A change of a node.
-#[derive(Clone, Copy, Debug)]
+#[derive(Clone, Copy)]
 pub(crate) enum Change {
     Size(u32),
     Owners(u16, u16),
@@ -218,7 +218,7 @@ impl Change {
 }
 
 /// What is left to change, in this order.
-#[derive(Clone, Copy, Debug)]
+#[derive(Clone, Copy)]
 struct Changes {
     size: Option<u32>,
     owners: Option<(u16, u16)>,

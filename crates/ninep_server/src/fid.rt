@@ -9,7 +9,7 @@ use std::alloc::Global;
 use tree::Attributes;
 
 /// What kind of node a fid stands on.
-#[derive(Clone, Copy, Debug, PartialEq, Eq)]
+#[derive(Clone, Copy)]
 pub(crate) enum Kind {
     File,
     Directory,
@@ -17,7 +17,7 @@ pub(crate) enum Kind {
 }
 
 /// The node that a fid stands on.
-#[derive(Clone, Copy, Debug, PartialEq, Eq)]
+#[derive(Clone, Copy)]
 pub(crate) struct Node {
     pub(crate) inode: u16,
     pub(crate) kind: Kind,
@@ -59,7 +59,7 @@ impl Node {
 }
 
 /// What a fid stands for.
-#[derive(Debug, Drop)]
+#[derive(Drop)]
 pub(crate) struct Fid {
     pub(crate) user: User,
     /// Where its node's name is, if it isn't gone.

@@ -13,7 +13,7 @@ use errno::Errno;
 use tree::{Attributes, Entry, LinkTarget, Outcome, Reply, Room};
 
 /// What the sessions answered.
-#[derive(Debug, Drop)]
+#[derive(Drop)]
 pub enum Heard {
     /// The session for a user, or why there is none.
     Entered(Result<u8, EnterRefusal>),
@@ -54,9 +54,10 @@ impl Heard {
         ensures done { IsOk result → IsDone self }
         ensures told { MatchResult result (λ _. done_in self ≡ Ok reply.Done) (λ e. done_in self ≡ Err e) }
     {
-        match self.reply()? {
-            Reply::Done => Ok(()),
-            _ => Err(Refused::By(Errno::EIO)),
+        match self.reply() {
+            Ok(Reply::Done) => Ok(()),
+            Ok(_) => Err(Refused::By(Errno::EIO)),
+            Err(refused) => Err(refused),
         }
     }
 
@@ -64,9 +65,10 @@ impl Heard {
     pub(crate) fn attributes(self) -> Result<Attributes, Refused>
         ensures { result ≡ attributes_in self }
     {
-        match self.reply()? {
-            Reply::Inode(attributes) => Ok(attributes),
-            _ => Err(Refused::By(Errno::EIO)),
+        match self.reply() {
+            Ok(Reply::Inode(attributes)) => Ok(attributes),
+            Ok(_) => Err(Refused::By(Errno::EIO)),
+            Err(refused) => Err(refused),
         }
     }
 
@@ -74,9 +76,10 @@ impl Heard {
     pub(crate) fn descriptor(self) -> Result<u32, Refused>
         ensures { result ≡ descriptor_in self }
     {
-        match self.reply()? {
-            Reply::Descriptor(fd) => Ok(fd),
-            _ => Err(Refused::By(Errno::EIO)),
+        match self.reply() {
+            Ok(Reply::Descriptor(fd)) => Ok(fd),
+            Ok(_) => Err(Refused::By(Errno::EIO)),
+            Err(refused) => Err(refused),
         }
     }
 
@@ -84,9 +87,10 @@ impl Heard {
     pub(crate) fn at(self) -> Result<u32, Refused>
         ensures { result ≡ position_in self }
     {
-        match self.reply()? {
-            Reply::At(position) => Ok(position),
-            _ => Err(Refused::By(Errno::EIO)),
+        match self.reply() {
+            Ok(Reply::At(position)) => Ok(position),
+            Ok(_) => Err(Refused::By(Errno::EIO)),
+            Err(refused) => Err(refused),
         }
     }
 
@@ -94,9 +98,10 @@ impl Heard {
     pub(crate) fn bytes(self) -> Result<Vec<u8>, Refused>
         ensures { result_map_both (λ bytes. bytes.items) (λ e. e) result ≡ bytes_in self }
     {
-        match self.reply()? {
-            Reply::Bytes(bytes) => Ok(bytes),
-            _ => Err(Refused::By(Errno::EIO)),
+        match self.reply() {
+            Ok(Reply::Bytes(bytes)) => Ok(bytes),
+            Ok(_) => Err(Refused::By(Errno::EIO)),
+            Err(refused) => Err(refused),
         }
     }
 
@@ -104,9 +109,10 @@ impl Heard {
     pub(crate) fn wrote(self) -> Result<u32, Refused>
         ensures { result ≡ count_in self }
     {
-        match self.reply()? {
-            Reply::Wrote(count) => Ok(count),
-            _ => Err(Refused::By(Errno::EIO)),
+        match self.reply() {
+            Ok(Reply::Wrote(count)) => Ok(count),
+            Ok(_) => Err(Refused::By(Errno::EIO)),
+            Err(refused) => Err(refused),
         }
     }
 
@@ -114,9 +120,10 @@ impl Heard {
     pub(crate) fn names(self) -> Result<Vec<Entry>, Refused>
         ensures { result_map_both (λ names. names.items) (λ e. e) result ≡ names_heard self }
     {
-        match self.reply()? {
-            Reply::Names(names) => Ok(names),
-            _ => Err(Refused::By(Errno::EIO)),
+        match self.reply() {
+            Ok(Reply::Names(names)) => Ok(names),
+            Ok(_) => Err(Refused::By(Errno::EIO)),
+            Err(refused) => Err(refused),
         }
     }
 
@@ -124,9 +131,10 @@ impl Heard {
     pub(crate) fn space(self) -> Result<Room, Refused>
         ensures { result ≡ room_in self }
     {
-        match self.reply()? {
-            Reply::Space(room) => Ok(room),
-            _ => Err(Refused::By(Errno::EIO)),
+        match self.reply() {
+            Ok(Reply::Space(room)) => Ok(room),
+            Ok(_) => Err(Refused::By(Errno::EIO)),
+            Err(refused) => Err(refused),
         }
     }
 
@@ -134,9 +142,10 @@ impl Heard {
     pub(crate) fn target(self) -> Result<LinkTarget, Refused>
         ensures { result ≡ target_in self }
     {
-        match self.reply()? {
-            Reply::Target(target) => Ok(target),
-            _ => Err(Refused::By(Errno::EIO)),
+        match self.reply() {
+            Ok(Reply::Target(target)) => Ok(target),
+            Ok(_) => Err(Refused::By(Errno::EIO)),
+            Err(refused) => Err(refused),
         }
     }
 }

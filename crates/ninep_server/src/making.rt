@@ -17,14 +17,14 @@ use crate::work::{Next, Work};
 use tree::Call;
 
 /// What is made.
-#[derive(Clone, Copy, Debug)]
+#[derive(Clone, Copy)]
 pub(crate) enum Made<'m> {
     Directory { mode: u16 },
     Symlink { target: &'m [u8] },
 }
 
 /// How far the making is.
-#[derive(Clone, Copy, Debug)]
+#[derive(Clone, Copy)]
 enum Stage {
     /// It is made.
     Make,

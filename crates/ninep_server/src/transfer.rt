@@ -16,7 +16,7 @@ use errno::Errno;
 use tree::{Call, MAX_SIZE, MAX_TRANSFER, Whence};
 
 /// What is moved.
-#[derive(Clone, Copy, Debug)]
+#[derive(Clone, Copy)]
 pub(crate) enum Moved<'m> {
     /// At most so many bytes of the file.
     Read { count: u32 },
@@ -25,7 +25,7 @@ pub(crate) enum Moved<'m> {
 }
 
 /// Bytes are moved at an offset of an open file.
-#[derive(Clone, Copy, Debug)]
+#[derive(Clone, Copy)]
 pub(crate) struct Transfer<'m> {
     session: u8,
     fd: u32,

@@ -6,7 +6,7 @@ ghost use Rattle.ninep_server.specs.Knowledge.{user_of};
 use std::alloc::{AllocError, Global};
 
 /// A user who is attached, and its session.
-#[derive(Clone, Copy, Debug, PartialEq, Eq)]
+#[derive(Clone, Copy)]
 pub(crate) struct User {
     pub(crate) uid: u16,
     pub(crate) session: u8,

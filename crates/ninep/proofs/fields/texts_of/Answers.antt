@@ -1,7 +1,4 @@
-use Rattle.std.proofs.Common.{length, take, ap, sym, ◌∙◌, ◌+◌, Ok, arith}
-use Rattle.std.proofs.lemmas.List.{length-append}
-use Rattle.std.specs.List.{flat_map}
-use Rattle.ninep.specs.Fields.{text_bytes}
+use Rattle.std.proofs.Common.{ap, sym, ◌∙◌, Ok, arith}
 use Rattle.ninep.proofs.TextLaws.{are_texts, same_texts, is_shorter}
 use Rattle.ninep.proofs.fields.texts_of.Goals as goal
 

@@ -1,4 +1,4 @@
-use Rattle.std.proofs.Common.{rules, ◌≡◌, ◌+◌, ◌-◌, ◌∙◌, ◌++◌, length, List, ℕ, sym, ap, take, arith}
+use Rattle.std.proofs.Common.{rules, ◌≡◌, ◌+◌, ◌-◌, ◌∙◌, ◌++◌, length, sym, ap, take, arith}
 use Rattle.ninep.specs.Fields.{Four, number_bytes}
 use Rattle.ninep.specs.Requests.{rest_bytes}
 use Rattle.ninep.specs.Replies.{replied}

@@ -13,12 +13,14 @@ returns-in_default-clause-none c =
 pub invariant_of-result : goal.invariant_of-result
 invariant_of-result c = record {
   whole =
-      (split_some c.args.self.now.count c.args.self.now.bytes.now (c.in-Ok.name.now, c.in-Ok.bytes.now) c.if-self-eq0.false c.args.self.now.whole
+      (split_some c.args.self.now.count c.args.self.now.bytes.now
+      (c.in-Ok.name.now, c.in-Ok.bytes.now) c.if-self-eq0.false c.args.self.now.whole
       c.in-Ok.ensures).0;
   few = omega (arith, c.args.self.now.few);
 }
 
 pub returns-clause-some : goal.returns-clause-some
 returns-clause-some c =
-    (split_some c.args.self.now.count c.args.self.now.bytes.now (c.in-Ok.name.now, c.in-Ok.bytes.now) c.if-self-eq0.false c.args.self.now.whole
+    (split_some c.args.self.now.count c.args.self.now.bytes.now
+    (c.in-Ok.name.now, c.in-Ok.bytes.now) c.if-self-eq0.false c.args.self.now.whole
     c.in-Ok.ensures).1

@@ -1,0 +1,5 @@
+use Rattle.std.proofs.Common.{refl}
+use Rattle.ninep.proofs.requests.unlinkat.Goals as goal
+
+pub returns : goal.returns
+returns c = c.end.ensures c.args.input _ refl (_, c.u32.ensures, (_, c.text.ensures, (_, c.u32-2.ensures, refl)))
