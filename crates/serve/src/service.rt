@@ -26,9 +26,12 @@ use shared_server::locked::Locked;
 use shared_server::refusal::SessionRefusal;
 use std::alloc::{AllocError, Global};
 use std::marker::PhantomData;
-use std::sync::{Arc, Mutex, Wait};
-use std::thread::Threads;
+use std::sync::{Arc, Mutex, MutexGuard, Wait};
+use std::thread::{Threads, yield_now};
 use tree::Who;
+
+/// How often a session looks whether the server is free before it sleeps.
+const LOOKS: u32 = 64;
 
 /// What the sessions of a service share: the server under its lock, and the handle by which they wait for it.
 #[derive(Drop)]
@@ -41,6 +44,18 @@ impl<N: Room, R: Wait + Copy, L: Recorder<N>, S: FileServer<L>> Shared<N, R, L, 
     /// The server takes a Flush. It may wait for the calls of sessions.
     pub(crate) fn flush(&self) {
         self.server.lock(&self.rt).flush();
+    }
+
+    /// The server, once no other thread has it. A thread that finds it taken lets others run and looks again before it sleeps: most calls
+    /// take less time than waking a thread.
+    pub(crate) fn locked(&self) -> MutexGuard<'_, Locked<N, L, S>> {
+        for _ in 0..LOOKS {
+            if let Some(server) = self.server.try_lock() {
+                return server;
+            }
+            yield_now();
+        }
+        self.server.lock(&self.rt)
     }
 }
 
