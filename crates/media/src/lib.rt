@@ -114,15 +114,6 @@ fn check_length(bytes: usize) -> Result<(), MediaRefusal>
     }
 }
 
-/// The bytes of sector `n`.
-fn sector_at(bytes: &[u8], n: usize) -> [u8; SECTOR]
-    requires { n < length bytes.now / 512 }
-    ensures { result ≡ get_or (sectors_of bytes.now) n [] }
-{
-    let (sectors, _) = bytes.as_chunks::<SECTOR>();
-    sectors[n]
-}
-
 /// Puts these bytes into sector `n`.
 fn put_sector(bytes: &mut [u8], n: usize, sector: &[u8; SECTOR])
     requires { n < length bytes.old / 512 }
@@ -166,11 +157,13 @@ impl Media {
 
     /// The media whose bytes are those of this vector, 512 in each sector, in order: none is copied, and no memory is taken. The current
     /// generation is 0. A refusal lets the vector go.
+    #[tactic(auto, using(crate::proofs::SectorLaws::same_image))]
     pub fn from_vec(bytes: Vec<u8>) -> Result<Media, MediaRefusal>
         ensures not_whole { (result ≡ Err MediaRefusal.NotWholeSectors) ↔ (length bytes.items % 512 ≢ 0) }
         ensures too_large { (result ≡ Err MediaRefusal.TooLarge) ↔ ((length bytes.items % 512 ≡ 0) × (67108864 < length bytes.items)) }
         ensures never { result ≢ Err MediaRefusal.OutOfMemory }
         ensures ok { IfOk result (λ m. m ≡ record { sectors = sectors_of bytes.items; generation = 0 }) }
+        ensures image { IfOk result (λ m. concat m.sectors ≡ bytes.items) }
     {
         check_length(bytes.len())?;
         Ok(Media {
@@ -186,6 +179,14 @@ impl Media {
         ensures whole { IsWhole self.now.sectors }
     {
         (self.bytes.len() / SECTOR) as u32
+    }
+
+    /// All sectors, in order, where they lie.
+    pub fn as_sectors(&self) -> &[[u8; SECTOR]]
+        ensures { result.now ≡ self.now.sectors }
+    {
+        let (sectors, _) = self.bytes.as_chunks::<SECTOR>();
+        sectors
     }
 
     /// The bytes of all sectors, in order, copied.
@@ -219,7 +220,7 @@ impl Media {
         ensures { result ≡ read_answer self.now generation n }
     {
         match self.refusal(generation, n) {
-            None => Ok(sector_at(&self.bytes, n as usize)),
+            None => Ok(self.as_sectors()[n as usize]),
             Some(refusal) => Err(refusal),
         }
     }
