@@ -8,6 +8,8 @@
 pub mod partition;
 
 ghost use Rattle.std.specs.Prelude.{◌≡◌, ◌≢◌, ◌≤◌, ◌<◌, ◌*◌, ◌%◌, ◌/◌, ◌↔◌, length, IsTrue, IsNone, IfSome, IfOk, IfErr, Some};
+ghost use Rattle.std.specs.Prelude.{[], slice_set};
+ghost use Rattle.std.proofs.Common.{get_or};
 ghost use Rattle.std.specs.List.{concat};
 ghost use Rattle.media.specs.Contents.{IsWhole, Adopt, Write, Tear, accepts, media_after, sectors_of, written};
 ghost use Rattle.media.specs.Laws.{ContentsFollow, RevokedForEver, ChangesOneSector, IsSameImage};
@@ -97,21 +99,46 @@ impl SectorRefusal {
     }
 }
 
+/// Whether so many bytes make media. It takes no memory.
+fn check_length(bytes: usize) -> Result<(), MediaRefusal>
+    ensures not_whole { (result ≡ Err MediaRefusal.NotWholeSectors) ↔ (bytes % 512 ≢ 0) }
+    ensures too_large { (result ≡ Err MediaRefusal.TooLarge) ↔ ((bytes % 512 ≡ 0) × (67108864 < bytes)) }
+    ensures never { result ≢ Err MediaRefusal.OutOfMemory }
+{
+    if bytes % SECTOR != 0 {
+        Err(MediaRefusal::NotWholeSectors)
+    } else if bytes > MOST_BYTES {
+        Err(MediaRefusal::TooLarge)
+    } else {
+        Ok(())
+    }
+}
+
+/// Puts these bytes into sector `n`.
+fn put_sector(bytes: &mut [u8], n: usize, sector: &[u8; SECTOR])
+    requires { n < length bytes.old / 512 }
+    ensures { sectors_of bytes.new ≡ slice_set (sectors_of bytes.old) n sector.now }
+{
+    bytes[SECTOR * n..SECTOR * n + SECTOR].copy_from_slice(sector);
+}
+
 /// Sectors, and the generation that may move them: the greatest one adopted so far, 0 at first.
 #[derive(Drop)]
 pub struct Media {
-    sectors: Vec<[u8; SECTOR]>,
+    // All sectors, one after another.
+    bytes: Vec<u8>,
     generation: u32,
 }
 
 impl Model for Media {
-    ghost use Rattle.media.specs.Contents.{MediaState, IsWhole};
+    ghost use Rattle.std.specs.Prelude.{◌≡◌, ◌≤◌, ◌%◌, length};
+    ghost use Rattle.media.specs.Contents.{MediaState, sectors_of};
 
     ghost Value = { MediaState };
 
-    ghost view = { λ m. record { sectors = m.sectors.items; generation = m.generation } };
+    ghost view = { λ m. record { sectors = sectors_of m.bytes.items; generation = m.generation } };
 
-    ghost invariant = { λ m. IsWhole m.sectors.items };
+    ghost invariant = { λ m. (length m.bytes.items % 512 ≡ 0) × (length m.bytes.items ≤ 67108864) };
 }
 
 impl Media {
@@ -121,39 +148,63 @@ impl Media {
         ensures too_large { (result ≡ Err MediaRefusal.TooLarge) ↔ ((length bytes.now % 512 ≡ 0) × (67108864 < length bytes.now)) }
         ensures ok { IfOk result (λ m. m ≡ record { sectors = sectors_of bytes.now; generation = 0 }) }
     {
-        let (sectors, rest) = bytes.as_chunks::<SECTOR>();
-        if !rest.is_empty() {
-            return Err(MediaRefusal::NotWholeSectors);
-        }
-        if bytes.len() > MOST_BYTES {
-            return Err(MediaRefusal::TooLarge);
-        }
-        let sectors = sectors.iter().copied().collect(alloc)?;
+        check_length(bytes.len())?;
         Ok(Media {
-            sectors,
+            bytes: Vec::from_slice(alloc, bytes)?,
+            generation: 0,
+        })
+    }
+
+    /// The media whose bytes are those of this vector, 512 in each sector, in order: none is copied, and no memory is taken. The current
+    /// generation is 0. A refusal lets the vector go.
+    #[tactic(auto, using(crate::proofs::SectorLaws::same_image))]
+    pub fn from_vec(bytes: Vec<u8>) -> Result<Media, MediaRefusal>
+        ensures not_whole { (result ≡ Err MediaRefusal.NotWholeSectors) ↔ (length bytes.items % 512 ≢ 0) }
+        ensures too_large { (result ≡ Err MediaRefusal.TooLarge) ↔ ((length bytes.items % 512 ≡ 0) × (67108864 < length bytes.items)) }
+        ensures never { result ≢ Err MediaRefusal.OutOfMemory }
+        ensures ok { IfOk result (λ m. m ≡ record { sectors = sectors_of bytes.items; generation = 0 }) }
+        ensures image { IfOk result (λ m. concat m.sectors ≡ bytes.items) }
+    {
+        check_length(bytes.len())?;
+        Ok(Media {
+            bytes,
             generation: 0,
         })
     }
 
     /// How many sectors there are: at most 131072.
+    #[tactic(auto, using(crate::proofs::SectorLaws::sector_count, crate::proofs::SectorLaws::whole_sectors))]
     pub fn sectors(&self) -> u32
         ensures value { result ≡ length self.now.sectors }
         ensures whole { IsWhole self.now.sectors }
     {
-        self.sectors.len() as u32
+        (self.bytes.len() / SECTOR) as u32
     }
 
-    /// The bytes of all sectors, in order.
-    #[tactic(auto, using(crate::proofs::SectorLaws::joined_more))]
+    /// All sectors, in order, where they lie.
+    pub fn as_sectors(&self) -> &[[u8; SECTOR]]
+        ensures { result.now ≡ self.now.sectors }
+    {
+        let (sectors, _) = self.bytes.as_chunks::<SECTOR>();
+        sectors
+    }
+
+    /// The bytes of all sectors, in order, copied.
+    #[tactic(auto, using(crate::proofs::SectorLaws::same_image))]
     pub fn image(&self, alloc: Global) -> Result<Vec<u8>, MediaRefusal>
         ensures ok { IfOk result (λ v. v.items ≡ concat self.now.sectors) }
         ensures err { IfErr result (λ e. e ≡ MediaRefusal.OutOfMemory) }
     {
-        let mut bytes = Vec::with_capacity(alloc, SECTOR * self.sectors.len())?;
-        for sector in &self.sectors {
-            bytes.extend_from_slice(sector)?;
-        }
-        Ok(bytes)
+        Ok(Vec::from_slice(alloc, &self.bytes)?)
+    }
+
+    /// The bytes of all sectors, in order: they are what the media held, so none is copied, and no memory is taken.
+    #[tactic(auto, using(crate::proofs::SectorLaws::same_image))]
+    pub fn into_image(self) -> Vec<u8>
+        ensures { result.items ≡ concat self.sectors }
+    {
+        let Media { bytes, .. } = self;
+        bytes
     }
 
     /// Makes a greater generation the current one; one that isn't greater changes nothing.
@@ -164,11 +215,12 @@ impl Media {
     }
 
     /// The bytes of sector `n`, read under a generation.
+    #[tactic(auto, using(crate::proofs::SectorLaws::sector_count, crate::proofs::WrittenLaws::accepts_exists))]
     pub fn read_sector(&self, generation: u32, n: u32) -> Result<[u8; SECTOR], SectorRefusal>
         ensures { result ≡ read_answer self.now generation n }
     {
         match self.refusal(generation, n) {
-            None => Ok(self.sectors[n as usize]),
+            None => Ok(self.as_sectors()[n as usize]),
             Some(refusal) => Err(refusal),
         }
     }
@@ -206,7 +258,7 @@ impl Media {
     {
         if generation != self.generation {
             Some(SectorRefusal::Revoked)
-        } else if n as usize >= self.sectors.len() {
+        } else if n >= self.sectors() {
             Some(SectorRefusal::PastEnd)
         } else {
             None
@@ -214,6 +266,7 @@ impl Media {
     }
 
     /// Puts bytes into sector `n` under a generation.
+    #[tactic(auto, using(crate::proofs::SectorLaws::sector_count, crate::proofs::WrittenLaws::accepts_exists))]
     fn put(&mut self, generation: u32, n: u32, bytes: &[u8; SECTOR]) -> Result<(), SectorRefusal>
         ensures after { self.new ≡ written self.old generation n bytes.now }
         ensures answer { result ≡ write_answer self.old generation n }
@@ -221,7 +274,7 @@ impl Media {
         if let Some(refusal) = self.refusal(generation, n) {
             return Err(refusal);
         }
-        self.sectors[n as usize] = *bytes;
+        put_sector(&mut self.bytes, n as usize, bytes);
         Ok(())
     }
 }

@@ -29,7 +29,7 @@ pub record IsLastImage {L : Type 0} (link : LinkWords L) (g : Geometry) (v : Ope
   pub last : IsLastLine link g v seen how line
 
 -- Why a service that is stopped gives no image of a synced volume. While a session is left it comes back, as it has to; else a last sync
--- was tried, which the device's giving up or the link's end kept from being made; or no memory was found, and the media are left.
+-- was tried, which the device's giving up or the link's end kept from being made; or somebody else still had the media.
 abbrev pub WhyNotSynced : {L T : Type 0} → LinkWords L → Geometry → Opening → List Mark → (T → Type 0) → StopRefusal T → Type 0
 WhyNotSynced link g v seen is_back (SessionsLeft left) = is_back left
 WhyNotSynced link g v seen is_back (GivenUp image) = IsLastImage link g v seen WasGivenUp image.items

@@ -190,12 +190,12 @@ impl<N: Room, R: Threads + Wait + Copy, L: Recorder<N>, S: FileServer<L>> Servic
     }
 
     /// Stops the service: the flusher is ended, a last sync is made, the drivers are ended, and the media are given back as an image: the
-    /// bytes of all sectors, as they stand.
+    /// bytes of all sectors, as they stand. The media become the image: it takes no memory.
     ///
     /// It is refused: 1 SessionsLeft, where some session neither ended nor was let go, which hands the service back; 3 OutOfMemory, where
-    /// none was found for the image, which hands back the media, by the code always; 2 GivenUp and 4 LinkEnded, where the last sync wasn't
-    /// made, with the image as the media stand. The first of these that holds is answered.
-    pub fn stop(self, alloc: Global) -> Result<Vec<u8>, StopRefusal<Service<N, R, L, S>>>
+    /// somebody else still has the media, which by the code nobody has; 2 GivenUp and 4 LinkEnded, where the last sync wasn't made, with
+    /// the image as the media stand. The first of these that holds is answered.
+    pub fn stop(self, _alloc: Global) -> Result<Vec<u8>, StopRefusal<Service<N, R, L, S>>>
         ensures image { IfOk result (λ image. IsLastImage L.Link N.geometry N.opening [] Went image.items) }
         ensures refused { IfErr result (WhyNotSynced L.Link N.geometry N.opening []
             (λ left. (left.board ≡ self.board) × (left.shared ≡ self.shared))) }
@@ -206,7 +206,7 @@ impl<N: Room, R: Threads + Wait + Copy, L: Recorder<N>, S: FileServer<L>> Servic
         match self.alone() {
             Ok((rt, locked, running)) => {
                 let how = locked.finish();
-                image_of::<N, Service<N, R, L, S>>(alloc, how, running.stop(&rt))
+                image_of::<N, Service<N, R, L, S>>(how, running.stop(&rt))
             }
             Err(service) => Err(StopRefusal::SessionsLeft(service)),
         }
@@ -247,7 +247,7 @@ impl<N: Room, R: Threads + Wait + Copy, L: Recorder<N>, S: FileServer<L>> Servic
     /// says of the image and of each refusal holds then, and the last record goes on from what the session had seen at its end.
     pub fn stop_after(
         self,
-        alloc: Global,
+        _alloc: Global,
         mut last: Session<N, Shared<N, R, L, S>>,
     ) -> Result<Vec<u8>, StopRefusal<Service<N, R, L, S>>>
         ensures image { IfOk result (λ image. IsLastImage L.Link N.geometry N.opening last.knows.seen Went image.items) }
@@ -274,7 +274,7 @@ impl<N: Room, R: Threads + Wait + Copy, L: Recorder<N>, S: FileServer<L>> Servic
         match self.alone() {
             Ok((rt, locked, running)) => {
                 let how = locked.finish_after(who.session, seat);
-                image_of::<N, Service<N, R, L, S>>(alloc, how, running.stop(&rt))
+                image_of::<N, Service<N, R, L, S>>(how, running.stop(&rt))
             }
             Err(service) => {
                 service

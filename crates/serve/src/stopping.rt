@@ -8,7 +8,6 @@ ghost use Rattle.serve.specs.Stopping.{IsImageOf, IsLeftAfter, IsNoImageOf, no_i
 use board::counting::room::Room;
 use media::Media;
 use shared_server::locked::LastSync;
-use std::alloc::Global;
 use std::fmt;
 
 /// Why a service that is stopped gives no image of a synced volume. `S` is the service.
@@ -18,8 +17,8 @@ pub enum StopRefusal<S> {
     SessionsLeft(S),
     /// The device was given up, so not all may have been written. With it comes the image, as the media stand.
     GivenUp(Vec<u8>),
-    /// No memory was found for the image, which may be asked for again of the media that come with it; None where somebody else still has
-    /// them, by the code nobody has. The last sync was tried.
+    /// Somebody else still has the media, which by the code nobody has; None comes with it. The image takes no memory: the media become
+    /// it. The last sync was tried.
     OutOfMemory(Option<Media>),
     /// The link to the drivers has ended, so not all may have been written. With it comes the image, as the media stand.
     LinkEnded(Vec<u8>),
@@ -44,7 +43,7 @@ impl<S> StopRefusal<S> {
 pub enum NoImage {
     /// The service isn't stopped, since a session is left.
     SessionsLeft,
-    /// No memory was found for the image.
+    /// Somebody else still has the media, which by the code nobody has.
     OutOfMemory,
 }
 
@@ -85,8 +84,9 @@ fn has_whole_sectors(media: &Media)
 }
 
 /// The image of the media that a service leaves whose last sync went so, or why there is none of a synced volume.
+///
+/// It takes no memory: the media become the image.
 pub(crate) fn image_of<N: Room, S>(
-    alloc: Global,
     how: LastSync,
     media: Option<Media>,
 ) -> Result<Vec<u8>, StopRefusal<S>>
@@ -98,9 +98,7 @@ pub(crate) fn image_of<N: Room, S>(
         return Err(StopRefusal::OutOfMemory(None));
     };
     has_whole_sectors(&media);
-    let Ok(image) = media.image(alloc) else {
-        return Err(StopRefusal::OutOfMemory(Some(media)));
-    };
+    let image = media.into_image();
     match how {
         LastSync::Done => Ok(image),
         LastSync::GivenUp => Err(StopRefusal::GivenUp(image)),
