@@ -1,21 +1,21 @@
 -- Which slot comes first.
-use Rattle.std.proofs.Common.{◌≡◌, ℕ, ◌+◌, ◌<◌, ◌≤◌, List, [], ◌∷◌, length, refl, sym, ap, ◌∙◌, arith, true, false, cond, Option, Some, None}
+use Rattle.std.proofs.Common.{◌≡◌, ℕ, ◌+◌, ◌<◌, ◌≤◌, List, length, refl, sym, ap, ◌∙◌, arith, true, false, cond, Option, Some, None}
 use mathlib.Core.Logic.{inl, inr, ◌⊎◌}
 use Rattle.std.specs.Prelude.{slice_get, slice_index, nat_lt, IfSome, ◌&&◌, is_some, not, position}
 use Rattle.std.proofs.lemmas.Bool.{cases_lt, ltb-true}
 use Rattle.std.proofs.lemmas.Bool.Decides.{nat_tests}
 use Rattle.cache.specs.declared.slot.Slot.{Slot}
-use Rattle.cache.specs.declared.table.Among.TheVariants as among
 use Rattle.cache.specs.declared.state.State.{State}
 use Rattle.cache.specs.declared.state.State.TheVariants.{Clean, Dirty, Writing, Changed}
 use Rattle.cache.specs.Slots.{held, is_clean, is_dirty, is_unclean_slot, IsDistinct}
 use Rattle.cache.specs.Edits.{IsLowestDirty, IsLowestOf, NoneDirty, AllClean, SomeUnclean}
 use Rattle.cache.specs.Order.{key_of, key_at, slot_key, is_before, IsFirst, IsLeast}
+use Rattle.cache.specs.Order as among
 use Rattle.cache.proofs.Held.{place_of, held_at, in_range}
 use Rattle.cache.proofs.Places.{none_at, some_at}
 
 -- the last of those below n + 1, or one below n
-last_or_less : (n i : ℕ) → i < n + 1 → (i < n) ⊎ (i ≡ n)
+pub last_or_less : (n i : ℕ) → i < n + 1 → (i < n) ⊎ (i ≡ n)
 last_or_less n i lt = elim (cases_lt i n) [
   | inl less ↦ inl less
   | inr le ↦ inr (omega (arith, lt, le))
@@ -30,13 +30,9 @@ pub first_in_range : (keys : ℕ → Option ℕ) (n all : ℕ) (f : Option ℕ) 
 first_in_range keys n all None le h = tt
 first_in_range keys n all (Some at) le h = omega (arith, le, h.in_range)
 
--- where there is a slot one is first of all
-pub none_first : (items : List Slot) (numbers : List ℕ) → 0 < length items → IsFirst (key_of among.All items numbers) (length items) None → ⊥
-none_first [] numbers lt h = omega (arith, lt)
-none_first (s ∷ items) numbers lt h = let z = h 0 lt in cc
-
 -- the one looked at stands before all so far
-pub first_taken : (keys : ℕ → Option ℕ) (n : ℕ) (f : Option ℕ) → IsFirst keys n f → is_before (keys n) (key_at keys f) ≡ true → IsFirst keys (n + 1) (Some n)
+pub first_taken : (keys : ℕ → Option ℕ) (n : ℕ) (f : Option ℕ) → IsFirst keys n f
+    → is_before (keys n) (key_at keys f) ≡ true → IsFirst keys (n + 1) (Some n)
 first_taken keys n f h before = by (keys n) refl f h before
   where
     by : (x : Option ℕ) → keys n ≡ x → (f : Option ℕ) → IsFirst keys n f → is_before x (key_at keys f) ≡ true → IsLeast keys (n + 1) n
@@ -63,7 +59,8 @@ first_taken keys n f h before = by (keys n) refl f h before
         }
 
 -- the first so far stays first
-pub first_kept : (keys : ℕ → Option ℕ) (n : ℕ) (f : Option ℕ) → IsFirst keys n f → is_before (keys n) (key_at keys f) ≡ false → IsFirst keys (n + 1) f
+pub first_kept : (keys : ℕ → Option ℕ) (n : ℕ) (f : Option ℕ) → IsFirst keys n f
+    → is_before (keys n) (key_at keys f) ≡ false → IsFirst keys (n + 1) f
 first_kept keys n None h before = λ i lt. elim (last_or_less n i lt) [
   | inl less ↦ h i less
   | inr same ↦ ap keys same ∙ by (keys n) before

@@ -7,25 +7,13 @@ ghost use Rattle.cache.specs.Slots.{held, is_dirty_held, is_unclean_slot, IsDist
 ghost use Rattle.cache.specs.Index.{IsIndexOf};
 
 use crate::index::Index;
+use crate::rank::Rank;
 use crate::slot::{Slot, put, zeros};
 use crate::state::State;
 use crate::uses::Uses;
 use reissue::Ticket;
 use std::alloc::{AllocError, Global};
 use step_count::Steps;
-
-/// Which slots are looked among, and in which order.
-#[derive(Clone, Copy)]
-enum Among {
-    /// The free ones, the one used longest ago first.
-    Free,
-    /// Those that aren't unclean, the one used longest ago first.
-    Clean,
-    /// All, the one used longest ago first.
-    All,
-    /// The dirty ones, the lowest block first.
-    Dirty,
-}
 
 /// All slots, 4096 at most; no block has two. Their memory is taken when they are made.
 #[derive(Drop)]
@@ -43,16 +31,9 @@ pub struct Slots {
     pub ghost paired: { length uses.numbers.items ≡ length items.items },
 }
 
-/// The number of a slot's last use, unless the slot is left out.
-fn used_unless(left_out: bool, used: u64) -> Option<u64>
-    ensures { result ≡ (if left_out then None else Some used) }
-{
-    if left_out { None } else { Some(used) }
-}
-
 impl Slots {
     ghost use Rattle.cache.specs.Uses.{IsUsedLast};
-    ghost use Rattle.cache.specs.Order.{key_of, key_at, is_before, IsFirst, IsVictim};
+    ghost use Rattle.cache.specs.Order.{key_of, key_at, is_before, rank_at, Dirty, IsVictim};
     ghost use Rattle.cache.specs.Edits.{IsSetAt, IsFilledAt, IsBlankedAt, IsChangedAt, IsAt, IsPlaceOf, IsWritten, AllStay, AllClean};
     ghost use Rattle.cache.specs.Edits.{SomeUnclean, IsLowestOf, IsLowestBlock, IsRunEnd, AreDirty, AreBegun, Leaves, after_write};
     ghost use Rattle.cache.specs.Runs.{IsCopied, AreGathered};
@@ -91,67 +72,48 @@ impl Slots {
         self.items.iter().position(|s| s.is_unclean())
     }
 
-    /// A slot's number in this order, if it is among them.
-    fn key(&self, among: Among, at: usize) -> Option<u64>
+    /// Which slots the slot there goes before.
+    fn rank(&self, at: usize) -> Rank
         requires { at < length self.now.items.items }
-        ensures { result ≡ key_of among self.now.items.items self.now.uses.numbers.items at }
+        ensures { rank_at self.now.items.items self.now.uses.numbers.items at ≡ Some result }
     {
-        let slot = &self.items[at];
-        let used = self.uses.numbers[at];
-        match among {
-            Among::Free => used_unless(slot.block.is_some(), used),
-            Among::Clean => used_unless(slot.is_unclean(), used),
-            Among::All => Some(used),
-            Among::Dirty => slot.dirty_block(),
-        }
-    }
-
-    /// Whether a slot is among them, and stands before the first one so far.
-    fn stands_before(&self, among: Among, at: usize, first: Option<usize>) -> bool
-        requires at { at < length self.now.items.items }
-        requires first { IfSome first (λ i. i < length self.now.items.items) }
-        ensures { result ≡ is_before (key_of among self.now.items.items self.now.uses.numbers.items at)
-            (key_at (key_of among self.now.items.items self.now.uses.numbers.items) first) }
-    {
-        let Some(key) = self.key(among, at) else {
-            return false;
-        };
-        match first {
-            Some(first) => match self.key(among, first) {
-                Some(lowest) => key < lowest,
-                None => true,
-            },
-            None => true,
-        }
-    }
-
-    /// The first of these slots in their order.
-    fn first(&self, among: Among) -> Option<usize>
-        ensures { IsFirst (key_of among self.now.items.items self.now.uses.numbers.items) (length self.now.items.items) result }
-    {
-        let mut first = None;
-        for at in 0..self.items.len() {
-            if self.stands_before(among, at, first) {
-                first = Some(at);
-            }
-        }
-        first
+        Rank::of(&self.items[at], self.uses.numbers[at])
     }
 
     /// The slot that goes next: a free one; where none is free, of the clean ones the one used longest ago; where none is clean, of all.
+    #[inline(never)]
     pub fn victim(&self) -> usize
         ensures in_range { result < length self.now.items.items }
         ensures chosen { IsVictim self.now.items.items self.now.uses.numbers.items result }
     {
-        if let Some(at) = self.first(Among::Free) {
-            return at;
+        let mut victim = 0;
+        let mut least = self.rank(0);
+        for at in 1..self.items.len() {
+            let rank = self.rank(at);
+            if rank.goes_before(least) {
+                victim = at;
+                least = rank;
+            }
         }
-        if let Some(at) = self.first(Among::Clean) {
-            return at;
-        }
-        match self.first(Among::All) {
-            Some(at) => at,
-            None => unreachable!(),
+        victim
+    }
+
+    /// Whether a slot is dirty, and has a lower block than the first one so far.
+    fn stands_before(&self, at: usize, first: Option<usize>) -> bool
+        requires at { at < length self.now.items.items }
+        requires first { IfSome first (λ i. i < length self.now.items.items) }
+        ensures { result ≡ is_before (key_of Dirty self.now.items.items self.now.uses.numbers.items at)
+            (key_at (key_of Dirty self.now.items.items self.now.uses.numbers.items) first) }
+    {
+        let Some(key) = self.items[at].dirty_block() else {
+            return false;
+        };
+        match first {
+            Some(first) => match self.items[first].dirty_block() {
+                Some(lowest) => key < lowest,
+                None => true,
+            },
+            None => true,
         }
     }
 
@@ -170,7 +132,13 @@ impl Slots {
     pub fn lowest_dirty(&self) -> Option<usize>
         ensures { IsLowestOf result self.now.items.items }
     {
-        self.first(Among::Dirty)
+        let mut first = None;
+        for at in 0..self.items.len() {
+            if self.stands_before(at, first) {
+                first = Some(at);
+            }
+        }
+        first
     }
 
     /// The lowest block with a dirty slot.
