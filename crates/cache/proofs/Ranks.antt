@@ -2,7 +2,7 @@
 use Rattle.std.proofs.Common.{◌≡◌, ℕ, ◌+◌, ◌<◌, ◌≤◌, List, length, refl, sym, ap, ◌∙◌, arith, Bool, true, false, cond, Option, Some, None}
 use mathlib.Core.Logic.{inl, inr, ◌⊎◌}
 use Rattle.std.specs.Prelude.{slice_get, slice_index, nat_lt, ◌&&◌, is_some, not}
-use Rattle.std.proofs.lemmas.Bool.{ltb-false}
+use Rattle.std.proofs.lemmas.Bool.{cases_lt, ltb-false}
 use Rattle.std.proofs.lemmas.Bool.Decides.{nat_tests}
 use Rattle.cache.specs.declared.slot.Slot.{Slot}
 use Rattle.cache.specs.declared.rank.Rank.{Rank}
@@ -10,7 +10,13 @@ use Rattle.cache.specs.declared.rank.Rank.TheVariants as rank
 use Rattle.cache.specs.Slots.{is_clean}
 use Rattle.cache.specs.Order.{key_of, slot_key, rank_in, rank_at, rank_of, goes_before, IsNone, IsVictim}
 use Rattle.cache.specs.Order as among
-use Rattle.cache.proofs.Choosing.{last_or_less}
+
+-- the last of those below n + 1, or one below n
+last_or_less : (n i : ℕ) → i < n + 1 → (i < n) ⊎ (i ≡ n)
+last_or_less n i lt = elim (cases_lt i n) [
+  | inl less ↦ inl less
+  | inr le ↦ inr (omega (arith, lt, le))
+]
 
 -- ---- ranks as pairs of numbers
 

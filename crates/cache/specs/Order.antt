@@ -1,26 +1,23 @@
--- Which slot comes first, in the order of their last use or of their blocks.
+-- Which slot goes first, in the order of their last use.
 use Rattle.std.specs.Prelude.{◌≡◌, ◌⊎◌, ℕ, ◌<◌, ◌≤◌, List, length, slice_get, slice_index, Option, Some, None, is_some}
 use Rattle.std.specs.Prelude.{Bool, true, false, if◌then◌else◌, nat_lt}
 use Rattle.cache.specs.declared.slot.Slot.{Slot}
 use Rattle.cache.specs.declared.rank.Rank.{Rank}
 use Rattle.cache.specs.declared.rank.Rank.TheVariants as rank
-use Rattle.cache.specs.Slots.{is_clean, is_unclean_slot, is_dirty}
+use Rattle.cache.specs.Slots.{is_clean, is_unclean_slot}
 
--- which slots are looked among, and in which order: the free ones, those that aren't unclean and all, each the one used longest ago first;
--- the dirty ones, the lowest block first
+-- which slots are looked among, the one used longest ago first: the free ones, those that aren't unclean, all
 pub data Among : Type 0 where
   Free : Among
   Clean : Among
   All : Among
-  Dirty : Among
 
--- a slot's number in an order, if it is among those that are looked at; the number of its last use is given
+-- the number of a slot's last use, if it is among those that are looked at
 abbrev pub slot_key : Among → Option Slot → ℕ → Option ℕ
 slot_key a None used = None
 slot_key Free (Some s) used = if is_some s.block then None else Some used
 slot_key Clean (Some s) used = if is_unclean_slot s then None else Some used
 slot_key All (Some s) used = Some used
-slot_key Dirty (Some s) used = if is_dirty s.state then s.block else None
 
 -- the same of the slot at a place
 abbrev pub key_of : Among → List Slot → List ℕ → ℕ → Option ℕ
@@ -49,17 +46,6 @@ goes_before (rank.Clean used) (rank.Unclean than) = true
 goes_before (rank.Unclean used) (rank.Free than) = false
 goes_before (rank.Unclean used) (rank.Clean than) = false
 goes_before (rank.Unclean used) (rank.Unclean than) = nat_lt used than
-
--- the number of the one that is first so far
-abbrev pub key_at : (ℕ → Option ℕ) → Option ℕ → Option ℕ
-key_at keys None = None
-key_at keys (Some at) = keys at
-
--- the first is among them, and stands before the second
-abbrev pub is_before : Option ℕ → Option ℕ → Bool
-is_before None other = false
-is_before (Some key) None = true
-is_before (Some key) (Some other) = nat_lt key other
 
 -- it is among them, and no number of those below n is lower
 pub record IsLeast (keys : ℕ → Option ℕ) (n at : ℕ) : Type 0 where

@@ -1,9 +1,9 @@
 //! All slots of a cache.
 
-ghost use Rattle.std.specs.Prelude.{◌≡◌, ◌⊎◌, ◌<◌, ◌≤◌, ◌+◌, ◌*◌, ◌^◌, ℕ, true, IfOk, IfSome, Option, Some, None, slice_get, position, length, if◌then◌else◌};
+ghost use Rattle.std.specs.Prelude.{◌≡◌, ◌⊎◌, ◌<◌, ◌≤◌, ◌+◌, ◌*◌, ◌^◌, ℕ, true, IfOk, Some, None, slice_get, position, length};
 ghost use Rattle.std.specs.Bool.{OnTrue, OnFalse};
 ghost use Rattle.std.specs.Vec.{vec_capacity};
-ghost use Rattle.cache.specs.Slots.{held, is_dirty_held, is_unclean_slot, IsDistinct};
+ghost use Rattle.cache.specs.Slots.{held, is_dirty_held, is_unclean_slot, lower_of, IsDistinct, NoneDirtyBelow};
 ghost use Rattle.cache.specs.Index.{IsIndexOf};
 
 use crate::index::Index;
@@ -23,17 +23,31 @@ pub struct Slots {
     uses: Uses,
     // Where each block stands.
     index: Index,
+    // The block that the search for a dirty slot begins at: none below it has one.
+    search_from: u32,
     pub ghost distinct: { IsDistinct items.items },
     pub ghost some: { 0 < length items.items },
     pub ghost few: { length items.items ≤ 4096 },
     pub ghost indexed: { IsIndexOf index.entries.items items.items },
     pub ghost room: { vec_capacity index.entries ≡ length items.items },
     pub ghost paired: { length uses.numbers.items ≡ length items.items },
+    pub ghost skipped: { NoneDirtyBelow items.items search_from },
+}
+
+/// Where the search for a dirty slot begins once this block has one too, where it began at `from` before.
+#[inline]
+fn lowered(from: u32, block: Option<u32>) -> u32
+    ensures { result ≡ lower_of from block }
+{
+    match block {
+        Some(block) => from.min(block),
+        None => from,
+    }
 }
 
 impl Slots {
     ghost use Rattle.cache.specs.Uses.{IsUsedLast};
-    ghost use Rattle.cache.specs.Order.{key_of, key_at, is_before, rank_at, Dirty, IsVictim};
+    ghost use Rattle.cache.specs.Order.{rank_at, IsVictim};
     ghost use Rattle.cache.specs.Edits.{IsSetAt, IsFilledAt, IsBlankedAt, IsChangedAt, IsAt, IsPlaceOf, IsWritten, AllStay, AllClean};
     ghost use Rattle.cache.specs.Edits.{SomeUnclean, IsLowestOf, IsLowestBlock, IsRunEnd, AreDirty, AreBegun, Leaves, after_write};
     ghost use Rattle.cache.specs.Runs.{IsCopied, AreGathered};
@@ -53,6 +67,7 @@ impl Slots {
             items,
             uses: Uses::new(alloc, count)?,
             index: Index::new(alloc, count)?,
+            search_from: u32::MAX,
         })
     }
 
@@ -98,25 +113,6 @@ impl Slots {
         victim
     }
 
-    /// Whether a slot is dirty, and has a lower block than the first one so far.
-    fn stands_before(&self, at: usize, first: Option<usize>) -> bool
-        requires at { at < length self.now.items.items }
-        requires first { IfSome first (λ i. i < length self.now.items.items) }
-        ensures { result ≡ is_before (key_of Dirty self.now.items.items self.now.uses.numbers.items at)
-            (key_at (key_of Dirty self.now.items.items self.now.uses.numbers.items) first) }
-    {
-        let Some(key) = self.items[at].dirty_block() else {
-            return false;
-        };
-        match first {
-            Some(first) => match self.items[first].dirty_block() {
-                Some(lowest) => key < lowest,
-                None => true,
-            },
-            None => true,
-        }
-    }
-
     /// Whether the bytes of each slot with a block are the disk's.
     pub fn is_clean(&self) -> bool
         ensures clean { OnTrue result (AllClean (held self.now.items.items)) }
@@ -132,13 +128,13 @@ impl Slots {
     pub fn lowest_dirty(&self) -> Option<usize>
         ensures { IsLowestOf result self.now.items.items }
     {
-        let mut first = None;
-        for at in 0..self.items.len() {
-            if self.stands_before(at, first) {
-                first = Some(at);
+        for nth in self.index.start(self.search_from)..self.index.len() {
+            let at = self.index.place(nth);
+            if self.get(at).state.is_dirty() {
+                return Some(at);
             }
         }
-        first
+        None
     }
 
     /// The lowest block with a dirty slot.
@@ -234,6 +230,26 @@ impl Slots {
             let at = self.dirty_at(block + past);
             self.set_state(at, State::Writing(ticket));
         }
+        self.raise();
+    }
+
+    /// The write of the slot there is begun under this ticket.
+    pub fn begin_write(&mut self, at: usize, ticket: Ticket)
+        requires { at < length self.old.items.items }
+        ensures set { IsSetAt self.old.items.items self.new.items.items at (λ s. record s { state = State.Writing ticket }) }
+        ensures uses { self.new.uses ≡ self.old.uses }
+    {
+        let begun = State::Writing(ticket);
+        self.set_state(at, begun);
+        self.raise();
+    }
+
+    /// The search for a dirty slot begins at the lowest block that has one.
+    fn raise(&mut self)
+        ensures items { self.new.items.items ≡ self.old.items.items }
+        ensures uses { self.new.uses ≡ self.old.uses }
+    {
+        self.search_from = self.lowest_block().unwrap_or(u32::MAX);
     }
 
     /// A slot is used now.
@@ -263,6 +279,7 @@ impl Slots {
     {
         let slot = &mut self.items[at];
         slot.state = state;
+        self.search_from = lowered(self.search_from, slot.dirty_block());
     }
 
     /// The write with this ticket was answered good.
@@ -315,6 +332,7 @@ impl Slots {
         self.index.insert(block, at);
         let slot = &mut self.items[at];
         slot.hold(block, bytes, state);
+        self.search_from = lowered(self.search_from, slot.dirty_block());
         self.touch(at);
     }
 
@@ -326,6 +344,8 @@ impl Slots {
         ensures count { length self.new.items.items ≡ length self.old.items.items }
     {
         let slot = &mut self.items[at];
+        // Of a change a clean slot alone becomes dirty.
+        self.search_from = lowered(self.search_from, slot.clean_block());
         slot.clear();
         self.touch(at);
     }
@@ -340,6 +360,8 @@ impl Slots {
         ensures count { length self.new.items.items ≡ length self.old.items.items }
     {
         let slot = &mut self.items[at];
+        // Of a change a clean slot alone becomes dirty.
+        self.search_from = lowered(self.search_from, slot.clean_block());
         slot.change(from, bytes);
     }
 }

@@ -1,40 +1,32 @@
-use Rattle.std.proofs.Common.{◌≡◌, ℕ, ◌+◌, Option, length, sym, ◌∙◌, subst, arith}
-use Rattle.cache.specs.Order.{key_of, IsFirst}
-use Rattle.cache.specs.Order as among
-use Rattle.cache.proofs.Choosing.{first_none, first_in_range, first_taken, first_kept, lowest_of}
-use Rattle.cache.proofs.table.Slots.lowest_dirty.Goals.{then-stands_before, else-stands_before}
+use Rattle.std.proofs.Common.{◌≤◌, length, sym, ◌∙◌, arith}
+use Rattle.cache.proofs.Choosing.{searched_start, searched_more, slot_there, lowest_found, none_found}
 use Rattle.cache.proofs.table.Slots.lowest_dirty.Goals as goal
 
-pub loop-at-init : goal.loop-at-init
-loop-at-init c =
+pub loop-nth-init : goal.loop-nth-init
+loop-nth-init c =
     let s = c.args.self.now in
-    record { within = omega arith; first = first_none (key_of among.Dirty s.items.items s.uses.numbers.items) }
+    searched_start s.index.entries.items s.items.items c.start-nth.result s.search_from s.indexed s.index.rising
+    s.skipped c.start-nth.ensures
 
-pub stands_before-requires-clause-first : goal.stands_before-requires-clause-first
-stands_before-requires-clause-first c =
+pub get-requires : goal.get-requires
+get-requires c =
     let s = c.args.self.now in
-    let l = c.loop-at in
-    first_in_range (key_of among.Dirty s.items.items s.uses.numbers.items) l.at (length s.items.items) l.first l.invariant.within l.invariant.first
+    slot_there s.index.entries.items s.items.items c.loop-nth.nth c.place-at.result s.indexed s.index.rising c.place-at.ensures
 
-pub loop-at-preserved : goal.loop-at-preserved
-loop-at-preserved c =
+pub loop-nth-preserved : goal.loop-nth-preserved
+loop-nth-preserved c =
     let s = c.args.self.now in
-    let keys = key_of among.Dirty s.items.items s.uses.numbers.items in
-    let l = c.loop-at in
-    record {
-      within = omega (arith, c.loop-at-test.true, c.len-at-end.ensures);
-      first = elim c.if-stands_before.branch [
-        | then-stands_before w ↦ subst (λ (f : Option ℕ). IsFirst keys (l.at + 1) f) (sym w.first-is)
-            (first_taken keys l.at l.first l.invariant.first (sym c.stands_before.ensures ∙ w.if-stands_before.true))
-        | else-stands_before w ↦ subst (λ (f : Option ℕ). IsFirst keys (l.at + 1) f) (sym w.first-is)
-            (first_kept keys l.at l.first l.invariant.first (sym c.stands_before.ensures ∙ w.if-stands_before.false))
-      ];
-    }
+    searched_more s.index.entries.items s.items.items c.loop-nth.nth c.place-at.result c.get.result.now c.place-at.ensures c.get.ensures
+    (sym c.is_dirty.ensures ∙ c.if-is_dirty.false) c.loop-nth.invariant
+
+pub returns-then-is_dirty : goal.returns-then-is_dirty
+returns-then-is_dirty c =
+    let s = c.args.self.now in
+    lowest_found s.index.entries.items s.items.items c.loop-nth.nth c.place-at.result c.get.result.now s.indexed s.index.rising
+    c.place-at.ensures c.get.ensures (sym c.is_dirty.ensures ∙ c.if-is_dirty.true) c.loop-nth.invariant
 
 pub returns : goal.returns
 returns c =
     let s = c.args.self.now in
-    let keys = key_of among.Dirty s.items.items s.uses.numbers.items in
-    let l = c.loop-at in
-    let all : l.at ≡ length s.items.items = omega (arith, l.invariant.within, c.loop-at-test.false, c.len-at-end.ensures) in
-    lowest_of l.first s.items.items s.uses.numbers.items (subst (λ (n : ℕ). IsFirst keys n l.first) all l.invariant.first)
+    let all : length s.index.entries.items ≤ c.loop-nth.nth = omega (arith, c.loop-nth-test.false, c.len-nth-end.ensures) in
+    none_found s.index.entries.items s.items.items c.loop-nth.nth s.indexed all c.loop-nth.invariant
