@@ -1,144 +1,222 @@
--- Which slot comes first.
-use Rattle.std.proofs.Common.{◌≡◌, ℕ, ◌+◌, ◌<◌, ◌≤◌, List, [], ◌∷◌, length, refl, sym, ap, ◌∙◌, arith, true, false, cond, Option, Some, None}
-use mathlib.Core.Logic.{inl, inr, ◌⊎◌}
-use Rattle.std.specs.Prelude.{slice_get, slice_index, nat_lt, IfSome, ◌&&◌, is_some, not, position}
-use Rattle.std.proofs.lemmas.Bool.{cases_lt, ltb-true}
-use Rattle.std.proofs.lemmas.Bool.Decides.{nat_tests}
+-- Which dirty slot has the lowest block, and whether a slot is unclean.
+use Rattle.std.proofs.Common.{◌≡◌, ℕ, ◌+◌, ◌<◌, ◌≤◌, List, length, set, refl, sym, ap, ◌∙◌, arith, true, false, cond, Option, Some, None}
+use mathlib.Core.Logic.{inl, inr}
+use Rattle.std.specs.Prelude.{slice_get, ◌&&◌, is_some, not, position, min}
+use Rattle.std.specs.Option.{unwrap_or}
+use Rattle.std.proofs.lemmas.Bool.{cases_eq, cases_lt}
+use Rattle.std.proofs.lemmas.Option.{slice_get_within}
 use Rattle.cache.specs.declared.slot.Slot.{Slot}
-use Rattle.cache.specs.declared.table.Among.TheVariants as among
+use Rattle.cache.specs.declared.index.Entry.{Entry}
 use Rattle.cache.specs.declared.state.State.{State}
 use Rattle.cache.specs.declared.state.State.TheVariants.{Clean, Dirty, Writing, Changed}
-use Rattle.cache.specs.Slots.{held, is_clean, is_dirty, is_unclean_slot, IsDistinct}
-use Rattle.cache.specs.Edits.{IsLowestDirty, IsLowestOf, NoneDirty, AllClean, SomeUnclean}
-use Rattle.cache.specs.Order.{key_of, key_at, slot_key, is_before, IsFirst, IsLeast}
-use Rattle.cache.proofs.Held.{place_of, held_at, in_range}
+use Rattle.cache.specs.Slots.{held, is_clean, is_dirty, is_unclean_slot, dirtied, IsDistinct}
+use Rattle.cache.specs.Slots.{dirty_block, clean_block, lower_of, NoneDirtyBelow}
+use Rattle.cache.specs.Index.{place_there, IsRising, IsIndexOf, IsStartOf}
+use Rattle.cache.specs.Edits.{IsLowestDirty, IsLowestBlock, NoneDirty, AllClean, SomeUnclean}
+use Rattle.cache.proofs.Edits.{one_slot}
+use Rattle.cache.proofs.Held.{place_of, held_at, in_range, get_set_same, get_set_other}
 use Rattle.cache.proofs.Places.{none_at, some_at}
-
--- the last of those below n + 1, or one below n
-last_or_less : (n i : ℕ) → i < n + 1 → (i < n) ⊎ (i ≡ n)
-last_or_less n i lt = elim (cases_lt i n) [
-  | inl less ↦ inl less
-  | inr le ↦ inr (omega (arith, lt, le))
-]
-
--- none is first of none
-pub first_none : (keys : ℕ → Option ℕ) → IsFirst keys 0 None
-first_none keys = λ i lt. absurd (omega (arith, lt))
-
--- the first so far is one of all
-pub first_in_range : (keys : ℕ → Option ℕ) (n all : ℕ) (f : Option ℕ) → n ≤ all → IsFirst keys n f → IfSome f (λ i. i < all)
-first_in_range keys n all None le h = tt
-first_in_range keys n all (Some at) le h = omega (arith, le, h.in_range)
-
--- where there is a slot one is first of all
-pub none_first : (items : List Slot) (numbers : List ℕ) → 0 < length items → IsFirst (key_of among.All items numbers) (length items) None → ⊥
-none_first [] numbers lt h = omega (arith, lt)
-none_first (s ∷ items) numbers lt h = let z = h 0 lt in cc
-
--- the one looked at stands before all so far
-pub first_taken : (keys : ℕ → Option ℕ) (n : ℕ) (f : Option ℕ) → IsFirst keys n f → is_before (keys n) (key_at keys f) ≡ true → IsFirst keys (n + 1) (Some n)
-first_taken keys n f h before = by (keys n) refl f h before
-  where
-    by : (x : Option ℕ) → keys n ≡ x → (f : Option ℕ) → IsFirst keys n f → is_before x (key_at keys f) ≡ true → IsLeast keys (n + 1) n
-    by None e f h b = cc
-    by (Some key) e None h b = record {
-      key = key;
-      in_range = omega arith;
-      is = e;
-      least = λ i other lt is. elim (last_or_less n i lt) [
-        | inl less ↦ let z = h i less in absurd (let q : ⊥ = cc in q)
-        | inr same ↦ let z : Some key ≡ Some other = sym e ∙ ap keys (sym same) ∙ is in let k : key ≡ other = cc in omega (arith, k)
-      ];
-    }
-    by (Some key) e (Some at) h b =
-        let lower : key < h.key = ltb-true key h.key (ap (λ (o : Option ℕ). is_before (Some key) o) (sym h.is) ∙ b) in
-        record {
-          key = key;
-          in_range = omega arith;
-          is = e;
-          least = λ i other lt is. elim (last_or_less n i lt) [
-            | inl less ↦ let z = h.least i other less is in omega (arith, z, lower)
-            | inr same ↦ let z : Some key ≡ Some other = sym e ∙ ap keys (sym same) ∙ is in let k : key ≡ other = cc in omega (arith, k)
-          ];
-        }
-
--- the first so far stays first
-pub first_kept : (keys : ℕ → Option ℕ) (n : ℕ) (f : Option ℕ) → IsFirst keys n f → is_before (keys n) (key_at keys f) ≡ false → IsFirst keys (n + 1) f
-first_kept keys n None h before = λ i lt. elim (last_or_less n i lt) [
-  | inl less ↦ h i less
-  | inr same ↦ ap keys same ∙ by (keys n) before
-]
-  where
-    by : (x : Option ℕ) → is_before x None ≡ false → x ≡ None
-    by None b = refl
-    by (Some key) b = cc
-first_kept keys n (Some at) h before = record {
-  key = h.key;
-  in_range = omega (arith, h.in_range);
-  is = h.is;
-  least = λ i other lt is. elim (last_or_less n i lt) [
-    | inl less ↦ h.least i other less is
-    | inr same ↦ not_before other (sym (ap keys same) ∙ is)
-  ];
-}
-  where
-    not_before : (other : ℕ) → keys n ≡ Some other → h.key ≤ other
-    not_before other e =
-        let no : nat_lt other h.key ≡ false = ap (λ (x : Option ℕ). is_before x (Some h.key)) (sym e) ∙ ap (λ (x : Option ℕ). is_before (keys n) x) (sym h.is) ∙ before in
-        grind (arith, nat_tests)
+use Rattle.cache.proofs.Entries.{entry_of, entry_there}
+use Rattle.cache.proofs.Indexed.{at_of, slot_by}
+use Rattle.cache.proofs.Making.{AllFree}
 
 -- ---- the dirty slots
 
--- the slot that comes first of the dirty ones
-dirty_key : (o : Option Slot) (used key : ℕ) → slot_key among.Dirty o used ≡ Some key → (s : Slot) × (o ≡ Some s) × (s.state ≡ Dirty) × (s.block ≡ Some key)
-dirty_key None used key h = cc
-dirty_key (Some s) used key h = by s.state refl h
+-- a dirty slot, by its state and its block
+dirty_parts : (s : Slot) (b : ℕ) → dirty_block s ≡ Some b → (s.state ≡ Dirty) × (s.block ≡ Some b)
+dirty_parts s b h = by s.state refl h
   where
-    by : (x : State) → s.state ≡ x → cond (is_dirty x) s.block None ≡ Some key
-        → (t : Slot) × (Some s ≡ Some t) × (t.state ≡ Dirty) × (t.block ≡ Some key)
+    by : (x : State) → s.state ≡ x → cond (is_dirty x) s.block None ≡ Some b → (s.state ≡ Dirty) × (s.block ≡ Some b)
     by Clean e h = cc
-    by Dirty e h = (s, refl, e, h)
+    by Dirty e h = (e, h)
     by (Writing t) e h = cc
     by (Changed t) e h = cc
 
--- a dirty slot's number is its block
-key_dirty : (items : List Slot) (numbers : List ℕ) (i b : ℕ) (s : Slot) → slice_get items i ≡ Some s → s.state ≡ Dirty → s.block ≡ Some b
-    → key_of among.Dirty items numbers i ≡ Some b
-key_dirty items numbers i b s is st block = rw (is, st) block
+has_dirty_block : (s : Slot) (b : ℕ) → s.state ≡ Dirty → s.block ≡ Some b → dirty_block s ≡ Some b
+has_dirty_block s b st block = ap (λ (x : State). cond (is_dirty x) s.block None) st ∙ block
 
--- it has the lowest block
-lowest_there : (items : List Slot) (numbers : List ℕ) (at : ℕ) → IsFirst (key_of among.Dirty items numbers) (length items) (Some at) → IsLowestDirty items at
-lowest_there items numbers at h =
-    let f = dirty_key (slice_get items at) (slice_index numbers at) h.key h.is in
-    record {
-      slot = f.0;
-      block = h.key;
-      is = f.1;
-      block_is = f.3;
-      dirty = f.2;
-      lowest = λ b s is st.
-          let p = place_of items b s is in
-          h.least p.index b (in_range items p.index s p.is) (key_dirty items numbers p.index b s p.is st p.block);
-    }
+-- ---- no dirty slot has a block below this one
 
--- where none is first, none is dirty
-none_dirty : (items : List Slot) (numbers : List ℕ) → IsFirst (key_of among.Dirty items numbers) (length items) None → NoneDirty (held items)
-none_dirty items numbers h b s is = by s.state refl
+-- the slots as they are made
+pub none_below_free : (items : List Slot) (from : ℕ) → AllFree items → NoneDirtyBelow items from
+none_below_free items from f = record {
+  each = λ i s b is dirty. let z : None ≡ Some b = sym (f.each i s is) ∙ (dirty_parts s b dirty).1 in absurd (let q : ⊥ = cc in q);
+}
+
+-- one slot is changed, and the search begins at its block at most
+none_below_set : (items : List Slot) (i from from' : ℕ) (s t : Slot) → slice_get items i ≡ Some s → from' ≤ from
+    → ((b : ℕ) → dirty_block t ≡ Some b → from' ≤ b) → NoneDirtyBelow items from → NoneDirtyBelow (set items i t) from'
+none_below_set items i from from' s t is less this h = record {
+  each = λ j u b ju dirty. elim (cases_eq j i) [
+    | inl same ↦
+        let z : Some t ≡ Some u = sym (get_set_same items i s t is) ∙ ap (slice_get (set items i t)) (sym same) ∙ ju in
+        let one : t ≡ u = cc in
+        this b (ap dirty_block one ∙ dirty)
+    | inr ne ↦ let le = h.each j u b (sym (get_set_other items i j t ne) ∙ ju) dirty in omega (arith, le, less)
+  ];
+}
+
+lower_less : (from from' : ℕ) (o : Option ℕ) → from' ≡ lower_of from o → from' ≤ from
+lower_less from from' None e = omega (arith, e)
+lower_less from from' (Some b) e = omega (arith, e)
+
+-- it may be dirty now
+pub none_below_lowered : (items : List Slot) (i from from' : ℕ) (s t : Slot) → slice_get items i ≡ Some s
+    → from' ≡ lower_of from (dirty_block t) → NoneDirtyBelow items from → NoneDirtyBelow (set items i t) from'
+none_below_lowered items i from from' s t is e h =
+    none_below_set items i from from' s t is (lower_less from from' (dirty_block t) e) (λ b dirty. this b (e ∙ ap (lower_of from) dirty)) h
   where
-    by : (x : State) → s.state ≡ x → is_dirty s.state ≡ false
-    by Clean e = rw e refl
-    by Dirty e =
-        let p = place_of items b s is in
-        let z = h p.index (in_range items p.index s p.is) in
-        let y = key_dirty items numbers p.index b s p.is e p.block in
-        absurd (let q : ⊥ = cc in q)
-    by (Writing t) e = rw e refl
-    by (Changed t) e = rw e refl
+    this : (b : ℕ) → from' ≡ min from b → from' ≤ b
+    this b e = omega (arith, e)
 
--- the first of the dirty ones
-pub lowest_of : (o : Option ℕ) (items : List Slot) (numbers : List ℕ) → IsFirst (key_of among.Dirty items numbers) (length items) o → IsLowestOf o items
-lowest_of None items numbers h = none_dirty items numbers h
-lowest_of (Some at) items numbers h = lowest_there items numbers at h
+-- its bytes are changed
+pub none_below_changed : (items : List Slot) (i from from' : ℕ) (s t : Slot) → slice_get items i ≡ Some s
+    → from' ≡ lower_of from (clean_block s) → t.block ≡ s.block → t.state ≡ dirtied s.state → NoneDirtyBelow items from
+    → NoneDirtyBelow (set items i t) from'
+none_below_changed items i from from' s t is e block st h =
+    none_below_set items i from from' s t is (lower_less from from' (clean_block s) e)
+    (λ b dirty. let p = dirty_parts t b dirty in this b s.state refl (sym st ∙ p.0) (sym block ∙ p.1)) h
+  where
+    this : (b : ℕ) (x : State) → s.state ≡ x → dirtied s.state ≡ Dirty → s.block ≡ Some b → from' ≤ b
+    this b Clean k d held =
+        let low : from' ≡ min from b = e ∙ ap (λ (x : State). lower_of from (cond (is_clean x) s.block None)) k ∙ ap (lower_of from) held in
+        omega (arith, low)
+    this b Dirty k d held =
+        let same : from' ≡ from = e ∙ ap (λ (x : State). lower_of from (cond (is_clean x) s.block None)) k in
+        let le = h.each i s b is (has_dirty_block s b k held) in
+        omega (arith, same, le)
+    this b (Writing t) k d held = let z : Changed t ≡ Dirty = ap dirtied (sym k) ∙ d in cc
+    this b (Changed t) k d held = let z : Changed t ≡ Dirty = ap dirtied (sym k) ∙ d in cc
+
+-- it holds no block any more
+pub none_below_vacated : (items : List Slot) (i from : ℕ) (s t : Slot) → slice_get items i ≡ Some s → t.block ≡ None
+    → NoneDirtyBelow items from → NoneDirtyBelow (set items i t) from
+none_below_vacated items i from s t is none h =
+    none_below_set items i from from s t is (omega arith)
+    (λ b dirty. let z : None ≡ Some b = sym none ∙ (dirty_parts t b dirty).1 in absurd (let q : ⊥ = cc in q)) h
+
+-- the search begins at the lowest block with a dirty slot, or anywhere where there is none
+pub none_below_lowest : (items : List Slot) (o : Option ℕ) (from other : ℕ) → IsDistinct items → IsLowestBlock o (held items)
+    → from ≡ unwrap_or o other → NoneDirtyBelow items from
+none_below_lowest items None from other d h e = record {
+  each = λ i s b is dirty.
+      let p = dirty_parts s b dirty in
+      let no = h b s (held_at items i b s d is p.1) in
+      let yes = ap is_dirty p.0 in
+      absurd (let q : ⊥ = cc in q);
+}
+none_below_lowest items (Some block) from other d h e = record {
+  each = λ i s b is dirty.
+      let p = dirty_parts s b dirty in
+      let le = h.1 b s (held_at items i b s d is p.1) p.0 in
+      omega (arith, e, le);
+}
+
+-- ---- the search for a dirty slot
+
+-- no slot of the entries below n is dirty
+pub record Searched (entries : List Entry) (items : List Slot) (n : ℕ) : Type 0 where
+  pub each : (j b : ℕ) (e : Entry) (s : Slot) → j < n → slice_get entries j ≡ Some e → slice_get items e.place ≡ Some s
+      → dirty_block s ≡ Some b → ⊥
+
+-- where the search begins
+pub searched_start : (entries : List Entry) (items : List Slot) (at from : ℕ) → IsIndexOf entries items → IsRising entries
+    → NoneDirtyBelow items from → IsStartOf entries at from → Searched entries items at
+searched_start entries items at from x rising none start = record {
+  each = λ j b e s lt is here dirty.
+      let it = slot_by entries items j e x rising is in
+      let same = one_slot items e.place it.slot s it.is here in
+      let block : Some b ≡ Some e.block = sym (dirty_parts s b dirty).1 ∙ ap (λ (y : Slot). y.block) (sym same) ∙ it.block_is in
+      let its : b ≡ e.block = cc in
+      let low = start.below j e lt is in
+      let high = none.each e.place s b here dirty in
+      omega (arith, its, low, high);
+}
+
+-- one more entry, whose slot isn't dirty
+pub searched_more : (entries : List Entry) (items : List Slot) (n at : ℕ) (s : Slot) → place_there (slice_get entries n) ≡ Some at
+    → slice_get items at ≡ Some s → is_dirty s.state ≡ false → Searched entries items n → Searched entries items (n + 1)
+searched_more entries items n at s place is not_so h = record {
+  each = λ j b f t lt jf there dirty. elim (cases_lt j n) [
+    | inl less ↦ h.each j b f t less jf there dirty
+    | inr ge ↦
+        let e = entry_there (slice_get entries n) at place in
+        let last : n ≡ j = omega (arith, lt, ge) in
+        let z : Some e.0 ≡ Some f = sym e.1 ∙ ap (slice_get entries) last ∙ jf in
+        let one : e.0 ≡ f = cc in
+        let here : at ≡ f.place = sym e.2 ∙ ap (λ (y : Entry). y.place) one in
+        let same = one_slot items at s t is (ap (slice_get items) here ∙ there) in
+        let no : is_dirty t.state ≡ false = ap (λ (y : Slot). is_dirty y.state) (sym same) ∙ not_so in
+        let yes : is_dirty t.state ≡ true = ap is_dirty (dirty_parts t b dirty).0 in
+        (let q : ⊥ = cc in q)
+  ];
+}
+
+-- a dirty slot of an entry behind those that were searched has no lower block
+not_below : (entries : List Entry) (items : List Slot) (n : ℕ) (e : Entry) → IsIndexOf entries items → IsRising entries
+    → slice_get entries n ≡ Some e → Searched entries items n → (b : ℕ) (t : Slot) → held items b ≡ Some t → t.state ≡ Dirty → e.block ≤ b
+not_below entries items n e x rising is h b t holds st =
+    let p = place_of items b t holds in
+    let f = entry_of entries b p.index (at_of entries items x p.index b t p.is p.block) in
+    let there : slice_get items f.1.place ≡ Some t = ap (slice_get items) f.4 ∙ p.is in
+    elim (cases_lt f.0 n) [
+      | inl less ↦ absurd (h.each f.0 b f.1 t less f.2 there (has_dirty_block t b st p.block))
+      | inr ge ↦ elim (cases_lt n f.0) [
+        | inl behind ↦ let z = rising.apart n f.0 e f.1 behind is f.2 in omega (arith, z, f.3)
+        | inr le ↦
+            let same : n ≡ f.0 = omega (arith, ge, le) in
+            let z : Some e ≡ Some f.1 = sym is ∙ ap (slice_get entries) same ∙ f.2 in
+            let one : e ≡ f.1 = cc in
+            let block : e.block ≡ b = ap (λ (y : Entry). y.block) one ∙ f.3 in
+            omega (arith, block)
+      ]
+    ]
+
+-- the slot of the entry that comes next
+pub slot_there : (entries : List Entry) (items : List Slot) (n at : ℕ) → IsIndexOf entries items → IsRising entries
+    → place_there (slice_get entries n) ≡ Some at → at < length items
+slot_there entries items n at x rising place =
+    let e = entry_there (slice_get entries n) at place in
+    let it = slot_by entries items n e.0 x rising e.1 in
+    in_range items at it.slot (ap (slice_get items) (sym e.2) ∙ it.is)
+
+-- the first dirty slot that is found
+pub lowest_found : (entries : List Entry) (items : List Slot) (n at : ℕ) (s : Slot) → IsIndexOf entries items → IsRising entries
+    → place_there (slice_get entries n) ≡ Some at → slice_get items at ≡ Some s → is_dirty s.state ≡ true → Searched entries items n
+    → IsLowestDirty items at
+lowest_found entries items n at s x rising place is dirty h =
+    let e = entry_there (slice_get entries n) at place in
+    let it = slot_by entries items n e.0 x rising e.1 in
+    let same = one_slot items at it.slot s (ap (slice_get items) (sym e.2) ∙ it.is) is in
+    record {
+      slot = s;
+      block = e.0.block;
+      is = is;
+      block_is = ap (λ (y : Slot). y.block) (sym same) ∙ it.block_is;
+      dirty = is_one s.state dirty;
+      lowest = not_below entries items n e.0 x rising e.1 h;
+    }
+  where
+    is_one : (x : State) → is_dirty x ≡ true → x ≡ Dirty
+    is_one Clean e = cc
+    is_one Dirty e = refl
+    is_one (Writing t) e = cc
+    is_one (Changed t) e = cc
+
+-- none is found
+pub none_found : (entries : List Entry) (items : List Slot) (n : ℕ) → IsIndexOf entries items → length entries ≤ n
+    → Searched entries items n → NoneDirty (held items)
+none_found entries items n x all h b s holds = by s.state refl
+  where
+    by : (y : State) → s.state ≡ y → is_dirty s.state ≡ false
+    by Clean e = ap is_dirty e
+    by Dirty e =
+        let p = place_of items b s holds in
+        let f = entry_of entries b p.index (at_of entries items x p.index b s p.is p.block) in
+        let lt = slice_get_within entries f.0 f.1 f.2 in
+        absurd (h.each f.0 b f.1 s (omega (arith, lt, all)) f.2 (ap (slice_get items) f.4 ∙ p.is) (has_dirty_block s b e p.block))
+    by (Writing t) e = ap is_dirty e
+    by (Changed t) e = ap is_dirty e
 
 -- ---- the unclean slots
 

@@ -1,10 +1,12 @@
 -- An index of slots by their blocks: its entries, and what an edit leaves of them.
-use Rattle.std.proofs.Common.{◌≡◌, ◌≢◌, ℕ, zero, suc, ◌+◌, ◌<◌, ◌≤◌, List, [], ◌∷◌, refl, sym, ap, ◌∙◌, arith, Option, Some, None}
+use Rattle.std.proofs.Common.{◌≡◌, ◌≢◌, ℕ, zero, suc, ◌+◌, ◌<◌, ◌≤◌, List, [], ◌∷◌, refl, sym, ap, ◌∙◌, arith}
+use Rattle.std.proofs.Common.{Bool, true, false, Option, Some, None}
 use mathlib.Core.Logic.{inl, inr}
 use Rattle.std.specs.Prelude.{slice_get, cond, insert, remove, ◌==◌}
-use Rattle.std.proofs.lemmas.Bool.{cond-true, cond-false, eq-eqb, ne_eqb, cases_lt}
+use Rattle.std.proofs.lemmas.Option.{slice_get_within}
+use Rattle.std.proofs.lemmas.Bool.{cond-true, cond-false, eq-eqb, eqb-true, ne_eqb, cases_lt}
 use Rattle.cache.specs.declared.index.Entry.{Entry}
-use Rattle.cache.specs.Index.{place_in, IsRising, IsEntryOf, IsGapFor}
+use Rattle.cache.specs.Index.{place_in, place_there, IsRising, IsEntryOf, IsGapFor, IsStartOf}
 
 -- the first entry is the block's
 place_first : (x : Entry) (xs : List Entry) (b : ℕ) → x.block ≡ b → place_in (x ∷ xs) b ≡ Some x.place
@@ -72,7 +74,7 @@ none_at_gap es at b g = none_in es b (λ i e is same. elim (cases_lt i at) [
 ])
 
 -- an entry says where its block stands
-entry_place : (n : ℕ) (es : List Entry) (b : ℕ) → RisesFrom n es → (i : ℕ) (e : Entry) → slice_get es i ≡ Some e → e.block ≡ b → place_in es b ≡ Some e.place
+pub entry_place : (n : ℕ) (es : List Entry) (b : ℕ) → RisesFrom n es → (i : ℕ) (e : Entry) → slice_get es i ≡ Some e → e.block ≡ b → place_in es b ≡ Some e.place
 entry_place n [] b h i e is k = cc
 entry_place n (x ∷ xs) b h zero e is k =
     let same : x ≡ e = cc in
@@ -85,6 +87,47 @@ pub place_at : (n : ℕ) (es : List Entry) (at b : ℕ) (e : Entry) → RisesFro
 place_at n es at b e h f is =
     let same : f.entry ≡ e = (let z = f.is in cc) in
     entry_place n es b h at e is (ap (λ (y : Entry). y.block) (sym same) ∙ f.block_is)
+
+-- a block with a place has an entry
+pub entry_of : (es : List Entry) (b p : ℕ) → place_in es b ≡ Some p
+    → (i : ℕ) × (e : Entry) × (slice_get es i ≡ Some e) × (e.block ≡ b) × (e.place ≡ p)
+entry_of [] b p h = cc
+entry_of (x ∷ xs) b p h = by (x.block == b) refl h (λ k. entry_of xs b p k)
+  where
+    by : (v : Bool) → (x.block == b) ≡ v → cond v (Some x.place) (place_in xs b) ≡ Some p
+        → (place_in xs b ≡ Some p → (i : ℕ) × (e : Entry) × (slice_get xs i ≡ Some e) × (e.block ≡ b) × (e.place ≡ p))
+        → (i : ℕ) × (e : Entry) × (slice_get (x ∷ xs) i ≡ Some e) × (e.block ≡ b) × (e.place ≡ p)
+    by true same k rest = (zero, x, refl, eqb-true x.block b same, (let e : x.place ≡ p = cc in e))
+    by false same k rest = let r = rest k in (suc r.0, r.1, r.2, r.3, r.4)
+
+-- what stands at a place of the entries
+pub entry_there : (o : Option Entry) (p : ℕ) → place_there o ≡ Some p → (e : Entry) × (o ≡ Some e) × (e.place ≡ p)
+entry_there None p h = cc
+entry_there (Some e) p h = (e, refl, (let same : e.place ≡ p = cc in same))
+
+-- the entries from a block on begin at its own
+pub start_found : (es : List Entry) (at b : ℕ) → IsRising es → IsEntryOf es at b → IsStartOf es at b
+start_found es at b h f = record {
+  within = let lt = slice_get_within es at f.entry f.is in omega (arith, lt);
+  below = λ i e lt is. let z = h.apart i at e f.entry lt is f.is in omega (arith, z, f.block_is);
+  above = λ i e le is. elim (cases_lt at i) [
+    | inl behind ↦ let z = h.apart at i f.entry e behind f.is is in omega (arith, z, f.block_is)
+    | inr ge ↦
+        let here : at ≡ i = omega (arith, le, ge) in
+        let z : Some f.entry ≡ Some e = sym f.is ∙ ap (slice_get es) here ∙ is in
+        let one : f.entry ≡ e = cc in
+        let block = ap (λ (y : Entry). y.block) one in
+        omega (arith, block, f.block_is)
+  ];
+}
+
+-- or where it would stand
+pub start_missing : (es : List Entry) (at b : ℕ) → IsGapFor es at b → IsStartOf es at b
+start_missing es at b g = record {
+  within = g.within;
+  below = g.below;
+  above = λ i e le is. let z = g.above i e le is in omega (arith, z);
+}
 
 -- ---- an entry more
 

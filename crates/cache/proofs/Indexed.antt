@@ -7,9 +7,10 @@ use Rattle.std.proofs.lemmas.List.{length-set}
 use Rattle.cache.specs.declared.index.Entry.{Entry}
 use Rattle.cache.specs.declared.slot.Slot.{Slot}
 use Rattle.cache.specs.Slots.{held}
-use Rattle.cache.specs.Index.{place_in, held_count, block_of, IsIndexOf}
-use Rattle.cache.specs.Edits.{IsPlaceOf}
+use Rattle.cache.specs.Index.{place_in, held_count, block_of, IsIndexOf, IsRising}
+use Rattle.cache.specs.Edits.{IsAt, IsPlaceOf}
 use Rattle.cache.proofs.Making.{AllFree}
+use Rattle.cache.proofs.Entries.{rises, entry_place}
 use Rattle.cache.proofs.Held.{place_of, get_set_same, get_set_other, some_holds}
 
 -- the slot there holds this block
@@ -17,7 +18,7 @@ block_there : (o : Option Slot) (b : ℕ) → block_of o ≡ Some b → (s : Slo
 block_there None b h = cc
 block_there (Some s) b h = (s, refl, h)
 
-at_of : (entries : List Entry) (items : List Slot) → IsIndexOf entries items
+pub at_of : (entries : List Entry) (items : List Slot) → IsIndexOf entries items
     → (i b : ℕ) (s : Slot) → slice_get items i ≡ Some s → s.block ≡ Some b → place_in entries b ≡ Some i
 at_of entries items x i b s h k = x.at i b (ap block_of h ∙ k)
 
@@ -46,6 +47,13 @@ placed_by entries items b None x h = by_held (held items b) refl
         let p = place_of items b s k in
         let z : None ≡ Some p.index = h ∙ at_of entries items x p.index b s p.is p.block in
         absurd (let q : ⊥ = cc in q)
+
+-- the slot of an entry
+pub slot_by : (entries : List Entry) (items : List Slot) (n : ℕ) (e : Entry) → IsIndexOf entries items → IsRising entries
+    → slice_get entries n ≡ Some e → IsAt items e.place e.block
+slot_by entries items n e x rising is =
+    let s = is_of entries items x e.place e.block (entry_place 0 entries e.block (rises entries rising) n e is refl) in
+    record { slot = s.0; is = s.1; block_is = s.2 }
 
 -- a block that a slot holds has a place
 pub has_place : (entries : List Entry) (items : List Slot) (i b : ℕ) (s : Slot) → IsIndexOf entries items

@@ -8,6 +8,7 @@ pub mod Filling
 pub mod Issuing
 mod Order
 mod Choosing
+mod Ranks
 mod Making
 mod Indexed
 mod Settled

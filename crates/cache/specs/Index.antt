@@ -24,6 +24,17 @@ pub record IsGapFor (entries : List Entry) (at block : ℕ) : Type 0 where
   pub below : (i : ℕ) (e : Entry) → i < at → slice_get entries i ≡ Some e → e.block < block
   pub above : (i : ℕ) (e : Entry) → at ≤ i → slice_get entries i ≡ Some e → block < e.block
 
+-- the entries below this place have lower blocks, and the others don't
+pub record IsStartOf (entries : List Entry) (at block : ℕ) : Type 0 where
+  pub within : at ≤ length entries
+  pub below : (i : ℕ) (e : Entry) → i < at → slice_get entries i ≡ Some e → e.block < block
+  pub above : (i : ℕ) (e : Entry) → at ≤ i → slice_get entries i ≡ Some e → block ≤ e.block
+
+-- the place that an entry says
+abbrev pub place_there : Option Entry → Option ℕ
+place_there None = None
+place_there (Some e) = Some e.place
+
 -- how many slots hold a block
 abbrev pub held_count : List Slot → ℕ
 held_count [] = 0

@@ -1,32 +1,51 @@
--- Which slot comes first, in the order of their last use or of their blocks.
-use Rattle.std.specs.Prelude.{◌≡◌, ◌⊎◌, ℕ, ◌<◌, ◌≤◌, List, length, Option, Some, None, is_some, Bool, true, false, if◌then◌else◌, nat_lt, slice_get, slice_index}
+-- Which slot goes first, in the order of their last use.
+use Rattle.std.specs.Prelude.{◌≡◌, ◌⊎◌, ℕ, ◌<◌, ◌≤◌, List, length, slice_get, slice_index, Option, Some, None, is_some}
+use Rattle.std.specs.Prelude.{Bool, true, false, if◌then◌else◌, nat_lt}
 use Rattle.cache.specs.declared.slot.Slot.{Slot}
-use Rattle.cache.specs.declared.table.Among.{Among}
-use Rattle.cache.specs.declared.table.Among.TheVariants as among
-use Rattle.cache.specs.Slots.{is_unclean_slot, is_dirty}
+use Rattle.cache.specs.declared.rank.Rank.{Rank}
+use Rattle.cache.specs.declared.rank.Rank.TheVariants as rank
+use Rattle.cache.specs.Slots.{is_clean, is_unclean_slot}
 
--- a slot's number in an order, if it is among those that are looked at; the number of its last use is given
+-- which slots are looked among, the one used longest ago first: the free ones, those that aren't unclean, all
+pub data Among : Type 0 where
+  Free : Among
+  Clean : Among
+  All : Among
+
+-- the number of a slot's last use, if it is among those that are looked at
 abbrev pub slot_key : Among → Option Slot → ℕ → Option ℕ
 slot_key a None used = None
-slot_key among.Free (Some s) used = if is_some s.block then None else Some used
-slot_key among.Clean (Some s) used = if is_unclean_slot s then None else Some used
-slot_key among.All (Some s) used = Some used
-slot_key among.Dirty (Some s) used = if is_dirty s.state then s.block else None
+slot_key Free (Some s) used = if is_some s.block then None else Some used
+slot_key Clean (Some s) used = if is_unclean_slot s then None else Some used
+slot_key All (Some s) used = Some used
 
 -- the same of the slot at a place
 abbrev pub key_of : Among → List Slot → List ℕ → ℕ → Option ℕ
 key_of a items numbers at = slot_key a (slice_get items at) (slice_index numbers at)
 
--- the number of the one that is first so far
-abbrev pub key_at : (ℕ → Option ℕ) → Option ℕ → Option ℕ
-key_at keys None = None
-key_at keys (Some at) = keys at
+-- which slots a slot goes before, by its block and its state; the number of its last use is given
+abbrev pub rank_of : Slot → ℕ → Rank
+rank_of s used = if is_some s.block then (if is_clean s.state then rank.Clean used else rank.Unclean used) else rank.Free used
 
--- the first is among them, and stands before the second
-abbrev pub is_before : Option ℕ → Option ℕ → Bool
-is_before None other = false
-is_before (Some key) None = true
-is_before (Some key) (Some other) = nat_lt key other
+-- the same of the slot at a place
+abbrev pub rank_in : Option Slot → ℕ → Option Rank
+rank_in None used = None
+rank_in (Some s) used = Some (rank_of s used)
+
+abbrev pub rank_at : List Slot → List ℕ → ℕ → Option Rank
+rank_at items numbers at = rank_in (slice_get items at) (slice_index numbers at)
+
+-- a free slot goes before a clean one, a clean one before an unclean one, and of two alike the one used longer ago
+abbrev pub goes_before : Rank → Rank → Bool
+goes_before (rank.Free used) (rank.Free than) = nat_lt used than
+goes_before (rank.Free used) (rank.Clean than) = true
+goes_before (rank.Free used) (rank.Unclean than) = true
+goes_before (rank.Clean used) (rank.Free than) = false
+goes_before (rank.Clean used) (rank.Clean than) = nat_lt used than
+goes_before (rank.Clean used) (rank.Unclean than) = true
+goes_before (rank.Unclean used) (rank.Free than) = false
+goes_before (rank.Unclean used) (rank.Clean than) = false
+goes_before (rank.Unclean used) (rank.Unclean than) = nat_lt used than
 
 -- it is among them, and no number of those below n is lower
 pub record IsLeast (keys : ℕ → Option ℕ) (n at : ℕ) : Type 0 where
@@ -50,6 +69,6 @@ IsFirstOf a items numbers at = IsFirst (key_of a items numbers) (length items) (
 
 -- the slot that goes next: a free one; where none is free, of the clean ones the one used longest ago; where none is clean, of all
 pub record IsVictim (items : List Slot) (numbers : List ℕ) (at : ℕ) : Type 0 where
-  pub chosen : IsFirstOf among.Free items numbers at
-      ⊎ (IsNone among.Free items numbers × (IsFirstOf among.Clean items numbers at
-      ⊎ (IsNone among.Clean items numbers × IsFirstOf among.All items numbers at)))
+  pub chosen : IsFirstOf Free items numbers at
+      ⊎ (IsNone Free items numbers × (IsFirstOf Clean items numbers at
+      ⊎ (IsNone Clean items numbers × IsFirstOf All items numbers at)))

@@ -1,5 +1,6 @@
 -- The slots of a cache by their blocks, and the states of their bytes.
-use Rattle.std.specs.Prelude.{◌≡◌, ℕ, ◌==◌, ◌&&◌, List, Option, Some, None, is_some, not, Bool, true, false, slice_get}
+use Rattle.std.specs.Prelude.{◌≡◌, ℕ, ◌≤◌, ◌==◌, ◌&&◌, List, Option, Some, None, is_some, not, Bool, true, false}
+use Rattle.std.specs.Prelude.{min, if◌then◌else◌, slice_get}
 use Rattle.std.specs.List.{find}
 use Rattle.cache.specs.declared.state.State.{State}
 use Rattle.cache.specs.declared.state.State.TheVariants.{Clean, Dirty, Writing, Changed}
@@ -65,6 +66,23 @@ is_dirty_held (Some s) = is_dirty s.state
 -- the slot holds a block, and its bytes may not be the disk's
 abbrev pub is_unclean_slot : Slot → Bool
 is_unclean_slot s = is_some s.block && not (is_clean s.state)
+
+-- the block of a slot whose bytes were changed, if it holds one
+abbrev pub dirty_block : Slot → Option ℕ
+dirty_block s = if is_dirty s.state then s.block else None
+
+-- the block of a slot whose bytes are the disk's, if it holds one
+abbrev pub clean_block : Slot → Option ℕ
+clean_block s = if is_clean s.state then s.block else None
+
+-- no dirty slot holds a block below this one
+pub record NoneDirtyBelow (items : List Slot) (from : ℕ) : Type 0 where
+  pub each : (i : ℕ) (s : Slot) (b : ℕ) → slice_get items i ≡ Some s → dirty_block s ≡ Some b → from ≤ b
+
+-- the lower one of two blocks, of which the second may be missing
+abbrev pub lower_of : ℕ → Option ℕ → ℕ
+lower_of from None = from
+lower_of from (Some b) = min from b
 
 -- no block has two slots
 pub record IsDistinct (items : List Slot) : Type 0 where

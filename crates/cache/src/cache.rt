@@ -192,7 +192,7 @@ impl<L: Link> Cache<L> {
         let ask = self.shape.write(block, &slot.bytes);
         match self.transfers.begin(&ask) {
             Ok(ticket) => {
-                self.slots.set_state(at, State::Writing(ticket));
+                self.slots.begin_write(at, ticket);
                 true
             }
             Err(_) => false,

@@ -1,8 +1,8 @@
 //! An index of places by their blocks.
 
-ghost use Rattle.std.specs.Prelude.{◌≡◌, ◌≢◌, ◌<◌, ◌≤◌, ◌+◌, ◌^◌, ℕ, IfOk, IfErr, [], Some, None, length};
+ghost use Rattle.std.specs.Prelude.{◌≡◌, ◌≢◌, ◌<◌, ◌≤◌, ◌+◌, ◌^◌, ℕ, IfOk, IfErr, [], Some, None, length, slice_get};
 ghost use Rattle.std.specs.Vec.{vec_capacity};
-ghost use Rattle.cache.specs.Index.{place_in, IsRising, IsEntryOf, IsGapFor};
+ghost use Rattle.cache.specs.Index.{place_in, place_there, IsRising, IsEntryOf, IsGapFor, IsStartOf};
 
 use std::alloc::{AllocError, Global};
 use step_count::Steps;
@@ -65,6 +65,32 @@ impl Index {
             Ok(at) => Some(self.entries[at].place),
             Err(_) => None,
         }
+    }
+
+    /// How many entries there are.
+    pub(crate) fn len(&self) -> usize
+        ensures { result ≡ length self.now.entries.items }
+    {
+        self.entries.len()
+    }
+
+    /// Where the entries begin whose blocks aren't below this one.
+    pub(crate) fn start(&self, block: u32) -> usize
+        ensures { IsStartOf self.now.entries.items result block }
+    {
+        match self.look(block, &mut Steps::new()) {
+            Ok(at) => at,
+            Err(at) => at,
+        }
+    }
+
+    /// The place in the entry there.
+    #[inline]
+    pub(crate) fn place(&self, at: usize) -> usize
+        requires { at < length self.now.entries.items }
+        ensures { place_there (slice_get self.now.entries.items at) ≡ Some result }
+    {
+        self.entries[at].place
     }
 
     /// Gives a block that has none its place.

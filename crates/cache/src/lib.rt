@@ -8,6 +8,7 @@ pub mod cache;
 mod frame;
 mod index;
 pub mod laws;
+mod rank;
 pub mod refusals;
 mod settling;
 mod shape;

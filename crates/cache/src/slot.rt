@@ -1,7 +1,7 @@
 //! A slot.
 
 ghost use Rattle.std.specs.Prelude.{◌≡◌, ◌≤◌, ◌+◌, ◌-◌, ◌&&◌, ℕ, IfOk, Some, None, slice_index, length, nat_le, nat_lt, if◌then◌else◌};
-ghost use Rattle.cache.specs.Slots.{is_number, dirtied, is_under, is_dirty, is_dirty_slot, is_unclean_slot};
+ghost use Rattle.cache.specs.Slots.{is_number, dirtied, is_under, is_dirty_slot, is_unclean_slot, dirty_block, clean_block};
 
 use crate::state::State;
 use reissue::Ticket;
@@ -81,12 +81,24 @@ impl Slot {
     }
 
     /// Its block, if its bytes were changed and no write of it is under way.
-    pub(crate) fn dirty_block(&self) -> Option<u64>
-        ensures { result ≡ (if is_dirty self.now.state then self.now.block else None) }
+    pub(crate) fn dirty_block(&self) -> Option<u32>
+        ensures { result ≡ dirty_block self.now }
     {
-        match self.block {
-            Some(block) if self.state.is_dirty() => Some(block as u64),
-            _ => None,
+        if self.state.is_dirty() {
+            self.block
+        } else {
+            None
+        }
+    }
+
+    /// Its block, if its bytes are the disk's.
+    pub(crate) fn clean_block(&self) -> Option<u32>
+        ensures { result ≡ clean_block self.now }
+    {
+        if self.state.is_clean() {
+            self.block
+        } else {
+            None
         }
     }
 

@@ -1,31 +1,19 @@
 //! All slots of a cache.
 
-ghost use Rattle.std.specs.Prelude.{◌≡◌, ◌⊎◌, ◌<◌, ◌≤◌, ◌+◌, ◌*◌, ◌^◌, ℕ, true, IfOk, IfSome, Option, Some, None, slice_get, position, length, if◌then◌else◌};
+ghost use Rattle.std.specs.Prelude.{◌≡◌, ◌⊎◌, ◌<◌, ◌≤◌, ◌+◌, ◌*◌, ◌^◌, ℕ, true, IfOk, Some, None, slice_get, position, length};
 ghost use Rattle.std.specs.Bool.{OnTrue, OnFalse};
 ghost use Rattle.std.specs.Vec.{vec_capacity};
-ghost use Rattle.cache.specs.Slots.{held, is_dirty_held, is_unclean_slot, IsDistinct};
+ghost use Rattle.cache.specs.Slots.{held, is_dirty_held, is_unclean_slot, lower_of, IsDistinct, NoneDirtyBelow};
 ghost use Rattle.cache.specs.Index.{IsIndexOf};
 
 use crate::index::Index;
+use crate::rank::Rank;
 use crate::slot::{Slot, put, zeros};
 use crate::state::State;
 use crate::uses::Uses;
 use reissue::Ticket;
 use std::alloc::{AllocError, Global};
 use step_count::Steps;
-
-/// Which slots are looked among, and in which order.
-#[derive(Clone, Copy)]
-enum Among {
-    /// The free ones, the one used longest ago first.
-    Free,
-    /// Those that aren't unclean, the one used longest ago first.
-    Clean,
-    /// All, the one used longest ago first.
-    All,
-    /// The dirty ones, the lowest block first.
-    Dirty,
-}
 
 /// All slots, 4096 at most; no block has two. Their memory is taken when they are made.
 #[derive(Drop)]
@@ -35,24 +23,31 @@ pub struct Slots {
     uses: Uses,
     // Where each block stands.
     index: Index,
+    // The block that the search for a dirty slot begins at: none below it has one.
+    search_from: u32,
     pub ghost distinct: { IsDistinct items.items },
     pub ghost some: { 0 < length items.items },
     pub ghost few: { length items.items ≤ 4096 },
     pub ghost indexed: { IsIndexOf index.entries.items items.items },
     pub ghost room: { vec_capacity index.entries ≡ length items.items },
     pub ghost paired: { length uses.numbers.items ≡ length items.items },
+    pub ghost skipped: { NoneDirtyBelow items.items search_from },
 }
 
-/// The number of a slot's last use, unless the slot is left out.
-fn used_unless(left_out: bool, used: u64) -> Option<u64>
-    ensures { result ≡ (if left_out then None else Some used) }
+/// Where the search for a dirty slot begins once this block has one too, where it began at `from` before.
+#[inline]
+fn lowered(from: u32, block: Option<u32>) -> u32
+    ensures { result ≡ lower_of from block }
 {
-    if left_out { None } else { Some(used) }
+    match block {
+        Some(block) => from.min(block),
+        None => from,
+    }
 }
 
 impl Slots {
     ghost use Rattle.cache.specs.Uses.{IsUsedLast};
-    ghost use Rattle.cache.specs.Order.{key_of, key_at, is_before, IsFirst, IsVictim};
+    ghost use Rattle.cache.specs.Order.{rank_at, IsVictim};
     ghost use Rattle.cache.specs.Edits.{IsSetAt, IsFilledAt, IsBlankedAt, IsChangedAt, IsAt, IsPlaceOf, IsWritten, AllStay, AllClean};
     ghost use Rattle.cache.specs.Edits.{SomeUnclean, IsLowestOf, IsLowestBlock, IsRunEnd, AreDirty, AreBegun, Leaves, after_write};
     ghost use Rattle.cache.specs.Runs.{IsCopied, AreGathered};
@@ -72,6 +67,7 @@ impl Slots {
             items,
             uses: Uses::new(alloc, count)?,
             index: Index::new(alloc, count)?,
+            search_from: u32::MAX,
         })
     }
 
@@ -91,68 +87,30 @@ impl Slots {
         self.items.iter().position(|s| s.is_unclean())
     }
 
-    /// A slot's number in this order, if it is among them.
-    fn key(&self, among: Among, at: usize) -> Option<u64>
+    /// Which slots the slot there goes before.
+    fn rank(&self, at: usize) -> Rank
         requires { at < length self.now.items.items }
-        ensures { result ≡ key_of among self.now.items.items self.now.uses.numbers.items at }
+        ensures { rank_at self.now.items.items self.now.uses.numbers.items at ≡ Some result }
     {
-        let slot = &self.items[at];
-        let used = self.uses.numbers[at];
-        match among {
-            Among::Free => used_unless(slot.block.is_some(), used),
-            Among::Clean => used_unless(slot.is_unclean(), used),
-            Among::All => Some(used),
-            Among::Dirty => slot.dirty_block(),
-        }
-    }
-
-    /// Whether a slot is among them, and stands before the first one so far.
-    fn stands_before(&self, among: Among, at: usize, first: Option<usize>) -> bool
-        requires at { at < length self.now.items.items }
-        requires first { IfSome first (λ i. i < length self.now.items.items) }
-        ensures { result ≡ is_before (key_of among self.now.items.items self.now.uses.numbers.items at)
-            (key_at (key_of among self.now.items.items self.now.uses.numbers.items) first) }
-    {
-        let Some(key) = self.key(among, at) else {
-            return false;
-        };
-        match first {
-            Some(first) => match self.key(among, first) {
-                Some(lowest) => key < lowest,
-                None => true,
-            },
-            None => true,
-        }
-    }
-
-    /// The first of these slots in their order.
-    fn first(&self, among: Among) -> Option<usize>
-        ensures { IsFirst (key_of among self.now.items.items self.now.uses.numbers.items) (length self.now.items.items) result }
-    {
-        let mut first = None;
-        for at in 0..self.items.len() {
-            if self.stands_before(among, at, first) {
-                first = Some(at);
-            }
-        }
-        first
+        Rank::of(&self.items[at], self.uses.numbers[at])
     }
 
     /// The slot that goes next: a free one; where none is free, of the clean ones the one used longest ago; where none is clean, of all.
+    #[inline(never)]
     pub fn victim(&self) -> usize
         ensures in_range { result < length self.now.items.items }
         ensures chosen { IsVictim self.now.items.items self.now.uses.numbers.items result }
     {
-        if let Some(at) = self.first(Among::Free) {
-            return at;
+        let mut victim = 0;
+        let mut least = self.rank(0);
+        for at in 1..self.items.len() {
+            let rank = self.rank(at);
+            if rank.goes_before(least) {
+                victim = at;
+                least = rank;
+            }
         }
-        if let Some(at) = self.first(Among::Clean) {
-            return at;
-        }
-        match self.first(Among::All) {
-            Some(at) => at,
-            None => unreachable!(),
-        }
+        victim
     }
 
     /// Whether the bytes of each slot with a block are the disk's.
@@ -170,7 +128,13 @@ impl Slots {
     pub fn lowest_dirty(&self) -> Option<usize>
         ensures { IsLowestOf result self.now.items.items }
     {
-        self.first(Among::Dirty)
+        for nth in self.index.start(self.search_from)..self.index.len() {
+            let at = self.index.place(nth);
+            if self.get(at).state.is_dirty() {
+                return Some(at);
+            }
+        }
+        None
     }
 
     /// The lowest block with a dirty slot.
@@ -266,6 +230,26 @@ impl Slots {
             let at = self.dirty_at(block + past);
             self.set_state(at, State::Writing(ticket));
         }
+        self.raise();
+    }
+
+    /// The write of the slot there is begun under this ticket.
+    pub fn begin_write(&mut self, at: usize, ticket: Ticket)
+        requires { at < length self.old.items.items }
+        ensures set { IsSetAt self.old.items.items self.new.items.items at (λ s. record s { state = State.Writing ticket }) }
+        ensures uses { self.new.uses ≡ self.old.uses }
+    {
+        let begun = State::Writing(ticket);
+        self.set_state(at, begun);
+        self.raise();
+    }
+
+    /// The search for a dirty slot begins at the lowest block that has one.
+    fn raise(&mut self)
+        ensures items { self.new.items.items ≡ self.old.items.items }
+        ensures uses { self.new.uses ≡ self.old.uses }
+    {
+        self.search_from = self.lowest_block().unwrap_or(u32::MAX);
     }
 
     /// A slot is used now.
@@ -295,6 +279,7 @@ impl Slots {
     {
         let slot = &mut self.items[at];
         slot.state = state;
+        self.search_from = lowered(self.search_from, slot.dirty_block());
     }
 
     /// The write with this ticket was answered good.
@@ -347,6 +332,7 @@ impl Slots {
         self.index.insert(block, at);
         let slot = &mut self.items[at];
         slot.hold(block, bytes, state);
+        self.search_from = lowered(self.search_from, slot.dirty_block());
         self.touch(at);
     }
 
@@ -358,6 +344,8 @@ impl Slots {
         ensures count { length self.new.items.items ≡ length self.old.items.items }
     {
         let slot = &mut self.items[at];
+        // Of a change a clean slot alone becomes dirty.
+        self.search_from = lowered(self.search_from, slot.clean_block());
         slot.clear();
         self.touch(at);
     }
@@ -372,6 +360,8 @@ impl Slots {
         ensures count { length self.new.items.items ≡ length self.old.items.items }
     {
         let slot = &mut self.items[at];
+        // Of a change a clean slot alone becomes dirty.
+        self.search_from = lowered(self.search_from, slot.clean_block());
         slot.change(from, bytes);
     }
 }

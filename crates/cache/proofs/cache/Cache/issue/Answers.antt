@@ -11,8 +11,8 @@ use Rattle.cache.proofs.Placing.{keeps_none}
 use Rattle.cache.proofs.Staying.{but_none, set_others}
 use Rattle.cache.proofs.cache.Cache.issue.Goals as goal
 
-pub set_state-requires : goal.set_state-requires
-set_state-requires g c = in_range c.args.self.now.slots.items.items c.args.at c.get-slot.result.now c.get-slot.ensures
+pub begin_write-requires : goal.begin_write-requires
+begin_write-requires g c = in_range c.args.self.now.slots.items.items c.args.at c.get-slot.result.now c.get-slot.ensures
 
 pub returns-in-Ok-clause-keeps : goal.returns-in-Ok-clause-keeps
 returns-in-Ok-clause-keeps g c =
@@ -23,9 +23,9 @@ returns-in-Ok-clause-keeps g c =
     let d = c.requires.dirty in
     let same : d.slot ≡ c.get-slot.result.now = one_slot items c.args.at d.slot c.get-slot.result.now d.is c.get-slot.ensures in
     let state = ap (λ (y : Slot). y.state) (sym same) ∙ (dirty_parts d.slot d.passes).2 in
-    write_one c.write-ask.result (caching g.L.Link s) (caching_of g.L.Link c.begin.new.self s.shape c.set_state.new.self.items.items s.ended)
-    items c.set_state.new.self.items.items c.in-Some.block c.in-Ok.ticket c.args.at c.get-slot.result.now
-    s.slots.distinct c.get-slot.ensures c.in-Some.is state c.set_state.ensures.set refl refl
+    write_one c.write-ask.result (caching g.L.Link s) (caching_of g.L.Link c.begin.new.self s.shape c.begin_write.new.self.items.items s.ended)
+    items c.begin_write.new.self.items.items c.in-Some.block c.in-Ok.ticket c.args.at c.get-slot.result.now
+    s.slots.distinct c.get-slot.ensures c.in-Some.is state c.begin_write.ensures.set refl refl
     x.begins x.adds x.opens a.kind a.minor a.position a.count (a.bytes ∙ c.deref.ensures) c.requires.ready refl refl refl x.budget x.room
 
 pub returns-in-Ok-clause-busy : goal.returns-in-Ok-clause-busy
@@ -33,8 +33,8 @@ returns-in-Ok-clause-busy g c = busy_begun c.in-Ok.ticket _ _ _ c.in-Ok.ensures.
 
 pub returns-in-Ok-clause-leaves : goal.returns-in-Ok-clause-leaves
 returns-in-Ok-clause-leaves g c =
-    write_leaves c.args.self.now.slots.items.items c.set_state.new.self.items.items c.in-Some.block c.args.at c.get-slot.result.now _
-    c.args.self.now.slots.distinct c.get-slot.ensures c.in-Some.is c.set_state.ensures.set
+    write_leaves c.args.self.now.slots.items.items c.begin_write.new.self.items.items c.in-Some.block c.args.at c.get-slot.result.now _
+    c.args.self.now.slots.distinct c.get-slot.ensures c.in-Some.is c.begin_write.ensures.set
 
 pub returns-in-Err-clause-keeps : goal.returns-in-Err-clause-keeps
 returns-in-Err-clause-keeps g c =
@@ -50,8 +50,8 @@ returns-in-Ok-clause-issued g c =
     let items = s.slots.items.items in
     let d = c.requires.dirty in
     let same : d.slot ≡ c.get-slot.result.now = one_slot items c.args.at d.slot c.get-slot.result.now d.is c.get-slot.ensures in
-    issued_at items c.set_state.new.self.items.items c.in-Some.block c.in-Ok.ticket c.args.at c.get-slot.result.now s.slots.distinct c.get-slot.ensures c.in-Some.is
-    (ap (λ (y : Slot). y.state) (sym same) ∙ (dirty_parts d.slot d.passes).2) c.set_state.ensures.set
+    issued_at items c.begin_write.new.self.items.items c.in-Some.block c.in-Ok.ticket c.args.at c.get-slot.result.now s.slots.distinct c.get-slot.ensures c.in-Some.is
+    (ap (λ (y : Slot). y.state) (sym same) ∙ (dirty_parts d.slot d.passes).2) c.begin_write.ensures.set
 
 pub returns-in-Ok-clause-posts : goal.returns-in-Ok-clause-posts
 returns-in-Ok-clause-posts g c =
@@ -64,7 +64,7 @@ returns-in-Err-clause-posts g c =
     record { posts = x.posts; history = x.history; only_posts = x.only_posts }
 
 pub returns-in-Ok-clause-others : goal.returns-in-Ok-clause-others
-returns-in-Ok-clause-others g c = record { uses = c.set_state.ensures.uses; each = set_others _ _ c.args.at _ c.set_state.ensures.set }
+returns-in-Ok-clause-others g c = record { uses = c.begin_write.ensures.uses; each = set_others _ _ c.args.at _ c.begin_write.ensures.set }
 
 pub returns-in-Err-clause-others : goal.returns-in-Err-clause-others
 returns-in-Err-clause-others g c = but_none c.args.at _
@@ -72,7 +72,7 @@ returns-in-Err-clause-others g c = but_none c.args.at _
 pub returns-in-Ok-clause-adds : goal.returns-in-Ok-clause-adds
 returns-in-Ok-clause-adds g c =
     let s = c.args.self.now in
-    longer c.write-ask.result (caching g.L.Link s) (caching_of g.L.Link c.begin.new.self s.shape c.set_state.new.self.items.items s.ended) c.in-Ok.ensures.adds
+    longer c.write-ask.result (caching g.L.Link s) (caching_of g.L.Link c.begin.new.self s.shape c.begin_write.new.self.items.items s.ended) c.in-Ok.ensures.adds
 
 pub returns-in-Err-clause-refusing : goal.returns-in-Err-clause-refusing
 returns-in-Err-clause-refusing g c =

@@ -2,7 +2,9 @@ use Rattle.std.proofs.Common.{List, ℕ, sym, ap, subst, ◌∙◌, arith}
 use Rattle.std.proofs.Math.Seq.{lt-length-set}
 use Rattle.std.proofs.lemmas.List.{length-set}
 use Rattle.cache.specs.Uses.{IsUsedLast}
+use Rattle.cache.specs.Slots.{lower_of}
 use Rattle.cache.proofs.Held.{distinct_filled}
+use Rattle.cache.proofs.Choosing.{none_below_lowered}
 use Rattle.cache.proofs.Filling.{free_at, vacated_none}
 use Rattle.cache.proofs.Indexed.{few_set, has_no_place, count_free, index_filled, set_again}
 use Rattle.cache.proofs.table.Slots.fill.Goals as goal
@@ -38,6 +40,8 @@ invariant_of-self c =
           c.hold.ensures.block free i.this i.others i.count;
       room = i.room ∙ v.room ∙ sym (length-set v.items.items c.args.at _);
       paired = v.paired ∙ sym (length-set v.items.items c.args.at _);
+      skipped = none_below_lowered v.items.items c.args.at v.search_from _ f.slot _ f.is
+          (c.lowered-self.ensures ∙ ap (lower_of v.search_from) c.dirty_block.ensures) v.skipped;
     }
 
 pub returns-clause-filled : goal.returns-clause-filled

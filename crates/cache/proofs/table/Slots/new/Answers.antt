@@ -4,6 +4,7 @@ use Rattle.cache.specs.declared.slot.Slot.{Slot}
 use Rattle.cache.specs.Index.{IsIndexOf}
 use Rattle.cache.proofs.Making.{AllFree, free_none, free_held, free_distinct}
 use Rattle.cache.proofs.Indexed.{index_none}
+use Rattle.cache.proofs.Choosing.{none_below_free}
 use Rattle.cache.proofs.table.Slots.new.Goals as goal
 
 pub free-init : goal.free-init
@@ -28,4 +29,5 @@ invariant_of-result c =
       indexed = subst (λ (l : List Entry). IsIndexOf l items) (sym index.none) (index_none items i.free);
       room = index.room ∙ sym count;
       paired = c.in_ok-new.ensures ∙ sym count;
+      skipped = none_below_free items _ i.free;
     }

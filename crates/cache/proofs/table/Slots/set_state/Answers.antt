@@ -1,23 +1,29 @@
-use Rattle.std.proofs.Common.{◌<◌, length, refl, sym, ◌∙◌, arith}
+use Rattle.std.proofs.Common.{◌<◌, length, refl, sym, ap, ◌∙◌, arith}
 use Rattle.std.proofs.lemmas.Option.{slice_get_read}
 use Rattle.std.proofs.Math.Seq.{lt-length-set}
 use Rattle.std.proofs.lemmas.List.{length-set}
+use Rattle.cache.specs.Slots.{lower_of}
 use Rattle.cache.proofs.Held.{distinct_kept}
+use Rattle.cache.proofs.Choosing.{none_below_lowered}
 use Rattle.cache.proofs.Indexed.{few_set, index_kept}
 use Rattle.cache.proofs.table.Slots.set_state.Goals as goal
 
 pub invariant_of-self : goal.invariant_of-self
 invariant_of-self c =
-    let ok = c.args.self.now.items.ok in
-    let lt : c.args.at < length c.args.self.now.items.items = omega arith in
-    let at = slice_get_read c.args.self.now.items.items _ c.args.at c.index_mut-slot.result.now refl lt c.index_mut-slot.ensures.value in
+    let s = c.args.self.now in
+    let items = s.items.items in
+    let ok = s.items.ok in
+    let lt : c.args.at < length items = omega arith in
+    let at = slice_get_read items _ c.args.at c.index_mut-slot.result.now refl lt c.index_mut-slot.ensures.value in
     record {
-      distinct = distinct_kept c.args.self.now.items.items c.args.at c.index_mut-slot.result.now _ c.args.self.now.distinct at refl;
-      paired = c.args.self.now.paired ∙ sym (length-set c.args.self.now.items.items c.args.at _);
-      some = lt-length-set c.args.self.now.items.items c.args.at _ c.args.self.now.some;
-      few = few_set c.args.self.now.items.items c.args.at _ c.args.self.now.few;
-      indexed = index_kept _ c.args.self.now.items.items c.args.at c.index_mut-slot.result.now _ c.args.self.now.indexed at refl;
-      room = c.args.self.now.room ∙ sym (length-set c.args.self.now.items.items c.args.at _);
+      distinct = distinct_kept items c.args.at c.index_mut-slot.result.now _ s.distinct at refl;
+      some = lt-length-set items c.args.at _ s.some;
+      few = few_set items c.args.at _ s.few;
+      indexed = index_kept _ items c.args.at c.index_mut-slot.result.now _ s.indexed at refl;
+      room = s.room ∙ sym (length-set items c.args.at _);
+      paired = s.paired ∙ sym (length-set items c.args.at _);
+      skipped = none_below_lowered items c.args.at s.search_from _ c.index_mut-slot.result.now _ at
+          (c.lowered-self.ensures ∙ ap (lower_of s.search_from) c.dirty_block.ensures) s.skipped;
     }
 
 pub returns-clause-set : goal.returns-clause-set

@@ -3,6 +3,7 @@ use Rattle.std.proofs.lemmas.Option.{slice_get_read}
 use Rattle.std.proofs.Math.Seq.{lt-length-set}
 use Rattle.std.proofs.lemmas.List.{length-set}
 use Rattle.cache.proofs.Held.{distinct_vacated}
+use Rattle.cache.proofs.Choosing.{none_below_vacated}
 use Rattle.cache.proofs.Indexed.{few_set, has_place, index_vacated}
 use Rattle.cache.proofs.table.Slots.vacate.Goals as goal
 
@@ -29,6 +30,7 @@ invariant_of-self-2 c =
           s.indexed at c.in-Some.is refl e.this e.others e.count;
       room = e.room ∙ s.room ∙ sym (length-set s.items.items c.args.at _);
       paired = s.paired ∙ sym (length-set s.items.items c.args.at _);
+      skipped = none_below_vacated s.items.items c.args.at s.search_from c.index_mut-slot.result.now _ at refl s.skipped;
     }
 
 pub returns-clause-set : goal.returns-clause-set

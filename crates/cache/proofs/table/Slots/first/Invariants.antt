@@ -1,9 +1,0 @@
-use Rattle.std.proofs.Common.{◌≤◌, length}
-use Rattle.cache.specs.Order.{key_of, IsFirst}
-use Rattle.cache.proofs.table.Slots.first.Given as goal
-
-abbrev pub invariant-loop-at : goal.invariant-loop-at
-invariant-loop-at l = record {
-  within : l.at ≤ length l.self.items.items;
-  first : IsFirst (key_of l.among l.self.items.items l.self.uses.numbers.items) l.at l.first;
-}
