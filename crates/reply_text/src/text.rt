@@ -1,6 +1,7 @@
 //! The texts of replies: numbers are decimal, modes octal in seven digits, bytes lower-case hexadecimal.
 
-ghost use Rattle.std.specs.Prelude.{◌≡◌, Some, map};
+ghost use Rattle.std.specs.Prelude.{◌≡◌, ◌≤◌, Some, length, map};
+ghost use Rattle.std.specs.Fmt.{WritesOnOk};
 ghost use Rattle.tree.specs.Answers.{answer_of, bytes_of_target, entry_of};
 ghost use Rattle.reply_text.specs.Text.{answer_text, attributes_text, bytes_text, details_text, entry_text, free_text, hex_text};
 ghost use Rattle.reply_text.specs.Text.{names_text, octal_text, outcome_text, owner_text, room_text, times_text};
@@ -24,6 +25,20 @@ impl fmt::Display for Octal {
     }
 }
 
+/// How many bytes in hexadecimal are written at once.
+const PIECE: usize = 32;
+
+/// Writes the digits of a piece, two a byte.
+fn write_piece<W: fmt::Write>(f: &mut fmt::Formatter<W>, piece: &[u8]) -> fmt::Result
+    requires { length piece.now ≤ PIECE }
+    ensures { WritesOnOk W.write_str_gives f.old result (hex_text piece.now) f.new }
+{
+    let mut room = [0; 2 * PIECE];
+    let digits = &mut room[..2 * piece.len()];
+    hex::encode_to_slice(piece, &mut *digits).unwrap();
+    f.write_str(str::from_utf8(digits).unwrap())
+}
+
 /// Bytes in hexadecimal.
 #[derive(Clone, Copy)]
 struct Hex<'a>(&'a [u8]);
@@ -32,9 +47,8 @@ impl fmt::Display for Hex<'_> {
     ghost output = { λ h. Some (hex_text h.0.now) };
 
     fn fmt<W: fmt::Write>(&self, f: &mut fmt::Formatter<W>) -> fmt::Result {
-        for byte in self.0 {
-            let (high, low) = (*byte / 16, *byte % 16);
-            write!(f, "{high:x}{low:x}")?;
+        for piece in self.0.chunks(PIECE) {
+            write_piece(f, piece)?;
         }
         Ok(())
     }
