@@ -25,10 +25,10 @@ impl fmt::Display for Octal {
     }
 }
 
-/// How many bytes in hexadecimal are written at once.
-const PIECE: usize = 32;
+/// How many bytes are written in hexadecimal at once.
+const PIECE: usize = 64;
 
-/// Writes the digits of a piece, two a byte.
+/// Writes bytes in hexadecimal, at most a piece.
 fn write_piece<W: fmt::Write>(f: &mut fmt::Formatter<W>, piece: &[u8]) -> fmt::Result
     requires { length piece.now ≤ PIECE }
     ensures { WritesOnOk W.write_str_gives f.old result (hex_text piece.now) f.new }

@@ -1,5 +1,4 @@
-use Rattle.std.proofs.Common.{◌≡◌, ◌∙◌, sym, arith}
-use Rattle.std.specs.Str.{IsUtf8}
+use Rattle.std.proofs.Common.{◌≡◌, ◌∙◌, arith}
 use Rattle.reply_text.specs.Text.{hex_text}
 use Rattle.reply_text.proofs.HexDigits.{encode_lower-is, encode_lower-utf8, ok_of_text}
 use Rattle.reply_text.proofs.text.write_piece.Goals as goal

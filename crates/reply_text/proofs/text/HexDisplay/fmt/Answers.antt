@@ -1,8 +1,7 @@
 use Rattle.std.proofs.Common.{rules, ◌≡◌, ◌++◌, [], refl, sym, ap, ◌∙◌, append_assoc}
 use Rattle.std.proofs.lemmas.List.Concat.{flat_map-append}
-use Rattle.std.specs.Slice.Iter.{chunks_rest, chunks_size}
+use Rattle.std.specs.Slice.Iter.{chunks_rest}
 use Rattle.std.proofs.lemmas.Grind.{put_two}
-use Rattle.std.specs.Result.{IsOk}
 use Rattle.reply_text.specs.Text.{hex_byte, hex_text}
 use Rattle.reply_text.proofs.text.HexDisplay.fmt.Goals as goal
 
