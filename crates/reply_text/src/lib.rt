@@ -4,5 +4,6 @@
 
 pub mod answers;
 pub mod mark;
+pub mod outcomes;
 pub mod text;
 pub mod write;
