@@ -5,6 +5,7 @@ ghost use Rattle.std.specs.Io.KnownBytes.{Appends};
 ghost use Rattle.output.specs.Output.{AppendsPart};
 ghost use Rattle.reply_text.specs.Answers.{number_text, outcomes_text, session_text, sessions_text};
 
+use crate::line::make_line;
 use crate::outcomes::Outcomes;
 use output::{OutputRefusal, write_text};
 use std::alloc::Global;
@@ -56,7 +57,7 @@ fn write_number<W: Write>(alloc: Global, to: &mut W, number: u8) -> Result<(), O
     write_text(to, line.as_bytes())
 }
 
-/// Writes the answers to a session's calls, one a line.
+/// Writes the answers to a session's calls, one a line, each in the memory of the one before.
 fn write_outcomes<W: Write>(
     alloc: Global,
     to: &mut W,
@@ -65,9 +66,9 @@ fn write_outcomes<W: Write>(
     ensures ok { OnOk result (Appends (W.contents to.old) (W.contents to.new) (outcomes_text outcomes.now.items)) }
     ensures err { OnErr result (AppendsPart (W.contents to.old) (W.contents to.new) (outcomes_text outcomes.now.items)) }
 {
+    let mut line = String::new(alloc);
     for at in 0..outcomes.len() {
-        let outcome = outcomes.get(at);
-        let line = format!(in alloc; "{outcome}\n")?;
+        make_line(&mut line, &outcomes.get(at))?;
         write_text(to, line.as_bytes())?;
     }
     Ok(())

@@ -3,6 +3,7 @@
 #![tactic(auto)]
 
 pub mod answers;
+mod line;
 pub mod mark;
 pub mod outcomes;
 pub mod text;
