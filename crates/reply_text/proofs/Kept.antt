@@ -1,5 +1,5 @@
 -- Outcomes as they are kept.
-use Rattle.std.proofs.Common.{◌≡◌, ℕ, ◌<◌, List, [], ◌∷◌, ◌++◌, length, map, get_or, Option, None, Bool, ◌||◌, refl, ap, ◌∙◌, sym, arith}
+use Rattle.std.proofs.Common.{◌≡◌, ℕ, ◌<◌, List, [], ◌∷◌, ◌++◌, length, map, get_or, None, refl, ap, ◌∙◌, sym, arith}
 use Rattle.std.specs.Prelude.{All}
 use Rattle.std.specs.List.{list_any}
 use Rattle.std.proofs.Math.ListN.{get_or-append}
@@ -10,11 +10,11 @@ use Rattle.tree.specs.declared.LinkTarget.{LinkTarget}
 use Rattle.tree.specs.declared.Outcome.{Outcome}
 use Rattle.tree.specs.declared.Outcome.TheVariants as outcome
 use Rattle.tree.specs.declared.Reply.TheVariants as reply
-use Rattle.tree.specs.Answers.{Answer}
 use Rattle.reply_text.specs.Told.{is_refused, told_of}
 use Rattle.reply_text.specs.Kept.{IsWithin, is_kept_refused, no_target, outcome_of}
 use Rattle.reply_text.specs.declared.outcomes.Kept.{Kept}
-use Rattle.reply_text.specs.declared.outcomes.Kept.TheVariants.{Cut, Refused, Done, Descriptor, Bytes, Wrote, At, Inode, Names, Space, Target}
+use Rattle.reply_text.specs.declared.outcomes.Kept.TheVariants.{Cut, Refused, Done, Descriptor, Bytes, Wrote, At, Inode}
+use Rattle.reply_text.specs.declared.outcomes.Kept.TheVariants.{Names, Space, Target}
 
 -- an outcome stays as it is where targets come behind its own
 stays : (targets more : List LinkTarget) (kept : Kept) → IsWithin (length targets) kept

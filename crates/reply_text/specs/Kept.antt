@@ -9,7 +9,8 @@ use Rattle.tree.specs.declared.Outcome.TheVariants as outcome
 use Rattle.tree.specs.declared.Reply.TheVariants as reply
 use Rattle.reply_text.specs.OutcomeList.{OutcomeList}
 use Rattle.reply_text.specs.declared.outcomes.Kept.{Kept}
-use Rattle.reply_text.specs.declared.outcomes.Kept.TheVariants.{Cut, Refused, Done, Descriptor, Bytes, Wrote, At, Inode, Names, Space, Target}
+use Rattle.reply_text.specs.declared.outcomes.Kept.TheVariants.{Cut, Refused, Done, Descriptor, Bytes, Wrote, At, Inode}
+use Rattle.reply_text.specs.declared.outcomes.Kept.TheVariants.{Names, Space, Target}
 
 -- stands where there is no target
 abbrev pub no_target : LinkTarget

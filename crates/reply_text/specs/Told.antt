@@ -5,7 +5,8 @@ use Rattle.errno.specs.Errors.{errno_number}
 use Rattle.tree.specs.declared.Outcome.{Outcome}
 use Rattle.tree.specs.declared.Outcome.TheVariants.{Reply, Cut}
 use Rattle.tree.specs.declared.Reply.TheVariants.{Refused}
-use Rattle.tree.specs.Answers.{Answer, refused, done, descriptor, some_bytes, wrote, position, node_is, names_are, room_is, answer_of, entry_of}
+use Rattle.tree.specs.Answers.{Answer, refused, done, descriptor, some_bytes, wrote, position, node_is, names_are, room_is}
+use Rattle.tree.specs.Answers.{answer_of, entry_of}
 use Rattle.reply_text.specs.Text.{answer_text}
 use Rattle.reply_text.specs.declared.text.OutcomeRef.{OutcomeRef}
 use Rattle.reply_text.specs.declared.text.OutcomeRef.TheVariants as ref

@@ -32,8 +32,8 @@ const _: () = prove!(size_of::<Kept>() <= 40);
 
 /// What came of calls, in their order: contracts see the outcomes, and how many more there is room for.
 ///
-/// Its memory is taken when it is made. An outcome fills 40 bytes of it, and a link's target a kilobyte besides: what isn't filled yet isn't
-/// touched, so it is no memory of the process where the system gives pages at their first use.
+/// All its memory is taken when it is made. An outcome fills 40 bytes of it, and a link's target a kilobyte besides. What isn't filled yet
+/// isn't touched: where the system gives a page at its first use, it is no memory of the process.
 #[derive(Drop)]
 pub struct Outcomes {
     kept: Vec<Kept>,
@@ -53,7 +53,7 @@ impl Model for Outcomes {
 }
 
 impl Outcomes {
-    /// None, with room for so many.
+    /// None, with room for so many. It refuses where no memory was found.
     pub fn with_capacity(alloc: Global, count: usize) -> Result<Outcomes, AllocError>
         ensures items { IfOk result (λ outcomes. outcomes.items ≡ []) }
         ensures room { IfOk result (λ outcomes. outcomes.room ≡ count) }
@@ -71,7 +71,7 @@ impl Outcomes {
         self.kept.len()
     }
 
-    /// One more, behind the others.
+    /// Puts one more behind the others, which stay.
     pub fn push_reserved(&mut self, outcome: Outcome)
         requires { 0 < self.old.room }
         ensures items { self.new.items ≡ self.old.items ++ outcome ∷ [] }
@@ -81,7 +81,7 @@ impl Outcomes {
         self.kept.push_reserved(kept);
     }
 
-    /// The one at this place.
+    /// The one at this place, borrowed.
     pub fn get(&self, at: usize) -> OutcomeRef<'_>
         requires { at < length self.now.items }
         ensures { told_by result ≡ slice_index_or (map told_of self.now.items) at None }
@@ -89,7 +89,7 @@ impl Outcomes {
         shown(&self.kept[at], self.targets.as_slice())
     }
 
-    /// Whether a call was refused for this reason.
+    /// Whether some call was refused for this reason.
     pub fn has_errno(&self, errno: Errno) -> bool
         ensures { result ≡ list_any (is_refused errno) self.now.items }
     {

@@ -1,4 +1,4 @@
-use Rattle.std.proofs.Common.{◌≡◌, ◌<◌, ◌∙◌, ◌∷◌, ◌++◌, [], length, get_or, arith, length-append}
+use Rattle.std.proofs.Common.{◌<◌, ◌∙◌, ◌∷◌, [], length, get_or, arith, length-append}
 use Rattle.std.proofs.lemmas.List.{get_or_default}
 use Rattle.output.proofs.Writes.{appends_more, part_of_more, on_err}
 use Rattle.tree.specs.declared.Outcome.TheVariants.{Cut}

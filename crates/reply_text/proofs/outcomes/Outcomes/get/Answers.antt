@@ -1,4 +1,4 @@
-use Rattle.std.proofs.Common.{◌≡◌, ◌<◌, ◌∙◌, ap, length, map, get_or, None, arith}
+use Rattle.std.proofs.Common.{◌<◌, ◌∙◌, ap, length, map, get_or, None, arith}
 use Rattle.std.proofs.lemmas.List.{length-map}
 use Rattle.reply_text.specs.OutcomeList.{OutcomeList}
 use Rattle.reply_text.specs.Kept.{outcome_of}
