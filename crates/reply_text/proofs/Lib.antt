@@ -1,2 +1,5 @@
 pub mod Parts
 pub mod Lines
+pub mod HexDigits
+pub mod Kept
+pub mod Told

@@ -1,5 +1,6 @@
 -- The lines of marks, one after the other.
-use Rattle.std.proofs.Common.{◌≡◌, ℕ, ◌+◌, ◌<◌, get_or, List, [], ◌∷◌, ◌++◌, length, take, drop, refl, sym, ap, ◌∙◌, append_assoc, append-nil, length-append, arith}
+use Rattle.std.proofs.Common.{◌≡◌, ℕ, ◌+◌, ◌<◌, get_or, List, [], ◌∷◌, ◌++◌, length, take, drop, refl, sym, ap, ◌∙◌}
+use Rattle.std.proofs.Common.{append_assoc, append-nil, length-append, arith}
 use Rattle.std.proofs.lemmas.Grind.{common_steps}
 use Rattle.std.proofs.lemmas.List.{take-append-drop, flat_map_more}
 use Rattle.std.proofs.lemmas.List.Concat.{flat_map-append}
@@ -30,8 +31,8 @@ text_split mark marks i m within is =
     ∙ append_assoc (marks_text mark (take i marks)) (mark_line (mark m)) (marks_text mark (drop (i + 1) marks))
 
 -- what went out before a line is a part of the text
-pub part_before : {M : Type 0} (mark : M → Mark) (a b : Option (List ℕ)) (marks : List M) (i : ℕ) (m : M) → i < length marks → m ≡ get_or marks i m
-    → Appends a b (marks_text mark (take i marks)) → AppendsPart a b (marks_text mark marks)
+pub part_before : {M : Type 0} (mark : M → Mark) (a b : Option (List ℕ)) (marks : List M) (i : ℕ) (m : M) → i < length marks
+    → m ≡ get_or marks i m → Appends a b (marks_text mark (take i marks)) → AppendsPart a b (marks_text mark marks)
 part_before mark a b marks i m within is h = (
   marks_text mark (take i marks),
   mark_line (mark m) ++ marks_text mark (drop (i + 1) marks),

@@ -1,5 +1,6 @@
 -- Texts one after another.
-use Rattle.std.proofs.Common.{◌≡◌, ℕ, ◌+◌, ◌<◌, get_or, List, [], ◌∷◌, ◌++◌, length, take, drop, sym, ap, ◌∙◌, append_assoc, arith, length-append}
+use Rattle.std.proofs.Common.{◌≡◌, ℕ, ◌+◌, ◌<◌, get_or, List, [], ◌∷◌, ◌++◌, length, take, drop, sym, ap, ◌∙◌}
+use Rattle.std.proofs.Common.{append_assoc, arith, length-append}
 use Rattle.std.proofs.lemmas.Grind.{common_steps, flat_map-append}
 use Rattle.std.proofs.lemmas.List.{take-append-drop, flat_map_more}
 use Rattle.std.specs.Prelude.{Option, flat_map}
@@ -24,8 +25,8 @@ module _ {A : Type 0} (text : A → List ℕ) where
       ∙ append_assoc (flat_map text (take i items)) (text item) (flat_map text (drop (i + 1) items))
 
   -- what went out before one whose text isn't empty is a part of the text, and its text is left
-  pub part_before : (a b : Option (List ℕ)) (items : List A) (i : ℕ) (item : A) → i < length items → item ≡ get_or items i item → 0 < length (text item)
-      → Appends a b (flat_map text (take i items)) → AppendsPart a b (flat_map text items)
+  pub part_before : (a b : Option (List ℕ)) (items : List A) (i : ℕ) (item : A) → i < length items → item ≡ get_or items i item
+      → 0 < length (text item) → Appends a b (flat_map text (take i items)) → AppendsPart a b (flat_map text items)
   part_before a b items i item within is some h = (
     flat_map text (take i items),
     text item ++ flat_map text (drop (i + 1) items),

@@ -1,13 +1,11 @@
 -- The text of a transcript.
-use Rattle.std.specs.Prelude.{ℕ, List, [], ◌∷◌, ◌++◌, codes, decimal, flat_map, Result, Ok, Err}
+use Rattle.std.specs.Prelude.{ℕ, List, ◌++◌, codes, decimal, flat_map, Result, Ok, Err}
 use Rattle.errno.specs.declared.Errno.{Errno}
 use Rattle.errno.specs.Errors.{errno_name}
 use Rattle.message.specs.Slots.{endpoint_text}
 use Rattle.message.specs.declared.Kind.{Kind}
 use Rattle.message.specs.declared.Kind.TheVariants.{Read, Write}
-use Rattle.message.specs.declared.BlockRequest.{BlockRequest}
-use Rattle.message.specs.declared.BlockReply.{BlockReply}
-use Rattle.tree.specs.Answers.{Answer, answer_of}
+use Rattle.tree.specs.Answers.{answer_of}
 use Rattle.reply_text.specs.Text.{answer_text}
 use Rattle.records.specs.declared.marks.Cause.{Cause}
 use Rattle.records.specs.declared.marks.Cause.TheVariants.{Exit, Hung, Complaint}

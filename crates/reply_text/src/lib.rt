@@ -3,6 +3,8 @@
 #![tactic(auto)]
 
 pub mod answers;
+mod line;
 pub mod mark;
+pub mod outcomes;
 pub mod text;
 pub mod write;

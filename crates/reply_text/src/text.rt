@@ -1,10 +1,13 @@
 //! The texts of replies: numbers are decimal, modes octal in seven digits, bytes lower-case hexadecimal.
 
-ghost use Rattle.std.specs.Prelude.{◌≡◌, Some, map};
+ghost use Rattle.std.specs.Prelude.{◌≡◌, ◌≤◌, Some, length, map};
+ghost use Rattle.std.specs.Fmt.{WritesOnOk};
 ghost use Rattle.tree.specs.Answers.{answer_of, bytes_of_target, entry_of};
 ghost use Rattle.reply_text.specs.Text.{answer_text, attributes_text, bytes_text, details_text, entry_text, free_text, hex_text};
 ghost use Rattle.reply_text.specs.Text.{names_text, octal_text, outcome_text, owner_text, room_text, times_text};
+ghost use Rattle.reply_text.specs.Told.{told_by, told_text};
 
+use errno::Errno;
 use std::fmt;
 use tree::{Attributes, Entry, LinkTarget, MAX_TARGET, Outcome, Reply, Room};
 
@@ -24,6 +27,20 @@ impl fmt::Display for Octal {
     }
 }
 
+/// How many bytes are written in hexadecimal at once.
+const PIECE: usize = 64;
+
+/// Writes bytes in hexadecimal, at most a piece.
+fn write_piece<W: fmt::Write>(f: &mut fmt::Formatter<W>, piece: &[u8]) -> fmt::Result
+    requires { length piece.now ≤ PIECE }
+    ensures { WritesOnOk W.write_str_gives f.old result (hex_text piece.now) f.new }
+{
+    let mut room = [0; 2 * PIECE];
+    let digits = &mut room[..2 * piece.len()];
+    hex::encode_to_slice(piece, &mut *digits).unwrap();
+    f.write_str(str::from_utf8(digits).unwrap())
+}
+
 /// Bytes in hexadecimal.
 #[derive(Clone, Copy)]
 struct Hex<'a>(&'a [u8]);
@@ -32,9 +49,8 @@ impl fmt::Display for Hex<'_> {
     ghost output = { λ h. Some (hex_text h.0.now) };
 
     fn fmt<W: fmt::Write>(&self, f: &mut fmt::Formatter<W>) -> fmt::Result {
-        for byte in self.0 {
-            let (high, low) = (*byte / 16, *byte % 16);
-            write!(f, "{high:x}{low:x}")?;
+        for piece in self.0.chunks(PIECE) {
+            write_piece(f, piece)?;
         }
         Ok(())
     }
@@ -57,7 +73,7 @@ impl fmt::Display for Bytes<'_> {
 }
 
 /// The bytes of a target.
-fn target_bytes(target: &LinkTarget) -> &[u8]
+pub(crate) fn target_bytes(target: &LinkTarget) -> &[u8]
     ensures { result.now ≡ bytes_of_target target.now }
 {
     let end = target.length.min(MAX_TARGET);
@@ -189,43 +205,93 @@ impl fmt::Display for Names<'_> {
     }
 }
 
+/// What came of a call, borrowed. Its parts stand elsewhere; the target of a link is bytes, as those of a read are.
+#[derive(Clone, Copy)]
+pub enum OutcomeRef<'a> {
+    /// No reply.
+    Cut,
+    /// A refusal.
+    Refused(Errno),
+    /// A call that has nothing to tell succeeded.
+    Done,
+    /// A descriptor.
+    Descriptor(u32),
+    /// The bytes of a read, or of a target.
+    Bytes(&'a [u8]),
+    /// How many bytes were written.
+    Wrote(u32),
+    /// The position after a seek.
+    At(u32),
+    /// The attributes of a node.
+    Inode(&'a Attributes),
+    /// The names of a directory.
+    Names(&'a [Entry]),
+    /// The room of a volume.
+    Space(&'a Room),
+}
+
+/// Writes a refusal's name; `ok`; `fd N`; `bytes` with the bytes in hexadecimal, or with `-` for none;
+/// `wrote N`; `at N`; a node's attributes; `names K` and the entries; a volume's room; or `cut`.
+impl fmt::Display for OutcomeRef<'_> {
+    ghost output = { λ o. Some (told_text (told_by o)) };
+
+    fn fmt<W: fmt::Write>(&self, f: &mut fmt::Formatter<W>) -> fmt::Result {
+        match self {
+            OutcomeRef::Cut => f.write_str("cut"),
+            OutcomeRef::Refused(errno) => write!(f, "{errno}"),
+            OutcomeRef::Done => f.write_str("ok"),
+            OutcomeRef::Descriptor(fd) => write!(f, "fd {fd}"),
+            OutcomeRef::Bytes(bytes) => {
+                let shown = Bytes(bytes);
+                write!(f, "bytes {shown}")
+            }
+            OutcomeRef::Wrote(count) => write!(f, "wrote {count}"),
+            OutcomeRef::At(position) => write!(f, "at {position}"),
+            OutcomeRef::Inode(attributes) => {
+                let shown = Node(attributes);
+                write!(f, "{shown}")
+            }
+            OutcomeRef::Names(names) => {
+                let shown = Names(names);
+                write!(f, "names {shown}")
+            }
+            OutcomeRef::Space(room) => {
+                let shown = Volume(room);
+                write!(f, "{shown}")
+            }
+        }
+    }
+}
+
+/// What a reply tells, borrowed.
+fn replied(reply: &Reply) -> OutcomeRef<'_>
+    ensures { told_by result ≡ Some (answer_of reply.now) }
+{
+    match reply {
+        Reply::Refused(errno) => OutcomeRef::Refused(*errno),
+        Reply::Done => OutcomeRef::Done,
+        Reply::Descriptor(fd) => OutcomeRef::Descriptor(*fd),
+        Reply::Bytes(bytes) => OutcomeRef::Bytes(bytes.as_slice()),
+        Reply::Wrote(count) => OutcomeRef::Wrote(*count),
+        Reply::At(position) => OutcomeRef::At(*position),
+        Reply::Inode(attributes) => OutcomeRef::Inode(attributes),
+        Reply::Names(names) => OutcomeRef::Names(names.as_slice()),
+        Reply::Space(room) => OutcomeRef::Space(room),
+        Reply::Target(target) => OutcomeRef::Bytes(target_bytes(target)),
+    }
+}
+
 /// A reply, to be shown.
 #[derive(Clone, Copy)]
 pub struct ReplyText<'a>(pub &'a Reply);
 
-/// Writes a refusal's name; `ok`; `fd N`; `bytes` with the bytes in hexadecimal, or with `-` for none;
-/// `wrote N`; `at N`; a node's attributes; `names K` and the entries; or a volume's room. A target is written as bytes are.
+/// Writes what the reply tells, as [`OutcomeRef`] does.
 impl fmt::Display for ReplyText<'_> {
     ghost output = { λ r. Some (answer_text (answer_of r.0.now)) };
 
     fn fmt<W: fmt::Write>(&self, f: &mut fmt::Formatter<W>) -> fmt::Result {
-        match self.0 {
-            Reply::Refused(errno) => write!(f, "{errno}"),
-            Reply::Done => f.write_str("ok"),
-            Reply::Descriptor(fd) => write!(f, "fd {fd}"),
-            Reply::Bytes(bytes) => {
-                let shown = Bytes(bytes.as_slice());
-                write!(f, "bytes {shown}")
-            }
-            Reply::Wrote(count) => write!(f, "wrote {count}"),
-            Reply::At(position) => write!(f, "at {position}"),
-            Reply::Inode(attributes) => {
-                let shown = Node(attributes);
-                write!(f, "{shown}")
-            }
-            Reply::Names(names) => {
-                let shown = Names(names.as_slice());
-                write!(f, "names {shown}")
-            }
-            Reply::Space(room) => {
-                let shown = Volume(room);
-                write!(f, "{shown}")
-            }
-            Reply::Target(target) => {
-                let shown = Bytes(target_bytes(target));
-                write!(f, "bytes {shown}")
-            }
-        }
+        let shown = replied(self.0);
+        write!(f, "{shown}")
     }
 }
 
@@ -238,12 +304,10 @@ impl fmt::Display for OutcomeText<'_> {
     ghost output = { λ outcome. Some (outcome_text outcome.0.now) };
 
     fn fmt<W: fmt::Write>(&self, f: &mut fmt::Formatter<W>) -> fmt::Result {
-        match self.0 {
-            Outcome::Reply(reply) => {
-                let shown = ReplyText(reply);
-                write!(f, "{shown}")
-            }
-            Outcome::Cut => f.write_str("cut"),
-        }
+        let shown = match self.0 {
+            Outcome::Reply(reply) => replied(reply),
+            Outcome::Cut => OutcomeRef::Cut,
+        };
+        write!(f, "{shown}")
     }
 }

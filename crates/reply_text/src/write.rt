@@ -5,12 +5,13 @@ ghost use Rattle.std.specs.Io.KnownBytes.{Appends};
 ghost use Rattle.output.specs.Output.{AppendsPart};
 ghost use Rattle.reply_text.specs.TranscriptText.{marks_text, transcript_text, unanswered_text};
 
+use crate::line::make_line;
 use crate::mark::AsMark;
 use output::{OutputRefusal, write_text};
 use std::alloc::Global;
 use std::io::Write;
 
-/// Writes marks, one a line, as they stand. Memory is taken for one line at a time.
+/// Writes marks, one a line, as they stand, each in the memory of the one before.
 fn write_marks<M: AsMark, W: Write>(
     alloc: Global,
     to: &mut W,
@@ -19,9 +20,9 @@ fn write_marks<M: AsMark, W: Write>(
     ensures ok { OnOk result (Appends (W.contents to.old) (W.contents to.new) (marks_text M.mark marks.now)) }
     ensures err { OnErr result (AppendsPart (W.contents to.old) (W.contents to.new) (marks_text M.mark marks.now)) }
 {
+    let mut line = String::new(alloc);
     for marked in marks {
-        let mark = marked.as_mark();
-        let line = format!(in alloc; "{mark}\n")?;
+        make_line(&mut line, &marked.as_mark())?;
         write_text(to, line.as_bytes())?;
     }
     Ok(())

@@ -5,6 +5,8 @@
 #[cfg(test)]
 mod calls;
 #[cfg(test)]
+mod outcomes;
+#[cfg(test)]
 mod outputs;
 #[cfg(test)]
 mod refusals;

@@ -3,17 +3,18 @@
 ghost use Rattle.std.specs.Prelude.{◌≡◌, ◌<◌, ℕ, All, IfOk, OnErr, Result, length, map, slice_index_or, vec_len};
 ghost use Rattle.std.specs.Option.{option_map};
 ghost use Rattle.std.specs.List.{list_any};
-ghost use Rattle.tools.specs.Made.{Calls, Plays, cuts, is_eio, has_eio};
+ghost use Rattle.tools.specs.Made.{Calls, Plays, cuts, has_eio};
 ghost use Rattle.tools.specs.Turns.{ArePlayed, HaveEnded, HaveMet, IsTaken, IsUnplayed, asked, seen_by};
 
 use crate::scripts::client::Client;
 use call_text::scripts::timed::TimedCall;
 use errno::Errno;
 use reply_text::answers::Played;
+use reply_text::outcomes::Outcomes;
 use std::alloc::{AllocError, Global};
 use std::thread;
 use std::thread::Threads;
-use tree::{Outcome, Reply};
+use tree::Outcome;
 
 /// A session, and the calls that are to be made in it.
 #[derive(Drop)]
@@ -151,11 +152,11 @@ pub fn make_calls<C: Client>(
     alloc: Global,
     client: &mut C,
     calls: &[TimedCall<'_>],
-) -> Result<Vec<Outcome>, AllocError>
+) -> Result<Outcomes, AllocError>
     ensures made { IfOk result (λ outcomes. Plays C.vouches C.ended (C.state client.old) calls.now outcomes.items (C.state client.new)) }
     ensures none_made { OnErr result (client.new ≡ client.old) }
 {
-    let mut outcomes = Vec::with_capacity(alloc, calls.len())?;
+    let mut outcomes = Outcomes::with_capacity(alloc, calls.len())?;
     let mut cut = false;
     for timed in calls {
         let outcome = call_unless(cut, client, timed);
@@ -194,12 +195,5 @@ pub fn has_eio(played: &[Played]) -> bool
 fn answers_eio(session: &Played) -> bool
     ensures { result ≡ has_eio session.now }
 {
-    session.outcomes.iter().any(|outcome| is_eio(outcome))
-}
-
-/// Whether a call was answered EIO.
-fn is_eio(outcome: &Outcome) -> bool
-    ensures { result ≡ is_eio outcome.now }
-{
-    matches!(outcome, Outcome::Reply(Reply::Refused(Errno::EIO)))
+    session.outcomes.has_errno(Errno::EIO)
 }

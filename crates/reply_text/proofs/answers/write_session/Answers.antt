@@ -7,12 +7,14 @@ returns-in_err-write_number-clause-err g c = on_err _ _ (part_of_whole _ _ _ _ c
 
 pub returns-clause-ok : goal.returns-clause-ok
 returns-clause-ok g c =
-    second_ok c.write_outcomes.result (g.W.Write.contents c.args.to.now) (g.W.Write.contents c.write_number.new.to) (g.W.Write.contents c.write_outcomes.new.to)
-    (number_text c.args.session.now.number) (outcomes_text c.args.session.now.outcomes.items) c.in_ok-write_number.ensures.ok
-    (rw c.as_slice.ensures.value at c.write_outcomes.ensures.ok)
+    let session = c.args.session.now in
+    second_ok c.write_outcomes.result (g.W.Write.contents c.args.to.now) (g.W.Write.contents c.write_number.new.to)
+    (g.W.Write.contents c.write_outcomes.new.to) (number_text session.number) (outcomes_text session.outcomes.items)
+    c.in_ok-write_number.ensures.ok c.write_outcomes.ensures.ok
 
 pub returns-clause-err : goal.returns-clause-err
 returns-clause-err g c =
-    second_err c.write_outcomes.result (g.W.Write.contents c.args.to.now) (g.W.Write.contents c.write_number.new.to) (g.W.Write.contents c.write_outcomes.new.to)
-    (number_text c.args.session.now.number) (outcomes_text c.args.session.now.outcomes.items) c.in_ok-write_number.ensures.ok
-    (rw c.as_slice.ensures.value at c.write_outcomes.ensures.err)
+    let session = c.args.session.now in
+    second_err c.write_outcomes.result (g.W.Write.contents c.args.to.now) (g.W.Write.contents c.write_number.new.to)
+    (g.W.Write.contents c.write_outcomes.new.to) (number_text session.number) (outcomes_text session.outcomes.items)
+    c.in_ok-write_number.ensures.ok c.write_outcomes.ensures.err

@@ -7,10 +7,14 @@ returns-in_err-write_marks-clause-err g c = on_err _ _ (part_of_whole _ _ _ _ c.
 
 pub returns-clause-ok : goal.returns-clause-ok
 returns-clause-ok g c =
-    second_ok c.write_unanswered.result (g.W.Write.contents c.args.to.now) (g.W.Write.contents c.write_marks.new.to) (g.W.Write.contents c.write_unanswered.new.to)
-    (marks_text g.M.AsMark.mark c.args.marks.now) (unanswered_text c.args.unanswered) c.in_ok-write_marks.ensures.ok c.write_unanswered.ensures.ok
+    let out = g.W.Write.contents in
+    second_ok c.write_unanswered.result (out c.args.to.now) (out c.write_marks.new.to) (out c.write_unanswered.new.to)
+    (marks_text g.M.AsMark.mark c.args.marks.now) (unanswered_text c.args.unanswered) c.in_ok-write_marks.ensures.ok
+    c.write_unanswered.ensures.ok
 
 pub returns-clause-err : goal.returns-clause-err
 returns-clause-err g c =
-    second_err c.write_unanswered.result (g.W.Write.contents c.args.to.now) (g.W.Write.contents c.write_marks.new.to) (g.W.Write.contents c.write_unanswered.new.to)
-    (marks_text g.M.AsMark.mark c.args.marks.now) (unanswered_text c.args.unanswered) c.in_ok-write_marks.ensures.ok c.write_unanswered.ensures.err
+    let out = g.W.Write.contents in
+    second_err c.write_unanswered.result (out c.args.to.now) (out c.write_marks.new.to) (out c.write_unanswered.new.to)
+    (marks_text g.M.AsMark.mark c.args.marks.now) (unanswered_text c.args.unanswered) c.in_ok-write_marks.ensures.ok
+    c.write_unanswered.ensures.err
