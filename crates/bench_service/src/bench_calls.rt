@@ -85,16 +85,15 @@ fn start_and_measure<
     board: Board,
     seat: Seat,
     prepared: Prepared,
-    image: &[u8],
     setup: &Setup,
     supply: Vec<D>,
     gate: Arc<G>,
 ) -> io::Result<()>
     requires board { board ≡ N.table }
     requires seat { IsKeeper N.table seat × (seat.view ≡ opener) }
-    requires opening { N.opening ≡ opening_of image.now setup.now.minor prepared.range }
+    requires opening { N.opening ≡ opening_of N.opening.media setup.now.minor prepared.range }
     requires geometry { N.geometry ≡ sizes_in (contents_at N.opening) }
-    requires prepared { IsPrepared image.now setup.now (map D.state supply.items) prepared.range }
+    requires prepared { IsPrepared N.opening.media setup.now (map D.state supply.items) prepared.range }
     requires contents { prepared.media ≡ opening_media N.opening }
 {
     let Prepared { media, range } = prepared;
@@ -123,16 +122,15 @@ pub fn run<R: Threads + Wait + Copy + Send + Sync + 'static>(
     let Ok(image) = mkfs(alloc, 4096, 4096, 4096, 50) else {
         return say(rt, "no volume");
     };
-    let image = image.as_slice();
-    let supply = drivers_for(alloc, 0, false, table_in(image))?;
+    let supply = drivers_for(alloc, 0, false, table_in(&image))?;
     let setup = setup_for(0);
     let gate = Arc::new(alloc, Paced::new(*rt))?;
-    let prepared = match prepare(alloc, image, &setup, &supply) {
+    let prepared = match prepare(image, &setup, &supply) {
         Ok(prepared) => prepared,
         Err(refusal) => return eprintln!(*rt; "{refusal}"),
     };
     let (board, seat) = Board::new(alloc)?;
     start_and_measure::<Brand, R, _, _>(
-        rt, waits, board, seat, prepared, image, &setup, supply, gate,
+        rt, waits, board, seat, prepared, &setup, supply, gate,
     )
 }

@@ -15,7 +15,7 @@ use std::sync::{Arc, Wait};
 use std::test::Fail;
 use std::thread::Threads;
 use std::time::Clock;
-use tools::play::{Status, play};
+use tools::play::{Image, Status, play};
 
 /// Drivers, each with its fault once so many of a request's sectors were moved, or with none.
 pub type Faults<'f> = &'f [Option<(u32, FaultKind)>];
@@ -114,6 +114,18 @@ fn files<'b>(
     Ok(files)
 }
 
+/// The file of an image, which a play takes over, from its bytes if it can be read.
+fn image_file(alloc: Global, bytes: Option<&[u8]>) -> Result<Image<'static>, AllocError> {
+    let bytes = match bytes {
+        Some(bytes) => Some(Vec::from_slice(alloc, bytes)?),
+        None => None,
+    };
+    Ok(Image {
+        name: "v.img",
+        bytes,
+    })
+}
+
 /// How many bytes writers take.
 #[derive(Clone, Copy)]
 pub struct Room {
@@ -162,10 +174,7 @@ fn play_into<R: Threads + Wait + Copy + Send + Sync + 'static, G: Gate + 'static
     room: Room,
 ) -> Result<(Played, Status), AllocError> {
     let files = files(alloc, scripts)?;
-    let image = File {
-        name: "v.img",
-        bytes: image,
-    };
+    let image = image_file(alloc, image)?;
     let mut out = Sink(Vec::new(alloc), room.most, room.out);
     let mut err = Sink(Vec::new(alloc), room.most, room.err);
     let came = play(

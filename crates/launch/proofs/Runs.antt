@@ -9,15 +9,10 @@ use Rattle.shared_server.specs.Held.{HoldsIfTrue}
 use Rattle.mounting.specs.Laws.{sizes_in}
 use Rattle.mounting.specs.declared.refusal.StartRefusal.{StartRefusal}
 use Rattle.mounting.specs.declared.refusal.StartRefusal.TheVariants.{Media, Partition, NoPartition, Mount, BadSetup, NoDriver, OutOfMemory}
-use Rattle.mounting.specs.Starting.{opening_of, IsPrepared, IsRefused}
+use Rattle.mounting.specs.Starting.{opening_of, IsPrepared}
 use Rattle.reincarnate.specs.declared.policy.Setup.{Setup}
 use Rattle.launch.specs.Stopped.{IsMountedTruly, IsStopped}
 use Rattle.launch.specs.Ran.{HasRun, IsNotStarted}
-
--- the same of the opening that is another's name
-pub stopped_on : {O : Type 0} (v w : Opening) (frames : ℕ) (result : Result O StartRefusal) → v ≡ w → IfErr result (IsStopped v frames)
-    → IfErr result (IsStopped w frames)
-stopped_on v w frames result same h = subst (λ (x : Opening). IfErr result (IsStopped x frames)) same h
 
 -- ---- what was run
 
@@ -43,16 +38,6 @@ has_run image setup supply range v g gives (Ok o) same sizes prepared truth give
 
 -- ---- the start
 
-pub never_prepared : (image : List ℕ) (setup : Setup) (supply : List DriverState) (e : StartRefusal) → IsRefused image setup supply e
-    → IsNotStarted image setup supply e
-never_prepared image setup supply (Media refusal) h = h
-never_prepared image setup supply (Partition refusal) h = h
-never_prepared image setup supply NoPartition h = h
-never_prepared image setup supply (Mount refusal) h = absurd h
-never_prepared image setup supply BadSetup h = h
-never_prepared image setup supply NoDriver h = h
-never_prepared image setup supply OutOfMemory h = h
-
 -- why no service starts where all stands ready
 pub never_started : (image : List ℕ) (setup : Setup) (supply : List DriverState) (range : ℕ × ℕ) (e : StartRefusal)
     → IsPrepared image setup supply range
@@ -64,3 +49,19 @@ never_started image setup supply range (Partition refusal) p h = absurd h
 never_started image setup supply range NoPartition p h = absurd h
 never_started image setup supply range BadSetup p h = absurd h
 never_started image setup supply range NoDriver p h = absurd h
+
+-- ---- media that stand for the image whose bytes they are
+
+-- a program that ran over a service on them ran over one on the image
+pub ran_on : {O : Type 0} (bytes image : List ℕ) (setup : Setup) (supply : List DriverState) (gives : O → Geometry → Opening → Type 0)
+    (result : Result O StartRefusal) → bytes ≡ image → IfOk result (λ o. HasRun bytes setup supply (gives o))
+    → IfOk result (λ o. HasRun image setup supply (gives o))
+ran_on bytes image setup supply gives result same h = subst (λ (b : List ℕ). IfOk result (λ o. HasRun b setup supply (gives o))) same h
+
+-- and one that wasn't started on them wasn't started on the image
+pub not_started_on : {O : Type 0} (bytes image : List ℕ) (setup : Setup) (supply : List DriverState) (range : ℕ × ℕ)
+    (result : Result O StartRefusal) → bytes ≡ image → IsPrepared image setup supply range
+    → IfErr result (IsStopped (opening_of bytes setup.minor range) setup.frames) → IfErr result (IsNotStarted image setup supply)
+not_started_on bytes image setup supply range (Ok o) same p h = tt
+not_started_on bytes image setup supply range (Err e) same p h =
+    never_started image setup supply range e p (subst (λ (b : List ℕ). IsStopped (opening_of b setup.minor range) setup.frames e) same h)

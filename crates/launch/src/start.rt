@@ -120,7 +120,6 @@ fn start_and_run<
     board: Board,
     seat: Seat,
     prepared: Prepared,
-    image: &[u8],
     setup: &Setup,
     supply: Vec<D>,
     gate: Arc<G>,
@@ -128,13 +127,13 @@ fn start_and_run<
 ) -> Result<Result<P::Output, StartRefusal>, AllocError>
     requires board { board ≡ N.table }
     requires seat { IsKeeper N.table seat × (seat.view ≡ opener) }
-    requires opening { N.opening ≡ opening_of image.now setup.now.minor prepared.range }
+    requires opening { N.opening ≡ opening_of N.opening.media setup.now.minor prepared.range }
     requires geometry { N.geometry ≡ sizes_in (contents_at N.opening) }
-    requires prepared { IsPrepared image.now setup.now (map D.state supply.items) prepared.range }
+    requires prepared { IsPrepared N.opening.media setup.now (map D.state supply.items) prepared.range }
     requires contents { prepared.media ≡ opening_media N.opening }
     ensures ran { IfOk result (λ came. IfOk came (λ o.
-        HasRun image.now setup.now (map D.state supply.items) (λ g opening. P.gives program g opening o))) }
-    ensures refused { IfOk result (λ came. IfErr came (IsStopped (opening_of image.now setup.now.minor prepared.range) setup.now.frames)) }
+        HasRun N.opening.media setup.now (map D.state supply.items) (λ g opening. P.gives program g opening o))) }
+    ensures refused { IfOk result (λ came. IfErr came (IsStopped N.opening setup.now.frames)) }
 {
     let Prepared { media, range } = prepared;
     let asked = Arc::try_clone(&gate)?;
@@ -167,8 +166,8 @@ fn start_and_run<
 /// does. The first driver is started at the gate's first tick.
 ///
 /// It is refused as `prepare` is, which is looked at first; `Mount` as a mount is, by the volume as the drivers give it, or since the
-/// device was given up or the link to the drivers ended before all of it was read; and `OutOfMemory` also where a thread is refused. Then
-/// nothing runs.
+/// device was given up or the link to the drivers ended before all of it was read; and `OutOfMemory`, also where a thread is refused. Then
+/// nothing runs, and the image's bytes are let go.
 pub fn serve<
     R: Threads + Wait + Copy + Send + Sync + 'static,
     D: BlockDriver + 'static,
@@ -177,18 +176,18 @@ pub fn serve<
 >(
     alloc: Global,
     rt: R,
-    image: &[u8],
+    image: Vec<u8>,
     setup: &Setup,
     supply: Vec<D>,
     gate: Arc<G>,
     program: P,
 ) -> Result<P::Output, StartRefusal>
-    ensures refusal { IfErr result (IsNotStarted image.now setup.now (map D.state supply.items)) }
-    ensures ran { IfOk result (λ o. HasRun image.now setup.now (map D.state supply.items) (λ g opening. P.gives program g opening o)) }
+    ensures refusal { IfErr result (IsNotStarted image.items setup.now (map D.state supply.items)) }
+    ensures ran { IfOk result (λ o. HasRun image.items setup.now (map D.state supply.items) (λ g opening. P.gives program g opening o)) }
 {
-    let prepared = prepare(alloc, image, setup, &supply)?;
+    let prepared = prepare(image, setup, &supply)?;
     let (board, seat) = Board::new(alloc)?;
     start_and_run::<Brand, R, D, G, P>(
-        alloc, rt, board, seat, prepared, image, setup, supply, gate, program,
+        alloc, rt, board, seat, prepared, setup, supply, gate, program,
     )?
 }

@@ -13,7 +13,7 @@ use std::process::ExitCode;
 use std::rt::Files;
 use std::sync::{Arc, Wait};
 use std::thread::Threads;
-use tools::play::{finish, play};
+use tools::play::{Image, finish, play};
 
 /// A file of this name, with its bytes if it could be read.
 fn file<'n, 'b>(name: &'n str, bytes: &'b Option<Vec<u8>>) -> File<'n, 'b> {
@@ -63,11 +63,15 @@ fn play_files<W: Threads + Wait + Copy + Send + Sync + 'static>(
     let supply = drivers_for(alloc, words.spares, words.model, table)?;
     let setup = setup_for(words.minor);
     let gate = Arc::new(alloc, Paced::new(rt))?;
+    let image = Image {
+        name: words.image,
+        bytes: image,
+    };
     let (mut out, mut err) = (io::writer(&rt), rt.stderr());
     let played = play(
         alloc,
         waits,
-        file(words.image, &image),
+        image,
         scripts.as_slice(),
         &setup,
         supply,

@@ -78,7 +78,7 @@ fn mount_file<W: Threads + Wait + Copy + Send + Sync + 'static>(
         alloc,
         waits,
         words.image,
-        image.as_deref(),
+        image,
         &setup,
         supply,
         gate,

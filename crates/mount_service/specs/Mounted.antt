@@ -1,6 +1,7 @@
 -- What mounting the volume of an image comes to.
 use Rattle.std.specs.Prelude.{⊤, ◌≡◌, ℕ, List, Option, Some, None, Result, Ok, Err}
 use Rattle.std.specs.Borrow.{Bor}
+use Rattle.std.specs.Global.{Vec}
 use Rattle.bdev.specs.DriverState.{DriverState}
 use Rattle.reincarnate.specs.declared.policy.Setup.{Setup}
 use Rattle.shared_server.specs.declared.locked.LastSync.{LastSync}
@@ -15,19 +16,19 @@ use Rattle.mount_service.specs.declared.mount.MountRefusal.{MountRefusal}
 use Rattle.mount_service.specs.declared.mount.MountRefusal.TheVariants as no
 
 -- A service started on the volume in the image, answered the messages of a stream, all of it where it says so, and left an image.
-pub record IsMounted {A : Type 0} (puts : Puts A) (image : Option (Bor (List ℕ))) (setup : Setup) (supply : List DriverState)
+pub record IsMounted {A : Type 0} (puts : Puts A) (image : Option (Vec ℕ)) (setup : Setup) (supply : List DriverState)
     (stream old new : Option (List ℕ)) (before after : Option A) (answered : Result (Unit {0}) StreamRefusal) (left : List ℕ) : Type 0 where
-  pub bytes : Bor (List ℕ)
+  pub bytes : Vec ℕ
   pub read : image ≡ Some bytes
-  pub ran : HasRun bytes.now setup supply (λ g v. IsLeftBy puts g v stream old new before after answered left)
+  pub ran : HasRun bytes.items setup supply (λ g v. IsLeftBy puts g v stream old new before after answered left)
 
 -- why no service answered, or none left an image, in the order in which faults are looked for
-abbrev pub IsUnmounted : Option (Bor (List ℕ)) → Bor (List ℕ) → Setup → List DriverState → MountRefusal → Type 0
+abbrev pub IsUnmounted : Option (Vec ℕ) → Bor (List ℕ) → Setup → List DriverState → MountRefusal → Type 0
 IsUnmounted image name setup supply (no.CannotRead it) = (image ≡ None) × (it ≡ name)
 IsUnmounted image name setup supply (no.Start refusal) =
-    (bytes : Bor (List ℕ)) × (image ≡ Some bytes) × IsNotStarted bytes.now setup supply refusal
+    (bytes : Vec ℕ) × (image ≡ Some bytes) × IsNotStarted bytes.items setup supply refusal
 IsUnmounted image name setup supply (no.NoImage refusal) =
-    (bytes : Bor (List ℕ)) × (image ≡ Some bytes) × HasRun bytes.now setup supply (λ g v. ⊤)
+    (bytes : Vec ℕ) × (image ≡ Some bytes) × HasRun bytes.items setup supply (λ g v. ⊤)
 IsUnmounted image name setup supply (no.Stream refusal) = ⊥
 IsUnmounted image name setup supply no.GivenUp = ⊥
 IsUnmounted image name setup supply no.Cut = ⊥

@@ -89,7 +89,7 @@ impl fmt::Display for MountRefusal<'_> {
 }
 
 /// Starts a service on the volume of an image, whose threads ask this gate, answers messages by its sessions until their stream ends, and
-/// stops it. The image's bytes are none where its file of this name couldn't be read.
+/// stops it. The image's bytes are none where its file of this name couldn't be read; they become the media.
 ///
 /// Where no service starts, where messages are answered no further, where the device was given up, where the last sync was cut, or where no
 /// image is left, a line on `err` says so. But in the first case and the last the image is left all the same.
@@ -106,19 +106,19 @@ pub fn mount<
     alloc: Global,
     rt: R,
     name: &str,
-    image: Option<&[u8]>,
+    image: Option<Vec<u8>>,
     setup: &Setup,
     supply: Vec<D>,
     gate: Arc<G>,
     streams: Streams<I, O, C, A>,
     err: &mut E,
 ) -> Ended<I, O, C, A>
-    ensures mounted { IfSome result.came (λ came. IsMounted A.puts image.entry setup.now (map D.state supply.items)
+    ensures mounted { IfSome result.came (λ came. IsMounted A.puts image setup.now (map D.state supply.items)
         (I.Read.remaining streams.input) (O.contents streams.output) (O.contents came.streams.output) streams.archive came.streams.archive
         came.answered came.image.items) }
     ensures status { IfSome result.came (λ came. IsStatus came.answered came.last_sync result.status) }
     ensures unmounted { IfNone result.came ((refusal : MountRefusal)
-        × IsUnmounted image.entry name.entry setup.now (map D.state supply.items) refusal) }
+        × IsUnmounted image name.entry setup.now (map D.state supply.items) refusal) }
     ensures refused { IfNone result.came (IsRefused result.status) }
 {
     match run(alloc, rt, name, image, setup, supply, gate, streams) {
@@ -165,15 +165,15 @@ fn run<
     alloc: Global,
     rt: R,
     name: &'n str,
-    image: Option<&[u8]>,
+    image: Option<Vec<u8>>,
     setup: &Setup,
     supply: Vec<D>,
     gate: Arc<G>,
     streams: Streams<I, O, C, A>,
 ) -> Result<Came<I, O, C, A>, MountRefusal<'n>>
-    ensures mounted { IfOk result (λ came. IsMounted A.puts image.entry setup.now (map D.state supply.items) (I.Read.remaining streams.input)
+    ensures mounted { IfOk result (λ came. IsMounted A.puts image setup.now (map D.state supply.items) (I.Read.remaining streams.input)
         (O.contents streams.output) (O.contents came.streams.output) streams.archive came.streams.archive came.answered came.image.items) }
-    ensures unmounted { IfErr result (IsUnmounted image.entry name.entry setup.now (map D.state supply.items)) }
+    ensures unmounted { IfErr result (IsUnmounted image name.entry setup.now (map D.state supply.items)) }
 {
     let Some(bytes) = image else {
         return Err(MountRefusal::CannotRead(name));

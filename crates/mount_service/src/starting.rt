@@ -102,7 +102,6 @@ fn start_and_answer<
     board: Board,
     seat: Seat,
     prepared: Prepared,
-    image: &[u8],
     setup: &Setup,
     supply: Vec<D>,
     gate: Arc<G>,
@@ -110,14 +109,14 @@ fn start_and_answer<
 ) -> Result<Result<Came<I, O, C, A>, NoImage>, StartRefusal>
     requires board { board ≡ N.table }
     requires seat { IsKeeper N.table seat × (seat.view ≡ opener) }
-    requires opening { N.opening ≡ opening_of image.now setup.now.minor prepared.range }
+    requires opening { N.opening ≡ opening_of N.opening.media setup.now.minor prepared.range }
     requires geometry { N.geometry ≡ sizes_in (contents_at N.opening) }
-    requires prepared { IsPrepared image.now setup.now (map D.state supply.items) prepared.range }
+    requires prepared { IsPrepared N.opening.media setup.now (map D.state supply.items) prepared.range }
     requires contents { prepared.media ≡ opening_media N.opening }
-    ensures played { IfOk result (λ o. HasRun image.now setup.now (map D.state supply.items) (λ g v. IfOk o (λ came.
+    ensures played { IfOk result (λ o. HasRun N.opening.media setup.now (map D.state supply.items) (λ g v. IfOk o (λ came.
         IsLeftBy A.puts g v (I.Read.remaining streams.input) (O.contents streams.output)
         (O.contents came.streams.output) streams.archive came.streams.archive came.answered came.image.items))) }
-    ensures refused { IfErr result (IsStopped (opening_of image.now setup.now.minor prepared.range) setup.now.frames) }
+    ensures refused { IfErr result (IsStopped N.opening setup.now.frames) }
 {
     let Prepared { media, range } = prepared;
     let asked = Arc::try_clone(&gate)?;
@@ -160,20 +159,20 @@ pub fn answer_messages<
 >(
     alloc: Global,
     rt: R,
-    image: &[u8],
+    image: Vec<u8>,
     setup: &Setup,
     supply: Vec<D>,
     gate: Arc<G>,
     streams: Streams<I, O, C, A>,
 ) -> Result<Result<Came<I, O, C, A>, NoImage>, StartRefusal>
-    ensures refusal { IfErr result (IsNotStarted image.now setup.now (map D.state supply.items)) }
-    ensures played { IfOk result (λ o. HasRun image.now setup.now (map D.state supply.items) (λ g v. IfOk o (λ came.
+    ensures refusal { IfErr result (IsNotStarted image.items setup.now (map D.state supply.items)) }
+    ensures played { IfOk result (λ o. HasRun image.items setup.now (map D.state supply.items) (λ g v. IfOk o (λ came.
         IsLeftBy A.puts g v (I.Read.remaining streams.input) (O.contents streams.output)
         (O.contents came.streams.output) streams.archive came.streams.archive came.answered came.image.items))) }
 {
-    let prepared = prepare(alloc, image, setup, &supply)?;
+    let prepared = prepare(image, setup, &supply)?;
     let (board, seat) = Board::new(alloc)?;
     start_and_answer::<Brand, R, D, G, I, O, C, A>(
-        alloc, rt, board, seat, prepared, image, setup, supply, gate, streams,
+        alloc, rt, board, seat, prepared, setup, supply, gate, streams,
     )
 }

@@ -3,7 +3,7 @@
 ghost use Rattle.std.specs.Prelude.{◌≡◌, ◌≢◌, ◌↔◌, ◌/◌, ◌+◌, ◌^◌, ◌<◌, ◌≤◌, [], IfErr, IfOk, OnOk, IsTrue, None, Some, Ok, Err, All};
 ghost use Rattle.std.specs.Prelude.{length, map};
 ghost use Rattle.std.specs.Bool.{OnTrue};
-ghost use Rattle.std.specs.List.{list_all};
+ghost use Rattle.std.specs.List.{concat, list_all};
 ghost use Rattle.media.specs.Contents.{sectors_of};
 ghost use Rattle.bdev.specs.Promises.{IsDriver};
 ghost use Rattle.inline.specs.Inline.{IsReady};
@@ -14,9 +14,8 @@ ghost use Rattle.mounting.specs.Starting.{IsWellSetUp, IsPrepared, IsRefused};
 use crate::refusal::StartRefusal;
 use inline::local::LocalDriver;
 use media::partition::volume_place;
-use media::{Media, MediaRefusal, SECTOR};
+use media::Media;
 use reincarnate::policy::Setup;
-use std::alloc::Global;
 
 /// What a server starts on: media on which no driver was started, and where the volume lies on them.
 #[derive(Drop)]
@@ -29,15 +28,15 @@ pub struct Prepared {
 
 /// The media that hold an image.
 #[tactic(auto, using(crate::proofs::Starts::many_sectors))]
-fn media_of(alloc: Global, image: &[u8]) -> Result<Media, StartRefusal>
-    ensures refusal { IfErr result (λ e. e ≢ StartRefusal.OutOfMemory → why_no_media image.now ≡ Some e) }
-    ensures exact { (e : StartRefusal) → why_no_media image.now ≡ Some e → result ≡ Err e }
-    ensures ok { IfOk result (λ m. (why_no_media image.now ≡ None) × (m ≡ record { sectors = sectors_of image.now; generation = 0 })) }
-    ensures sectors { IfOk result (λ m. length m.sectors ≡ length image.now / 512) }
+fn media_of(image: Vec<u8>) -> Result<Media, StartRefusal>
+    ensures refusal { IfErr result (λ e. why_no_media image.items ≡ Some e) }
+    ensures exact { (e : StartRefusal) → why_no_media image.items ≡ Some e → result ≡ Err e }
+    ensures ok { IfOk result (λ m. (why_no_media image.items ≡ None) × (m ≡ record { sectors = sectors_of image.items; generation = 0 })) }
+    ensures bytes { IfOk result (λ m. concat m.sectors ≡ image.items) }
+    ensures sectors { IfOk result (λ m. length m.sectors ≡ length image.items / 512) }
 {
-    match Media::from_bytes(alloc, image) {
+    match Media::from_vec(image) {
         Ok(media) => Ok(media),
-        Err(MediaRefusal::OutOfMemory) => Err(StartRefusal::OutOfMemory),
         Err(refusal) => Err(StartRefusal::Media(refusal)),
     }
 }
@@ -99,28 +98,27 @@ pub fn check_setup<D: LocalDriver>(
 }
 
 /// What a server needs to start on an image with drivers that stand ready: the media, and where the volume of the setup's minor
-/// lies on them.
+/// lies on them. The image's bytes become the media: none is copied, and no memory is taken.
 ///
 /// It is refused where the image makes no media; where there is no such partition; where a number of the setup isn't in its
-/// range, or a driver isn't ready for the volume's sectors; and where there is no driver. The first of these that holds is answered. Where
-/// the image makes media, it may also be refused for want of memory, whatever else holds. Nothing else of the image is looked at: the
-/// volume in it is read, and checked, through the drivers.
+/// range, or a driver isn't ready for the volume's sectors; and where there is no driver. The first of these that holds is answered. A
+/// refusal lets the image's bytes go. Nothing else of the image is looked at: the volume in it is read, and checked, through the drivers.
 pub fn prepare<D: LocalDriver>(
-    alloc: Global,
-    image: &[u8],
+    image: Vec<u8>,
     setup: &Setup,
     supply: &[D],
 ) -> Result<Prepared, StartRefusal>
-    ensures refusal { IfErr result (IsRefused image.now setup.now (map D.state supply.now)) }
-    ensures media { (e : StartRefusal) → why_no_media image.now ≡ Some e → result ≡ Err e }
-    ensures ok { IfOk result (λ p. IsPrepared image.now setup.now (map D.state supply.now) p.range) }
-    ensures contents { IfOk result (λ p. p.media ≡ opening_media (opening_of image.now setup.now.minor p.range)) }
-    ensures ready { IfOk result (λ p. All (IsReady (opening_of image.now setup.now.minor p.range)) (map D.state supply.now)) }
-    ensures on_media { IfOk result (λ p. IsOnMedia (opening_of image.now setup.now.minor p.range)) }
+    ensures refusal { IfErr result (IsRefused image.items setup.now (map D.state supply.now)) }
+    ensures media { (e : StartRefusal) → why_no_media image.items ≡ Some e → result ≡ Err e }
+    ensures never { result ≢ Err StartRefusal.OutOfMemory }
+    ensures ok { IfOk result (λ p. IsPrepared image.items setup.now (map D.state supply.now) p.range) }
+    ensures contents { IfOk result (λ p. p.media ≡ opening_media (opening_of image.items setup.now.minor p.range)) }
+    ensures bytes { IfOk result (λ p. concat p.media.sectors ≡ image.items) }
+    ensures ready { IfOk result (λ p. All (IsReady (opening_of image.items setup.now.minor p.range)) (map D.state supply.now)) }
+    ensures on_media { IfOk result (λ p. IsOnMedia (opening_of image.items setup.now.minor p.range)) }
 {
-    let media = media_of(alloc, image)?;
-    let (sectors, _) = image.as_chunks::<SECTOR>();
-    let range = place_in(sectors, setup.minor)?;
+    let media = media_of(image)?;
+    let range = place_in(media.as_sectors(), setup.minor)?;
     check_setup(setup, range, supply)?;
     Ok(Prepared { media, range })
 }

@@ -185,8 +185,8 @@ type Started = Result<Option<Vec<Outcome>>, StartRefusal>;
 /// How long a tick is, in milliseconds.
 const PACE: u64 = 5;
 
-/// Starts a service on an image, over six drivers and a gate that were made before the order: which of its requests is refused, or 0 for
-/// none.
+/// Starts a service on an image, of which there is a copy, over six drivers and a gate that were made before the order: which of its
+/// requests is refused, or 0 for none.
 fn started<R: Threads + Wait + Clock + Copy + Send + Sync + 'static>(
     alloc: Global,
     rt: R,
@@ -197,6 +197,7 @@ fn started<R: Threads + Wait + Clock + Copy + Send + Sync + 'static>(
 ) -> Result<(Started, bool), AllocError> {
     let supply = drivers_for(alloc, 5, false, table_in(image))?;
     let gate = Arc::new(alloc, Ticking::new(rt, PACE))?;
+    let image = Vec::from_slice(alloc, image)?;
     let setup = patient();
     if request > 0 {
         refuse(alloc, number, request);

@@ -15,7 +15,7 @@ use std::sync::{Arc, Wait};
 use std::test::Fail;
 use std::thread::Threads;
 use std::time::Clock;
-use tools::play::play;
+use tools::play::{Image, play};
 use volume_tools::make::{Wanted, make};
 use volume_tools::verify::verify;
 
@@ -74,9 +74,9 @@ pub(crate) fn play_script<
     err: &mut E,
 ) -> Result<(u8, Option<Vec<u8>>), AllocError> {
     let supply = drivers_for(alloc, 5, false, table_in(image))?;
-    let image = script_files::File {
+    let image = Image {
         name: "v.img",
-        bytes: Some(image),
+        bytes: Some(Vec::from_slice(alloc, image)?),
     };
     let scripts = [script_files::File {
         name: "s.txt",

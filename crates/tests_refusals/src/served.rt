@@ -1,4 +1,4 @@
-//! Sessions that are asked for where memory is refused.
+//! Sessions that are asked for where memory is refused, and a service that is stopped where none is granted.
 
 use crate::orders::{refuse, was_refused};
 use board::counting::recorder::Recorder;
@@ -52,9 +52,48 @@ fn sessions_that_are_asked_for(rt: HostRuntime) -> Result<(), Fail> {
     let image = new_volume(alloc, 1024)?;
     let supply = drivers_for(alloc, 0, false, table_in(&image))?;
     let gate = Arc::new(alloc, Ticking::new(rt, 5))?;
-    match serve(alloc, rt, &image, &patient(), supply, gate, Asks(alloc)) {
+    match serve(alloc, rt, image, &patient(), supply, gate, Asks(alloc)) {
         Ok(true) => Ok(()),
         Ok(false) => Err(Fail::from("a session")),
+        Err(_) => Err(Fail::from("not served")),
+    }
+}
+
+/// Stops the service while no request is granted.
+#[derive(Drop)]
+struct Stops(Global);
+
+impl<R: Threads + Wait + Copy + Send + Sync + 'static> Program<R> for Stops {
+    /// The image; none where the stop was refused.
+    type Output = Option<Vec<u8>>;
+
+    ghost gives = { λ program geometry opening output. Unit {0} };
+
+    fn run<N: Room, L: Recorder<N>, S: FileServer<L>>(
+        self,
+        service: Service<N, R, L, S>,
+    ) -> Option<Vec<u8>>
+        ensures { Unit {0} }
+    {
+        refuse(self.0, 26, 0);
+        let stopped = service.stop(self.0);
+        was_refused(self.0);
+        stopped.ok()
+    }
+}
+
+/// A stop takes no memory for the image: it leaves what was handed in, since no call was made.
+#[test]
+fn a_service_that_is_stopped(rt: HostRuntime) -> Result<(), Fail> {
+    let alloc = rt.alloc();
+    let image = new_volume(alloc, 1024)?;
+    let handed = Vec::from_slice(alloc, &image)?;
+    let supply = drivers_for(alloc, 0, false, table_in(&image))?;
+    let gate = Arc::new(alloc, Ticking::new(rt, 5))?;
+    match serve(alloc, rt, handed, &patient(), supply, gate, Stops(alloc)) {
+        Ok(Some(left)) if left.as_slice() == image.as_slice() => Ok(()),
+        Ok(Some(_)) => Err(Fail::from("another image")),
+        Ok(None) => Err(Fail::from("not stopped")),
         Err(_) => Err(Fail::from("not served")),
     }
 }

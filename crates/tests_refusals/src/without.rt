@@ -224,6 +224,7 @@ fn outcomes<R: Threads + Wait + Clock + Copy + Send + Sync + 'static>(
         without,
     };
     let gate = Arc::new(alloc, Ticking::new(rt, PACE))?;
+    let image = Vec::from_slice(alloc, image)?;
     match serve(alloc, rt, image, &patient(), supply, gate, program) {
         Ok(Some(outcomes)) => Ok(outcomes),
         Ok(None) => Err(Fail::from("memory is left, or none at first")),

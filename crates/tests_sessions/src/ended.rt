@@ -88,7 +88,7 @@ fn asked_of<R: Threads + Wait + Copy + Send + Sync + 'static>(
         frames: 16,
         policy: Policy::default(),
     };
-    let Ok(prepared) = prepare(alloc, image, &setup, &supply) else {
+    let Ok(prepared) = prepare(Vec::from_slice(alloc, image)?, &setup, &supply) else {
         return Ok(None);
     };
     let Ok(reincarnation) = Reincarnation::new(alloc, Policy::default(), supply) else {

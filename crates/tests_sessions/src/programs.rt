@@ -82,6 +82,7 @@ pub(crate) fn served<R: Threads + Wait + Copy + Send + Sync + 'static>(
         what,
         gate: Arc::try_clone(&gate)?,
     };
+    let image = Vec::from_slice(alloc, image)?;
     match serve(alloc, rt, image, &patient(), supply, gate, does) {
         Ok(came) => Ok(came),
         Err(_) => Ok(None),

@@ -147,7 +147,6 @@ fn start_and_do<
     board: Board,
     seat: Seat,
     prepared: Prepared,
-    image: &[u8],
     setup: &Setup,
     supply: Vec<Noting<R>>,
     watch: &Arc<Watch<R>>,
@@ -156,9 +155,9 @@ fn start_and_do<
 ) -> Result<(Came, Vec<u8>), Fail>
     requires board { board ≡ N.table }
     requires seat { IsKeeper N.table seat × (seat.view ≡ opener) }
-    requires opening { N.opening ≡ opening_of image.now setup.now.minor prepared.range }
+    requires opening { N.opening ≡ opening_of N.opening.media setup.now.minor prepared.range }
     requires geometry { N.geometry ≡ sizes_in (contents_at N.opening) }
-    requires prepared { IsPrepared image.now setup.now (map ⟦<Noting<R> as BlockDriver>⟧.state supply.items) prepared.range }
+    requires prepared { IsPrepared N.opening.media setup.now (map ⟦<Noting<R> as BlockDriver>⟧.state supply.items) prepared.range }
     requires contents { prepared.media ≡ opening_media N.opening }
 {
     let Prepared { media, range } = prepared;
@@ -188,12 +187,12 @@ pub(crate) fn at_once<R: Threads + Wait + Abort + Clock + Copy + Send + Sync + '
     what: What,
 ) -> Result<(Came, Vec<u8>), Fail> {
     let setup = patient();
-    let Ok(prepared) = prepare(alloc, image, &setup, &supply) else {
+    let Ok(prepared) = prepare(Vec::from_slice(alloc, image)?, &setup, &supply) else {
         return Err(Fail::from("not prepared"));
     };
     let (board, seat) = Board::new(alloc)?;
     let came = start_and_do::<Brand, R>(
-        alloc, rt, board, seat, prepared, image, &setup, supply, watch, notes, what,
+        alloc, rt, board, seat, prepared, &setup, supply, watch, notes, what,
     )?;
     if watch.is_in_time() {
         return Ok(came);

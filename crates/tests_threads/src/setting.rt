@@ -40,6 +40,7 @@ pub(crate) fn served<
     program: P,
 ) -> Result<P::Output, Fail> {
     let asked = Arc::try_clone(gate)?;
+    let image = Vec::from_slice(alloc, image)?;
     match serve(alloc, rt, image, &patient(), supply, asked, program) {
         Ok(came) if gate.is_in_time() => Ok(came),
         Ok(_) => Err(Fail::from("a thread was held for too long")),

@@ -1,6 +1,7 @@
 -- What playing scripts comes to.
 use Rattle.std.specs.Prelude.{◌≡◌, ◌⊎◌, ℕ, List, Bool, true, false, ◌||◌, codes, Option, Some, None}
 use Rattle.std.specs.Borrow.{Bor}
+use Rattle.std.specs.Global.{Vec}
 use Rattle.std.specs.List.{list_any}
 use Rattle.layout.specs.declared.Geometry.{Geometry}
 use Rattle.bdev.specs.DriverState.{DriverState}
@@ -20,19 +21,20 @@ use Rattle.tools.specs.Made.{has_eio}
 use Rattle.tools.specs.Served.{AreServed, IsUnserved, service_text}
 use Rattle.tools.specs.Status.{is_given_up}
 use Rattle.shared_server.specs.declared.locked.LastSync.{LastSync}
+use Rattle.tools.specs.declared.play.Image.{Image}
 use Rattle.tools.specs.declared.play.PlayRefusal.{PlayRefusal}
 use Rattle.tools.specs.declared.play.PlayRefusal.TheVariants.{Files, Start, Service, OutOfMemory, NotWritten}
 
 -- a service starts on the volume of these sizes, which lies in this range of the image
-pub record IsStarted (image : File) (setup : Setup) (supply : List DriverState) (bytes : Bor (List ℕ)) (g : Geometry)
+pub record IsStarted (image : Image) (setup : Setup) (supply : List DriverState) (bytes : Vec ℕ) (g : Geometry)
     (range : ℕ × ℕ) : Type 0 where
   pub read : image.bytes ≡ Some bytes
-  pub startable : IsStartable bytes.now setup supply g range
+  pub startable : IsStartable bytes.items setup supply g range
 
 -- a service starts on some volume in the image
-abbrev pub IsStartedFor : File → Setup → List DriverState → Type 0
+abbrev pub IsStartedFor : Image → Setup → List DriverState → Type 0
 IsStartedFor image setup supply =
-    (bytes : Bor (List ℕ)) × (g : Geometry) × (range : ℕ × ℕ) × IsStarted image setup supply bytes g range
+    (bytes : Vec ℕ) × (g : Geometry) × (range : ℕ × ℕ) × IsStarted image setup supply bytes g range
 
 -- whether the device was given up: some call was answered EIO, or the last sync was
 abbrev pub gave_up : List Played → LastSync → Bool
@@ -40,29 +42,29 @@ gave_up played last = list_any has_eio played || is_given_up last
 
 -- The files' scripts were played on the volume in the image, for which a service starts, each in a session of its own; then the service was
 -- stopped, which left this image. A call was cut only once the link to the drivers had received 2^40 messages, and so the last sync.
-pub record IsPlayed (image : File) (scripts : List File) (setup : Setup) (supply : List DriverState) (played : List Played) (gave : Bool)
+pub record IsPlayed (image : Image) (scripts : List File) (setup : Setup) (supply : List DriverState) (played : List Played) (gave : Bool)
     (left : List ℕ) : Type 0 where
-  pub bytes : Bor (List ℕ)
+  pub bytes : Vec ℕ
   pub sizes : Geometry
   pub range : ℕ × ℕ
   pub started : IsStarted image setup supply bytes sizes range
   pub calls : List (ℕ × ℕ × List TimedCall)
   pub scripted : files.AreScripts scripts calls
   pub last : LastSync
-  pub served : AreServed IsSpent sizes (opening_of bytes.now setup.minor range) calls played last left
+  pub served : AreServed IsSpent sizes (opening_of bytes.items setup.minor range) calls played last left
   pub given_up : gave ≡ gave_up played last
 
 -- why files aren't read: the image's, or else those of the scripts
-abbrev pub AreUnread : Option (Bor (List ℕ)) → Bor (List ℕ) → List File → FileRefusal → Type 0
+abbrev pub AreUnread : Option (Vec ℕ) → Bor (List ℕ) → List File → FileRefusal → Type 0
 AreUnread None name scripts refusal = refusal ≡ CannotRead name
 AreUnread (Some bytes) name scripts refusal = files.IsRefused scripts refusal
 
 -- why nothing is told of what came of scripts, in the order in which faults are looked for; where the service is refused calls may have
 -- been made
-abbrev pub IsUnplayed : File → List File → Setup → List DriverState → PlayRefusal → Type 0
+abbrev pub IsUnplayed : Image → List File → Setup → List DriverState → PlayRefusal → Type 0
 IsUnplayed image scripts setup supply (Files refusal) = AreUnread image.bytes image.name scripts refusal
 IsUnplayed image scripts setup supply (Start refusal) =
-    ((bytes : Bor (List ℕ)) × (image.bytes ≡ Some bytes) × IsNotStarted bytes.now setup supply refusal)
+    ((bytes : Vec ℕ) × (image.bytes ≡ Some bytes) × IsNotStarted bytes.items setup supply refusal)
     × ((calls : List (ℕ × ℕ × List TimedCall)) × files.AreScripts scripts calls)
 IsUnplayed image scripts setup supply (Service refusal) =
     IsStartedFor image setup supply × ((calls : List (ℕ × ℕ × List TimedCall)) × files.AreScripts scripts calls)
@@ -71,7 +73,7 @@ IsUnplayed image scripts setup supply OutOfMemory = ⊥
 IsUnplayed image scripts setup supply NotWritten = ⊥
 
 -- the scripts were played, of the text of their sessions this went out, and this image was left
-abbrev pub IsShown : File → List File → Setup → List DriverState → Bool → (List ℕ → Type 0) → Option (List ℕ) → Type 0
+abbrev pub IsShown : Image → List File → Setup → List DriverState → Bool → (List ℕ → Type 0) → Option (List ℕ) → Type 0
 IsShown image scripts setup supply gave WentOut left =
     (played : List Played) × (bytes : List ℕ) × IsPlayed image scripts setup supply played gave bytes × WentOut (sessions_text played)
     × (left ≡ Some bytes)
@@ -84,7 +86,7 @@ is_of_output _ = false
 
 -- nothing went out, and no image was left: nothing was played, or memory ended once calls were made; or the scripts were played, a part of
 -- their sessions' text went out, and the image was left
-abbrev pub IsCutShort : File → List File → Setup → List DriverState → PlayRefusal → Type 0 → (List ℕ → Type 0) → Option (List ℕ) → Type 0
+abbrev pub IsCutShort : Image → List File → Setup → List DriverState → PlayRefusal → Type 0 → (List ℕ → Type 0) → Option (List ℕ) → Type 0
 IsCutShort image scripts setup supply refusal Nothing Part left =
     (Nothing × (left ≡ None) × IsUnplayed image scripts setup supply refusal)
     ⊎ ((is_of_output refusal ≡ true) × ((gave : Bool) × IsShown image scripts setup supply gave Part left))

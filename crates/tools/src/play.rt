@@ -31,6 +31,15 @@ use std::sync::{Arc, Wait};
 use std::thread::Threads;
 use volume_tools::make;
 
+/// The file of an image, and its bytes if it could be read.
+#[derive(Drop)]
+pub struct Image<'n> {
+    /// The name as it was given.
+    pub name: &'n str,
+    /// All its bytes; none where it couldn't be read.
+    pub bytes: Option<Vec<u8>>,
+}
+
 /// How a play ended.
 #[derive(Clone, Copy, Debug, PartialEq, Eq)]
 pub enum Status {
@@ -96,7 +105,7 @@ impl fmt::Display for PlayRefusal<'_> {
 
 /// Plays scripts at one time, each in a session and a thread of its own, on a service on the volume in an image, whose threads ask this
 /// gate; stops the service, and writes the answers on `out`, in the order of the scripts: for each script a line with its session's number,
-/// as `session 0`, and then a line for each call.
+/// as `session 0`, and then a line for each call. The image's bytes become the media, and these the image that is left.
 ///
 /// Faults are looked for in this order: reading the image, reading the scripts in their order, their lines file by file, more than 64
 /// scripts, the start of the service, its sessions, the image. For the first of them a line goes to `err`, nothing goes out, and no image
@@ -111,7 +120,7 @@ pub fn play<
 >(
     alloc: Global,
     rt: R,
-    image: File<'_, '_>,
+    image: Image<'_>,
     scripts: &[File<'_, '_>],
     setup: &Setup,
     supply: Vec<D>,
@@ -169,7 +178,7 @@ fn run<
 >(
     alloc: Global,
     rt: R,
-    image: File<'n, '_>,
+    image: Image<'n>,
     scripts: &[File<'n, '_>],
     setup: &Setup,
     supply: Vec<D>,
@@ -193,14 +202,15 @@ fn run<
 /// The bytes of the image, and the scripts that the files hold.
 fn read<'n, 'b>(
     alloc: Global,
-    image: File<'n, 'b>,
+    image: Image<'n>,
     scripts: &[File<'n, 'b>],
-) -> Result<(&'b [u8], Vec<Script<'b>>), FileRefusal<'n>>
+) -> Result<(Vec<u8>, Vec<Script<'b>>), FileRefusal<'n>>
     ensures ok { IfOk result (λ read. (image.entry.bytes ≡ Some read.0) × AreScripts scripts.now (map said read.1.items)) }
     ensures err { IfErr result (AreUnread image.entry.bytes image.entry.name scripts.now) }
 {
-    let Some(bytes) = image.bytes else {
-        return Err(FileRefusal::CannotRead(image.name));
+    let Image { name, bytes } = image;
+    let Some(bytes) = bytes else {
+        return Err(FileRefusal::CannotRead(name));
     };
     match read_scripts(alloc, scripts) {
         Ok(scripts) => Ok((bytes, scripts)),

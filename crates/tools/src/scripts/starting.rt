@@ -96,7 +96,6 @@ fn start_and_play<
     board: Board,
     seat: Seat,
     prepared: Prepared,
-    image: &[u8],
     setup: &Setup,
     supply: Vec<D>,
     gate: Arc<G>,
@@ -104,14 +103,14 @@ fn start_and_play<
 ) -> Result<Result<Came, ServiceRefusal>, StartRefusal>
     requires board { board ≡ N.table }
     requires seat { IsKeeper N.table seat × (seat.view ≡ opener) }
-    requires opening { N.opening ≡ opening_of image.now setup.now.minor prepared.range }
+    requires opening { N.opening ≡ opening_of N.opening.media setup.now.minor prepared.range }
     requires geometry { N.geometry ≡ sizes_in (contents_at N.opening) }
-    requires prepared { IsPrepared image.now setup.now (map D.state supply.items) prepared.range }
+    requires prepared { IsPrepared N.opening.media setup.now (map D.state supply.items) prepared.range }
     requires contents { prepared.media ≡ opening_media N.opening }
-    ensures played { IfOk result (λ o. HasRun image.now setup.now (map D.state supply.items) (λ g v. IfOk o (λ came.
+    ensures played { IfOk result (λ o. HasRun N.opening.media setup.now (map D.state supply.items) (λ g v. IfOk o (λ came.
         AreServed IsSpent g v (map said scripts.now) came.sessions.items came.last_sync came.image.items))) }
     ensures unserved { IfOk result (λ o. IfErr o (IsUnserved IsSpent)) }
-    ensures refused { IfErr result (IsStopped (opening_of image.now setup.now.minor prepared.range) setup.now.frames) }
+    ensures refused { IfErr result (IsStopped N.opening setup.now.frames) }
 {
     let Prepared { media, range } = prepared;
     let asked = Arc::try_clone(&gate)?;
@@ -152,18 +151,18 @@ pub fn play_scripts<
 >(
     alloc: Global,
     rt: R,
-    image: &[u8],
+    image: Vec<u8>,
     scripts: Vec<Script<'_>>,
     setup: &Setup,
     supply: Vec<D>,
     gate: Arc<G>,
 ) -> Result<Result<Came, ServiceRefusal>, StartRefusal>
-    ensures refusal { IfErr result (IsNotStarted image.now setup.now (map D.state supply.items)) }
-    ensures played { IfOk result (λ o. HasRun image.now setup.now (map D.state supply.items) (λ g v. IfOk o (λ came.
+    ensures refusal { IfErr result (IsNotStarted image.items setup.now (map D.state supply.items)) }
+    ensures played { IfOk result (λ o. HasRun image.items setup.now (map D.state supply.items) (λ g v. IfOk o (λ came.
         AreServed IsSpent g v (map said scripts.entry.items) came.sessions.items came.last_sync came.image.items))) }
     ensures unserved { IfOk result (λ o. IfErr o (IsUnserved IsSpent)) }
 {
-    let prepared = prepare(alloc, image, setup, &supply)?;
+    let prepared = prepare(image, setup, &supply)?;
     let (board, seat) = Board::new(alloc)?;
     start_and_play::<Brand, R, D, G>(
         alloc,
@@ -171,7 +170,6 @@ pub fn play_scripts<
         board,
         seat,
         prepared,
-        image,
         setup,
         supply,
         gate,

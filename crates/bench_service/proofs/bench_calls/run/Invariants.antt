@@ -1,4 +1,5 @@
 use Rattle.std.specs.Prelude.{[]}
+use Rattle.std.specs.List.{concat}
 use Rattle.records.specs.Opening.{contents_at}
 use Rattle.mounting.specs.Laws.{sizes_in}
 use Rattle.mounting.specs.Starting.{opening_of}
@@ -8,8 +9,8 @@ use Rattle.bench_service.proofs.bench_calls.run.Given as goal
 abbrev pub ghosts-start_and_measure : goal.ghosts-start_and_measure
 ghosts-start_and_measure g a = record {
   table = a.board;
-  opening = opening_of a.image.now a.setup.now.minor a.prepared.range;
-  geometry = sizes_in (contents_at (opening_of a.image.now a.setup.now.minor a.prepared.range));
+  opening = opening_of (concat a.prepared.media.sectors) a.setup.now.minor a.prepared.range;
+  geometry = sizes_in (contents_at (opening_of (concat a.prepared.media.sectors) a.setup.now.minor a.prepared.range));
   policy = a.setup.now.policy;
   supply = [];
 }

@@ -1,4 +1,5 @@
 use Rattle.std.specs.Prelude.{map}
+use Rattle.std.specs.List.{concat}
 use Rattle.records.specs.Opening.{contents_at}
 use Rattle.mounting.specs.Laws.{sizes_in}
 use Rattle.mounting.specs.Starting.{opening_of}
@@ -8,8 +9,8 @@ use Rattle.launch.proofs.start.serve.Given as goal
 abbrev pub ghosts-start_and_run : goal.ghosts-start_and_run
 ghosts-start_and_run g a = record {
   table = a.board;
-  opening = opening_of a.image.now a.setup.now.minor a.prepared.range;
-  geometry = sizes_in (contents_at (opening_of a.image.now a.setup.now.minor a.prepared.range));
+  opening = opening_of (concat a.prepared.media.sectors) a.setup.now.minor a.prepared.range;
+  geometry = sizes_in (contents_at (opening_of (concat a.prepared.media.sectors) a.setup.now.minor a.prepared.range));
   policy = a.setup.now.policy;
   supply = map g.D.BlockDriver.state a.supply.items;
 }

@@ -1,7 +1,7 @@
 use Rattle.std.proofs.Common.{map}
 use Rattle.std.specs.Prelude.{IfOk}
 use Rattle.launch.proofs.Frames.{frames_fit}
-use Rattle.launch.proofs.Runs.{has_run, stopped_on}
+use Rattle.launch.proofs.Runs.{has_run}
 use Rattle.mount_service.specs.Left.{IsLeftBy}
 use Rattle.mount_service.proofs.starting.start_and_answer.Goals as goal
 
@@ -14,14 +14,10 @@ mount_and_answer-requires-clause-frames g c κs lives =
 
 pub returns-clause-played : goal.returns-clause-played
 returns-clause-played g c =
-    has_run c.args.image.now c.args.setup.now (map g.D.BlockDriver.state c.args.supply.items) c.args.prepared.range g.N.Room.opening
+    has_run g.N.Room.opening.media c.args.setup.now (map g.D.BlockDriver.state c.args.supply.items) c.args.prepared.range g.N.Room.opening
     g.N.Room.geometry
     (λ h v o. IfOk o (λ came. IsLeftBy g.A.Archive.puts h v (g.I.Read.remaining c.args.streams.input)
     (g.O.Write.contents c.args.streams.output) (g.O.Write.contents came.streams.output) c.args.streams.archive came.streams.archive
     came.answered came.image.items))
     c.mount_and_answer.result c.requires.opening c.requires.geometry c.requires.prepared _ c.mount_and_answer.ensures.played
     c.mount_and_answer.ensures.holds
-
-pub returns-clause-refused : goal.returns-clause-refused
-returns-clause-refused g c =
-    stopped_on _ _ c.args.setup.now.frames c.mount_and_answer.result c.requires.opening c.mount_and_answer.ensures.refused

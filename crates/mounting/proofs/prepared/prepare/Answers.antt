@@ -7,16 +7,16 @@ use Rattle.mounting.proofs.prepared.prepare.Goals as goal
 
 pub returns-in_err-range-clause-refusal : goal.returns-in_err-range-clause-refusal
 returns-in_err-range-clause-refusal g c =
-    let image = c.args.image.now in
+    let image = c.args.image.items in
     let e = c.in_err-range.field-0.0 in
-    let at = ap (λ s. place_in s c.args.setup.now.minor) (sym c.as_chunks.ensures.front) ∙ sym c.place_in.ensures.place ∙ c.in_err-range.was in
+    let at = ap (λ s. place_in s c.args.setup.now.minor) (sym c.as_sectors.ensures) ∙ sym c.place_in.ensures.place ∙ c.in_err-range.was in
     subst (λ r. IfErr r (IsRefused image c.args.setup.now (map g.D.LocalDriver.state c.args.supply.now))) (sym (err_is c.from_residual-in_err-range.result e c.from_residual-in_err-range.ensures))
     (not_placed image c.args.setup.now (map g.D.LocalDriver.state c.args.supply.now) e c.in_ok-media.ensures.ok.0 at)
 
 pub returns-clause-ok : goal.returns-clause-ok
 returns-clause-ok g c =
-    let image = c.args.image.now in
-    let at = ap (λ s. place_in s c.args.setup.now.minor) (sym c.as_chunks.ensures.front) ∙ sym c.place_in.ensures.place ∙ c.in_ok-range.was in
+    let image = c.args.image.items in
+    let at = ap (λ s. place_in s c.args.setup.now.minor) (sym c.as_sectors.ensures) ∙ sym c.place_in.ensures.place ∙ c.in_ok-range.was in
     record {
       place = (c.in_ok-media.ensures.ok.0, at);
       set_up = c.in_ok-check_setup.ensures.fits;
@@ -25,7 +25,7 @@ returns-clause-ok g c =
 
 pub returns-clause-ready : goal.returns-clause-ready
 returns-clause-ready g c =
-    let image = c.args.image.now in
+    let image = c.args.image.items in
     let range = c.in_ok-range.range in
     let minor = c.args.setup.now.minor in
     let state = g.D.LocalDriver.state in
@@ -34,7 +34,7 @@ returns-clause-ready g c =
 
 pub returns-clause-on_media : goal.returns-clause-on_media
 returns-clause-on_media g c =
-    let image = c.args.image.now in
-    let count = ap length c.as_chunks.ensures.front ∙ many_sectors image in
+    let image = c.args.image.items in
+    let count = ap length c.as_sectors.ensures ∙ many_sectors image in
     lies_on_media image c.args.setup.now.minor c.in_ok-range.range c.in_ok-media.ensures.ok.0
     (subst (λ n. c.in_ok-range.range.0 + c.in_ok-range.range.1 ≤ n) count c.in_ok-range.ensures.inside)

@@ -2,7 +2,7 @@ use Rattle.std.proofs.Common.{map}
 use Rattle.std.specs.Prelude.{IfOk}
 use Rattle.call_text.specs.Said.{said}
 use Rattle.launch.proofs.Frames.{frames_fit}
-use Rattle.launch.proofs.Runs.{has_run, stopped_on}
+use Rattle.launch.proofs.Runs.{has_run}
 use Rattle.launch.specs.Spent.{IsSpent}
 use Rattle.tools.proofs.Records.{came_as, unserved_as}
 use Rattle.tools.specs.Served.{AreServed}
@@ -17,7 +17,7 @@ mount_and_play-requires-clause-frames g c κs lives =
 
 pub returns-clause-played : goal.returns-clause-played
 returns-clause-played g c =
-    has_run c.args.image.now c.args.setup.now (map g.D.BlockDriver.state c.args.supply.items) c.args.prepared.range g.N.Room.opening
+    has_run g.N.Room.opening.media c.args.setup.now (map g.D.BlockDriver.state c.args.supply.items) c.args.prepared.range g.N.Room.opening
     g.N.Room.geometry
     (λ h v o. IfOk o (λ came. AreServed IsSpent h v (map said c.args.scripts.now) came.sessions.items came.last_sync came.image.items))
     c.mount_and_play.result c.requires.opening c.requires.geometry c.requires.prepared _
@@ -29,7 +29,3 @@ pub returns-clause-unserved : goal.returns-clause-unserved
 returns-clause-unserved g c =
     unserved_as _ _ g.N.Room.opening IsSpent (c.cut_once_spent.ensures.ended g.N.Room.opening) c.mount_and_play.result
     c.mount_and_play.ensures.unserved
-
-pub returns-clause-refused : goal.returns-clause-refused
-returns-clause-refused g c =
-    stopped_on _ _ c.args.setup.now.frames c.mount_and_play.result c.requires.opening c.mount_and_play.ensures.refused
