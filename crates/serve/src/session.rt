@@ -126,10 +126,9 @@ impl<N: Room, R: Wait + Copy, L: Recorder<N>, S: FileServer<L>> Session<N, Share
         ensures cut { IsCutAtEnd L.Link L.marks N.opening (outcome_in result reply.new) self.new.knows.seen }
     {
         let shared = &*self.shared;
-        let ending =
-            shared
-                .locked()
-                .call(&mut self.seat, self.who, now, call, reply, &mut self.seen);
+        let ending = shared
+            .locked()
+            .call(&mut self.seat, self.who, now, call, reply, &mut self.seen);
         self.left_open.note(call, ending, reply);
         ending
     }
