@@ -130,7 +130,5 @@ pub fn run<R: Threads + Wait + Copy + Send + Sync + 'static>(
         Err(refusal) => return eprintln!(*rt; "{refusal}"),
     };
     let (board, seat) = Board::new(alloc)?;
-    start_and_measure::<Brand, R, _, _>(
-        rt, waits, board, seat, prepared, &setup, supply, gate,
-    )
+    start_and_measure::<Brand, R, _, _>(rt, waits, board, seat, prepared, &setup, supply, gate)
 }

@@ -13,8 +13,8 @@ ghost use Rattle.mounting.specs.Starting.{IsWellSetUp, IsPrepared, IsRefused};
 
 use crate::refusal::StartRefusal;
 use inline::local::LocalDriver;
-use media::partition::volume_place;
 use media::Media;
+use media::partition::volume_place;
 use reincarnate::policy::Setup;
 
 /// What a server starts on: media on which no driver was started, and where the volume lies on them.
