@@ -11,7 +11,7 @@ fn numbered(alloc: Global) -> Result<Media, MediaRefusal> {
     for sector in 0..3u8 {
         bytes.extend_from_slice(&[sector; 512])?;
     }
-    Media::from_bytes(alloc, bytes.as_slice())
+    Media::from_vec(bytes)
 }
 
 /// The first sector of a disk with one entry, of type 0x81, from sector 1 on for so many sectors.
@@ -63,8 +63,9 @@ fn generations_fence(alloc: Global) -> Result<(), Fail> {
     )?;
     let image = media.image(alloc)?;
     let (last, next, torn) = (image.get(511), image.get(512), image.get(1024));
-    let given = format!(in alloc; "{} {last:?} {next:?} {torn:?}", image.len())?;
-    step_is_told(1, 1, given.as_str(), "1536 Some(9) Some(1) Some(8)")
+    let is_same = image.as_slice() == media.into_image().as_slice();
+    let given = format!(in alloc; "{} {last:?} {next:?} {torn:?} {is_same}", image.len())?;
+    step_is_told(1, 1, given.as_str(), "1536 Some(9) Some(1) Some(8) true")
 }
 
 /// How many bytes of an image there are, and why they are refused, if they are.
@@ -76,7 +77,7 @@ static IMAGES: [(usize, &str); 5] = [
     (0, "None"),
 ];
 
-/// Images that are too large or end within a sector are refused.
+/// Images that are too large or end within a sector are refused; so is one whose bytes are handed over.
 fn images_are_refused(alloc: Global) -> Result<(), Fail> {
     let large = zeros(alloc, 67109376)?;
     for (step, (count, wanted)) in IMAGES.iter().enumerate() {
@@ -87,7 +88,9 @@ fn images_are_refused(alloc: Global) -> Result<(), Fail> {
         let given = format!(in alloc; "{refusal:?}")?;
         step_is_told(2, step, given.as_str(), wanted)?;
     }
-    Ok(())
+    let refusal = Media::from_vec(large).err();
+    let given = format!(in alloc; "{refusal:?}")?;
+    step_is_told(2, IMAGES.len(), given.as_str(), "Some(TooLarge)")
 }
 
 /// Refusals by their names and their numbers.
