@@ -6,7 +6,7 @@ use Rattle.std.proofs.lemmas.Bool.{and_parts, eqb-true, ltb-false}
 use Rattle.std.proofs.lemmas.List.Folds.{list_all_more, list_all-map}
 use Rattle.std.proofs.lemmas.List.Elements.{All-nil, All-cons, All-head, All-tail, All-more}
 use Rattle.records.specs.Opening.{Opening}
-use Rattle.media.specs.Contents.{sectors_of}
+use Rattle.media.specs.Contents.{MediaState, sectors_of}
 use Rattle.media.proofs.SectorLaws.{length-first_chunks}
 use Rattle.bdev.specs.DriverState.{DriverState, range_while_fresh}
 use Rattle.bdev.specs.Promises.{IsDriver}
@@ -112,3 +112,23 @@ pub same_bytes : (image : List ℕ) (range : ℕ × ℕ)
     → take (512 * range.0 + 512 * range.1 - 512 * range.0) (drop (512 * range.0) image) ≡ bytes_of image range
 same_bytes image range =
     ap (λ (n : ℕ). take n (drop (512 * range.0) image)) (omega arith)
+
+-- media made of an image hold its sectors
+pub held_by : (m : MediaState) (image : List ℕ) → m ≡ record { sectors = sectors_of image; generation = 0 } → m.sectors ≡ sectors_of image
+held_by m image made = ap (λ (x : MediaState). x.sectors) made
+
+-- so the volume's place is looked for among these
+pub placed : (minor : ℕ) (m : MediaState) (image : List ℕ) (seen : List (List ℕ)) (found : Result (ℕ × ℕ) StartRefusal)
+    → m ≡ record { sectors = sectors_of image; generation = 0 } → seen ≡ m.sectors → found ≡ place_in seen minor
+    → place_in (sectors_of image) minor ≡ found
+placed minor m image seen found made is place = ap (λ (s : List (List ℕ)). place_in s minor) (sym (is ∙ held_by m image made)) ∙ sym place
+
+-- that there is no place isn't for want of memory
+pub place_wants_none : {X : Type 0} (result : Result X StartRefusal) (sectors : List (List ℕ)) (minor : ℕ) (e : StartRefusal)
+    → result ≡ Err e → place_in sectors minor ≡ Err e → result ≡ Err OutOfMemory → ⊥
+place_wants_none {X} result sectors minor e is at memory = by (volume_place sectors minor) at
+  where
+    by : (r : Result (ℕ × ℕ) PlaceRefusal) → place_or r ≡ Err e → ⊥
+    by (Ok range) h = cc
+    by (Err (place.Table refusal)) h = cc
+    by (Err place.NoPartition) h = cc
