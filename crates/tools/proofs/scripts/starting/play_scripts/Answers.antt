@@ -1,0 +1,8 @@
+use Rattle.tools.proofs.scripts.starting.play_scripts.Goals as goal
+
+pub start_and_play-requires-clause-prepared : goal.start_and_play-requires-clause-prepared
+start_and_play-requires-clause-prepared g c κs lives =
+    rw (c.in_ok-prepared.ensures.bytes, ← c.deref.ensures.value) c.in_ok-prepared.ensures.ok
+
+pub start_and_play-requires-clause-contents : goal.start_and_play-requires-clause-contents
+start_and_play-requires-clause-contents g c κs lives = rw c.in_ok-prepared.ensures.bytes c.in_ok-prepared.ensures.contents
