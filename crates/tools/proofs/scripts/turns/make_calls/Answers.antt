@@ -1,4 +1,4 @@
-use Rattle.std.proofs.Common.{◌∙◌}
+use Rattle.std.proofs.Common.{◌∙◌, arith}
 use Rattle.tools.proofs.Plays.{plays_next, cut_more}
 use Rattle.tools.proofs.scripts.turns.make_calls.Goals as goal
 
@@ -11,4 +11,5 @@ loop-timed-preserved g c =
           c.call_unless-outcome.ensures,
       c.is_cut-cut.ensures ∙ cut_more g.C.Client.vouches g.C.Client.ended _ _ c.loop-timed.outcomes.items _ c.loop-timed.cut
           c.call_unless-outcome.result c.loop-timed.invariant.1 c.call_unless-outcome.ensures,
+      omega (arith, c.push_reserved.ensures.room, c.loop-timed.invariant.2),
     )
