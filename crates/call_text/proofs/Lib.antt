@@ -5,3 +5,5 @@ pub mod TooLong
 pub mod Calls
 pub mod ScriptLines
 pub mod ScriptFilesReading
+pub mod Digits
+pub mod Cutting

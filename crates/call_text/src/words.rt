@@ -4,12 +4,14 @@ ghost use Rattle.std.specs.Prelude.{◌≡◌, ◌∷◌, [], ◌<◌, ◌≤◌
 ghost use Rattle.std.specs.Option.{option_copied};
 ghost use Rattle.call_text.specs.Words.{parts_of, number_in, number_of, mode_of, offset_of, path_of};
 
+use memchr::memchr;
+
 /// What stands before the first separator of a text, and what stands after it; none where the text has no separator.
 pub fn cut(text: &[u8], separator: u8) -> Option<(&[u8], &[u8])>
     ensures { MatchOption result (parts_of separator text.now ≡ text.now ∷ [])
         (λ cut. (parts_of separator text.now ≡ cut.0.now ∷ parts_of separator cut.1.now) × (length cut.1.now < length text.now)) }
 {
-    match text.iter().position(|byte| *byte == separator) {
+    match memchr(separator, text) {
         Some(end) => Some((&text[..end], &text[end + 1..])),
         None => None,
     }

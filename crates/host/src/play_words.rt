@@ -28,6 +28,16 @@ pub(crate) fn minor<'a>(alloc: Global) -> Arg<'a> {
     )
 }
 
+/// The word that says how many blocks' frames the server has (own: 64 by default; a cache has 16 to 4096).
+pub(crate) fn frames<'a>(alloc: Global) -> Arg<'a> {
+    Arg::new(alloc, "frames")
+        .long("frames")
+        .value_name("F")
+        .value_parser(ValueParser::Unsigned(16, 4096))
+        .default_value("64")
+        .help("How many blocks the server keeps in memory at a time, 16 to 4096")
+}
+
 /// The most drivers that stand by (own).
 const MOST_SPARES: u64 = 63;
 

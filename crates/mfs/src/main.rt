@@ -61,7 +61,8 @@ fn play_files<W: Threads + Wait + Copy + Send + Sync + 'static>(
     let scripts = files(alloc, &words.scripts, &texts)?;
     let table = table_in(image.as_deref().unwrap_or(&[]));
     let supply = drivers_for(alloc, words.spares, words.model, table)?;
-    let setup = setup_for(words.minor);
+    let mut setup = setup_for(words.minor);
+    setup.frames = words.frames as usize;
     let gate = Arc::new(alloc, Paced::new(rt))?;
     let image = Image {
         name: words.image,

@@ -65,7 +65,8 @@ fn mount_file<W: Threads + Wait + Copy + Send + Sync + 'static>(
     let mortality = mortality(words.die_every);
     let table = table_in(image.as_deref().unwrap_or(&[]));
     let supply = mortal_drivers(alloc, words.spares, words.model, mortality, table)?;
-    let setup = mortal_setup(words.minor, mortality);
+    let mut setup = mortal_setup(words.minor, mortality);
+    setup.frames = words.frames as usize;
     let gate = Arc::new(alloc, Telling::new(Paced::new(rt), rt))?;
     let streams = Streams {
         input: BufReader::with_capacity(alloc, ROOM, rt.reader())?,

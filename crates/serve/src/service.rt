@@ -31,7 +31,18 @@ use std::thread::{Threads, yield_now};
 use tree::Who;
 
 /// How often a session looks whether the server is free before it sleeps.
-const LOOKS: u32 = 64;
+const LOOKS: u32 = 16;
+
+/// How often in a row it lets other threads run between two looks. Whoever has the server then makes some calls one after the other, over
+/// memory that stays at that thread's processor.
+const YIELDS: u32 = 16;
+
+/// Lets other threads run.
+fn step_aside() {
+    for _ in 0..YIELDS {
+        yield_now();
+    }
+}
 
 /// What the sessions of a service share: the server under its lock, and the handle by which they wait for it.
 #[derive(Drop)]
@@ -53,7 +64,7 @@ impl<N: Room, R: Wait + Copy, L: Recorder<N>, S: FileServer<L>> Shared<N, R, L, 
             if let Some(server) = self.server.try_lock() {
                 return server;
             }
-            yield_now();
+            step_aside();
         }
         self.server.lock(&self.rt)
     }

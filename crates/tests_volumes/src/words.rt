@@ -7,8 +7,9 @@ use host::volume_words::{mfmig, mfsck, mkmfs};
 use std::alloc::{AllocError, Global};
 use std::test::Fail;
 
-/// Words of a line, and what they say: the files, the minor, how many drivers stand by, and whether they move an arm; of a new volume its
-/// blocks, its inodes, how long a block is and the time; or, of words that aren't taken or ask for help, the status.
+/// Words of a line, and what they say: the files, the minor, how many drivers stand by, how many frames the server has, and whether
+/// drivers move an arm; of a new volume its blocks, its inodes, how long a block is and the time; or, of words that aren't taken or ask for
+/// help, the status.
 const ROWS: &str = "\
 mkmfs v.img --blocks 64 --inodes 32 : v.img blocks 64 inodes 32 of 4096 at 0
 mkmfs v.img --blocks 64 --inodes 32 --block-size 1024 --now 50 : v.img blocks 64 inodes 32 of 1024 at 50
@@ -49,20 +50,24 @@ mfmig o.img n.img --blocks 64 --inodes 32 : status 2
 mfmig : status 2
 mfmig --help : status 0
 mfmig o.img n.img --version : status 0
-mfs v.img s.txt : v.img [s.txt] out none minor 0 spares 5
-mfs v.img s.txt --minor 5 : v.img [s.txt] out none minor 5 spares 5
-mfs v.img s.txt --minor 255 : v.img [s.txt] out none minor 255 spares 5
-mfs --spares 63 v.img s.txt : v.img [s.txt] out none minor 0 spares 63
-mfs v.img --spares=0 s.txt : v.img [s.txt] out none minor 0 spares 0
-mfs --model v.img s.txt : v.img [s.txt] out none minor 0 spares 5 model
-mfs v.img s.txt t.txt : v.img [s.txt t.txt] out none minor 0 spares 5
-mfs v.img t.txt s.txt t.txt --minor 1 : v.img [t.txt s.txt t.txt] out none minor 1 spares 5
-mfs v.img s.txt --out w.img : v.img [s.txt] out w.img minor 0 spares 5
-mfs --out=v.img v.img s.txt t.txt : v.img [s.txt t.txt] out v.img minor 0 spares 5
-mfs v.img - : v.img [-] out none minor 0 spares 5
+mfs v.img s.txt : v.img [s.txt] out none minor 0 spares 5 frames 64
+mfs v.img s.txt --minor 5 : v.img [s.txt] out none minor 5 spares 5 frames 64
+mfs v.img s.txt --minor 255 : v.img [s.txt] out none minor 255 spares 5 frames 64
+mfs --spares 63 v.img s.txt : v.img [s.txt] out none minor 0 spares 63 frames 64
+mfs v.img --spares=0 s.txt : v.img [s.txt] out none minor 0 spares 0 frames 64
+mfs --model v.img s.txt : v.img [s.txt] out none minor 0 spares 5 frames 64 model
+mfs v.img s.txt --frames 16 : v.img [s.txt] out none minor 0 spares 5 frames 16
+mfs --frames=4096 v.img s.txt : v.img [s.txt] out none minor 0 spares 5 frames 4096
+mfs v.img s.txt t.txt : v.img [s.txt t.txt] out none minor 0 spares 5 frames 64
+mfs v.img t.txt s.txt t.txt --minor 1 : v.img [t.txt s.txt t.txt] out none minor 1 spares 5 frames 64
+mfs v.img s.txt --out w.img : v.img [s.txt] out w.img minor 0 spares 5 frames 64
+mfs --out=v.img v.img s.txt t.txt : v.img [s.txt t.txt] out v.img minor 0 spares 5 frames 64
+mfs v.img - : v.img [-] out none minor 0 spares 5 frames 64
 mfs v.img s.txt --minor 256 : status 2
 mfs v.img s.txt --spares 64 : status 2
 mfs v.img s.txt --spares -1 : status 2
+mfs v.img s.txt --frames 15 : status 2
+mfs v.img s.txt --frames 4097 : status 2
 mfs v.img s.txt --model=1 : status 2
 mfs : status 2
 mfs v.img : status 2
@@ -93,8 +98,8 @@ fn of_calls(alloc: Global, words: &mfs::Words<'_>) -> Result<String, AllocError>
     let out = words.out.unwrap_or("none");
     let model = if words.model { " model" } else { "" };
     format!(in alloc;
-        "{} [{scripts}] out {out} minor {} spares {}{model}",
-        words.image, words.minor, words.spares
+        "{} [{scripts}] out {out} minor {} spares {} frames {}{model}",
+        words.image, words.minor, words.spares, words.frames
     )
 }
 

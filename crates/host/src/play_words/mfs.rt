@@ -1,6 +1,6 @@
 //! The words that `mfs` takes, and what they say.
 
-use crate::play_words::{image, minor, model, out, spares};
+use crate::play_words::{frames, image, minor, model, out, spares};
 use clap::{Arg, ArgAction, ArgMatches, Command, Error};
 use std::alloc::{AllocError, Global};
 
@@ -52,6 +52,7 @@ fn command<'a>(alloc: Global) -> Result<Command<'a>, AllocError> {
         ))?
         .arg(minor(alloc))?
         .arg(spares(alloc))?
+        .arg(frames(alloc))?
         .arg(model(alloc))
 }
 
@@ -77,6 +78,8 @@ pub struct Words<'a> {
     pub minor: u8,
     /// How many drivers stand by, 0 to 63.
     pub spares: u8,
+    /// How many blocks the server keeps in memory at a time, 16 to 4096.
+    pub frames: u32,
     /// The drivers move an arm.
     pub model: bool,
 }
@@ -90,6 +93,7 @@ impl<'a> Words<'a> {
             out: matches.get_str("out"),
             minor: matches.get_one::<u8>("minor").unwrap_or(0),
             spares: matches.get_one::<u8>("spares").unwrap_or(0),
+            frames: matches.get_one::<u32>("frames").unwrap_or(64),
             model: matches.get_flag("model"),
         })
     }

@@ -1,6 +1,6 @@
 //! The words that `mfs9p` takes, and what they say.
 
-use crate::play_words::{image, minor, model, number, out};
+use crate::play_words::{frames, image, minor, model, number, out};
 use clap::{Arg, ArgMatches, Command, Error};
 use std::alloc::{AllocError, Global};
 
@@ -32,6 +32,7 @@ fn command<'a>(alloc: Global) -> Result<Command<'a>, AllocError> {
         ))?
         .arg(minor(alloc))?
         .arg(spares(alloc))?
+        .arg(frames(alloc))?
         .arg(model(alloc))?
         .arg(die_every(alloc))
 }
@@ -61,6 +62,8 @@ pub struct Words<'a> {
     pub minor: u8,
     /// How many drivers stand by, 0 to 4095.
     pub spares: u16,
+    /// How many blocks the server keeps in memory at a time, 16 to 4096.
+    pub frames: u32,
     /// The drivers move an arm.
     pub model: bool,
     /// In which of the requests that it takes each driver dies, counted from 1; 0: none does.
@@ -75,6 +78,7 @@ impl<'a> Words<'a> {
             out: matches.get_str("out"),
             minor: matches.get_one::<u8>("minor").unwrap_or(0),
             spares: matches.get_one::<u16>("spares").unwrap_or(0),
+            frames: matches.get_one::<u32>("frames").unwrap_or(64),
             model: matches.get_flag("model"),
             die_every: matches.get_one::<u32>("die-every").unwrap_or(0),
         }
