@@ -3,7 +3,7 @@ use Rattle.std.proofs.Common.{◌≡◌, ◌≢◌, ℕ, ◌+◌, ◌<◌, ◌�
 use mathlib.Core.Logic.{inl, inr, ◌⊎◌}
 use Rattle.std.proofs.lemmas.Bool.{cases_eq}
 use Rattle.std.proofs.lemmas.Grind.{get_or_default_zero}
-use Rattle.cache.specs.Ring.{IsRing, IsRising}
+use Rattle.cache.specs.Ring.{IsRing, IsRising, without, moved}
 use Rattle.cache.proofs.Order.{set_same, set_other}
 
 -- numbers below a bound stay so after one is set to another such
@@ -80,6 +80,14 @@ moving newer older newest at o w f r lt ne oe we fe = record {
   w_is = read newer at w lt we;
   f_is = read (set newer o w) newest f (let p = length-set newer o w in let q = r.newest_in at lt in omega arith) fe;
 }
+
+-- the links then are those that the contract says
+pub moved_is : (newer older : List ℕ) (newest at o w f : ℕ) → IsMoving newer older newest at o w f
+    → newer_then newer newest at o w f ≡ moved newer (get_or older at 0) newest at
+moved_is newer older newest at o w f m =
+    let then = without newer (get_or older at 0) at in
+    let base : set newer o w ≡ then = ap (λ x. set newer x w) (sym m.o_is) ∙ ap (set newer (get_or older at 0)) (sym m.w_is) in
+    ap (λ l. set (set l newest at) at f) base ∙ ap (set (set then newest at) at) (sym m.f_is ∙ ap (λ l. get_or l newest 0) base)
 
 -- they are in range
 pub o_in : (newer older : List ℕ) (newest at o w f : ℕ) → IsRing newer older newest → IsMoving newer older newest at o w f
