@@ -7,8 +7,10 @@ pub mod Staying
 pub mod Filling
 pub mod Issuing
 mod Order
+mod Rings
+mod Links
+mod Sought
 mod Choosing
-mod Ranks
 mod Making
 mod Indexed
 mod Settled

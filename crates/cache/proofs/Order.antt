@@ -74,13 +74,13 @@ same_order xs i j ini inj = elim (cases_lt (get_or xs i 0) (get_or xs j 0)) [
 ]
 
 -- an element of a list after another was set
-set_same : (xs : List ℕ) (i x : ℕ) → i < length xs → get_or (set xs i x) i 0 ≡ x
+pub set_same : (xs : List ℕ) (i x : ℕ) → i < length xs → get_or (set xs i x) i 0 ≡ x
 set_same [] i x lt = absurd (omega (arith, lt))
 set_same (y ∷ xs) zero x lt = refl
 set_same (y ∷ xs) (suc i) x lt = set_same xs i x (omega (arith, lt))
 
 -- the others stay
-set_other : (xs : List ℕ) (i j x : ℕ) → (j ≡ i → ⊥) → get_or (set xs i x) j 0 ≡ get_or xs j 0
+pub set_other : (xs : List ℕ) (i j x : ℕ) → (j ≡ i → ⊥) → get_or (set xs i x) j 0 ≡ get_or xs j 0
 set_other [] i j x ne = refl
 set_other (y ∷ xs) zero zero x ne = absurd (ne refl)
 set_other (y ∷ xs) zero (suc j) x ne = refl

@@ -50,7 +50,7 @@ settling_more ticket old mid new at h e = record {
     ]
 
 -- what stands below the length
-get_some : (items : List Slot) (i : ℕ) → i < length items → (s : Slot) × (slice_get items i ≡ Some s)
+pub get_some : (items : List Slot) (i : ℕ) → i < length items → (s : Slot) × (slice_get items i ≡ Some s)
 get_some [] i lt = absurd (omega (arith, lt))
 get_some (x ∷ xs) zero lt = (x, refl)
 get_some (x ∷ xs) (suc i) lt = get_some xs i (omega (arith, lt))

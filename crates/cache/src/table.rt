@@ -1,13 +1,13 @@
 //! All slots of a cache.
 
-ghost use Rattle.std.specs.Prelude.{◌≡◌, ◌⊎◌, ◌<◌, ◌≤◌, ◌+◌, ◌*◌, ◌^◌, ℕ, true, IfOk, Some, None, slice_get, position, length};
+ghost use Rattle.std.specs.Prelude.{◌≡◌, ◌⊎◌, ◌<◌, ◌≤◌, ◌+◌, ◌*◌, ◌^◌, ℕ, true, IfOk, Some, None, slice_get, slice_index, position, length};
+ghost use Rattle.std.specs.Prelude.{if◌then◌else◌};
 ghost use Rattle.std.specs.Bool.{OnTrue, OnFalse};
 ghost use Rattle.std.specs.Vec.{vec_capacity};
 ghost use Rattle.cache.specs.Slots.{held, is_dirty_held, is_unclean_slot, lower_of, IsDistinct, NoneDirtyBelow};
 ghost use Rattle.cache.specs.Index.{IsIndexOf};
 
 use crate::index::Index;
-use crate::rank::Rank;
 use crate::slot::{Slot, put, zeros};
 use crate::state::State;
 use crate::uses::Uses;
@@ -47,7 +47,7 @@ fn lowered(from: u32, block: Option<u32>) -> u32
 
 impl Slots {
     ghost use Rattle.cache.specs.Uses.{IsUsedLast};
-    ghost use Rattle.cache.specs.Order.{rank_at, IsVictim};
+    ghost use Rattle.cache.specs.Order.{key_of, sought, IsFirst, IsVictim};
     ghost use Rattle.cache.specs.Edits.{IsSetAt, IsFilledAt, IsBlankedAt, IsChangedAt, IsAt, IsPlaceOf, IsWritten, AllStay, AllClean};
     ghost use Rattle.cache.specs.Edits.{SomeUnclean, IsLowestOf, IsLowestBlock, IsRunEnd, AreDirty, AreBegun, Leaves, after_write};
     ghost use Rattle.cache.specs.Runs.{IsCopied, AreGathered};
@@ -87,12 +87,34 @@ impl Slots {
         self.items.iter().position(|s| s.is_unclean())
     }
 
-    /// Which slots the slot there goes before.
-    fn rank(&self, at: usize) -> Rank
+    /// Whether the slot there is looked for: a free one where some slot is free, else a clean one.
+    #[inline]
+    fn is_sought(&self, at: usize) -> bool
         requires { at < length self.now.items.items }
-        ensures { rank_at self.now.items.items self.now.uses.numbers.items at ≡ Some result }
+        ensures { key_of (sought self.now.items.items) self.now.items.items self.now.uses.numbers.items at
+            ≡ (if result then Some (slice_index self.now.uses.numbers.items at) else None) }
     {
-        Rank::of(&self.items[at], self.uses.numbers[at])
+        let slot = self.get(at);
+        if self.index.len() == self.items.len() {
+            !slot.is_unclean()
+        } else {
+            slot.block.is_none()
+        }
+    }
+
+    /// The one used longest ago of those that are looked for.
+    fn first_sought(&self) -> Option<usize>
+        ensures { IsFirst (key_of (sought self.now.items.items) self.now.items.items self.now.uses.numbers.items)
+            (length self.now.items.items) result }
+    {
+        let mut at = self.uses.oldest();
+        'older: while !self.is_sought(at) {
+            let Some(next) = self.uses.newer(at) else {
+                return None;
+            };
+            at = next;
+        }
+        Some(at)
     }
 
     /// The slot that goes next: a free one; where none is free, of the clean ones the one used longest ago; where none is clean, of all.
@@ -101,16 +123,10 @@ impl Slots {
         ensures in_range { result < length self.now.items.items }
         ensures chosen { IsVictim self.now.items.items self.now.uses.numbers.items result }
     {
-        let mut victim = 0;
-        let mut least = self.rank(0);
-        for at in 1..self.items.len() {
-            let rank = self.rank(at);
-            if rank.goes_before(least) {
-                victim = at;
-                least = rank;
-            }
+        match self.first_sought() {
+            Some(at) => at,
+            None => self.uses.oldest(),
         }
-        victim
     }
 
     /// Whether the bytes of each slot with a block are the disk's.

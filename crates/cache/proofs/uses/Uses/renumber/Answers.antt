@@ -1,5 +1,7 @@
 use Rattle.std.proofs.Common.{◌≡◌, ℕ, ◌+◌, List, length, sym, ap, subst, ◌∙◌, arith}
 use Rattle.cache.specs.Uses.{AllBelow, KeepsOrder}
+use Rattle.cache.specs.Ring.{IsInOrder}
+use Rattle.cache.proofs.Links.{order_keeps}
 use Rattle.cache.proofs.Order.{Numbered, numbered_all, rank_most, numbered_below, numbered_order}
 use Rattle.cache.proofs.uses.Uses.renumber.Goals as goal
 
@@ -14,11 +16,17 @@ invariant_of-self-2 c =
     let x : c.swap.new.x.items ≡ new = ap (λ v. v.items) c.swap.ensures.x_after in
     let y : c.swap.new.y.items ≡ old = ap (λ v. v.items) c.swap.ensures.y_after ∙ same in
     let count : length c.swap.new.x.items ≡ length old = ap (λ (l : List ℕ). length l) x ∙ h.count in
+    let r = c.loop-at.self.ring in
+    let linked : length r.newer.items ≡ length old = c.loop-at.self.linked ∙ ap (λ (l : List ℕ). length l) same in
     let is : c.len.result ≡ length old = omega (arith, c.len.ensures, c.swap.new.x.ok, count) in
     record {
       below = subst (λ (n : ℕ). AllBelow c.swap.new.x.items (n + 1)) (sym is)
           (subst (λ (l : List ℕ). AllBelow l (length old + 1)) (sym x) (numbered_below old new h));
       paired = ap (λ (l : List ℕ). length l) y ∙ sym count;
+      linked = linked ∙ sym count;
+      in_order = subst (λ (l : List ℕ). IsInOrder l r.newer.items r.newest) (sym x)
+          (order_keeps old new r.newer.items r.older.items r.newest (numbered_order old new h) linked r.ring
+          (subst (λ (l : List ℕ). IsInOrder l r.newer.items r.newest) same c.loop-at.self.in_order));
     }
 
 pub returns-clause-order : goal.returns-clause-order
