@@ -6,8 +6,8 @@ ghost use Rattle.reply_text.specs.TranscriptText.{cause_text, kind_text, mark_of
 
 use crate::text::ReplyText;
 use errno::Errno;
-use message::endpoint::Endpoint;
 use message::Kind;
+use message::endpoint::Endpoint;
 use records::marks::Cause;
 use std::fmt;
 use tree::{Call, Reply, Who};

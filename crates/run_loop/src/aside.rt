@@ -13,8 +13,8 @@ use inline::local::LocalDriver;
 use message::Incoming;
 use run_link::RunLink;
 use run_link::room::make_room;
-use schedule::queue::take_first;
 use schedule::Arrived;
+use schedule::queue::take_first;
 use std::alloc::AllocError;
 use tree::Reply;
 

@@ -1,7 +1,9 @@
 -- Notes that are kept beside bytes and replies: more of these change none of them.
-use Rattle.std.proofs.Common.{◌≡◌, ℕ, ◌+◌, ◌<◌, ◌≤◌, arith, List, [], ◌∷◌, ◌++◌, length, map, get_or, take, drop, Bool, true, false, Some, None, refl, sym, ◌∙◌, ap, subst, append-nil}
-use Rattle.std.specs.Prelude.{All, slice_get, flat_map}
-use Rattle.std.proofs.lemmas.List.{take-append-le, drop-append-le, length-append, length-drop, length-map, map-append, get_or-map, get_or_push, length_push, flat_map_more}
+use Rattle.std.proofs.Common.{◌≡◌, ℕ, ◌+◌, ◌<◌, ◌≤◌, arith, List, [], ◌∷◌, ◌++◌, length, map, get_or, take, drop, Bool, true, false, Some}
+use Rattle.std.proofs.Common.{None, refl, sym, ◌∙◌, ap, subst, append-nil}
+use Rattle.std.specs.Prelude.{All, slice_get}
+use Rattle.std.proofs.lemmas.List.{take-append-le, drop-append-le, length-append, length-drop, length-map, map-append, get_or-map}
+use Rattle.std.proofs.lemmas.List.{get_or_push, length_push, flat_map_more}
 use Rattle.std.proofs.Math.ListN.{get_or-append}
 use Rattle.std.proofs.lemmas.List.Elements.{All-nil, All-cons, All-head, All-tail, All-append, All-push, All-same, All-weaker, All-get_or}
 use Rattle.message.specs.declared.BlockRequest.{BlockRequest}
@@ -22,7 +24,8 @@ use Rattle.schedule.specs.declared.kept.KeptMessage.{KeptMessage}
 use Rattle.schedule.specs.declared.kept.KeptMessage.TheVariants as kept
 use Rattle.schedule.specs.declared.kept.Kept.{Kept}
 use Rattle.schedule.specs.declared.kept.Kept.TheVariants.{Begun, Posted, Complained, Received, Handed, Faulted, Took}
-use Rattle.schedule.specs.KeptNotes.{part_of, IsPlaceWithin, Grows, request_at, post_at, message_of, message_end, entry_of, IsWithin, accepted_of, accepted_in}
+use Rattle.schedule.specs.KeptNotes.{part_of, IsPlaceWithin, Grows, request_at, post_at, message_of, message_end, entry_of, IsWithin}
+use Rattle.schedule.specs.KeptNotes.{accepted_of, accepted_in}
 use Rattle.schedule.specs.Noted.{noted_of, with_entry}
 use Rattle.schedule.specs.Posts.{post_of, posts_in}
 use Rattle.schedule.proofs.NotedLaws.{said_push, posts_said, post_there, post_past}
@@ -66,7 +69,8 @@ all_stay bytes more replies others (k ∷ notes) within =
     rw (first, rest) refl
 
 -- a note more, whose bytes and reply came behind the others
-pub said_more : (over : Bool) (notes new : List Kept) (bytes all : List ℕ) (replies answers : List Reply) (k : Kept) (e : Entry) → over ≡ false
+pub said_more : (over : Bool) (notes new : List Kept) (bytes all : List ℕ) (replies answers : List Reply) (k : Kept) (e : Entry)
+    → over ≡ false
     → Grows bytes all → Grows replies answers → All (IsWithin (length bytes) (length replies)) notes → new ≡ notes ++ k ∷ []
     → entry_of all answers k ≡ e
     → noted_of over (map (entry_of all answers) new) ≡ with_entry e (noted_of over (map (entry_of bytes replies) notes))
@@ -102,14 +106,16 @@ grown_length : {X : Type 0} (xs ys : List X) → Grows xs ys → length xs ≤ l
 grown_length xs ys more = omega (arith, ap length more.1, length-append xs more.0)
 
 -- with it all lie within
-pub within_more : (notes new : List Kept) (bytes all : List ℕ) (replies answers : List Reply) (k : Kept) → Grows bytes all → Grows replies answers
+pub within_more : (notes new : List Kept) (bytes all : List ℕ) (replies answers : List Reply) (k : Kept) → Grows bytes all
+    → Grows replies answers
     → All (IsWithin (length bytes) (length replies)) notes → new ≡ notes ++ k ∷ [] → IsWithin (length all) (length answers) k
     → All (IsWithin (length all) (length answers)) new
 within_more notes new bytes all replies answers k more others within is one =
     let P = IsWithin (length all) (length answers) in
     let a = grown_length bytes all more in
     let b = grown_length replies answers others in
-    let before : All P notes = All-weaker (IsWithin (length bytes) (length replies)) P (λ x w. (omega (arith, w.0, a), omega (arith, w.1, b))) notes within in
+    let old = IsWithin (length bytes) (length replies) in
+    let before : All P notes = All-weaker old P (λ x w. (omega (arith, w.0, a), omega (arith, w.1, b))) notes within in
     All-same P new (notes ++ k ∷ []) is (All-push P notes k before one)
 
 -- the accepted posts with it
@@ -143,7 +149,8 @@ posts_of bytes replies (k ∷ notes) =
     ∙ sym (map-append (post_at bytes) (accepted_of k) (accepted_in notes))
 
 -- the place of an accepted post lies within
-one_placed : (count answers : ℕ) (k : Kept) → IsWithin count answers k → All (λ (r : KeptRequest). IsPlaceWithin count r.place) (accepted_of k)
+one_placed : (count answers : ℕ) (k : Kept) → IsWithin count answers k
+    → All (λ (r : KeptRequest). IsPlaceWithin count r.place) (accepted_of k)
 one_placed count answers (Posted r true) within =
     All-cons (λ (q : KeptRequest). IsPlaceWithin count q.place) r [] within.0 (All-nil (λ (q : KeptRequest). IsPlaceWithin count q.place))
 one_placed count answers (Posted r false) within = All-nil (λ (q : KeptRequest). IsPlaceWithin count q.place)
@@ -169,25 +176,27 @@ place_of_post count answers notes posts n r within listed low is =
     let P = λ (q : KeptRequest). IsPlaceWithin count q.place in
     subst P (sym is) (All-get_or P posts n r low (All-same P posts (accepted_in notes) listed (placed count answers notes within)))
 
-posts_kept : (over : Bool) (bytes : List ℕ) (replies : List Reply) (notes : List Kept) (posts : List KeptRequest) → posts ≡ accepted_in notes
+posts_kept : (over : Bool) (bytes : List ℕ) (replies : List Reply) (notes : List Kept) (posts : List KeptRequest)
+    → posts ≡ accepted_in notes
     → (noted_of over (map (entry_of bytes replies) notes)).posts ≡ map (post_at bytes) posts
 posts_kept over bytes replies notes posts listed =
     posts_said over (map (entry_of bytes replies) notes) (map (post_at bytes) posts)
     (ap (map (post_at bytes)) listed ∙ sym (posts_of bytes replies notes))
 
 -- the post with a number, if there is one
-pub post_kept : (over : Bool) (bytes : List ℕ) (replies : List Reply) (notes : List Kept) (posts : List KeptRequest) (n : ℕ) (r : KeptRequest) (p : Post)
-    → posts ≡ accepted_in notes → n < length posts → r ≡ get_or posts n r → p ≡ post_at bytes r
+pub post_kept : (over : Bool) (bytes : List ℕ) (replies : List Reply) (notes : List Kept) (posts : List KeptRequest) (n : ℕ)
+    → (r : KeptRequest) (p : Post) → posts ≡ accepted_in notes → n < length posts → r ≡ get_or posts n r → p ≡ post_at bytes r
     → Some p ≡ slice_get (noted_of over (map (entry_of bytes replies) notes)).posts n
 post_kept over bytes replies notes posts n r p listed low is built =
     let all = map (post_at bytes) posts in
     let within : n < length all = omega (arith, low, length-map posts (post_at bytes)) in
     let there : post_at bytes r ≡ get_or all n (post_at bytes r) =
-      ap (post_at bytes) is ∙ sym (get_or-map (post_at bytes) posts n r (post_at bytes r) low) in
+    ap (post_at bytes) is ∙ sym (get_or-map (post_at bytes) posts n r (post_at bytes r) low) in
     ap (λ (q : Post). Some q) built ∙ post_there all n (post_at bytes r) within there
     ∙ sym (ap (λ (l : List Post). slice_get l n) (posts_kept over bytes replies notes posts listed))
 
-pub no_post_kept : (over : Bool) (bytes : List ℕ) (replies : List Reply) (notes : List Kept) (posts : List KeptRequest) (n : ℕ) → posts ≡ accepted_in notes
+pub no_post_kept : (over : Bool) (bytes : List ℕ) (replies : List Reply) (notes : List Kept) (posts : List KeptRequest) (n : ℕ)
+    → posts ≡ accepted_in notes
     → (n < length posts → ⊥) → None ≡ slice_get (noted_of over (map (entry_of bytes replies) notes)).posts n
 no_post_kept over bytes replies notes posts n listed past =
     let all = map (post_at bytes) posts in

@@ -1,6 +1,8 @@
 -- Zeros at the end of bytes, and behind them.
-use Rattle.std.proofs.Common.{◌≡◌, ℕ, zero, suc, ◌+◌, ◌-◌, ◌<◌, ◌≤◌, arith, List, [], ◌∷◌, ◌++◌, length, get_or, take, drop, replicate, min, refl, sym, ◌∙◌, ap, append_assoc}
-use Rattle.std.proofs.lemmas.List.{take-replicate, drop-replicate, replicate-append-replicate, take_at, length-take, length-drop, take_all, take-append-drop, take-take, drop-take, drop_more, take_min}
+use Rattle.std.proofs.Common.{◌≡◌, ℕ, zero, suc, ◌+◌, ◌-◌, ◌≤◌, arith, List, [], ◌∷◌, ◌++◌, length, get_or, take, drop, replicate, min}
+use Rattle.std.proofs.Common.{refl, sym, ◌∙◌, ap, append_assoc}
+use Rattle.std.proofs.lemmas.List.{take-replicate, drop-replicate, replicate-append-replicate, take_at, length-take, length-drop}
+use Rattle.std.proofs.lemmas.List.{take_all, take-append-drop, take-take, drop-take, drop_more, take_min}
 use Rattle.trimmed.specs.Padded.{padded}
 
 -- so many of the bytes, and zeros where there are no more
@@ -31,9 +33,9 @@ pub shorter : (e k n : ℕ) (xs : List ℕ) → n ≡ e + k → take k (drop e x
 unfolding padded
 shorter e k n xs at zeros is =
     sym (
-      ap (λ (m : ℕ). zeroed 4096 (take m xs)) at
-      ∙ ap (zeroed 4096) (front_and e k xs ∙ ap (λ (l : List ℕ). take e xs ++ l) zeros)
-      ∙ left_out 4096 k (take e xs)
+    ap (λ (m : ℕ). zeroed 4096 (take m xs)) at
+    ∙ ap (zeroed 4096) (front_and e k xs ∙ ap (λ (l : List ℕ). take e xs ++ l) zeros)
+    ∙ left_out 4096 k (take e xs)
     ) ∙ is
 
 -- the same of a piece that is all zero

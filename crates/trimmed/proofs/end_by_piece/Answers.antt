@@ -9,5 +9,5 @@ pub loop-end-preserved : goal.loop-end-preserved
 loop-end-preserved c = (
   omega arith,
   shorter_by_piece _ _ c.loop-end.end c.args.bytes.now (omega arith) (omega arith) (omega arith) (c.is_zero.ensures c.if-is_zero.true)
-  c.loop-end.invariant.1,
+      c.loop-end.invariant.1,
 )

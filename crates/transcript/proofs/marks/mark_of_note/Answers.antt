@@ -9,7 +9,8 @@ use Rattle.transcript.proofs.marks.mark_of_note.Goals as goal
 pub returns-in_ok-issued_any-in-Posted-clause-left : goal.returns-in_ok-issued_any-in-Posted-clause-left
 returns-in_ok-issued_any-in-Posted-clause-left c = λ n is.
     let issued = c.in_ok-issued_any-in-Posted.ensures.issued (marks_in n) c.in-Posted.to is in
-    let heard = subst (λ (r : BlockRequest). IsHeard c.issued_any.new.self (Issued r c.in-Posted.to ∷ marks_in n)) c.request.ensures issued in
+    let P = λ (r : BlockRequest). IsHeard c.issued_any.new.self (Issued r c.in-Posted.to ∷ marks_in n) in
+    let heard = subst P c.request.ensures issued in
     rw c.in-Posted.is (rw c.if-not-accepted.false (leaves_one _ n _ heard))
 
 pub returns-in-Received-clause-left : goal.returns-in-Received-clause-left

@@ -15,5 +15,5 @@ invariant_of-self c = let l = c.args.self.now in
 pub returns-clause-said : goal.returns-clause-said
 returns-clause-said c = let l = c.args.self.now in
     let last : c.len-at.result ≡ length l.replies.items = search rules in
-    said_more _ _ _ _ _ _ _ _ _ (has_room _ _ c.requires) (same_ones l.bytes.items) (c.args.reply ∷ [], c.push_reserved.ensures.items) l.within
-    c.push_reserved-2.ensures.items (answer_is _ _ _ _ _ c.args.reply _ last c.push_reserved.ensures.items)
+    said_more _ _ _ _ _ _ _ _ _ (has_room _ _ c.requires) (same_ones l.bytes.items) (c.args.reply ∷ [], c.push_reserved.ensures.items)
+    l.within c.push_reserved-2.ensures.items (answer_is _ _ _ _ _ c.args.reply _ last c.push_reserved.ensures.items)

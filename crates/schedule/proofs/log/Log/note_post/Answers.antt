@@ -1,4 +1,4 @@
-use Rattle.std.proofs.Common.{refl, arith, true}
+use Rattle.std.proofs.Common.{arith, true}
 use Rattle.schedule.proofs.NotedLaws.{has_room}
 use Rattle.schedule.proofs.KeptLaws.{same_ones, said_more, within_more, accepted_more, posted_is}
 use Rattle.schedule.proofs.log.Log.note_post.Goals as goal
@@ -13,4 +13,6 @@ invariant_of-self c = let l = c.args.self.now in record {
 pub returns-clause-said : goal.returns-clause-said
 returns-clause-said c = let l = c.args.self.now in
     said_more _ _ _ _ _ _ _ _ _ (has_room _ _ c.requires) c.keep_request-kept.ensures.grown (same_ones l.replies.items) l.within
-    c.push_reserved-2.ensures.items (posted_is c.keep_request-kept.new.all.items c.keep_request-kept.result _ _ true c.keep_request-kept.ensures.to c.keep_request-kept.ensures.request)
+    c.push_reserved-2.ensures.items
+    (posted_is c.keep_request-kept.new.all.items c.keep_request-kept.result _ _ true c.keep_request-kept.ensures.to
+    c.keep_request-kept.ensures.request)

@@ -13,4 +13,6 @@ invariant_of-self c = let l = c.args.self.now in record {
 pub returns-clause-said : goal.returns-clause-said
 returns-clause-said c = let l = c.args.self.now in
     said_more _ _ _ _ _ _ _ _ _ (has_room _ _ c.requires) c.keep_request-kept.ensures.grown (same_ones l.replies.items) l.within
-    c.push_reserved.ensures.items (posted_is c.keep_request-kept.new.all.items c.keep_request-kept.result _ _ false c.keep_request-kept.ensures.to c.keep_request-kept.ensures.request)
+    c.push_reserved.ensures.items
+    (posted_is c.keep_request-kept.new.all.items c.keep_request-kept.result _ _ false c.keep_request-kept.ensures.to
+    c.keep_request-kept.ensures.request)
