@@ -26,9 +26,9 @@ impl Requests {
         match mark {
             MarkRef::Issued(request, _) => {
                 self.posted = self.posted.saturating_add(1);
-                self.greatest = self.greatest.max(request.id);
+                self.greatest = self.greatest.max(request.head.id);
             }
-            MarkRef::Answered(reply) if reply.outcome.is_ok() => {
+            MarkRef::Answered(reply) if reply.head.outcome.is_ok() => {
                 self.good = self.good.saturating_add(1);
             }
             _ => {}

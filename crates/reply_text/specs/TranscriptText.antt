@@ -5,6 +5,7 @@ use Rattle.errno.specs.Errors.{errno_name}
 use Rattle.message.specs.Slots.{endpoint_text}
 use Rattle.message.specs.declared.Kind.{Kind}
 use Rattle.message.specs.declared.Kind.TheVariants.{Read, Write}
+use Rattle.trimmed.specs.Padded.{reply_of, request_of}
 use Rattle.tree.specs.Answers.{answer_of}
 use Rattle.reply_text.specs.Text.{answer_text}
 use Rattle.records.specs.declared.marks.Cause.{Cause}
@@ -16,11 +17,11 @@ use Rattle.reply_text.specs.declared.mark.MarkRef.TheVariants as ref
 -- the mark that is borrowed
 abbrev pub mark_of : MarkRef → Mark
 mark_of (ref.Started e) = Started e
-mark_of (ref.Answered reply) = Answered reply.now
+mark_of (ref.Answered reply) = Answered (reply_of reply)
 mark_of ref.Flush = Flush
 mark_of ref.GaveUp = GaveUp
 mark_of (ref.Took who now call reply) = Took who now call.now (answer_of reply.now)
-mark_of (ref.Issued request to) = Issued request.now to
+mark_of (ref.Issued request to) = Issued (request_of request) to
 mark_of (ref.Fault e cause) = Fault e cause
 
 -- what a request does

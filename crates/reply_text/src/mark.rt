@@ -6,19 +6,20 @@ ghost use Rattle.reply_text.specs.TranscriptText.{cause_text, kind_text, mark_of
 
 use crate::text::ReplyText;
 use errno::Errno;
+use message::Kind;
 use message::endpoint::Endpoint;
-use message::{BlockReply, BlockRequest, Kind};
 use records::marks::Cause;
 use std::fmt;
 use tree::{Call, Reply, Who};
+use trimmed::{ReplyRef, RequestRef};
 
-/// A mark of a record. Requests, replies and calls stand elsewhere.
+/// A mark of a record. The bytes of requests and replies, the calls and their replies stand elsewhere.
 #[derive(Clone, Copy)]
 pub enum MarkRef<'a> {
     /// A driver was started.
     Started(Endpoint),
     /// A reply of a driver was taken.
-    Answered(&'a BlockReply),
+    Answered(ReplyRef<'a>),
     /// A flush was taken.
     Flush,
     /// The device was given up.
@@ -26,7 +27,7 @@ pub enum MarkRef<'a> {
     /// A client's call was finished: who called, at which time, the call, and its reply.
     Took(Who, u32, &'a Call<'a>, &'a Reply),
     /// A request was posted to a driver.
-    Issued(&'a BlockRequest, Endpoint),
+    Issued(RequestRef<'a>, Endpoint),
     /// A driver is to be replaced.
     Fault(Endpoint, Cause),
 }
@@ -94,7 +95,8 @@ impl fmt::Display for MarkRef<'_> {
         match self {
             MarkRef::Started(endpoint) => write!(f, "started {endpoint}"),
             MarkRef::Answered(reply) => {
-                let (id, moved, from) = (reply.id, Moved(&reply.outcome), reply.from);
+                let head = &reply.head;
+                let (id, moved, from) = (head.id, Moved(&head.outcome), head.from);
                 write!(f, "answer {id} {moved} from {from}")
             }
             MarkRef::Flush => f.write_str("flush"),
@@ -105,8 +107,9 @@ impl fmt::Display for MarkRef<'_> {
                 write!(f, "reply {session} {reply}")
             }
             MarkRef::Issued(request, to) => {
-                let (id, kind) = (request.id, kind_name(request.kind));
-                let (position, count) = (request.position, request.count);
+                let head = &request.head;
+                let (id, kind) = (head.id, kind_name(head.kind));
+                let (position, count) = (head.position, head.count);
                 write!(f, "issue {id} {kind} {position} {count} to {to}")
             }
             MarkRef::Fault(endpoint, cause) => {

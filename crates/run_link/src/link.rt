@@ -12,7 +12,6 @@ use inline::local::LocalDriver;
 use message::endpoint::Endpoint;
 use message::{BlockRequest, Incoming};
 use reissue::link::{Link, LinkRefusal, TrueLink};
-use schedule::Entry;
 use schedule::queue::wait;
 
 impl<'a, D: LocalDriver> RunLink<'a, D> {
@@ -36,9 +35,9 @@ impl<'a, D: LocalDriver> RunLink<'a, D> {
         let event = event_at(self.events, self.next);
         let place = self.next as u32;
         self.next += 1;
-        self.log.note(Entry::Begun(event));
-        wait(&mut self.queue, &event);
-        self.stage.run(self.alloc, &mut self.log, place, &event)
+        self.log.note_event(event);
+        wait(&mut self.queue, event);
+        self.stage.run(self.alloc, &mut self.log, place, event)
     }
 
     #[tactic(auto, using(crate::proofs::MovingLaws::advanced, crate::proofs::MovingLaws::advanced_more))]
@@ -98,7 +97,7 @@ impl<'a, D: LocalDriver> Link for RunLink<'a, D> {
                 Ok(())
             }
             Err(refusal) => {
-                self.log.note(Entry::Posted(to, *request, false));
+                self.log.note_refused(to, request);
                 Err(refusal)
             }
         }
@@ -107,7 +106,7 @@ impl<'a, D: LocalDriver> Link for RunLink<'a, D> {
     fn complain(&mut self, about: Endpoint) {
         let ruling = complain(&mut self.stage.reincarnation, about, self.stage.tick);
         self.owed = owes(self.owed, ruling.gives_up(), self.told, self.log.over);
-        self.log.note(Entry::Complained(about, ruling.is_fault()));
+        self.log.note_complaint(about, ruling.is_fault());
     }
 
     #[tactic(auto, using(crate::proofs::MovingLaws::ended_true, crate::proofs::MovingLaws::true_of))]
@@ -124,12 +123,12 @@ impl<'a, D: LocalDriver> Link for RunLink<'a, D> {
         if self.owed {
             self.owed = false;
             self.told = true;
-            self.log.note(Entry::Received(Incoming::GaveUp));
+            self.log.note_received(&Incoming::GaveUp);
             return Incoming::GaveUp;
         }
         match self.advance() {
             Some(message) => {
-                self.log.note(Entry::Received(message));
+                self.log.note_received(&message);
                 message
             }
             None => {

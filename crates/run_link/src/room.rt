@@ -43,9 +43,9 @@ pub fn make_room<'a, D: LocalDriver>(
 
 /// The event with this number.
 #[tactic(auto, using(crate::proofs::MovingLaws::there))]
-pub fn event_at<'a>(events: &[Event<'a>], next: usize) -> Event<'a>
+pub fn event_at<'a>(events: &'a [Event<'a>], next: usize) -> &'a Event<'a>
     requires { next < length events.now }
-    ensures { slice_get events.now next ≡ Some result }
+    ensures { slice_get events.now next ≡ Some result.now }
 {
-    events[next]
+    &events[next]
 }

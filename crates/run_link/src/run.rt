@@ -13,7 +13,7 @@ use media::Media;
 use message::Incoming;
 use message::endpoint::{DISK_DRIVER, Endpoint};
 use reincarnate::Reincarnation;
-use schedule::{Arrived, Entry, Event, Log};
+use schedule::{Arrived, Event, Log};
 use std::alloc::{AllocError, Global};
 use std::collections::VecDeque;
 
@@ -70,7 +70,7 @@ impl<'a, D: LocalDriver> RunLink<'a, D> {
             slot: DISK_DRIVER,
             generation: 1,
         };
-        log.note(Entry::Handed(Incoming::Started(first)));
+        log.note_handed(&Incoming::Started(first));
         Ok(RunLink {
             stage: Stage::new(alloc, media, reincarnation)?,
             log,

@@ -13,8 +13,8 @@ use inline::local::LocalDriver;
 use message::Incoming;
 use run_link::RunLink;
 use run_link::room::make_room;
+use schedule::Arrived;
 use schedule::queue::take_first;
-use schedule::{Arrived, Entry};
 use std::alloc::AllocError;
 use tree::Reply;
 
@@ -41,12 +41,12 @@ pub fn aside<D: LocalDriver>(link: &mut RunLink<'_, D>) -> Result<Option<Incomin
     if link.owed {
         link.owed = false;
         link.told = true;
-        link.log.note(Entry::Handed(Incoming::GaveUp));
+        link.log.note_handed(&Incoming::GaveUp);
         return Ok(Some(Incoming::GaveUp));
     }
     let message = link.run();
     if let Some(message) = &message {
-        link.log.note(Entry::Handed(*message));
+        link.log.note_handed(message);
     }
     Ok(message)
 }
@@ -75,7 +75,7 @@ pub fn took<'a, D: LocalDriver>(
         return Err(AllocError);
     }
     link.log
-        .note(Entry::Took(arrived.who, arrived.now, arrived.call, reply));
+        .note_answer(arrived.who, arrived.now, arrived.call, reply);
     Ok(())
 }
 

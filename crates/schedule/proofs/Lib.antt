@@ -18,3 +18,4 @@ mod WrongActs
 mod RefusalRows
 pub mod FaultlessLaws
 pub mod NotedLaws
+mod KeptLaws

@@ -65,23 +65,6 @@ none_after : (xs : List Post) → xs ++ [] ≡ xs
 none_after [] = refl
 none_after (x ∷ xs) = ap (λ (l : List Post). x ∷ l) (none_after xs)
 
-posts_push : (entries : List Entry) (e : Entry) → posts_in (entries ++ e ∷ []) ≡ posts_in entries ++ post_of e
-posts_push [] e = none_after (post_of e)
-posts_push (x ∷ entries) e =
-    ap (λ (l : List Post). post_of x ++ l) (posts_push entries e) ∙ sym (assoc (post_of x) (posts_in entries) (post_of e))
-
--- a note that is no accepted post
-pub no_post_more : (entries new : List Entry) (posts : List Post) (e : Entry) → posts ≡ posts_in entries → new ≡ entries ++ e ∷ []
-    → post_of e ≡ [] → posts ≡ posts_in new
-no_post_more entries new posts e listed is none =
-    listed ∙ sym (ap posts_in is ∙ posts_push entries e ∙ ap (λ (l : List Post). posts_in entries ++ l) none ∙ none_after (posts_in entries))
-
--- an accepted post
-pub a_post_more : (entries new : List Entry) (posts after : List Post) (e : Entry) → posts ≡ posts_in entries → new ≡ entries ++ e ∷ []
-    → after ≡ posts ++ post_of e → after ≡ posts_in new
-a_post_more entries new posts after e listed is more =
-    more ∙ ap (λ (l : List Post). l ++ post_of e) listed ∙ sym (ap posts_in is ∙ posts_push entries e)
-
 -- a note adds the accepted post that it is, if it is one
 pub one_more : (e : Entry) (posts : List Post) → posts_with e posts ≡ posts ++ post_of e
 one_more (entry.Posted to r true) posts = refl

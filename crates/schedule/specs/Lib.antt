@@ -13,6 +13,8 @@ pub mod Laws
 pub mod Faultless
 pub mod Posts
 pub mod Noted
+pub mod Entries
+pub mod KeptNotes
 pub mod LogView
 pub mod MarkView
 pub mod ArrivingCalls

@@ -12,7 +12,9 @@
 #![tactic(auto)]
 
 pub mod arrived;
+pub mod entry_ref;
 pub mod faultless;
+mod kept;
 pub mod log;
 pub mod mark;
 pub mod queue;
@@ -20,6 +22,7 @@ pub mod queue;
 ghost use Rattle.schedule.specs.Laws.{BeginningKeeps, GroupsStay, RefusedForOne, RefusedOrAccepted, RepliesStay};
 
 pub use arrived::Arrived;
+pub use entry_ref::EntryRef;
 pub use log::{Entry, Log};
 pub use mark::RunMark;
 use message::BlockReply;

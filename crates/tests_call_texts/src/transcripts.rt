@@ -11,6 +11,7 @@ use std::io::{self, ErrorKind, Write};
 use std::test::Fail;
 use tests_texts::{are_told, is_told, row_is_told};
 use tree::{Attributes, Call, Reply, Who};
+use trimmed::{ReplyRef, RequestRef};
 
 /// Driver 1 of this generation.
 fn driver(generation: u32) -> Endpoint {
@@ -76,15 +77,16 @@ fn is_written(
 
 /// A driver dies in a read, and the next one answers it.
 fn a_death(alloc: Global) -> Result<(), Fail> {
-    let (asked, answer) = (request(1, Kind::Read, 1024), reply(Ok(1024)));
+    let (posted, sent) = (request(1, Kind::Read, 1024), reply(Ok(1024)));
+    let (asked, answer) = (RequestRef::of(&posted), ReplyRef::of(&sent));
     let (call, root) = (Call::Stat { path: b"/" }, Reply::Inode(ROOT));
     let marks = [
         MarkRef::Started(driver(1)),
-        MarkRef::Issued(&asked, driver(1)),
+        MarkRef::Issued(asked, driver(1)),
         MarkRef::Fault(driver(1), Cause::Exit),
         MarkRef::Started(driver(2)),
-        MarkRef::Issued(&asked, driver(2)),
-        MarkRef::Answered(&answer),
+        MarkRef::Issued(asked, driver(2)),
+        MarkRef::Answered(answer),
         MarkRef::Took(WHO, 100, &call, &root),
     ];
     let text =
@@ -95,7 +97,8 @@ fn a_death(alloc: Global) -> Result<(), Fail> {
 
 /// The other marks.
 fn other_marks(alloc: Global) -> Result<(), Fail> {
-    let (asked, answer) = (request(12, Kind::Write, 512), reply(Err(Errno::EIO)));
+    let (posted, sent) = (request(12, Kind::Write, 512), reply(Err(Errno::EIO)));
+    let (asked, answer) = (RequestRef::of(&posted), ReplyRef::of(&sent));
     let (call, refused) = (Call::Sync, Reply::Refused(Errno::EIO));
     let who = Who {
         session: 63,
@@ -104,8 +107,8 @@ fn other_marks(alloc: Global) -> Result<(), Fail> {
     };
     let marks = [
         MarkRef::Flush,
-        MarkRef::Issued(&asked, driver(4294967295)),
-        MarkRef::Answered(&answer),
+        MarkRef::Issued(asked, driver(4294967295)),
+        MarkRef::Answered(answer),
         MarkRef::Fault(driver(2), Cause::Complaint),
         MarkRef::Fault(driver(3), Cause::Hung),
         MarkRef::GaveUp,

@@ -17,8 +17,8 @@ pub fn shown_marks<'l>(alloc: Global, log: &'l Log<'l>) -> Result<Vec<MarkRef<'l
 {
     let mut heard = Heard::new(alloc)?;
     let mut shown = Vec::new(alloc);
-    for entry in &log.entries {
-        if let Some(mark) = mark_of_note(&mut heard, entry)? {
+    for at in 0..log.len() {
+        if let Some(mark) = mark_of_note(&mut heard, log.entry(at))? {
             shown.push(mark)?;
         }
     }

@@ -15,8 +15,7 @@ use message::endpoint::{DISK_DRIVER, Endpoint};
 use records::marks::Cause;
 use reincarnate::policy::Event as PolicyEvent;
 use reincarnate::{Action, Reincarnation};
-use schedule::Event;
-use schedule::log::{Entry, Log};
+use schedule::{Event, Log};
 use std::alloc::{AllocError, Global};
 
 /// The drivers, the reincarnation server that has the others, the tick, and the last beat: its driver's generation and its tick.
@@ -99,11 +98,11 @@ impl<D: LocalDriver> Stage<D> {
         match exit(&mut self.reincarnation, about, self.tick) {
             Ruling::Ignored => None,
             Ruling::Fault => {
-                log.note(Entry::Faulted(about, Cause::Exit));
+                log.note_fault(about, Cause::Exit);
                 None
             }
             Ruling::GivesUp => {
-                log.note(Entry::Faulted(about, Cause::Exit));
+                log.note_fault(about, Cause::Exit);
                 Some(Incoming::GaveUp)
             }
         }
@@ -203,11 +202,11 @@ impl<D: LocalDriver> Stage<D> {
         {
             Action::Nothing => None,
             Action::WaitUntil(_) => {
-                log.note(Entry::Faulted(current, Cause::Hung));
+                log.note_fault(current, Cause::Hung);
                 None
             }
             Action::GiveUp => {
-                log.note(Entry::Faulted(current, Cause::Hung));
+                log.note_fault(current, Cause::Hung);
                 Some(Incoming::GaveUp)
             }
             Action::Start(endpoint, next) => {

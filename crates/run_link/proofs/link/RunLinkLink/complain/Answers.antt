@@ -11,6 +11,6 @@ returns-clause-goes g c =
     complains _ _ c.args.self.now.stage.reincarnation _ _ _ _ _ refl refl c.complain-ruling.ensures.after
     (c.owes-self.ensures
     ∙ ap (λ (x : Bool). c.args.self.now.owed || (x && not c.args.self.now.told && not c.args.self.now.log.over)) (c.gives_up.ensures ∙ ap gives_up c.complain-ruling.ensures.ruling))
-    (c.note.ensures.said
+    (c.note_complaint.ensures.said
     ∙ ap (λ (x : Bool). with_entry (entry.Complained c.args.about x) (said c.args.self.now.log)) (c.is_fault.ensures ∙ ap is_fault c.complain-ruling.ensures.ruling))
-    c.note.ensures.over
+    c.note_complaint.ensures.over

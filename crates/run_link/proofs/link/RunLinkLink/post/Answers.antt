@@ -17,4 +17,4 @@ returns-in-Ok-clause-goes g c =
 pub returns-in-Err-clause-goes : goal.returns-in-Err-clause-goes
 returns-in-Err-clause-goes g c =
     posts _ _ _ _ _ _ _ (has_room _ _ c.requires) (lines_up _ _ _ _ _ c.in-Err.ensures.dead c.in-Err.ensures.full c.in-Err.ensures.lined c.in-Err.ensures.refused)
-    c.note.ensures.said c.note.ensures.over
+    c.note_refused.ensures.said c.note_refused.ensures.over

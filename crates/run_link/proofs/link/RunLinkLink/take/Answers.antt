@@ -7,35 +7,35 @@ use Rattle.run_link.proofs.link.RunLinkLink.take.Goals as goal
 
 pub returns-then-self-clause-truth : goal.returns-then-self-clause-truth
 returns-then-self-clause-truth g c = λ v marks h.
-    received_true v _ _ marks incoming.GaveUp c.note.ensures.said (owed_heard v _ marks (true_of v _ _ marks c.make_room.ensures.scene h))
+    received_true v _ _ marks incoming.GaveUp c.note_received.ensures.said (owed_heard v _ marks (true_of v _ _ marks c.make_room.ensures.scene h))
 
 pub returns-in-Some-clause-told : goal.returns-in-Some-clause-told
-returns-in-Some-clause-told g c = take_told _ _ _ _ _ c.in-Some.ensures.came c.note-in-Some.ensures.said c.make_room.ensures.scene
+returns-in-Some-clause-told g c = take_told _ _ _ _ _ c.in-Some.ensures.came c.note_received-in-Some.ensures.said c.make_room.ensures.scene
 
 pub returns-in-Some-clause-budget : goal.returns-in-Some-clause-budget
 returns-in-Some-clause-budget g c = λ some.
-    take_falls _ _ _ _ _ _ _ _ c.in-Some.ensures.came c.if-not-make_room.ensures.live (c.note-in-Some.ensures.over ∙ c.in-Some.ensures.over) refl refl
+    take_falls _ _ _ _ _ _ _ _ c.in-Some.ensures.came c.if-not-make_room.ensures.live (c.note_received-in-Some.ensures.over ∙ c.in-Some.ensures.over) refl refl
     c.in-Some.ensures.next c.advance.new.self.within
 
 pub returns-in-Some-clause-spent : goal.returns-in-Some-clause-spent
 returns-in-Some-clause-spent g c =
-    take_spent _ _ _ (take_falls _ _ _ c.args.self.now.log.over c.note-in-Some.new.self.over _ _ _ c.in-Some.ensures.came c.if-not-make_room.ensures.live
-    (c.note-in-Some.ensures.over ∙ c.in-Some.ensures.over) refl refl c.in-Some.ensures.next c.advance.new.self.within)
+    take_spent _ _ _ (take_falls _ _ _ c.args.self.now.log.over c.note_received-in-Some.new.self.over _ _ _ c.in-Some.ensures.came c.if-not-make_room.ensures.live
+    (c.note_received-in-Some.ensures.over ∙ c.in-Some.ensures.over) refl refl c.in-Some.ensures.next c.advance.new.self.within)
 
 pub returns-then-self-clause-goes : goal.returns-then-self-clause-goes
 returns-then-self-clause-goes g c =
     takes_owed _ _ _ _ (same_run _ _ c.make_room.ensures.scene refl refl c.make_room.ensures.waiting refl refl c.make_room.ensures.over refl)
     (c.make_room.ensures.over ∙ c.if-not-make_room.ensures.live) c.if-self.true
-    (not_told _ _ c.args.self.now.once c.if-self.true) c.note.ensures.said c.note.ensures.over
+    (not_told _ _ c.args.self.now.once c.if-self.true) c.note_received.ensures.said c.note_received.ensures.over
 
 pub returns-in-Some-clause-goes : goal.returns-in-Some-clause-goes
 returns-in-Some-clause-goes g c =
     takes _ _ _ _ _ _ (same_run _ _ c.make_room.ensures.scene refl refl c.make_room.ensures.waiting refl refl c.make_room.ensures.over refl)
-    c.in-Some.ensures.came c.note-in-Some.ensures.said c.note-in-Some.ensures.over
+    c.in-Some.ensures.came c.note_received-in-Some.ensures.said c.note_received-in-Some.ensures.over
 
 pub returns-in-Some-clause-truth : goal.returns-in-Some-clause-truth
 returns-in-Some-clause-truth g c = λ v marks h.
-    take_true v _ _ _ _ _ marks c.in-Some.ensures.came c.note-in-Some.ensures.said c.make_room.ensures.scene h
+    take_true v _ _ _ _ _ marks c.in-Some.ensures.came c.note_received-in-Some.ensures.said c.make_room.ensures.scene h
 
 pub returns-in-None-clause-told : goal.returns-in-None-clause-told
 returns-in-None-clause-told g c = end_told _ _ _ _ (c.in-None.ensures.ends refl) c.end-in-None.ensures.said c.make_room.ensures.scene

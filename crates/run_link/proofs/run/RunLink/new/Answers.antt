@@ -9,5 +9,6 @@ use Rattle.run_link.proofs.run.RunLink.new.Goals as goal
 
 pub returns-clause-truth : goal.returns-clause-truth
 returns-clause-truth g c = λ v on is ready.
-    opened_true v _ _ _ _ _ _ on is ready (c.note.ensures.said ∙ ap (with_entry (entry.Handed (incoming.Started (driver 1)))) c.in_ok-log.ensures.said) refl
-    (c.in_ok-new.ensures.opens (said c.note.new.self))
+    opened_true v _ _ _ _ _ _ on is ready
+    (c.note_handed.ensures.said ∙ ap (with_entry (entry.Handed (incoming.Started (driver 1)))) c.in_ok-log.ensures.said) refl
+    (c.in_ok-new.ensures.opens (said c.note_handed.new.self))

@@ -1,8 +1,18 @@
-use Rattle.schedule.proofs.NotedLaws.{said_push, has_room, a_post_more}
+use Rattle.std.proofs.Common.{arith, true}
+use Rattle.schedule.proofs.NotedLaws.{has_room}
+use Rattle.schedule.proofs.KeptLaws.{same_ones, said_more, within_more, accepted_more, posted_is}
 use Rattle.schedule.proofs.log.Log.note_post.Goals as goal
 
 pub invariant_of-self : goal.invariant_of-self
-invariant_of-self c = record { listed = a_post_more _ _ _ _ _ c.args.self.now.listed c.push_reserved-2.ensures.items c.push_reserved.ensures.items }
+invariant_of-self c = let l = c.args.self.now in record {
+  listed = accepted_more _ _ _ _ _ l.listed c.push_reserved-2.ensures.items c.push_reserved.ensures.items;
+  within = within_more _ _ _ _ _ _ _ c.keep_request-kept.ensures.grown (same_ones l.replies.items) l.within c.push_reserved-2.ensures.items
+      (c.keep_request-kept.ensures.within, omega arith);
+}
 
 pub returns-clause-said : goal.returns-clause-said
-returns-clause-said c = said_push _ _ _ _ (has_room _ _ c.requires) c.push_reserved-2.ensures.items
+returns-clause-said c = let l = c.args.self.now in
+    said_more _ _ _ _ _ _ _ _ _ (has_room _ _ c.requires) c.keep_request-kept.ensures.grown (same_ones l.replies.items) l.within
+    c.push_reserved-2.ensures.items
+    (posted_is c.keep_request-kept.new.all.items c.keep_request-kept.result _ _ true c.keep_request-kept.ensures.to
+    c.keep_request-kept.ensures.request)

@@ -1,15 +1,22 @@
-use Rattle.std.proofs.Common.{◌∙◌, ap, sym, arith, List}
-use Rattle.std.specs.Prelude.{slice_get}
-use Rattle.schedule.specs.declared.log.Post.{Post}
-use Rattle.schedule.proofs.NotedLaws.{posts_said, post_there, post_past}
+use Rattle.std.proofs.Common.{arith, ◌∙◌, ap, List, ℕ}
+use Rattle.schedule.specs.KeptNotes.{post_at}
+use Rattle.schedule.proofs.KeptLaws.{place_of_post, post_kept, no_post_kept}
 use Rattle.schedule.proofs.log.Log.post.Goals as goal
 
+pub post_of-requires : goal.post_of-requires
+post_of-requires c = let l = c.args.self.now in
+    rw c.as_slice.ensures.value (
+    place_of_post _ _ l.notes.items l.posts.items c.args.n c.index.result.now l.within l.listed
+    (omega (arith, c.len.ensures, c.if-n-len.true)) c.index.ensures
+    )
+
 pub returns-then-n-len : goal.returns-then-n-len
-returns-then-n-len c =
-    post_there c.args.self.now.posts.items c.args.n c.index.result.now (omega (arith, c.len.ensures, c.if-n-len.true)) c.index.ensures
-    ∙ sym (ap (λ (l : List Post). slice_get l c.args.n) (posts_said c.args.self.now.over c.args.self.now.entries.items c.args.self.now.posts.items c.args.self.now.listed))
+returns-then-n-len c = let l = c.args.self.now in
+    post_kept l.over l.bytes.items l.replies.items l.notes.items l.posts.items c.args.n c.index.result.now c.post_of.result l.listed
+    (omega (arith, c.len.ensures, c.if-n-len.true)) c.index.ensures
+    (c.post_of.ensures ∙ ap (λ (b : List ℕ). post_at b c.index.result.now) c.as_slice.ensures.value)
 
 pub returns-else-n-len : goal.returns-else-n-len
-returns-else-n-len c =
-    post_past c.args.self.now.posts.items c.args.n (λ low. omega (arith, low, c.len.ensures, c.if-n-len.false))
-    ∙ sym (ap (λ (l : List Post). slice_get l c.args.n) (posts_said c.args.self.now.over c.args.self.now.entries.items c.args.self.now.posts.items c.args.self.now.listed))
+returns-else-n-len c = let l = c.args.self.now in
+    no_post_kept l.over l.bytes.items l.replies.items l.notes.items l.posts.items c.args.n l.listed
+    (λ low. omega (arith, low, c.len.ensures, c.if-n-len.false))

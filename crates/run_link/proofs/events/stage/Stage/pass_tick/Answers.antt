@@ -8,12 +8,12 @@ returns-in-Nothing-clause-ticks g c = quiet_tick _ _ _ _ _ _ _ _ (c.beat.ensures
 
 pub returns-in-WaitUntil-clause-ticks : goal.returns-in-WaitUntil-clause-ticks
 returns-in-WaitUntil-clause-ticks g c =
-    fault_tick _ _ _ _ _ _ _ _ _ _ _ (c.driver-current.ensures ∙ ap driver (sym c.beat.new.self.drivers.current_is)) c.note.ensures.said
+    fault_tick _ _ _ _ _ _ _ _ _ _ _ (c.driver-current.ensures ∙ ap driver (sym c.beat.new.self.drivers.current_is)) c.note_fault.ensures.said
     (c.beat.ensures.beaten _) c.in-WaitUntil.ensures.decides
 
 pub returns-in-GiveUp-clause-ticks : goal.returns-in-GiveUp-clause-ticks
 returns-in-GiveUp-clause-ticks g c =
-    give_up_tick _ _ _ _ _ _ _ _ _ _ (c.driver-current.ensures ∙ ap driver (sym c.beat.new.self.drivers.current_is)) c.note-in-GiveUp.ensures.said
+    give_up_tick _ _ _ _ _ _ _ _ _ _ (c.driver-current.ensures ∙ ap driver (sym c.beat.new.self.drivers.current_is)) c.note_fault-in-GiveUp.ensures.said
     (c.beat.ensures.beaten _) c.in-GiveUp.ensures.decides
 
 pub returns-in-Start-clause-ticks : goal.returns-in-Start-clause-ticks

@@ -1,0 +1,16 @@
+-- A note that is read.
+use Rattle.schedule.specs.declared.log.Entry.{Entry}
+use Rattle.schedule.specs.declared.log.Entry.TheVariants as entry
+use Rattle.schedule.specs.declared.entry_ref.EntryRef.{EntryRef}
+use Rattle.schedule.specs.declared.entry_ref.EntryRef.TheVariants.{Begun, Posted, Complained, Received, Handed, Faulted, Took}
+use Rattle.trimmed.specs.Padded.{incoming_of, request_of}
+
+-- the note that is borrowed
+abbrev pub entry_in : EntryRef → Entry
+entry_in (Begun event) = entry.Begun event.now
+entry_in (Posted to request accepted) = entry.Posted to (request_of request) accepted
+entry_in (Complained e is_fault) = entry.Complained e is_fault
+entry_in (Received m) = entry.Received (incoming_of m)
+entry_in (Handed m) = entry.Handed (incoming_of m)
+entry_in (Faulted e cause) = entry.Faulted e cause
+entry_in (Took who now call reply) = entry.Took who now call.now reply.now
