@@ -9,12 +9,12 @@ use message::endpoint::Endpoint;
 use message::{BlockReply, BlockRequest, Incoming, Kind};
 
 /// How many bytes a request or a reply has.
-pub const BYTES: usize = 4096;
+const BYTES: usize = 4096;
 
 /// How many bytes are looked at together, whether they are all zero.
 const PIECE: usize = 64;
 
-/// A request without its bytes.
+/// A request without its bytes: the other fields of [`BlockRequest`].
 #[derive(Clone, Copy)]
 pub struct RequestHead {
     pub id: u64,
@@ -24,7 +24,7 @@ pub struct RequestHead {
     pub count: u32,
 }
 
-/// A reply without its bytes.
+/// A reply without its bytes: the other fields of [`BlockReply`].
 #[derive(Clone, Copy)]
 pub struct ReplyHead {
     pub from: Endpoint,
