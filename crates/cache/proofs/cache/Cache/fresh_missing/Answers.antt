@@ -1,5 +1,5 @@
 use Rattle.std.proofs.Common.{ℕ, subst, refl, sym, ap}
-use Rattle.cache.specs.Edits.{StayBut}
+use Rattle.cache.specs.Edits.{HeldOnBut}
 use Rattle.cache.specs.Order.{IsVictim}
 use Rattle.cache.specs.declared.state.State.TheVariants.{Dirty}
 use Rattle.cache.proofs.Held.{in_range}
@@ -42,7 +42,7 @@ returns-clause-miss g c =
     let m = c.in_ok-at.ensures.made in
     misses_filled _ _ c.make_room.new.self.slots _ c.in_ok-at.at c.args.block _ Dirty refl refl
     (subst (λ (n : ℕ). IsVictim c.args.self.now.slots.items.items c.args.self.now.slots.uses.numbers.items n) (sym m.is) m.goes)
-    (subst (λ (n : ℕ). StayBut n c.args.self.now.slots c.make_room.new.self.slots) (sym m.is) m.stay)
+    (subst (λ (n : ℕ). HeldOnBut n c.args.self.now.slots c.make_room.new.self.slots) (sym m.is) m.stay)
     c.make_room.ensures.none c.in_ok-at.ensures.free (c.make_room.ensures.none c.args.block c.requires.missing)
     c.fill.ensures.filled c.fill.ensures.used
 
