@@ -41,3 +41,12 @@ returns-clause-made g c = record {
   stay = held_but_then c.victim-at.result _ _ _ (held_but c.victim-at.result _ _ _ c.write_ahead.ensures.held_on c.clean.ensures.others)
       (record { uses = c.vacate.ensures.uses; each = set_others _ _ c.victim-at.result _ c.vacate.ensures.set });
 }
+
+pub returns-in_err-clean-clause-keeps : goal.returns-in_err-clean-clause-keeps
+returns-in_err-clean-clause-keeps g c = keeps_then _ _ _ c.write_ahead.ensures.keeps c.clean.ensures.keeps
+
+pub returns-in_err-clean-clause-flush : goal.returns-in_err-clean-clause-flush
+returns-in_err-clean-clause-flush g c = follows_then _ _ _ _ _ _ c.write_ahead.ensures.flush c.clean.ensures.flush
+
+pub returns-clause-flush : goal.returns-clause-flush
+returns-clause-flush g c = follows_then _ _ _ _ _ _ c.write_ahead.ensures.flush c.clean.ensures.flush
