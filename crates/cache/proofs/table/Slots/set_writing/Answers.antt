@@ -21,7 +21,7 @@ loop-past-preserved c =
     let items = c.loop-past.self.items.items in
     let here = c.dirty_at-at.ensures in
     let dirty = next_dirty (held c.args.self.now.items.items) items c.args.block c.loop-past.past c.args.ticket c.dirty_at-at.result
-        c.loop-past.self.distinct i.begun (c.requires.dirty c.loop-past.past c.loop-past-test.true) here in
+    c.loop-past.self.distinct i.begun (c.requires.dirty c.loop-past.past c.loop-past-test.true) here in
     let unclean : is_clean here.slot.state ≡ true → ⊥ = λ h. let z = sym (ap is_clean dirty) ∙ h in cc in
     record {
       within = omega (arith, c.loop-past-test.true);
