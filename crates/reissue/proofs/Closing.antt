@@ -9,7 +9,7 @@ use Rattle.reissue.specs.Settlements as settled
 use Rattle.reissue.specs.declared.pending.Pending.{Pending}
 use Rattle.reissue.specs.declared.table.Table.{Table}
 use Rattle.reissue.proofs.Answering.{Taken, AreDisk}
-use Rattle.reissue.proofs.Writes.{AreWritten, spares_same, is_written, wrote_rest, wrote_all}
+use Rattle.reissue.proofs.Writes.{AreWritten, spares_same, is_written, was_moved}
 use Rattle.reissue.proofs.Tickets.{rising_out, rising_push, pending_among, pending_removed, pending_rest, split_at, among_at, distinct_out, distinct_push, up_to_out, up_to_push}
 use Rattle.records.specs.Disk.{Contents, HasTrueReplies}
 use Rattle.records.specs.Marks.{Answered, Mark}
@@ -239,13 +239,10 @@ closing_dropped ps marks = closing_nothing ps ps marks marks (λ image. spares_s
     (reads_none ps ps marks marks refl (λ _. refl) (λ _. refl))
 
 -- a write of which nothing is left is written
-pub done_writes : (t v : Table) (marks : List Mark) (image : Contents) (a : BlockReply) (e r : Pending) (n : ℕ)
+pub done_writes : (t v : Table) (marks : List Mark) (image : Contents) (a : BlockReply) (e : Pending) (n : ℕ)
     → Taken t v marks a e n → moved_by a marks ≡ Some n
-    → is_write e.request.kind ≡ true
-    → r.start ≡ e.start → r.size ≡ e.size → r.request.position ≡ e.request.position + n
-    → r.request.count + n ≡ e.request.count → r.request.count ≡ 0 → r.bytes ≡ e.bytes
+    → is_write e.request.kind ≡ true → n ≡ e.request.count
     → AreWritten image (Answered a ∷ marks) e.start e.size e.bytes
-done_writes t v marks image a e r n x m w start size position count none bytes =
-    let all = wrote_rest image marks a e r n x.there m x.within w (x.writes image w) start position count
-    (λ k. ap (λ (l : List ℕ). slice_index l k) bytes) (λ k lt. absurd (omega (arith, lt, none))) in
-    rw (← start, ← size, ← bytes) (wrote_all image (Answered a ∷ marks) r none all)
+done_writes t v marks image a e n x m w all = record {
+  each = λ k lt. was_moved image marks a e n x.there m x.within w (x.writes image w) k (omega (arith, lt, all, e.end));
+}

@@ -15,9 +15,9 @@ pub struct Pending {
     pub start: u64,
     /// How many bytes were asked for.
     pub size: u32,
-    /// Of a read, what was read so far; of a write, the bytes as they were given.
+    /// Of a read, what was read so far, and the others have no meaning; of a write, the bytes as they were given.
     pub bytes: [u8; 4096],
-    /// The request for what is left, under its present id.
+    /// The request for what is left, under its present id. A read's bytes have no meaning.
     pub request: BlockRequest,
     pub ghost some: { 0 < size },
     pub ghost small: { size ≤ 4096 },
@@ -41,7 +41,7 @@ fn shifted(bytes: &[u8; 4096], n: usize) -> [u8; 4096]
 
 impl Pending {
     ghost use Rattle.reissue.specs.Entries.{begun_of, meets};
-    ghost use Rattle.reissue.specs.Moves.{begun_by, request_for};
+    ghost use Rattle.reissue.specs.Moves.{begun_by, IsRequestFor};
 
     /// Whether a byte of this range was asked for.
     #[inline]
@@ -70,25 +70,34 @@ impl Pending {
         }
     }
 
-    /// It is what is asked for from now on, under this id.
-    pub(crate) fn begin(&mut self, ask: &Ask, id: u64)
+    /// It is what is asked for from now on, under this id. A write's bytes are copied, and nothing is where a read's would be.
+    pub(crate) fn begin(&mut self, ask: &Ask<'_>, id: u64)
         ensures ticket { self.new.ticket ≡ id }
         ensures start { self.new.start ≡ ask.now.position }
         ensures size { self.new.size ≡ ask.now.count }
-        ensures bytes { self.new.bytes ≡ ask.now.bytes }
+        ensures bytes { is_write ask.now.kind ≡ true → self.new.bytes ≡ ask.now.bytes.now }
         ensures begun { begun_of self.new ≡ begun_by ask.now }
-        ensures request { self.new.request ≡ request_for ask.now id }
+        ensures request { IsRequestFor ask.now id self.new.request }
+
+        // Of a read no byte is touched.
+        ensures kept { is_write ask.now.kind ≡ false
+            → (self.new.bytes ≡ self.old.bytes) × (self.new.request.bytes ≡ self.old.request.bytes) }
     {
         self.ticket = Ticket::of_id(id);
         self.start = ask.position;
         self.size = ask.count;
-        self.bytes = ask.bytes;
         self.request.id = id;
         self.request.kind = ask.kind;
         self.request.minor = ask.minor;
         self.request.position = ask.position;
         self.request.count = ask.count;
-        self.request.bytes = ask.bytes;
+        match ask.kind {
+            Kind::Read => {}
+            Kind::Write => {
+                self.bytes = *ask.bytes;
+                self.request.bytes = *ask.bytes;
+            }
+        }
     }
 
     /// An answer moved so many bytes of it: what is left is pending under a new id.
@@ -122,11 +131,24 @@ impl Pending {
         self.request.count -= moved;
         match self.request.kind {
             Kind::Read => self.bytes[done..done + n].copy_from_slice(&bytes[..n]),
-            Kind::Write => {
-                if self.request.count > 0 {
-                    self.request.bytes = shifted(&self.request.bytes, n);
-                }
-            }
+            Kind::Write => self.request.bytes = shifted(&self.request.bytes, n),
         }
+    }
+
+    /// An answer moved so many bytes of this read, of which nothing is left then: those of earlier answers go into `into`, and behind them
+    /// those of this one.
+    pub(crate) fn finish(&self, moved: u32, bytes: &[u8; 4096], into: &mut [u8; 4096])
+        requires within { moved ≤ self.now.request.count }
+        ensures before { (k : ℕ) → self.now.start + k < self.now.request.position
+            → slice_index into.new k ≡ slice_index self.now.bytes k }
+        ensures moved { (k : ℕ) → k < moved
+            → slice_index into.new (self.now.request.position - self.now.start + k) ≡ slice_index bytes.now k }
+        ensures after { (k : ℕ) → self.now.request.position + moved ≤ self.now.start + k
+            → slice_index into.new k ≡ slice_index into.old k }
+    {
+        let done = (self.request.position - self.start) as usize;
+        let n = moved as usize;
+        into[..done].copy_from_slice(&self.bytes[..done]);
+        into[done..done + n].copy_from_slice(&bytes[..n]);
     }
 }
