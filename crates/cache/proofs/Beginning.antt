@@ -162,7 +162,7 @@ busy_begun t r pending pending' e = record { ticket = t; request = r; is = ap (�
 
 -- the writes of a run of dirty slots are begun
 pub write_many : (ask : Ask) (old new : Caching) (b count n : ℕ)
-    → 0 < count → AreBegun b count n old.held new.held → AreGathered old.held b count old.size ask.bytes
+    → 0 < count → AreBegun b count n old.held new.held → AreGathered old.held b count old.size ask.bytes.now
     → Begins ask old.table new.table old.told new.told old.truth new.truth → Adds ask old.table new.table old.told new.told
     → Opens (Ok n) (begun_by ask) (pending_of old.table.pending) (pending_of new.table.pending)
     → ask.kind ≡ kind.Write → ask.minor ≡ old.minor → ask.position ≡ b * old.size → ask.count ≡ count * old.size
@@ -178,12 +178,12 @@ write_many ask old new b count n some begun from x adds opens write minor positi
           ∙ view_begun old.size old.held new.held w b count n begun;
     })
   where
-    wr : written_by ask.kind ask.bytes ≡ Some ask.bytes
-    wr = ap (λ (y : Kind). written_by y ask.bytes) write
+    wr : written_by ask.kind ask.bytes.now ≡ Some ask.bytes.now
+    wr = ap (λ (y : Kind). written_by y ask.bytes.now) write
 
     tied : Tied old.size new.held (pending_of new.table.pending)
     tied = subst (λ (o : ℕ → Option Begun). Tied old.size new.held o) (sym opens.1)
-        (tied_run old.size old.held new.held (pending_of old.table.pending) b count n (begun_by ask) ask.bytes some begun from opens.0 position many wr ready.tied)
+        (tied_run old.size old.held new.held (pending_of old.table.pending) b count n (begun_by ask) ask.bytes.now some begun from opens.0 position many wr ready.tied)
 
     tied' : Tied new.size new.held (pending_of new.table.pending)
     tied' = subst (λ (k : ℕ). Tied k new.held (pending_of new.table.pending)) (sym size) tied
@@ -194,7 +194,7 @@ pub write_one : (ask : Ask) (old new : Caching) (items items' : List Slot) (b n 
     → IsSetAt items items' at (λ t. record t { state = Writing n }) → old.held ≡ held items → new.held ≡ held items'
     → Begins ask old.table new.table old.told new.told old.truth new.truth → Adds ask old.table new.table old.told new.told
     → Opens (Ok n) (begun_by ask) (pending_of old.table.pending) (pending_of new.table.pending)
-    → ask.kind ≡ kind.Write → ask.minor ≡ old.minor → ask.position ≡ b * old.size → ask.count ≡ old.size → ask.bytes ≡ s.bytes.value
+    → ask.kind ≡ kind.Write → ask.minor ≡ old.minor → ask.position ≡ b * old.size → ask.count ≡ old.size → ask.bytes.now ≡ s.bytes.value
     → IsReady old → new.minor ≡ old.minor → new.size ≡ old.size → new.ended ≡ old.ended → new.budget ≤ old.budget → HasRoom new.table new.room
     → Keeps old new
 write_one ask old new items items' b n at s d is block st e here there x adds opens write minor position count bytes ready same size ended budget room =
@@ -221,14 +221,14 @@ write_one ask old new items items' b n at s d is block st e here there x adds op
     begun : AreBegun b 1 n old.held new.held
     begun = subst (λ (h : ℕ → Option Slot). AreBegun b 1 n old.held h) (sym all) (begun_one old.held b n s slot st)
 
-    from : AreGathered old.held b 1 old.size ask.bytes
+    from : AreGathered old.held b 1 old.size ask.bytes.now
     from = record {
       each = λ i o u lt lo is'.
           let at_b : b + i ≡ b = omega (arith, lt) in
           let none : i * old.size + o ≡ o = ap (λ k. k * old.size + o) (let z : i ≡ 0 = omega (arith, lt) in z) ∙ (let y : 0 * old.size + o ≡ o = omega arith in y) in
           let same_one : Some s ≡ Some u = sym slot ∙ ap old.held (sym at_b) ∙ is' in
           let it : s ≡ u = cc in
-          ap (slice_index ask.bytes) none ∙ ap (λ (l : List ℕ). slice_index l o) bytes ∙ ap (λ (y : Slot). slice_index y.bytes.value o) it;
+          ap (slice_index ask.bytes.now) none ∙ ap (λ (l : List ℕ). slice_index l o) bytes ∙ ap (λ (y : Slot). slice_index y.bytes.value o) it;
     }
 
 -- the read of a block is begun
@@ -249,8 +249,8 @@ read_one ask old new b n all x adds opens read minor position count ready same s
           ∙ ap (λ (h : ℕ → Option Slot). view old.size h w) all;
     })
   where
-    none : written_by ask.kind ask.bytes ≡ None
-    none = ap (λ (y : Kind). written_by y ask.bytes) read
+    none : written_by ask.kind ask.bytes.now ≡ None
+    none = ap (λ (y : Kind). written_by y ask.bytes.now) read
 
     tied : Tied old.size new.held (pending_of new.table.pending)
     tied = subst (λ (h : ℕ → Option Slot). Tied old.size h (pending_of new.table.pending)) (sym all)
@@ -266,7 +266,7 @@ pub read_is_at : (n start size : ℕ) (pending pending' : ℕ → Option Begun) 
 read_is_at n start size pending pending' ask opens read position count = record {
   request = begun_by ask;
   is = ap (λ (f : ℕ → Option Begun). f n) opens.1 ∙ put-same pending n (Some (begun_by ask));
-  read = ap (λ (y : Kind). written_by y ask.bytes) read;
+  read = ap (λ (y : Kind). written_by y ask.bytes.now) read;
   start_is = position;
   size_is = count;
 }

@@ -29,7 +29,7 @@ impl Shape {
     }
 
     /// A request to read a block.
-    pub fn read(&self, block: u32) -> Ask
+    pub fn read(&self, block: u32) -> Ask<'static>
         ensures kind { result.kind ≡ Read }
         ensures minor { result.minor ≡ self.now.minor }
         ensures position { result.position ≡ block * self.now.block_size }
@@ -39,25 +39,25 @@ impl Shape {
     }
 
     /// A request to write these bytes of a block.
-    pub fn write(&self, block: u32, bytes: &[u8; 4096]) -> Ask
+    pub fn write<'b>(&self, block: u32, bytes: &'b [u8; 4096]) -> Ask<'b>
         ensures kind { result.kind ≡ Write }
         ensures minor { result.minor ≡ self.now.minor }
         ensures position { result.position ≡ block * self.now.block_size }
         ensures count { result.count ≡ self.now.block_size }
-        ensures bytes { result.bytes ≡ bytes.now }
+        ensures bytes { result.bytes.now ≡ bytes.now }
     {
         Ask::write(self.minor, self.place(block), self.block_size, bytes)
     }
 
     /// A request to write so many neighbouring blocks from this one on: their bytes, one block after the other.
-    pub fn write_run(&self, block: u32, count: u32, bytes: &[u8; 4096]) -> Ask
+    pub fn write_run<'b>(&self, block: u32, count: u32, bytes: &'b [u8; 4096]) -> Ask<'b>
         requires some { 0 < count }
         requires fits { count * self.now.block_size ≤ 4096 }
         ensures kind { result.kind ≡ Write }
         ensures minor { result.minor ≡ self.now.minor }
         ensures position { result.position ≡ block * self.now.block_size }
         ensures count { result.count ≡ count * self.now.block_size }
-        ensures bytes { result.bytes ≡ bytes.now }
+        ensures bytes { result.bytes.now ≡ bytes.now }
     {
         Ask::write(
             self.minor,

@@ -3,7 +3,6 @@ use Rattle.std.proofs.Common.{◌≡◌, ◌⊎◌, ℕ, ◌+◌, ◌-◌, ◌<�
 use Rattle.std.specs.Prelude.{slice_index, ◌==◌}
 use Rattle.std.proofs.lemmas.Bool.Decides.{leb_tells, nat_tests}
 use Rattle.std.proofs.lemmas.Bool.{cases_eq}
-use Rattle.message.specs.declared.BlockRequest.{BlockRequest}
 use Rattle.message.specs.declared.Kind.{Kind}
 use Rattle.message.specs.declared.Kind.TheVariants.{Read}
 use Rattle.records.specs.Marks.{Mark}
@@ -41,9 +40,9 @@ begun s z w = record { start = s; size = z; written = w }
 pub begun_piece : (ask : Ask) (start size at : ℕ) → ask.kind ≡ Read → ask.position ≡ start + at → ask.count ≡ piece_size size at
     → begun_by ask ≡ piece start size at
 begun_piece ask start size at k p n =
-    ap (λ (x : ℕ). begun x ask.count (written_by ask.kind ask.bytes)) p
-    ∙ ap (λ (x : ℕ). begun (start + at) x (written_by ask.kind ask.bytes)) n
-    ∙ ap (λ (x : Kind). begun (start + at) (piece_size size at) (written_by x ask.bytes)) k
+    ap (λ (x : ℕ). begun x ask.count (written_by ask.kind ask.bytes.now)) p
+    ∙ ap (λ (x : ℕ). begun (start + at) x (written_by ask.kind ask.bytes.now)) n
+    ∙ ap (λ (x : Kind). begun (start + at) (piece_size size at) (written_by x ask.bytes.now)) k
 
 -- a range of which nothing was asked for yet
 pub midway_none : (minor start size : ℕ) (bytes : List ℕ) (t : Table) (told : List Told) (was : Truth) → t.pending ≡ []
@@ -181,8 +180,8 @@ midway_begins {L} link minor start size next after asked more bytes s old new be
     goes marks h unread =
         let g = m.goes marks h unread in
         let entry = x.adds.entry in
-        let at : entry.request.position ≡ start + next = ap (λ (r : BlockRequest). r.position) x.adds.request ∙ x.position in
-        let count : entry.request.count ≡ x.ask.count = ap (λ (r : BlockRequest). r.count) x.adds.request in
+        let at : entry.request.position ≡ start + next = x.adds.request.position ∙ x.position in
+        let count : entry.request.count ≡ x.ask.count = x.adds.request.count in
         let posts = λ (place : ℕ). posts_read x.begins.posts (marks_after m.went.acts marks) place x.begins.only_posts in
         record {
           asks = subst (λ (l : List Pending). AllAsk l) (sym x.adds.pending) (ask_push (table_of old).pending entry g.asks (omega (arith, count, x.ask.least)));

@@ -27,7 +27,7 @@ pub enum Stop {
 }
 
 /// The read of the next piece of a range that begins at `start`, after so many bytes of it.
-fn ask_at(minor: u8, start: u64, at: usize, size: usize) -> Ask
+fn ask_at(minor: u8, start: u64, at: usize, size: usize) -> Ask<'static>
     requires start { start % 512 ≡ 0 }
     requires place { at % 512 ≡ 0 }
     requires whole { size % 512 ≡ 0 }

@@ -15,7 +15,7 @@ use Rattle.message.specs.declared.Incoming.TheVariants as incoming
 use Rattle.reissue.specs.declared.pending.Pending.{Pending}
 use Rattle.reissue.specs.declared.table.Table.{Table}
 use Rattle.reissue.specs.Hears.{counted_move}
-use Rattle.reissue.proofs.Joined.{joined_like, joined_answered, joined_rest, joined_push, joined_out}
+use Rattle.reissue.proofs.Joined.{joined_like, joined_answered, was_joined, joined_rest, joined_push, joined_out}
 use Rattle.reissue.proofs.Writes.{same_at, all_wrote_answered, wrote_rest, wrote_like, wrote_push, wrote_out}
 use Rattle.records.specs.Disk.{Contents, HasTrueReplies, IsTrueOf, disk_after, unsure}
 use Rattle.records.specs.Marks.{gave_up, last_started, Answered, Mark, is_endpoint, last_started}
@@ -270,37 +270,52 @@ pub record AreDisk (image : Contents) (marks : List Mark) (start size : ℕ) (by
   pub each : (k : ℕ) → k < size → unsure marks (start + k) ≡ false
       → slice_index bytes k ≡ disk_after image marks (start + k)
 
--- what was read so far and the answer's bytes are the disk's
-pub rest_reads : (image : Contents) (marks : List Mark) (a : BlockReply) (q r : Pending) (n : ℕ)
+-- what was read so far and behind it the answer's bytes are the disk's
+joined_reads : (image : Contents) (marks : List Mark) (a : BlockReply) (q : Pending) (n : ℕ) (bytes : List ℕ)
+    → asked_by a marks ≡ Some q.request → moved_by a marks ≡ Some n
+    → HasTrueReplies image (Answered a ∷ marks)
+    → is_write q.request.kind ≡ false
+    → ReadsDisk image marks q
+    → ((k : ℕ) → q.start + k < q.request.position → slice_index bytes k ≡ slice_index q.request.bytes k)
+    → ((k : ℕ) → k < n → slice_index bytes (q.request.position - q.start + k) ≡ slice_index a.bytes k)
+    → (k : ℕ) → q.start + k < q.request.position + n → unsure (Answered a ∷ marks) (q.start + k) ≡ false
+    → slice_index bytes k ≡ disk_after image (Answered a ∷ marks) (q.start + k)
+joined_reads image marks a q n bytes w m tr read old before new k lt sure =
+    let s = same_at image marks a q.request n (q.start + k) w m (inl read) in
+    let sure' : unsure marks (q.start + k) ≡ false = sym s.0 ∙ sure in
+    elim (leb_tells (q.start + k + 1) q.request.position) [
+      | inl h ↦ before k (omega (arith, h.1)) ∙ old.each k (omega (arith, h.1)) sure' ∙ sym s.1
+      | inr h ↦
+          let j = q.start + k - q.request.position in
+          let here : q.request.position - q.start + j ≡ k = omega (arith, h.1, q.from) in
+          let there : q.request.position + j ≡ q.start + k = omega (arith, h.1) in
+          let less : j < n = omega (arith, h.1, lt) in
+          let told : IsTrueOf image marks q.request n a.bytes = answer_true read in
+          let byte : slice_index bytes k ≡ slice_index a.bytes j = ap (λ (x : ℕ). slice_index bytes x) (sym here) ∙ new j less in
+          let disk_at : slice_index a.bytes j ≡ disk_after image marks (q.start + k) =
+          told.each j less (ap (λ (x : ℕ). unsure marks x) there ∙ sure') ∙ ap (λ (x : ℕ). disk_after image marks x) there in
+          byte ∙ disk_at ∙ sym s.1
+    ] where
+      answer_true : is_write q.request.kind ≡ false → IsTrueOf image marks q.request n a.bytes
+      answer_true = rw (m, w) at tr.1
+
+-- so are those of a request that goes on with them
+rest_reads : (image : Contents) (marks : List Mark) (a : BlockReply) (q r : Pending) (n : ℕ)
     → asked_by a marks ≡ Some q.request → moved_by a marks ≡ Some n
     → HasTrueReplies image (Answered a ∷ marks)
     → is_write q.request.kind ≡ false
     → ReadsDisk image marks q
     → r.start ≡ q.start → r.request.position ≡ q.request.position + n
-    → ((k : ℕ) → q.start + k < q.request.position → slice_index r.bytes k ≡ slice_index q.bytes k)
-    → ((k : ℕ) → k < n → slice_index r.bytes (q.request.position - q.start + k) ≡ slice_index a.bytes k)
+    → ((k : ℕ) → q.start + k < q.request.position → slice_index r.request.bytes k ≡ slice_index q.request.bytes k)
+    → ((k : ℕ) → k < n → slice_index r.request.bytes (q.request.position - q.start + k) ≡ slice_index a.bytes k)
     → ReadsDisk image (Answered a ∷ marks) r
-rest_reads image marks a q r n w m tr read old start position before new =
-    record {
-      each = λ k lt sure.
-          let s = same_at image marks a q.request n (r.start + k) w m (inl read) in
-          let sure' : unsure marks (q.start + k) ≡ false = rw (← start) (sym s.0 ∙ sure) in
-          elim (leb_tells (q.start + k + 1) q.request.position) [
-            | inl h ↦ before k (omega (arith, h.1)) ∙ old.each k (omega (arith, h.1)) sure' ∙ rw (← start) (sym s.1)
-            | inr h ↦
-                let j = q.start + k - q.request.position in
-                let here : q.request.position - q.start + j ≡ k = omega (arith, h.1, q.from) in
-                let there : q.request.position + j ≡ q.start + k = omega (arith, h.1) in
-                let less : j < n = omega (arith, h.1) in
-                let told : IsTrueOf image marks q.request n a.bytes = answer_true read in
-                let bytes : slice_index r.bytes k ≡ slice_index a.bytes j = ap (λ (x : ℕ). slice_index r.bytes x) (sym here) ∙ new j less in
-                let disk_at : slice_index a.bytes j ≡ disk_after image marks (q.start + k) =
-                told.each j less (ap (λ (x : ℕ). unsure marks x) there ∙ sure') ∙ ap (λ (x : ℕ). disk_after image marks x) there in
-                bytes ∙ disk_at ∙ rw (← start) (sym s.1)
-          ];
-    } where
-      answer_true : is_write q.request.kind ≡ false → IsTrueOf image marks q.request n a.bytes
-      answer_true = rw (m, w) at tr.1
+rest_reads image marks a q r n w m tr read old start position before new = record {
+  each = λ k lt sure.
+      let at : q.start + k ≡ r.start + k = omega (arith, start) in
+      joined_reads image marks a q n r.request.bytes w m tr read old before new k (omega (arith, lt, start, position))
+      (ap (λ (x : ℕ). unsure (Answered a ∷ marks) x) at ∙ sure)
+      ∙ ap (λ (x : ℕ). disk_after image (Answered a ∷ marks) x) at;
+}
 
 -- what holds of the entry that was answered
 pub record Taken (t v : Table) (marks : List Mark) (a : BlockReply) (e : Pending) (n : ℕ) : Type 0 where
@@ -352,10 +367,10 @@ pub agrees_rest : (t v u : Table) (marks : List Mark) (a : BlockReply) (e r : Pe
     → u.pending ≡ v.pending ++ r ∷ [] → u.ids ≡ v.ids + 1 → r.request.id ≡ v.ids + 1
     → u.posted ≡ v.posted → u.issued ≡ v.issued → u.current ≡ v.current → u.given_up ≡ v.given_up
     → r.start ≡ e.start → r.size ≡ e.size → r.request.kind ≡ e.request.kind → r.request.position ≡ e.request.position + n
-    → (is_write e.request.kind ≡ false → (k : ℕ) → e.start + k < e.request.position → slice_index r.bytes k ≡ slice_index e.bytes k)
-    → (is_write e.request.kind ≡ false → (k : ℕ) → k < n → slice_index r.bytes (e.request.position - e.start + k) ≡ slice_index a.bytes k)
+    → (is_write e.request.kind ≡ false → (k : ℕ) → e.start + k < e.request.position → slice_index r.request.bytes k ≡ slice_index e.request.bytes k)
+    → (is_write e.request.kind ≡ false → (k : ℕ) → k < n → slice_index r.request.bytes (e.request.position - e.start + k) ≡ slice_index a.bytes k)
     → r.request.count + n ≡ e.request.count
-    → (is_write e.request.kind ≡ true → (k : ℕ) → slice_index r.bytes k ≡ slice_index e.bytes k)
+    → (is_write e.request.kind ≡ true → (k : ℕ) → slice_index r.given.value k ≡ slice_index e.given.value k)
     → (is_write e.request.kind ≡ true → (k : ℕ) → k < r.request.count → slice_index r.request.bytes k ≡ slice_index e.request.bytes (n + k))
     → Agrees u (Answered a ∷ marks)
 agrees_rest t v u marks a e r n x m items ids number posted issued current given_up start size kind position before new count bytes left =
@@ -381,29 +396,25 @@ pub agrees_done : (t v : Table) (marks : List Mark) (a : BlockReply) (e : Pendin
 agrees_done t v marks a e n x = record { opened = x.opened; waiting = x.waiting; holds = x.holds }
 
 -- a read that is settled has the disk's bytes
-pub done_reads : (t v : Table) (marks : List Mark) (image : Contents) (a : BlockReply) (e r : Pending) (n : ℕ)
+pub done_reads : (t v : Table) (marks : List Mark) (image : Contents) (a : BlockReply) (e : Pending) (n : ℕ) (bytes : List ℕ)
     → Taken t v marks a e n → moved_by a marks ≡ Some n
-    → HasTrueReplies image (Answered a ∷ marks) → is_write e.request.kind ≡ false
-    → r.start ≡ e.start → r.size ≡ e.size → r.request.position ≡ e.request.position + n → r.request.count ≡ 0
-    → ((k : ℕ) → e.start + k < e.request.position → slice_index r.bytes k ≡ slice_index e.bytes k)
-    → ((k : ℕ) → k < n → slice_index r.bytes (e.request.position - e.start + k) ≡ slice_index a.bytes k)
-    → AreDisk image (Answered a ∷ marks) e.start e.size r.bytes
-done_reads t v marks image a e r n x m tr read start size position none before new =
-    let all = rest_reads image marks a e r n x.there m tr read (x.reads image tr.0 read) start position before new in
-    let end : r.request.position ≡ r.start + r.size = omega (arith, r.end) in
-    record { each = λ k lt sure. rw (← start) (all.each k (omega arith) (rw start sure)) }
+    → HasTrueReplies image (Answered a ∷ marks) → is_write e.request.kind ≡ false → n ≡ e.request.count
+    → ((k : ℕ) → e.start + k < e.request.position → slice_index bytes k ≡ slice_index e.request.bytes k)
+    → ((k : ℕ) → k < n → slice_index bytes (e.request.position - e.start + k) ≡ slice_index a.bytes k)
+    → AreDisk image (Answered a ∷ marks) e.start e.size bytes
+done_reads t v marks image a e n bytes x m tr read all before new = record {
+  each = λ k lt sure.
+      joined_reads image marks a e n bytes x.there m tr read (x.reads image tr.0 read) before new k (omega (arith, lt, all, e.end)) sure;
+}
 
 -- and the bytes of the answers to it, joined
-pub done_joined : (t v : Table) (marks : List Mark) (a : BlockReply) (e r : Pending) (n : ℕ)
-    → Taken t v marks a e n → moved_by a marks ≡ Some n → is_write e.request.kind ≡ false
-    → r.start ≡ e.start → r.size ≡ e.size → r.request.position ≡ e.request.position + n → r.request.count ≡ 0
-    → ((k : ℕ) → e.start + k < e.request.position → slice_index r.bytes k ≡ slice_index e.bytes k)
-    → ((k : ℕ) → k < n → slice_index r.bytes (e.request.position - e.start + k) ≡ slice_index a.bytes k)
-    → (k : ℕ) → k < e.size → WasRead (Answered a ∷ marks) (e.start + k) (slice_index r.bytes k)
-done_joined t v marks a e r n x m read start size position none before new k lt =
-    let all = joined_rest marks a e r n x.there m read (x.joined read) start position before new in
-    let end : r.request.position ≡ r.start + r.size = omega (arith, r.end) in
-    rw (← start) (all.each k (omega (arith, lt, end, size)))
+pub done_joined : (t v : Table) (marks : List Mark) (a : BlockReply) (e : Pending) (n : ℕ) (bytes : List ℕ)
+    → Taken t v marks a e n → moved_by a marks ≡ Some n → is_write e.request.kind ≡ false → n ≡ e.request.count
+    → ((k : ℕ) → e.start + k < e.request.position → slice_index bytes k ≡ slice_index e.request.bytes k)
+    → ((k : ℕ) → k < n → slice_index bytes (e.request.position - e.start + k) ≡ slice_index a.bytes k)
+    → (k : ℕ) → k < e.size → WasRead (Answered a ∷ marks) (e.start + k) (slice_index bytes k)
+done_joined t v marks a e n bytes x m read all before new k lt =
+    was_joined marks a e n bytes x.there m read (x.joined read) before new k (omega (arith, lt, all, e.end))
 
 -- an answer that doesn't count
 prefix_none : (id n : ℕ) (os : List Pending) → position_from (λ (p : Pending). p.request.id == id) n os ≡ None
@@ -575,7 +586,7 @@ pub agrees_add : (t u : Table) (marks : List Mark) (q : Pending) → Agrees t ma
     → u.posted ≡ t.posted → u.issued ≡ t.issued → u.current ≡ t.current → u.given_up ≡ t.given_up
     → length t.pending < 16
     → q.request.position ≡ q.start
-    → ((k : ℕ) → slice_index q.request.bytes k ≡ slice_index q.bytes k)
+    → (is_write q.request.kind ≡ true → (k : ℕ) → slice_index q.request.bytes k ≡ slice_index q.given.value k)
     → list_any (meets q.start q.size) t.pending ≡ false
     → Agrees u marks
 agrees_add t u marks q h items ids number posted issued current given_up few begins bytes free =
@@ -591,6 +602,6 @@ agrees_add t u marks q h items ids number posted issued current given_up few beg
           (λ image w. record {
             moved = λ k lt. absurd (omega arith);
             left = λ k lt. let at : k ≡ q.request.position - q.start + k = omega (arith, begins) in
-                bytes k ∙ ap (λ (x : ℕ). slice_index q.bytes x) at;
+                bytes w k ∙ ap (λ (x : ℕ). slice_index q.given.value x) at;
           });
     }

@@ -84,26 +84,35 @@ joined_answered marks a q n (p ∷ ps) w m le ap' h = (
   joined_answered marks a q n ps w m le ap'.1 h.1,
 )
 
--- what was read so far and the answer's bytes
+-- what was read so far and behind it the answer's bytes
+pub was_joined : (marks : List Mark) (a : BlockReply) (q : Pending) (n : ℕ) (bytes : List ℕ)
+    → asked_by a marks ≡ Some q.request → moved_by a marks ≡ Some n
+    → is_write q.request.kind ≡ false → IsJoined marks q
+    → ((k : ℕ) → q.start + k < q.request.position → slice_index bytes k ≡ slice_index q.request.bytes k)
+    → ((k : ℕ) → k < n → slice_index bytes (q.request.position - q.start + k) ≡ slice_index a.bytes k)
+    → (k : ℕ) → q.start + k < q.request.position + n → WasRead (Answered a ∷ marks) (q.start + k) (slice_index bytes k)
+was_joined marks a q n bytes w m read old before new k lt = elim (leb_tells (q.start + k + 1) q.request.position) [
+  | inl h ↦
+      let was = old.each k (omega (arith, h.1)) in
+      was_read_other marks a q.request n (q.start + k) _ w m (inl (omega (arith, h.1))) (before k (omega (arith, h.1)) ∙ was.0, was.1)
+  | inr h ↦
+      let j = q.start + k - q.request.position in
+      let at : q.request.position - q.start + j ≡ k = omega (arith, h.1, q.from) in
+      let less : j < n = omega (arith, h.1, lt) in
+      was_read_here marks a q.request n (q.start + k) _ w m read (omega (arith, h.1)) lt (ap (λ (x : ℕ). slice_index bytes x) (sym at) ∙ new j less)
+]
+
+-- of a request that goes on with them
 pub joined_rest : (marks : List Mark) (a : BlockReply) (q r : Pending) (n : ℕ)
     → asked_by a marks ≡ Some q.request → moved_by a marks ≡ Some n
     → is_write q.request.kind ≡ false → IsJoined marks q
     → r.start ≡ q.start → r.request.position ≡ q.request.position + n
-    → ((k : ℕ) → q.start + k < q.request.position → slice_index r.bytes k ≡ slice_index q.bytes k)
-    → ((k : ℕ) → k < n → slice_index r.bytes (q.request.position - q.start + k) ≡ slice_index a.bytes k)
+    → ((k : ℕ) → q.start + k < q.request.position → slice_index r.request.bytes k ≡ slice_index q.request.bytes k)
+    → ((k : ℕ) → k < n → slice_index r.request.bytes (q.request.position - q.start + k) ≡ slice_index a.bytes k)
     → IsJoined (Answered a ∷ marks) r
-joined_rest marks a q r n w m read old start position before new = record { each = λ k lt. rw start (here k (omega (arith, lt, start, position))) } where
-  here : (k : ℕ) → q.start + k < q.request.position + n → WasRead (Answered a ∷ marks) (q.start + k) (slice_index r.bytes k)
-  here k lt = elim (leb_tells (q.start + k + 1) q.request.position) [
-    | inl h ↦
-        let was = old.each k (omega (arith, h.1)) in
-        was_read_other marks a q.request n (q.start + k) _ w m (inl (omega (arith, h.1))) (before k (omega (arith, h.1)) ∙ was.0, was.1)
-    | inr h ↦
-        let j = q.start + k - q.request.position in
-        let at : q.request.position - q.start + j ≡ k = omega (arith, h.1, q.from) in
-        let less : j < n = omega (arith, h.1, lt) in
-        was_read_here marks a q.request n (q.start + k) _ w m read (omega (arith, h.1)) lt (ap (λ (x : ℕ). slice_index r.bytes x) (sym at) ∙ new j less)
-  ]
+joined_rest marks a q r n w m read old start position before new = record {
+  each = λ k lt. rw start (was_joined marks a q n r.request.bytes w m read old before new k (omega (arith, lt, start, position)));
+}
 
 -- one more, and one less
 pub joined_push : (marks : List Mark) (q : Pending) (ps : List Pending) → AllJoined marks ps

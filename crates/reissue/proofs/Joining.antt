@@ -344,22 +344,22 @@ drop_front xs p n e = rw e (go xs) where
   go (x ∷ xs) = go xs
 
 -- where each earlier one was posted, what isn't posted is the new one
-pub posts_new : (s t : Table) (p : Pending) (r : BlockRequest) (due : Bool) (before after : List Told)
+pub posts_new : (s t : Table) (p : Pending) (due : Bool) (before after : List Told)
     → due ≡ (s.posted == length s.pending)
-    → t.pending ≡ s.pending ++ p ∷ [] → t.posted ≡ s.posted → t.current ≡ s.current → p.request ≡ r
+    → t.pending ≡ s.pending ++ p ∷ [] → t.posted ≡ s.posted → t.current ≡ s.current
     → MatchBool due (PostsInOrder t.current (unposted t) before after) (after ≡ before)
-    → PostsNew s r before after
-posts_new s t p r due before after e items posted current is h =
-    subst (λ (b : Bool). MatchBool b (PostsInOrder s.current (r ∷ []) before after) (after ≡ before)) e (by due (sym e) h) where
-      unposted_is : (s.posted == length s.pending) ≡ true → unposted t ≡ r ∷ []
+    → PostsNew s p.request before after
+posts_new s t p due before after e items posted current h =
+    subst (λ (b : Bool). MatchBool b (PostsInOrder s.current (p.request ∷ []) before after) (after ≡ before)) e (by due (sym e) h) where
+      unposted_is : (s.posted == length s.pending) ≡ true → unposted t ≡ p.request ∷ []
       unposted_is f =
           let all : s.posted ≡ length s.pending = grind (arith, nat_tests) in
-          rw (items, posted) (ap (λ (l : List Pending). map request_of l) (drop_front s.pending p s.posted all) ∙ ap (λ (x : BlockRequest). x ∷ []) is)
+          rw (items, posted) (ap (λ (l : List Pending). map request_of l) (drop_front s.pending p s.posted all))
 
       by : (b : Bool) → (s.posted == length s.pending) ≡ b → MatchBool b (PostsInOrder t.current (unposted t) before after) (after ≡ before)
-          → MatchBool b (PostsInOrder s.current (r ∷ []) before after) (after ≡ before)
+          → MatchBool b (PostsInOrder s.current (p.request ∷ []) before after) (after ≡ before)
       by true f h =
-          subst (λ (o : Option Endpoint). PostsInOrder o (r ∷ []) before after) current
+          subst (λ (o : Option Endpoint). PostsInOrder o (p.request ∷ []) before after) current
           (subst (λ (l : List BlockRequest). PostsInOrder t.current l before after) (unposted_is f) h)
       by false f h = h
 

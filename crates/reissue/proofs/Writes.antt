@@ -141,42 +141,46 @@ moved_at image marks a r n place w m is_w from to =
       rw (m, w) (ap (λ (b : Bool). not b && unsure marks place) t),
     )
 
--- a good answer to the write: what was moved so far and by it
+-- a good answer to the write: what was moved so far and by it is the disk's
+pub was_moved : (image : Contents) (marks : List Mark) (a : BlockReply) (q : Pending) (n : ℕ)
+    → asked_by a marks ≡ Some q.request → moved_by a marks ≡ Some n
+    → n ≤ q.request.count
+    → is_write q.request.kind ≡ true
+    → Wrote image marks q
+    → (k : ℕ) → q.start + k < q.request.position + n
+    → (disk_after image (Answered a ∷ marks) (q.start + k) ≡ slice_index q.given.value k) × (unsure (Answered a ∷ marks) (q.start + k) ≡ false)
+was_moved image marks a q n w m le is_w old k lt = elim (leb_tells (q.start + k + 1) q.request.position) [
+  | inl h ↦
+      let s = same_at image marks a q.request n (q.start + k) w m (inr (inl (omega (arith, h.1)))) in
+      let x = old.moved k (omega (arith, h.1)) in
+      (s.1 ∙ x.0, s.0 ∙ x.1)
+  | inr h ↦
+      let j = q.start + k - q.request.position in
+      let x = moved_at image marks a q.request n (q.start + k) w m is_w (omega (arith, h.1)) lt in
+      let at : q.request.position - q.start + j ≡ k = omega (arith, h.1, q.from) in
+      (x.0 ∙ old.left j (omega (arith, h.1, le)) ∙ ap (λ (x : ℕ). slice_index q.given.value x) at, x.1)
+]
+
+-- so it is of its rest
 pub wrote_rest : (image : Contents) (marks : List Mark) (a : BlockReply) (q r : Pending) (n : ℕ)
     → asked_by a marks ≡ Some q.request → moved_by a marks ≡ Some n
     → n ≤ q.request.count
     → is_write q.request.kind ≡ true
     → Wrote image marks q
     → r.start ≡ q.start → r.request.position ≡ q.request.position + n → r.request.count + n ≡ q.request.count
-    → ((k : ℕ) → slice_index r.bytes k ≡ slice_index q.bytes k)
+    → ((k : ℕ) → slice_index r.given.value k ≡ slice_index q.given.value k)
     → ((k : ℕ) → k < r.request.count → slice_index r.request.bytes k ≡ slice_index q.request.bytes (n + k))
     → Wrote image (Answered a ∷ marks) r
-wrote_rest image marks a q r n w m le is_w old start position count bytes left =
-    record {
-      moved = λ k lt. rw start (here k (omega (arith, lt, start, position)));
-      left = λ k lt.
-          let at : q.request.position - q.start + (n + k) ≡ r.request.position - r.start + k = omega (arith, q.from, start, position) in
-          left k lt ∙ old.left (n + k) (omega (arith, count)) ∙ ap (λ (x : ℕ). slice_index q.bytes x) at
-          ∙ sym (bytes (r.request.position - r.start + k));
-    } where
-      here : (k : ℕ) → q.start + k < q.request.position + n
-          → (disk_after image (Answered a ∷ marks) (q.start + k) ≡ slice_index r.bytes k) × (unsure (Answered a ∷ marks) (q.start + k) ≡ false)
-      here k lt = elim (leb_tells (q.start + k + 1) q.request.position) [
-        | inl h ↦
-            let s = same_at image marks a q.request n (q.start + k) w m (inr (inl (omega (arith, h.1)))) in
-            let x = old.moved k (omega (arith, h.1)) in
-            (s.1 ∙ x.0 ∙ sym (bytes k), s.0 ∙ x.1)
-        | inr h ↦
-            let j = q.start + k - q.request.position in
-            let x = moved_at image marks a q.request n (q.start + k) w m is_w (omega (arith, h.1)) lt in
-            let at : q.request.position - q.start + j ≡ k = omega (arith, h.1, q.from) in
-            (x.0 ∙ old.left j (omega (arith, h.1, le)) ∙ ap (λ (x : ℕ). slice_index q.bytes x) at ∙ sym (bytes k), x.1)
-      ]
-
--- a write whose rest is empty is written
-pub wrote_all : (image : Contents) (marks : List Mark) (p : Pending) → p.request.count ≡ 0 → Wrote image marks p
-    → AreWritten image marks p.start p.size p.bytes
-wrote_all image marks p none h = record { each = λ k lt. h.moved k (omega (arith, p.end, none)) }
+wrote_rest image marks a q r n w m le is_w old start position count bytes left = record {
+  moved = λ k lt. rw start (
+      let x = was_moved image marks a q n w m le is_w old k (omega (arith, lt, start, position)) in
+      (x.0 ∙ sym (bytes k), x.1)
+      );
+  left = λ k lt.
+      let at : q.request.position - q.start + (n + k) ≡ r.request.position - r.start + k = omega (arith, q.from, start, position) in
+      left k lt ∙ old.left (n + k) (omega (arith, count)) ∙ ap (λ (x : ℕ). slice_index q.given.value x) at
+      ∙ sym (bytes (r.request.position - r.start + k));
+}
 
 -- what isn't a pending write's place stays
 pub is_written : (k : Kind) (bytes : List ℕ) → is_write k ≡ true → written_by k bytes ≡ Some bytes
@@ -191,7 +195,7 @@ quiet_at q ps place d i w h =
       | inr l ↦ inl (omega (arith, l.1))
       | inl l ↦ elim (leb_tells (q.start + q.size) place) [
         | inl r ↦ inr r.1
-        | inr r ↦ absurd (h.none q.ticket (begun_of q) q.bytes (pending_among q ps d i) (is_written q.request.kind q.bytes w)
+        | inr r ↦ absurd (h.none q.ticket (begun_of q) q.given.value (pending_among q ps d i) (is_written q.request.kind q.given.value w)
             (record { from = l.1; to = omega (arith, r.1) }))
       ]
     ]

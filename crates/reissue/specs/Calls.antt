@@ -12,7 +12,7 @@ use Rattle.reissue.specs.Settlements as settled
 use Rattle.reissue.specs.declared.pending.Pending.{Pending}
 use Rattle.reissue.specs.declared.table.Table.{Table}
 use Rattle.records.specs.Opening.{Opening}
-use Rattle.reissue.specs.Moves.{IsBusy, Spares, Closes, state_after, request_for, begun_by}
+use Rattle.reissue.specs.Moves.{IsBusy, Spares, Closes, state_after, IsRequestFor, begun_by}
 use Rattle.reissue.specs.Entries.{pending_of, begun_of, AllOfMinor}
 use Rattle.reissue.specs.Agrees.{Agrees}
 use Rattle.records.specs.Acts.{Act, Absorbed, told_of, has_absorbed}
@@ -185,6 +185,6 @@ pub record Adds (ask : Ask) (old new : Table) (before after : List Told) : Type 
   pub entry : Pending
   pub pending : new.pending ≡ old.pending ++ entry ∷ []
   pub begun : begun_of entry ≡ begun_by ask
-  pub request : entry.request ≡ request_for ask (old.ids + 1)
+  pub request : IsRequestFor ask (old.ids + 1) entry.request
   pub ids : new.ids ≡ old.ids + 1
-  pub in_order : PostsNew old (request_for ask (old.ids + 1)) before after
+  pub in_order : PostsNew old entry.request before after

@@ -3,6 +3,7 @@ use Rattle.std.specs.Prelude.{◌≡◌, ℕ, ◌+◌, ◌<◌, ◌≤◌, ◌==
 use Rattle.message.specs.declared.Kind.{Kind}
 use Rattle.message.specs.declared.Kind.TheVariants.{Read, Write}
 use Rattle.message.specs.declared.BlockRequest.{BlockRequest}
+use Rattle.message.specs.Good.{is_write}
 use Rattle.records.specs.Marks.{Mark}
 use Rattle.records.specs.Disk.{Contents, disk_after, bytes_read, is_read, unsure}
 use Rattle.reissue.specs.declared.ask.Ask.{Ask}
@@ -36,11 +37,16 @@ written_by Write bytes = Some bytes
 
 -- what is begun by this
 abbrev pub begun_by : Ask → Begun
-begun_by ask = record { start = ask.position; size = ask.count; written = written_by ask.kind ask.bytes }
+begun_by ask = record { start = ask.position; size = ask.count; written = written_by ask.kind ask.bytes.now }
 
--- its request under this id
-abbrev pub request_for : Ask → ℕ → BlockRequest
-request_for ask id = record { id = id; kind = ask.kind; minor = ask.minor; position = ask.position; count = ask.count; bytes = ask.bytes }
+-- its request under this id; of a read the bytes have no meaning
+pub record IsRequestFor (ask : Ask) (id : ℕ) (r : BlockRequest) : Type 0 where
+  pub number : r.id ≡ id
+  pub kind : r.kind ≡ ask.kind
+  pub minor : r.minor ≡ ask.minor
+  pub position : r.position ≡ ask.position
+  pub count : r.count ≡ ask.count
+  pub bytes : is_write ask.kind ≡ true → r.bytes ≡ ask.bytes.now
 
 -- a request that has this place
 pub record Touches (r : Begun) (place : ℕ) : Type 0 where

@@ -1,15 +1,18 @@
 //! What is asked of transfers, and what they answer.
 
-ghost use Rattle.std.specs.Prelude.{◌≡◌, ◌+◌, ◌<◌, ◌≤◌, ◌^◌, ◌%◌, ℕ, slice_index, true};
+ghost use Rattle.std.specs.Prelude.{◌≡◌, ◌+◌, ◌<◌, ◌≤◌, ◌^◌, ◌%◌, ℕ, length, slice_index, true};
 ghost use Rattle.reissue.specs.BeginRefusals.{begin_refusal_number};
 
 use message::Kind;
 use std::marker::Model;
 use thiserror::Error;
 
-/// A request without its id: for whole sectors of 512 bytes, one to eight of them.
+/// Stands for the bytes of a read, which have no meaning.
+static NO_BYTES: [u8; 4096] = [0; 4096];
+
+/// A request without its id: for whole sectors of 512 bytes, one to eight of them. A write's bytes stand where its caller has them.
 #[derive(Clone, Copy)]
-pub struct Ask {
+pub struct Ask<'b> {
     /// Whether bytes are read or written.
     pub kind: Kind,
     /// The range of the media: 0 is the whole, 1 to 4 are the entries of the partition table.
@@ -18,18 +21,19 @@ pub struct Ask {
     pub position: u64,
     /// How many bytes: a multiple of 512, 512 to 4096.
     pub count: u32,
-    /// A write's bytes; those past the count have no meaning.
-    pub bytes: [u8; 4096],
+    /// A write's bytes; those past the count have no meaning, and of a read none has.
+    pub bytes: &'b [u8; 4096],
     pub ghost whole_position: { position % 512 ≡ 0 },
     pub ghost whole_count: { count % 512 ≡ 0 },
     pub ghost least: { 512 ≤ count },
     pub ghost most: { count ≤ 4096 },
     pub ghost bound: { position + count < 2 ^ 63 },
+    pub ghost full: { length bytes.now ≡ 4096 },
 }
 
-impl Ask {
+impl<'b> Ask<'b> {
     /// A read of `count` bytes from this place on.
-    pub fn read(minor: u8, position: u64, count: u32) -> Ask
+    pub fn read(minor: u8, position: u64, count: u32) -> Ask<'b>
         requires whole_position { position % 512 ≡ 0 }
         requires whole_count { count % 512 ≡ 0 }
         requires least { 512 ≤ count }
@@ -45,12 +49,12 @@ impl Ask {
             minor,
             position,
             count,
-            bytes: [0; 4096],
+            bytes: &NO_BYTES,
         }
     }
 
-    /// A write of the first `count` of these bytes from this place on.
-    pub fn write(minor: u8, position: u64, count: u32, bytes: &[u8; 4096]) -> Ask
+    /// A write of the first `count` of these bytes from this place on. None is copied.
+    pub fn write(minor: u8, position: u64, count: u32, bytes: &'b [u8; 4096]) -> Ask<'b>
         requires whole_position { position % 512 ≡ 0 }
         requires whole_count { count % 512 ≡ 0 }
         requires least { 512 ≤ count }
@@ -60,14 +64,14 @@ impl Ask {
         ensures minor { result.minor ≡ minor }
         ensures position { result.position ≡ position }
         ensures count { result.count ≡ count }
-        ensures bytes { result.bytes ≡ bytes.now }
+        ensures bytes { result.bytes.now ≡ bytes.now }
     {
         Ask {
             kind: Kind::Write,
             minor,
             position,
             count,
-            bytes: *bytes,
+            bytes,
         }
     }
 }

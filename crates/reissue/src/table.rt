@@ -219,14 +219,15 @@ impl Table {
     ghost use Rattle.records.specs.Told.{Received, received};
     ghost use Rattle.records.specs.Acts.{complaint_due};
     ghost use Rattle.reissue.specs.declared.pending.Pending.{Pending};
-    ghost use Rattle.reissue.specs.Moves.{Closes, begun_by, put, request_for};
+    ghost use Rattle.reissue.specs.Moves.{Closes, begun_by, put, IsRequestFor};
     ghost use Rattle.reissue.specs.Entries.{AllOfMinor, begun_of};
     ghost use Rattle.reissue.specs.Agrees.{Agrees};
     ghost use Rattle.reissue.specs.Answers.{complaints_about, is_bad, settled_of, complained};
     ghost use Rattle.reissue.specs.Hears.{IsAnswered, HearsAnswer, counted_move};
     ghost use Rattle.reissue.specs.Closing.{Closing};
 
-    /// The request at this place was answered: so many bytes were moved. The bytes of a read of which nothing is left stand in `into` then.
+    /// The request at this place was answered: so many bytes were moved. The bytes of a read of which nothing is left stand in `into` then:
+    /// those of this answer go there from the reply.
     fn settle(&mut self, at: usize, n: u32, reply: &BlockReply, into: &mut [u8; 4096]) -> Answer
         requires at { at < self.old.issued }
         requires ids { self.old.ids < 2 ^ 60 }
@@ -253,18 +254,19 @@ impl Table {
         ensures given_up { self.new.given_up ≡ self.old.given_up }
     {
         self.take_out(at);
-        self.hand.answer(n, &reply.bytes, self.ids + 1);
-        let left = &*self.hand;
-        if left.request.count > 0 {
+        let left = self.hand.request.count;
+        if n < left {
+            self.hand.answer(n, &reply.bytes, self.ids + 1);
             self.push();
             return Answer::Rest;
         }
-        match left.request.kind {
+        let done = &*self.hand;
+        match done.request.kind {
             Kind::Read => {
-                *into = left.bytes;
-                Answer::Read(left.ticket)
+                done.finish(n, &reply.bytes, into);
+                Answer::Read(done.ticket)
             }
-            Kind::Write => Answer::Written(left.ticket),
+            Kind::Write => Answer::Written(done.ticket),
         }
     }
 
@@ -307,13 +309,13 @@ impl Table {
     }
 
     /// Adds what is asked for at the end, under the next id.
-    pub fn add(&mut self, ask: &Ask) -> Ticket
+    pub fn add(&mut self, ask: &Ask<'_>) -> Ticket
         requires room { length self.old.pending < 16 }
         requires ids { self.old.ids < 2 ^ 60 }
         requires free { list_any (meets ask.now.position ask.now.count) self.old.pending ≡ false }
         ensures agrees { (marks : List Mark) → Agrees self.old marks → Agrees self.new marks }
         ensures added { (p : Pending) × (self.new.pending ≡ self.old.pending ++ p ∷ [])
-            × (begun_of p ≡ begun_by ask.now) × (p.request ≡ request_for ask.now (self.old.ids + 1)) }
+            × (begun_of p ≡ begun_by ask.now) × IsRequestFor ask.now (self.old.ids + 1) p.request }
         ensures ticket { result ≡ self.old.ids + 1 }
         ensures fresh { pending_of self.old.pending result ≡ Option.None }
         ensures opens { pending_of self.new.pending ≡ put (pending_of self.old.pending) result (Some (begun_by ask.now)) }

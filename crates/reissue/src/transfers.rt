@@ -229,7 +229,7 @@ impl<L: Link> Transfers<L> {
     /// Takes a request up, for any range of whole sectors: 1 TableFull where sixteen are pending, 2 BlockPending where a byte of its range
     /// is. Where there is a driver to post to, and each earlier one was posted to it, it is posted at once; the link may refuse it. It has
     /// one place and one ticket, however many blocks its range takes.
-    pub fn begin_run(&mut self, ask: &Ask) -> Result<Ticket, BeginRefusal>
+    pub fn begin_run(&mut self, ask: &Ask<'_>) -> Result<Ticket, BeginRefusal>
         requires ids { (table_of self.old).ids < 2 ^ 60 }
         requires room { HasRoom (table_of self.old) (L.room (link_of self.old)) }
         ensures full { IsErrOf result BeginRefusal.TableFull ↔ (length (table_of self.old).pending ≡ 16) }
@@ -262,7 +262,7 @@ impl<L: Link> Transfers<L> {
 
     /// Takes a request for one block up, as `begin_run` does: 1 TableFull where sixteen are pending, 2 BlockPending where a byte of its range
     /// is.
-    pub fn begin(&mut self, ask: &Ask) -> Result<Ticket, BeginRefusal>
+    pub fn begin(&mut self, ask: &Ask<'_>) -> Result<Ticket, BeginRefusal>
         requires ids { (table_of self.old).ids < 2 ^ 60 }
         requires room { HasRoom (table_of self.old) (L.room (link_of self.old)) }
         ensures full { IsErrOf result BeginRefusal.TableFull ↔ (length (table_of self.old).pending ≡ 16) }

@@ -1,5 +1,5 @@
-use Rattle.std.proofs.Common.{ℕ, List, arith, refl, sym, ◌∙◌, ap, slice_index}
-use Rattle.message.specs.declared.BlockRequest.{BlockRequest}
+use Rattle.std.proofs.Common.{◌≡◌, ℕ, List, true, arith, refl, sym, ◌∙◌, ap, slice_index}
+use Rattle.message.specs.Good.{is_write}
 use Rattle.reissue.specs.Entries.{pending_of}
 use Rattle.reissue.proofs.Tickets.{fresh_above, pending_none, pending_pushed}
 use Rattle.reissue.proofs.Answering.{agrees_add}
@@ -12,9 +12,10 @@ pub returns-clause-agrees : goal.returns-clause-agrees
 returns-clause-agrees c = λ marks h.
     let p = c.push.ensures in
     let b = c.begin.ensures in
-    agrees_add c.args.self.now c.push.new.self marks c.begin.new.self h p.items p.ids (ap (λ (r : BlockRequest). r.id) b.request)
-    p.posted p.issued p.current p.given_up c.requires.room (ap (λ (r : BlockRequest). r.position) b.request ∙ sym b.start)
-    (λ k. ap (λ (r : BlockRequest). slice_index r.bytes k) b.request ∙ ap (λ (l : List ℕ). slice_index l k) (sym b.bytes))
+    let r = b.request in
+    agrees_add c.args.self.now c.push.new.self marks c.begin.new.self h p.items p.ids r.number
+    p.posted p.issued p.current p.given_up c.requires.room (r.position ∙ sym b.start)
+    (λ w k. let w' : is_write c.args.ask.now.kind ≡ true = rw (← r.kind) w in ap (λ (l : List ℕ). slice_index l k) (r.bytes w' ∙ sym b.given))
     (rw (b.start, b.size) c.requires.free)
 
 pub returns-clause-fresh : goal.returns-clause-fresh

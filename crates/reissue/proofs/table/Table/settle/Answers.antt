@@ -1,4 +1,4 @@
-use Rattle.std.proofs.Common.{◌≡◌, arith, List, refl, sym, ◌∙◌, ap, [], ◌∷◌, ◌++◌, true, false}
+use Rattle.std.proofs.Common.{◌≡◌, ◌<◌, ◌≤◌, ℕ, arith, List, refl, sym, ◌∙◌, ap, [], ◌∷◌, ◌++◌, true, false}
 use Rattle.message.specs.Good.{is_write}
 use Rattle.records.specs.Marks.{Answered}
 use Rattle.reissue.specs.declared.pending.Pending.{Pending}
@@ -23,8 +23,12 @@ push-requires-clause-ticket c =
     let x = tickets_out c.args.self.now.ids c.args.self.now.pending c.args.at c.deref_mut.result.now lt (rw c.deref_mut.ensures.value o.value) c.args.self.now.numbers in
     omega (arith, x.2, c.answer.ensures.ticket, o.ids)
 
-pub returns-then-left-gt0-clause-agrees : goal.returns-then-left-gt0-clause-agrees
-returns-then-left-gt0-clause-agrees c = λ marks h place m from.
+-- something of it is left
+part : (c : goal.After-push) → c.args.n < c.deref_mut.result.now.request.count
+part c = omega (arith, c.if-n-left.true, ap (λ (p : Pending). p.request.count) (c.deref.ensures ∙ sym c.deref_mut.ensures.value))
+
+pub returns-then-n-left-clause-agrees : goal.returns-then-n-left-clause-agrees
+returns-then-n-left-clause-agrees c = λ marks h place m from.
     let o = c.take_out.ensures in
     let w = c.answer.ensures in
     let p = c.push.ensures in
@@ -32,15 +36,15 @@ returns-then-left-gt0-clause-agrees c = λ marks h place m from.
     h place m from (rw c.deref_mut.ensures.value o.value) o.items o.issued o.ids o.current o.given_up in
     agrees_rest c.args.self.now c.take_out.new.self c.push.new.self marks c.args.reply.now
     c.deref_mut.result.now c.answer.new.self c.args.n
-    x m p.items p.ids w.id p.posted p.issued p.current p.given_up w.start w.size w.kind w.position w.before w.moved w.count (λ h k. rw (w.begun h) refl) w.rest
+    x m p.items p.ids w.id p.posted p.issued p.current p.given_up w.start w.size w.kind w.position w.before w.moved w.count (λ h k. rw w.begun refl) w.rest
 
-pub returns-then-left-gt0-clause-hears : goal.returns-then-left-gt0-clause-hears
-returns-then-left-gt0-clause-hears c =
+pub returns-then-n-left-clause-hears : goal.returns-then-n-left-clause-hears
+returns-then-n-left-clause-hears c =
     let o = c.take_out.ensures in
     let w = c.answer.ensures in
     let p = c.push.ensures in
     answered_part c.args.self.now _ _ c.args.at c.args.n c.deref_mut.result.now c.answer.new.self c.requires.at (rw c.deref_mut.ensures.value o.value)
-    (c.requires.there c.deref_mut.result.now (rw c.deref_mut.ensures.value o.value)) (omega (arith, w.count, c.if-left-gt0.true, ap (λ (p : Pending). p.request.count) c.deref-left.ensures))
+    (c.requires.there c.deref_mut.result.now (rw c.deref_mut.ensures.value o.value)) (part c)
     (p.items ∙ ap (λ (l : List Pending). l ++ c.answer.new.self ∷ []) o.items) (omega (arith, p.ids, o.ids))
     (record {
       ticket = w.ticket;
@@ -55,16 +59,16 @@ returns-then-left-gt0-clause-hears c =
     })
     (p.posted ∙ o.posted) (omega (arith, p.issued, o.issued))
 
-pub returns-then-left-gt0-clause-closes : goal.returns-then-left-gt0-clause-closes
-returns-then-left-gt0-clause-closes c =
+pub returns-then-n-left-clause-closes : goal.returns-then-n-left-clause-closes
+returns-then-n-left-clause-closes c =
     let o = c.take_out.ensures in
     let w = c.answer.ensures in
     let lt = issued_within c.args.self.now c.args.at c.requires.at in
     closes_rest c.args.self.now.pending c.take_out.new.self.pending _ c.args.at c.deref_mut.result.now c.answer.new.self c.args.self.now.ids
-    lt (rw c.deref_mut.ensures.value o.value) c.args.self.now.numbers o.items c.push.ensures.items w.ticket w.start w.size w.kind w.begun
+    lt (rw c.deref_mut.ensures.value o.value) c.args.self.now.numbers o.items c.push.ensures.items w.ticket w.start w.size w.kind (λ h. w.begun)
 
-pub returns-then-left-gt0-clause-closing : goal.returns-then-left-gt0-clause-closing
-returns-then-left-gt0-clause-closing c = λ marks h place m from.
+pub returns-then-n-left-clause-closing : goal.returns-then-n-left-clause-closing
+returns-then-n-left-clause-closing c = λ marks h place m from.
     let o = c.take_out.ensures in
     let lt = issued_within c.args.self.now c.args.at c.requires.at in
     let x = taken c.args.self.now c.take_out.new.self marks c.args.reply.now c.deref_mut.result.now c.args.at c.args.n
@@ -73,10 +77,10 @@ returns-then-left-gt0-clause-closing c = λ marks h place m from.
     closing_nothing _ _ marks _ (λ image. spares_answered image marks c.args.reply.now c.deref_mut.result.now c.args.n c.args.self.now.pending x.there m x.within c.args.self.now.numbers.distinct i)
     (reads_rest c.args.self.now.pending c.take_out.new.self.pending _ marks c.args.reply.now c.deref_mut.result.now c.answer.new.self c.args.at c.args.n
     x.there m x.within lt (rw c.deref_mut.ensures.value o.value) o.items c.push.ensures.items (rw x.holds.items x.apart) c.answer.ensures.start c.answer.ensures.size
-    c.answer.ensures.position (omega (arith, c.if-left-gt0.true, ap (λ (p : Pending). p.request.count) c.deref-left.ensures)))
+    c.answer.ensures.position (omega (arith, part c, c.answer.ensures.count)))
 
-pub returns-then-left-gt0-clause-minors : goal.returns-then-left-gt0-clause-minors
-returns-then-left-gt0-clause-minors c = λ minor h.
+pub returns-then-n-left-clause-minors : goal.returns-then-n-left-clause-minors
+returns-then-n-left-clause-minors c = λ minor h.
     let o = c.take_out.ensures in
     let w = c.answer.ensures in
     let lt = issued_within c.args.self.now c.args.at c.requires.at in
@@ -84,48 +88,48 @@ returns-then-left-gt0-clause-minors c = λ minor h.
     (minors_push minor _ c.answer.new.self (minors_rest minor c.args.self.now.pending c.args.at h)
     (w.minor ∙ minor_there minor c.args.self.now.pending c.args.at c.deref_mut.result.now lt (rw c.deref_mut.ensures.value o.value) h))
 
+-- of an entry with so many bytes left, of which as many were moved, nothing is left
+all : (n left count : ℕ) → left ≤ n → n ≤ count → left ≡ count → n ≡ count
+all n left count le most is = omega arith
+
 pub returns-in-Read-clause-agrees : goal.returns-in-Read-clause-agrees
 returns-in-Read-clause-agrees c = λ marks h place m from.
     let o = c.take_out.ensures in
-    agrees_done c.args.self.now _ marks c.args.reply.now c.deref_mut.result.now c.args.n
-    (taken c.args.self.now _ marks c.args.reply.now c.deref_mut.result.now c.args.at c.args.n
-    h place m from (rw c.deref_mut.ensures.value o.value) o.items o.issued o.ids o.current o.given_up)
+    agrees_done c.args.self.now _ marks c.args.reply.now c.deref-done.result.now c.args.n
+    (taken c.args.self.now _ marks c.args.reply.now c.deref-done.result.now c.args.at c.args.n
+    h place m from (rw c.deref-done.ensures o.value) o.items o.issued o.ids o.current o.given_up)
 
 pub returns-in-Read-clause-hears : goal.returns-in-Read-clause-hears
 returns-in-Read-clause-hears c =
     let o = c.take_out.ensures in
-    let w = c.answer.ensures in
-    answered_whole c.args.self.now _ _ c.args.at c.args.n c.deref_mut.result.now c.requires.at (rw c.deref_mut.ensures.value o.value)
-    (c.requires.there c.deref_mut.result.now (rw c.deref_mut.ensures.value o.value)) (omega (arith, w.count, c.if-left-gt0.false, ap (λ (p : Pending). p.request.count) c.deref-left.ensures)) o.items o.ids o.posted o.issued
+    answered_whole c.args.self.now _ _ c.args.at c.args.n c.deref-done.result.now c.requires.at (rw c.deref-done.ensures o.value)
+    (c.requires.there c.deref-done.result.now (rw c.deref-done.ensures o.value)) (all _ _ _ c.if-n-left.false (c.requires.within c.deref-done.result.now (rw c.deref-done.ensures o.value)) (ap (λ (p : Pending). p.request.count) (c.deref.ensures ∙ sym c.deref-done.ensures))) o.items o.ids o.posted o.issued
 
 pub returns-in-Read-clause-closes : goal.returns-in-Read-clause-closes
 returns-in-Read-clause-closes c =
     let o = c.take_out.ensures in
-    let w = c.answer.ensures in
     let lt = issued_within c.args.self.now c.args.at c.requires.at in
-    let k : is_write c.deref_mut.result.now.request.kind ≡ false = ap is_write (sym w.kind ∙ ap (λ (p : Pending). p.request.kind) (sym c.deref-left.ensures) ∙ c.in-Read.is) in
-    rw c.deref-left.ensures (closes_read c.args.self.now.pending c.take_out.new.self.pending c.args.at c.answer.new.self.ticket c.answer.new.self.bytes c.deref_mut.result.now c.args.self.now.ids
-    lt (rw c.deref_mut.ensures.value o.value) c.args.self.now.numbers o.items w.ticket k)
+    closes_read c.args.self.now.pending c.take_out.new.self.pending c.args.at c.deref-done.result.now.ticket c.finish.new.into c.deref-done.result.now c.args.self.now.ids
+    lt (rw c.deref-done.ensures o.value) c.args.self.now.numbers o.items refl (ap is_write c.in-Read.is)
 
 pub returns-in-Read-clause-closing : goal.returns-in-Read-clause-closing
 returns-in-Read-clause-closing c = λ marks h place m from.
     let o = c.take_out.ensures in
-    let w = c.answer.ensures in
+    let f = c.finish.ensures in
     let lt = issued_within c.args.self.now c.args.at c.requires.at in
-    let k : is_write c.deref_mut.result.now.request.kind ≡ false = ap is_write (sym w.kind ∙ ap (λ (p : Pending). p.request.kind) (sym c.deref-left.ensures) ∙ c.in-Read.is) in
-    let none : c.answer.new.self.request.count ≡ 0 = omega (arith, c.if-left-gt0.false, ap (λ (p : Pending). p.request.count) c.deref-left.ensures) in
-    let x = taken c.args.self.now c.take_out.new.self marks c.args.reply.now c.deref_mut.result.now c.args.at c.args.n
-    h place m from (rw c.deref_mut.ensures.value o.value) o.items o.issued o.ids o.current o.given_up in
-    let i = among_here c.args.self.now.pending c.args.at c.deref_mut.result.now lt (rw c.deref_mut.ensures.value o.value) in
+    let k : is_write c.deref-done.result.now.request.kind ≡ false = ap is_write c.in-Read.is in
+    let x = taken c.args.self.now c.take_out.new.self marks c.args.reply.now c.deref-done.result.now c.args.at c.args.n
+    h place m from (rw c.deref-done.ensures o.value) o.items o.issued o.ids o.current o.given_up in
+    let i = among_here c.args.self.now.pending c.args.at c.deref-done.result.now lt (rw c.deref-done.ensures o.value) in
     let d = c.args.self.now.numbers.distinct in
-    rw c.deref-left.ensures (closing_read _ _ marks (Answered c.args.reply.now ∷ marks) c.deref_mut.result.now _ _ d i w.ticket
-    (λ image. spares_answered image marks c.args.reply.now c.deref_mut.result.now c.args.n c.args.self.now.pending x.there m x.within d i)
-    (λ image tr. done_reads c.args.self.now c.take_out.new.self marks image c.args.reply.now c.deref_mut.result.now c.answer.new.self c.args.n
-    x m tr k w.start w.size w.position none (w.before k) (w.moved k))
-    (done_joined c.args.self.now c.take_out.new.self marks c.args.reply.now c.deref_mut.result.now c.answer.new.self c.args.n
-    x m k w.start w.size w.position none (w.before k) (w.moved k))
-    (reads_out c.args.self.now.pending c.take_out.new.self.pending marks c.args.reply.now c.deref_mut.result.now c.args.at c.args.n
-    x.there m x.within lt (rw c.deref_mut.ensures.value o.value) o.items (rw x.holds.items x.apart)))
+    closing_read _ _ marks (Answered c.args.reply.now ∷ marks) c.deref-done.result.now _ _ d i refl
+    (λ image. spares_answered image marks c.args.reply.now c.deref-done.result.now c.args.n c.args.self.now.pending x.there m x.within d i)
+    (λ image tr. done_reads c.args.self.now c.take_out.new.self marks image c.args.reply.now c.deref-done.result.now c.args.n _
+    x m tr k (all _ _ _ c.if-n-left.false (c.requires.within c.deref-done.result.now (rw c.deref-done.ensures o.value)) (ap (λ (p : Pending). p.request.count) (c.deref.ensures ∙ sym c.deref-done.ensures))) f.before f.moved)
+    (done_joined c.args.self.now c.take_out.new.self marks c.args.reply.now c.deref-done.result.now c.args.n _
+    x m k (all _ _ _ c.if-n-left.false (c.requires.within c.deref-done.result.now (rw c.deref-done.ensures o.value)) (ap (λ (p : Pending). p.request.count) (c.deref.ensures ∙ sym c.deref-done.ensures))) f.before f.moved)
+    (reads_out c.args.self.now.pending c.take_out.new.self.pending marks c.args.reply.now c.deref-done.result.now c.args.at c.args.n
+    x.there m x.within lt (rw c.deref-done.ensures o.value) o.items (rw x.holds.items x.apart))
 
 pub returns-in-Read-clause-minors : goal.returns-in-Read-clause-minors
 returns-in-Read-clause-minors c = λ minor h. rw c.take_out.ensures.items (minors_rest minor c.args.self.now.pending c.args.at h)
@@ -133,43 +137,38 @@ returns-in-Read-clause-minors c = λ minor h. rw c.take_out.ensures.items (minor
 pub returns-in-Write-clause-agrees : goal.returns-in-Write-clause-agrees
 returns-in-Write-clause-agrees c = λ marks h place m from.
     let o = c.take_out.ensures in
-    agrees_done c.args.self.now _ marks c.args.reply.now c.deref_mut.result.now c.args.n
-    (taken c.args.self.now _ marks c.args.reply.now c.deref_mut.result.now c.args.at c.args.n
-    h place m from (rw c.deref_mut.ensures.value o.value) o.items o.issued o.ids o.current o.given_up)
+    agrees_done c.args.self.now _ marks c.args.reply.now c.deref-done.result.now c.args.n
+    (taken c.args.self.now _ marks c.args.reply.now c.deref-done.result.now c.args.at c.args.n
+    h place m from (rw c.deref-done.ensures o.value) o.items o.issued o.ids o.current o.given_up)
 
 pub returns-in-Write-clause-hears : goal.returns-in-Write-clause-hears
 returns-in-Write-clause-hears c =
     let o = c.take_out.ensures in
-    let w = c.answer.ensures in
-    answered_whole c.args.self.now _ _ c.args.at c.args.n c.deref_mut.result.now c.requires.at (rw c.deref_mut.ensures.value o.value)
-    (c.requires.there c.deref_mut.result.now (rw c.deref_mut.ensures.value o.value)) (omega (arith, w.count, c.if-left-gt0.false, ap (λ (p : Pending). p.request.count) c.deref-left.ensures)) o.items o.ids o.posted o.issued
+    answered_whole c.args.self.now _ _ c.args.at c.args.n c.deref-done.result.now c.requires.at (rw c.deref-done.ensures o.value)
+    (c.requires.there c.deref-done.result.now (rw c.deref-done.ensures o.value)) (all _ _ _ c.if-n-left.false (c.requires.within c.deref-done.result.now (rw c.deref-done.ensures o.value)) (ap (λ (p : Pending). p.request.count) (c.deref.ensures ∙ sym c.deref-done.ensures))) o.items o.ids o.posted o.issued
 
 pub returns-in-Write-clause-closes : goal.returns-in-Write-clause-closes
 returns-in-Write-clause-closes c =
     let o = c.take_out.ensures in
-    let w = c.answer.ensures in
     let lt = issued_within c.args.self.now c.args.at c.requires.at in
-    let k : is_write c.deref_mut.result.now.request.kind ≡ true = ap is_write (sym w.kind ∙ ap (λ (p : Pending). p.request.kind) (sym c.deref-left.ensures) ∙ c.in-Write.is) in
-    rw c.deref-left.ensures (closes_written c.args.self.now.pending c.take_out.new.self.pending c.args.at _ c.deref_mut.result.now c.args.self.now.ids
-    lt (rw c.deref_mut.ensures.value o.value) c.args.self.now.numbers o.items w.ticket k)
+    closes_written c.args.self.now.pending c.take_out.new.self.pending c.args.at _ c.deref-done.result.now c.args.self.now.ids
+    lt (rw c.deref-done.ensures o.value) c.args.self.now.numbers o.items refl (ap is_write c.in-Write.is)
 
 pub returns-in-Write-clause-closing : goal.returns-in-Write-clause-closing
 returns-in-Write-clause-closing c = λ marks h place m from.
     let o = c.take_out.ensures in
-    let w = c.answer.ensures in
     let lt = issued_within c.args.self.now c.args.at c.requires.at in
-    let k : is_write c.deref_mut.result.now.request.kind ≡ true = ap is_write (sym w.kind ∙ ap (λ (p : Pending). p.request.kind) (sym c.deref-left.ensures) ∙ c.in-Write.is) in
-    let x = taken c.args.self.now c.take_out.new.self marks c.args.reply.now c.deref_mut.result.now c.args.at c.args.n
-    h place m from (rw c.deref_mut.ensures.value o.value) o.items o.issued o.ids o.current o.given_up in
-    let i = among_here c.args.self.now.pending c.args.at c.deref_mut.result.now lt (rw c.deref_mut.ensures.value o.value) in
+    let k : is_write c.deref-done.result.now.request.kind ≡ true = ap is_write c.in-Write.is in
+    let x = taken c.args.self.now c.take_out.new.self marks c.args.reply.now c.deref-done.result.now c.args.at c.args.n
+    h place m from (rw c.deref-done.ensures o.value) o.items o.issued o.ids o.current o.given_up in
+    let i = among_here c.args.self.now.pending c.args.at c.deref-done.result.now lt (rw c.deref-done.ensures o.value) in
     let d = c.args.self.now.numbers.distinct in
-    rw c.deref-left.ensures (closing_written _ _ marks (Answered c.args.reply.now ∷ marks) c.deref_mut.result.now _ d i w.ticket k
-    (λ image. spares_answered image marks c.args.reply.now c.deref_mut.result.now c.args.n c.args.self.now.pending x.there m x.within d i)
-    (λ image. done_writes c.args.self.now c.take_out.new.self marks image c.args.reply.now c.deref_mut.result.now c.answer.new.self c.args.n
-    x m k w.start w.size w.position w.count (omega (arith, c.if-left-gt0.false, ap (λ (p : Pending). p.request.count) c.deref-left.ensures)) (w.begun k))
+    closing_written _ _ marks (Answered c.args.reply.now ∷ marks) c.deref-done.result.now _ d i refl k
+    (λ image. spares_answered image marks c.args.reply.now c.deref-done.result.now c.args.n c.args.self.now.pending x.there m x.within d i)
+    (λ image. done_writes c.args.self.now c.take_out.new.self marks image c.args.reply.now c.deref-done.result.now c.args.n x m k (all _ _ _ c.if-n-left.false (c.requires.within c.deref-done.result.now (rw c.deref-done.ensures o.value)) (ap (λ (p : Pending). p.request.count) (c.deref.ensures ∙ sym c.deref-done.ensures))))
     (rw x.holds.items x.apart)
-    (reads_out c.args.self.now.pending c.take_out.new.self.pending marks c.args.reply.now c.deref_mut.result.now c.args.at c.args.n
-    x.there m x.within lt (rw c.deref_mut.ensures.value o.value) o.items (rw x.holds.items x.apart)))
+    (reads_out c.args.self.now.pending c.take_out.new.self.pending marks c.args.reply.now c.deref-done.result.now c.args.at c.args.n
+    x.there m x.within lt (rw c.deref-done.ensures o.value) o.items (rw x.holds.items x.apart))
 
 pub returns-in-Write-clause-minors : goal.returns-in-Write-clause-minors
 returns-in-Write-clause-minors c = λ minor h. rw c.take_out.ensures.items (minors_rest minor c.args.self.now.pending c.args.at h)

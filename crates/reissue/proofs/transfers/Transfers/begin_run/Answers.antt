@@ -1,5 +1,4 @@
 use Rattle.std.proofs.Common.{rules, sym, ◌∙◌, ap, ◌≤◌, arith, refl, length}
-use Rattle.message.specs.declared.BlockRequest.{BlockRequest}
 use Rattle.reissue.specs.Entries.{pending_of}
 use Rattle.reissue.proofs.Posting.{busy, busy_any}
 use Rattle.reissue.proofs.Joining.{begins_add, begins_none, posts_new}
@@ -24,7 +23,7 @@ returns-clause-adds g c =
       begun = a.added.2;
       request = a.added.3;
       ids = c.post_if.ensures.ids ∙ a.ids;
-      in_order = posts_new c.args.self.now.table c.add-ticket.new.self a.added.0 _ _ _ _ c.is_posted-due.ensures a.added.1 a.posted a.current a.added.3 c.post_if.ensures.posts;
+      in_order = posts_new c.args.self.now.table c.add-ticket.new.self a.added.0 _ _ _ c.is_posted-due.ensures a.added.1 a.posted a.current c.post_if.ensures.posts;
     }
 
 pub returns-clause-opens : goal.returns-clause-opens
@@ -35,8 +34,8 @@ returns-clause-opens g c =
 pub returns-clause-begins : goal.returns-clause-begins
 returns-clause-begins g c =
     let a = c.add-ticket.ensures in
-    begins_add _ c.args.self.now.table c.add-ticket.new.self _ a.added.0 _ _ _ _ _ a.agrees a.added.1 a.posted a.issued (ap (λ (r : BlockRequest). r.minor) a.added.3)
-    a.current c.post_if.ensures.current a.given_up (ap (λ (r : BlockRequest). r.id) a.added.3) (search rules) c.is_posted-due.ensures c.post_if.ensures.posts c.post_if.ensures.leads
+    begins_add _ c.args.self.now.table c.add-ticket.new.self _ a.added.0 _ _ _ _ _ a.agrees a.added.1 a.posted a.issued a.added.3.minor
+    a.current c.post_if.ensures.current a.given_up a.added.3.number (search rules) c.is_posted-due.ensures c.post_if.ensures.posts c.post_if.ensures.leads
 
 pub returns-then-is_full-clause-begins : goal.returns-then-is_full-clause-begins
 returns-then-is_full-clause-begins g c = begins_none _ _ _ _
