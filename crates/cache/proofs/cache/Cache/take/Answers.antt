@@ -2,6 +2,7 @@ use Rattle.std.proofs.Common.{◌≡◌, refl, sym, ap, subst, ◌∙◌, None, 
 use Rattle.cache.specs.Calls.{Caching, caching, caching_of, Runs}
 use Rattle.cache.specs.Takes.{Takes, ReadsStay}
 use Rattle.reissue.specs.Settlements.{settlement}
+use Rattle.reissue.specs.Transfers.{begun_in}
 use Rattle.cache.specs.Settling.{Taking, taking, took_of, is_ended_by}
 use Rattle.cache.proofs.Runs.{runs_none}
 use Rattle.cache.proofs.Staying.{all_none}
@@ -39,7 +40,8 @@ returns-clause-reads g c =
     let bytes = c.step-settled.new.into in
     let came = settlement c.step-settled.result bytes in
     let taken : taking c.settle.result c.settle.new.slots.spare.value ≡ took_of came = ap (λ b. taking c.settle.result b.value) e.spare ∙ e.took bytes in
-    subst (λ (t : Taking). ReadsStay (Ok t) _ _) (sym taken) (reads_stay came _ _ c.step-settled.ensures.steps.closes)
+    subst (λ (t : Taking). ReadsStay (Ok t) (begun_in c.args.self.now.transfers) (begun_in c.step-settled.new.self)) (sym taken)
+    (reads_stay came _ _ c.step-settled.ensures.steps.closes)
 
 pub returns-clause-stay : goal.returns-clause-stay
 returns-clause-stay g c = let stay = c.settle.ensures.stay in record { uses = stay.uses; each = stay.each }
