@@ -222,7 +222,9 @@ impl<L: Link> Cache<L> {
         ensures refusing { OnFalse result (IsRefusing (caching L.Link self.old)) }
         ensures reads { NoReadBegun (begun_in self.old.transfers) (begun_in self.new.transfers) }
     {
-        let bytes = self.slots.gather(block, count, self.shape.block_size);
+        let mut bytes = zeros();
+        self.slots
+            .gather(block, count, self.shape.block_size, &mut bytes);
         let ask = self.shape.write_run(block, count, &bytes);
         match self.transfers.begin_run(&ask) {
             Ok(ticket) => {

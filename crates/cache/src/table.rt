@@ -221,20 +221,18 @@ impl Slots {
         put(to, from, &slot.bytes[..size]);
     }
 
-    /// The bytes of so many neighbouring blocks from this one on, which have dirty slots, one block after the other.
-    pub fn gather(&self, block: u32, count: u32, size: u32) -> [u8; 4096]
+    /// Copies the bytes of so many neighbouring blocks from this one on, which have dirty slots, one block after the other.
+    pub fn gather(&self, block: u32, count: u32, size: u32, into: &mut [u8; 4096])
         requires dirty { AreDirty (held self.now.items.items) block count }
         requires bound { block + count ≤ 2 ^ 32 }
         requires fits { count * size ≤ 4096 }
-        ensures { AreGathered (held self.now.items.items) block count size result }
+        ensures { AreGathered (held self.now.items.items) block count size into.new }
     {
-        let mut bytes = zeros();
         let mut from = 0;
         for past in 0..count {
-            self.copy(block + past, size as usize, &mut bytes, from);
+            self.copy(block + past, size as usize, into, from);
             from += size as usize;
         }
-        bytes
     }
 
     /// The writes of so many neighbouring blocks from this one on, which have dirty slots, are begun under this ticket.
