@@ -150,14 +150,15 @@ impl<L: Link> Cache<L> {
         Ok(())
     }
 
-    /// Takes a message and does what it asks for; a settled read is handed out, and its bytes stand in `into` then.
-    pub fn take(&mut self, into: &mut [u8; 4096]) -> Result<Took, Cut>
+    /// Takes a message and does what it asks for; a settled read is handed out, and its bytes stand in the spare room of the slots then.
+    pub fn take(&mut self) -> Result<Took, Cut>
         requires ready { IsReady (caching L.Link self.old) }
         requires busy { IsLive (caching L.Link self.old) → IsBusy (begun_in self.old.transfers) }
-        ensures runs { Does L.Link self.old self.new (Takes (taking_in result into.new)) }
+        ensures runs { Does L.Link self.old self.new (Takes (taking_in result self.new.slots.spare.value)) }
         ensures goes { LinkGoesOn L.Link self.old self.new }
         ensures left { OnOk result (messages_left (caching L.Link self.new) < messages_left (caching L.Link self.old)) }
-        ensures reads { ReadsStay (taking_in result into.new) (begun_in self.old.transfers) (begun_in self.new.transfers) }
+        ensures reads { ReadsStay (taking_in result self.new.slots.spare.value)
+            (begun_in self.old.transfers) (begun_in self.new.transfers) }
         ensures leaves { Leaves self.old.slots.items.items self.new.slots.items.items }
         ensures stay { AllStay self.old.slots self.new.slots }
         ensures cut { IfErr result (λ cut. IsWhyCut (caching L.Link self.new) cut) }
@@ -165,7 +166,7 @@ impl<L: Link> Cache<L> {
         ensures flush { WantsFlush L.Link self.old self.new }
     {
         self.live()?;
-        let settled = self.transfers.step(into);
+        let settled = self.transfers.step(&mut self.slots.spare);
         self.ended = is_end(&settled);
         Ok(settle(&mut self.slots, &mut self.flush, settled))
     }
@@ -228,7 +229,9 @@ impl<L: Link> Cache<L> {
         ensures reads { NoReadBegun (begun_in self.old.transfers) (begun_in self.new.transfers) }
         ensures held_on { AllHeldOn self.old.slots self.new.slots }
     {
-        let bytes = self.slots.gather(block, count, self.shape.block_size);
+        let mut bytes = zeros();
+        self.slots
+            .gather(block, count, self.shape.block_size, &mut bytes);
         let ask = self.shape.write_run(block, count, &bytes);
         match self.transfers.begin_run(&ask) {
             Ok(ticket) => {
@@ -269,14 +272,13 @@ impl<L: Link> Cache<L> {
         ensures cut { IfErr result (λ cut. IsWhyCut (caching L.Link self.new) cut) }
         ensures flush { WantsFlush L.Link self.old self.new }
     {
-        let mut bytes = zeros();
         'tries: loop {
             if !self.slots.get(at).is_unclean() {
                 return Ok(());
             }
             self.live()?;
             self.write_out(at);
-            self.take(&mut bytes)?;
+            self.take()?;
         }
     }
 
@@ -362,8 +364,8 @@ impl<L: Link> Cache<L> {
         }
     }
 
-    /// Begins the read of a block, as soon as there is a place for it. Until then it takes messages, for which there is room in `into`.
-    fn begin_read(&mut self, block: u32, into: &mut [u8; 4096]) -> Result<Reading, Cut>
+    /// Begins the read of a block, as soon as there is a place for it. Until then it takes messages.
+    fn begin_read(&mut self, block: u32) -> Result<Reading, Cut>
         requires ready { IsReady (caching L.Link self.old) }
         ensures keeps { Keeps (caching L.Link self.old) (caching L.Link self.new) }
         ensures goes { LinkGoesOn L.Link self.old self.new }
@@ -379,16 +381,16 @@ impl<L: Link> Cache<L> {
             if let Some(reading) = self.try_read(block) {
                 return Ok(reading);
             }
-            self.take(into)?;
+            self.take()?;
         }
     }
 
-    /// Takes messages until a read is settled: its bytes stand in `into` then.
-    fn wait(&mut self, reading: Reading, into: &mut [u8; 4096]) -> Result<(), Cut>
+    /// Takes messages until a read is settled: its bytes stand in the spare room of the slots then.
+    fn wait(&mut self, reading: Reading) -> Result<(), Cut>
         requires ready { IsReady (caching L.Link self.old) }
         requires reading { IsBlockRead (begun_in self.old.transfers) reading.ticket reading.block self.old.shape.block_size }
         ensures runs { Does L.Link self.old self.new
-            (Reads (read_into result into.new) (reading.block * self.old.shape.block_size) self.old.shape.block_size) }
+            (Reads (read_into result self.new.slots.spare.value) (reading.block * self.old.shape.block_size) self.old.shape.block_size) }
         ensures goes { LinkGoesOn L.Link self.old self.new }
         ensures leaves { Leaves self.old.slots.items.items self.new.slots.items.items }
         ensures stay { AllStay self.old.slots self.new.slots }
@@ -396,7 +398,7 @@ impl<L: Link> Cache<L> {
         ensures flush { WantsFlush L.Link self.old self.new }
     {
         'messages: loop {
-            let Took::Read(settled) = self.take(into)? else {
+            let Took::Read(settled) = self.take()? else {
                 continue;
             };
             if settled == reading.ticket {
@@ -405,19 +407,19 @@ impl<L: Link> Cache<L> {
         }
     }
 
-    /// Reads a block without a frame: its bytes stand in `into` then.
-    fn read(&mut self, block: u32, into: &mut [u8; 4096]) -> Result<(), Cut>
+    /// Reads a block without a frame: its bytes stand in the spare room of the slots then.
+    fn read(&mut self, block: u32) -> Result<(), Cut>
         requires ready { IsReady (caching L.Link self.old) }
         ensures runs { Does L.Link self.old self.new
-            (Reads (read_into result into.new) (block * self.old.shape.block_size) self.old.shape.block_size) }
+            (Reads (read_into result self.new.slots.spare.value) (block * self.old.shape.block_size) self.old.shape.block_size) }
         ensures goes { LinkGoesOn L.Link self.old self.new }
         ensures leaves { Leaves self.old.slots.items.items self.new.slots.items.items }
         ensures stay { AllStay self.old.slots self.new.slots }
         ensures cut { IfErr result (λ cut. IsWhyCut (caching L.Link self.new) cut) }
         ensures flush { WantsFlush L.Link self.old self.new }
     {
-        let reading = self.begin_read(block, into)?;
-        self.wait(reading, into)
+        let reading = self.begin_read(block)?;
+        self.wait(reading)
     }
 
     /// The frame of a block, if it has one. No frame is used by it. A step is an entry of the index that is compared: 13 at most.
@@ -468,9 +470,8 @@ impl<L: Link> Cache<L> {
         ensures flush { WantsFlush L.Link self.old self.new }
     {
         let at = self.make_room()?;
-        let mut bytes = zeros();
-        self.read(block, &mut bytes)?;
-        self.slots.fill(at, block, &bytes, State::Clean);
+        self.read(block)?;
+        self.slots.fill(at, block, State::Clean);
         Ok(Frame { block, at })
     }
 
@@ -511,7 +512,8 @@ impl<L: Link> Cache<L> {
         ensures at_once { IsAtOnce result self.old self.new }
     {
         let at = self.make_room()?;
-        self.slots.fill(at, block, &zeros(), State::Dirty);
+        self.slots.clear_spare();
+        self.slots.fill(at, block, State::Dirty);
         Ok(Frame { block, at })
     }
 

@@ -6,12 +6,20 @@ ghost use Rattle.cache.specs.Slots.{is_number, dirtied, is_under, is_dirty_slot,
 use crate::state::State;
 use reissue::Ticket;
 use std::alloc::{AllocError, Global};
+use std::mem;
 
 /// A block of zero bytes.
 pub fn zeros() -> [u8; 4096]
     ensures { (o : ℕ) → slice_index result o ≡ 0 }
 {
     [0; 4096]
+}
+
+/// Makes these bytes zero, where they lie.
+pub(crate) fn clear(bytes: &mut [u8; 4096])
+    ensures { (o : ℕ) → slice_index bytes.new o ≡ 0 }
+{
+    bytes.fill(0);
 }
 
 /// Changes bytes to these, from this place on.
@@ -102,14 +110,15 @@ impl Slot {
         }
     }
 
-    /// Holds a block from now on, with these bytes.
-    pub(crate) fn hold(&mut self, block: u32, bytes: &[u8; 4096], state: State)
+    /// Holds a block from now on, whose bytes stand in this room; what it had before is the room then.
+    pub(crate) fn hold(&mut self, block: u32, room: &mut Box<[u8; 4096]>, state: State)
         ensures block { self.new.block ≡ Some block }
-        ensures bytes { self.new.bytes.value ≡ bytes.now }
+        ensures bytes { self.new.bytes ≡ room.old }
         ensures state { self.new.state ≡ state }
+        ensures room { room.new ≡ self.old.bytes }
     {
         self.block = Some(block);
-        *self.bytes = *bytes;
+        mem::swap(&mut self.bytes, room);
         self.state = state;
     }
 
@@ -120,7 +129,7 @@ impl Slot {
         ensures bytes { (o : ℕ) → slice_index self.new.bytes.value o ≡ 0 }
     {
         self.state = self.state.dirtied();
-        *self.bytes = zeros();
+        clear(&mut self.bytes);
     }
 
     /// Changes these bytes from this place on.

@@ -8,7 +8,7 @@ ghost use Rattle.cache.specs.Slots.{held, is_dirty_held, is_unclean_slot, lower_
 ghost use Rattle.cache.specs.Index.{IsIndexOf};
 
 use crate::index::Index;
-use crate::slot::{Slot, put, zeros};
+use crate::slot::{Slot, clear, put, zeros};
 use crate::state::State;
 use crate::uses::Uses;
 use reissue::Ticket;
@@ -25,6 +25,8 @@ pub struct Slots {
     index: Index,
     // The block that the search for a dirty slot begins at: none below it has one.
     search_from: u32,
+    /// Room for a block that is in no slot: a read's bytes come here, and go into a slot by its pointer.
+    pub spare: Box<[u8; 4096]>,
     pub ghost distinct: { IsDistinct items.items },
     pub ghost some: { 0 < length items.items },
     pub ghost few: { length items.items ≤ 4096 },
@@ -68,6 +70,7 @@ impl Slots {
             uses: Uses::new(alloc, count)?,
             index: Index::new(alloc, count)?,
             search_from: u32::MAX,
+            spare: Box::new(alloc, zeros())?,
         })
     }
 
@@ -218,20 +221,18 @@ impl Slots {
         put(to, from, &slot.bytes[..size]);
     }
 
-    /// The bytes of so many neighbouring blocks from this one on, which have dirty slots, one block after the other.
-    pub fn gather(&self, block: u32, count: u32, size: u32) -> [u8; 4096]
+    /// Copies the bytes of so many neighbouring blocks from this one on, which have dirty slots, one block after the other.
+    pub fn gather(&self, block: u32, count: u32, size: u32, into: &mut [u8; 4096])
         requires dirty { AreDirty (held self.now.items.items) block count }
         requires bound { block + count ≤ 2 ^ 32 }
         requires fits { count * size ≤ 4096 }
-        ensures { AreGathered (held self.now.items.items) block count size result }
+        ensures { AreGathered (held self.now.items.items) block count size into.new }
     {
-        let mut bytes = zeros();
         let mut from = 0;
         for past in 0..count {
-            self.copy(block + past, size as usize, &mut bytes, from);
+            self.copy(block + past, size as usize, into, from);
             from += size as usize;
         }
-        bytes
     }
 
     /// The writes of so many neighbouring blocks from this one on, which have dirty slots, are begun under this ticket.
@@ -293,6 +294,7 @@ impl Slots {
         requires { at < length self.old.items.items }
         ensures set { IsSetAt self.old.items.items self.new.items.items at (λ s. record s { state = state }) }
         ensures uses { self.new.uses ≡ self.old.uses }
+        ensures spare { self.new.spare ≡ self.old.spare }
     {
         let slot = &mut self.items[at];
         slot.state = state;
@@ -303,6 +305,7 @@ impl Slots {
     pub fn settle(&mut self, ticket: Ticket)
         ensures written { IsWritten ticket self.old.items.items self.new.items.items }
         ensures stay { AllStay self.old self.new }
+        ensures spare { self.new.spare ≡ self.old.spare }
     {
         for at in 0..self.items.len() {
             self.settle_at(at, ticket);
@@ -314,6 +317,7 @@ impl Slots {
         requires { at < length self.old.items.items }
         ensures set { IsSetAt self.old.items.items self.new.items.items at (after_write ticket) }
         ensures uses { self.new.uses ≡ self.old.uses }
+        ensures spare { self.new.spare ≡ self.old.spare }
     {
         let slot = self.get(at);
         if slot.is_under(ticket) {
@@ -328,6 +332,7 @@ impl Slots {
         ensures set { IsSetAt self.old.items.items self.new.items.items at (λ s. record s { block = None }) }
         ensures uses { self.new.uses ≡ self.old.uses }
         ensures count { length self.new.items.items ≡ length self.old.items.items }
+        ensures spare { self.new.spare ≡ self.old.spare }
     {
         let slot = &mut self.items[at];
         let Some(block) = slot.block else {
@@ -337,18 +342,26 @@ impl Slots {
         self.index.remove(block);
     }
 
-    /// Gives a slot to a block that has none.
-    pub fn fill(&mut self, at: usize, block: u32, bytes: &[u8; 4096], state: State)
+    /// Makes the bytes of the spare room zero, where they lie.
+    pub fn clear_spare(&mut self)
+        ensures zero { (o : ℕ) → slice_index self.new.spare.value o ≡ 0 }
+        ensures rest { self.new ≡ record self.old { spare = self.new.spare } }
+    {
+        clear(&mut self.spare);
+    }
+
+    /// Gives a slot to a block that has none: the spare room goes into it, and the room that it had is spare then. No byte is copied.
+    pub fn fill(&mut self, at: usize, block: u32, state: State)
         requires at { at < length self.old.items.items }
         requires free { held self.old.items.items block ≡ None }
-        ensures filled { IsFilledAt self.old.items.items self.new.items.items at block bytes.now state }
+        ensures filled { IsFilledAt self.old.items.items self.new.items.items at block self.old.spare.value state }
         ensures used { IsUsedLast self.old.uses.numbers.items self.new.uses.numbers.items at }
         ensures count { length self.new.items.items ≡ length self.old.items.items }
     {
         self.vacate(at);
         self.index.insert(block, at);
         let slot = &mut self.items[at];
-        slot.hold(block, bytes, state);
+        slot.hold(block, &mut self.spare, state);
         self.search_from = lowered(self.search_from, slot.dirty_block());
         self.touch(at);
     }

@@ -56,7 +56,7 @@ returns-clause-filled c =
       is = e.is;
       all = c.touch.ensures.items ∙ set_again s.items.items v.items.items c.args.at _ c.hold.new.self e.all;
       block_is = h.block;
-      bytes_are = h.bytes;
+      bytes_are = ap (λ b. b.value) (h.bytes ∙ c.vacate.ensures.spare);
       state_is = h.state;
     }
 
