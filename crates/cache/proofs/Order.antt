@@ -1,12 +1,12 @@
 -- The order in which places were used last.
-use Rattle.std.proofs.Common.{◌≡◌, ℕ, zero, suc, ◌+◌, ◌<◌, ◌≤◌, List, [], ◌∷◌, length, set, get_or, length-set, Bool, true, false, cond, refl, sym, ap, subst, ◌∙◌, arith}
-use mathlib.Core.Logic.{inl, inr}
+use Rattle.std.proofs.Common.{◌≡◌, ◌≢◌, ℕ, zero, suc, ◌+◌, ◌<◌, ◌≤◌, List, [], ◌∷◌, length, set, get_or, length-set, Bool, true, false, cond, refl, sym, ap, subst, ◌∙◌, arith}
+use mathlib.Core.Logic.{inl, inr, ◌⊎◌}
 use Rattle.std.specs.Prelude.{slice_index, nat_lt}
 use Rattle.std.specs.List.{filter}
 use Rattle.std.proofs.lemmas.Bool.{cases_eq, cases_lt, lt-ltb}
 use Rattle.std.proofs.lemmas.Bool.Decides.{nat_tests}
 use Rattle.lemmas.proofs.Numbers.{less_fails}
-use Rattle.cache.specs.Uses.{AllBelow, rank, KeepsOrder, IsUsedLast}
+use Rattle.cache.specs.Uses.{AllBelow, IsNewest, rank, KeepsOrder, IsUsedLast, OthersKeep}
 
 -- one where this holds
 abbrev one_if : Bool → ℕ
@@ -171,3 +171,70 @@ numbered_below old new h = record {
         let more = rank_lt (get_or xs i 0) (get_or xs i 0 + 1) xs i (omega arith) lt refl in
         let most = rank_most (get_or xs i 0 + 1) xs in
         omega (arith, more, most)
+
+-- ---- the place that was used last
+
+-- what stands past the end
+past_end : (xs : List ℕ) (i : ℕ) → length xs ≤ i → get_or xs i 0 ≡ 0
+past_end [] i le = refl
+past_end (x ∷ xs) zero le = absurd (let q : ⊥ = omega (arith, le) in q)
+past_end (x ∷ xs) (suc i) le = past_end xs i (omega (arith, le))
+
+-- of places that were numbered anew
+pub newest_keeps : (old new : List ℕ) (at : ℕ) → KeepsOrder old new → IsNewest old at → IsNewest new at
+newest_keeps old new at k h = record {
+  above = λ i ini ne. by i (let c = k.count in omega arith) ne (cases_lt at (length old));
+}
+  where
+    by : (i : ℕ) → i < length old → (i ≡ at → ⊥) → (at < length old) ⊎ (length old ≤ at) → get_or new i 0 < get_or new at 0
+    by i ini ne (inl lt) = elim (cases_lt (get_or new i 0) (get_or new at 0)) [
+      | inl less ↦ less
+      | inr ge ↦
+          let no = less_fails (get_or new i 0) (get_or new at 0) ge in
+          let yes = lt-ltb (get_or old i 0) (get_or old at 0) (h.above i ini ne) in
+          let same = k.order i at ini lt in
+          absurd (let q : ⊥ = cc in q)
+    ]
+    by i ini ne (inr out) =
+        -- a place out of range has the number 0
+        let less = h.above i ini ne in
+        let none = past_end old at out in
+        absurd (let q : ⊥ = omega (arith, less, none) in q)
+
+-- a place that gets a number above all others
+pub newest_set : (numbers : List ℕ) (at next : ℕ) → AllBelow numbers next → at < length numbers → IsNewest (set numbers at next) at
+newest_set numbers at next below lt = record {
+  above = λ i ini ne.
+      let less = below.each i (omega (arith, ini, length-set numbers at next)) in
+      let there = set_other numbers at i next ne in
+      let here = set_same numbers at next lt in
+      omega (arith, less, there, here);
+}
+
+-- it is used last again
+pub newest_last : (numbers : List ℕ) (at : ℕ) → IsNewest numbers at → IsUsedLast numbers numbers at
+newest_last numbers at h = record { count = refl; last = h.above; order = λ i j ini inj ni nj. refl }
+
+-- the others keep their numbers
+pub others_keep : (numbers : List ℕ) (at next : ℕ) → OthersKeep numbers (set numbers at next) at
+others_keep numbers at next = record { each = λ i ne. set_other numbers at i next ne }
+
+-- ---- the beginning
+
+-- each place has its own number
+pub record IsCounted (numbers : List ℕ) (n : ℕ) : Type 0 where
+  pub each : (i : ℕ) → i < n → get_or numbers i 0 ≡ i
+
+pub below_begun : (numbers : List ℕ) (count : ℕ) → length numbers ≡ count → IsCounted numbers count → AllBelow numbers count
+below_begun numbers count all c = record { each = λ i ini. let d = c.each i (omega arith) in omega arith }
+
+pub newest_begun : (numbers : List ℕ) (count at : ℕ) → length numbers ≡ count → IsCounted numbers count → (0 < count → at + 1 ≡ count)
+    → IsNewest numbers at
+newest_begun numbers count at all c last = record {
+  above = λ i ini ne.
+      let some : at + 1 ≡ count = last (omega arith) in
+      let d = c.each i (omega arith) in
+      let e = c.each at (omega arith) in
+      let z : i ≢ at = ne in
+      omega arith;
+}

@@ -20,7 +20,7 @@ pub invariant_of-result : goal.invariant_of-result
 invariant_of-result c =
     let items = c.free.items.items in
     let i = c.free.invariant in
-    let index = c.in_ok-new-2.ensures in
+    let index = c.in_ok-new.ensures in
     let count : length items ≡ c.args.count = i.count ∙ omega (arith, c.free-test.false) in
     record {
       distinct = free_distinct items i.free;
@@ -28,6 +28,7 @@ invariant_of-result c =
       few = omega (arith, count, c.requires.few);
       indexed = subst (λ (l : List Entry). IsIndexOf l items) (sym index.none) (index_none items i.free);
       room = index.room ∙ sym count;
-      paired = c.in_ok-new.ensures ∙ sym count;
+      paired = c.in_ok-new-uses.ensures ∙ sym count;
+      ranked = c.rank_all.ensures;
       skipped = none_below_free items _ i.free;
     }
