@@ -80,16 +80,19 @@ victim_goes items numbers keys at r below all low = elim (bool_cases (is_some he
   }
   | inl held ↦ elim (bool_cases (is_clean here.0.state)) [
     | inl clean ↦ record {
-      chosen = inr (none_free held, inl (least among.Clean (key_clean here.0 (num at) held clean)
-      (λ i t lt is other e. elim (bool_cases (is_clean t.state)) [
-        | inl k ↦
-            let same = same_key (num i) other _ (key_clean t (num i) (all_held held i t lt is) k) e in
-            let x = turn_clean here.0 (num at) held clean in
-            let y = turn_clean t (num i) (all_held held i t lt is) k in
-            let z = before i t lt is in
-            omega (arith, same, x, y, z)
-        | inr k ↦ no_key other _ (key_unclean t (num i) (all_held held i t lt is) k) e
-      ])));
+      chosen = inr (
+        none_free held,
+        inl (least among.Clean (key_clean here.0 (num at) held clean)
+            (λ i t lt is other e. elim (bool_cases (is_clean t.state)) [
+              | inl k ↦
+                  let same = same_key (num i) other _ (key_clean t (num i) (all_held held i t lt is) k) e in
+                  let x = turn_clean here.0 (num at) held clean in
+                  let y = turn_clean t (num i) (all_held held i t lt is) k in
+                  let z = before i t lt is in
+                  omega (arith, same, x, y, z)
+              | inr k ↦ no_key other _ (key_unclean t (num i) (all_held held i t lt is) k) e
+            ])),
+      );
     }
     | inr unclean ↦ record {
       chosen = inr (
@@ -97,11 +100,11 @@ victim_goes items numbers keys at r below all low = elim (bool_cases (is_some he
         inr (
           none among.Clean (λ i t lt is. key_unclean t (num i) (all_held held i t lt is) (all_unclean held unclean i t lt is)),
           least among.All refl (λ i t lt is other e.
-          let same = same_key (num i) other (Some (num i)) refl e in
-          let x = turn_unclean here.0 (num at) held unclean in
-          let y = turn_unclean t (num i) (all_held held i t lt is) (all_unclean held unclean i t lt is) in
-          let z = before i t lt is in
-          omega (arith, same, x, y, z)),
+              let same = same_key (num i) other (Some (num i)) refl e in
+              let x = turn_unclean here.0 (num at) held unclean in
+              let y = turn_unclean t (num i) (all_held held i t lt is) (all_unclean held unclean i t lt is) in
+              let z = before i t lt is in
+              omega (arith, same, x, y, z)),
         ),
       );
     }

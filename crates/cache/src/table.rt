@@ -5,7 +5,7 @@ ghost use Rattle.std.specs.Bool.{OnTrue, OnFalse};
 ghost use Rattle.std.specs.Vec.{vec_capacity};
 ghost use Rattle.cache.specs.Slots.{held, is_dirty_held, is_unclean_slot, lower_of, IsDistinct, NoneDirtyBelow};
 ghost use Rattle.cache.specs.Index.{IsIndexOf};
-ghost use Rattle.cache.specs.Uses.{AllBelow, IsUsedLast};
+ghost use Rattle.cache.specs.Uses.{IsUsedLast};
 ghost use Rattle.cache.specs.Order.{IsRanked, IsRankedBut};
 
 use crate::index::Index;
@@ -52,14 +52,13 @@ fn lowered(from: u32, block: Option<u32>) -> u32
 
 /// Gives each slot the key of its turn.
 #[inline(never)]
-fn rank_all(winners: &mut Winners, items: &[Slot], numbers: &[u64])
+fn rank_all(winners: &mut Winners, items: &[Slot], uses: &Uses)
     requires count { length winners.old.keys.items ≡ length items.now }
-    requires paired { length numbers.now ≡ length items.now }
-    requires bound { AllBelow numbers.now (2 ^ 62) }
-    ensures { IsRanked items.now numbers.now winners.new.keys.items }
+    requires paired { length uses.now.numbers.items ≡ length items.now }
+    ensures { IsRanked items.now uses.now.numbers.items winners.new.keys.items }
 {
     for at in 0..items.len() {
-        let key = items[at].turn(numbers[at]);
+        let key = items[at].turn(uses.number(at));
         winners.set(at, key);
     }
 }
@@ -74,9 +73,9 @@ fn use_now(uses: &mut Uses, winners: &mut Winners, items: &[Slot], at: usize)
     ensures used { IsUsedLast uses.old.numbers.items uses.new.numbers.items at }
 {
     if uses.touch(at) {
-        rank_all(winners, items, &uses.numbers);
+        rank_all(winners, items, uses);
     } else {
-        let key = items[at].turn(uses.numbers[at]);
+        let key = items[at].turn(uses.number(at));
         winners.set(at, key);
     }
 }
@@ -100,7 +99,7 @@ impl Slots {
         }
         let uses = Uses::new(alloc, count)?;
         let mut winners = Winners::new(alloc, count)?;
-        rank_all(&mut winners, &items, &uses.numbers);
+        rank_all(&mut winners, &items, &uses);
         Ok(Slots {
             items,
             uses,
@@ -303,7 +302,7 @@ impl Slots {
         let slot = &mut self.items[at];
         slot.state = state;
         self.search_from = lowered(self.search_from, slot.dirty_block());
-        let key = slot.turn(self.uses.numbers[at]);
+        let key = slot.turn(self.uses.number(at));
         self.winners.set(at, key);
     }
 
@@ -342,7 +341,7 @@ impl Slots {
             return;
         };
         slot.block = None;
-        let key = slot.turn(self.uses.numbers[at]);
+        let key = slot.turn(self.uses.number(at));
         self.index.remove(block);
         self.winners.set(at, key);
     }
@@ -390,7 +389,7 @@ impl Slots {
         // Of a change a clean slot alone becomes dirty.
         self.search_from = lowered(self.search_from, slot.clean_block());
         slot.change(from, bytes);
-        let key = slot.turn(self.uses.numbers[at]);
+        let key = slot.turn(self.uses.number(at));
         self.winners.set(at, key);
     }
 }

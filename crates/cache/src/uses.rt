@@ -1,6 +1,6 @@
 //! The order in which places were used last.
 
-ghost use Rattle.std.specs.Prelude.{◌≡◌, ◌<◌, ◌≤◌, ◌+◌, ◌^◌, IfOk, length};
+ghost use Rattle.std.specs.Prelude.{◌≡◌, ◌<◌, ◌≤◌, ◌+◌, ◌^◌, IfOk, length, slice_index};
 ghost use Rattle.std.specs.Bool.{OnTrue, OnFalse};
 ghost use Rattle.cache.specs.Uses.{AllBelow, IsNewest, IsUsedLast, KeepsOrder, OthersKeep, rank};
 
@@ -51,6 +51,16 @@ impl Uses {
             next: count as u64,
             newest: count.saturating_sub(1),
         })
+    }
+
+    /// The number of a place's last use.
+    #[inline]
+    pub(crate) fn number(&self, at: usize) -> u64
+        requires { at < length self.now.numbers.items }
+        ensures number { slice_index self.now.numbers.items at ≡ result }
+        ensures bound { result < 2 ^ 62 }
+    {
+        self.numbers[at]
     }
 
     /// Whether this place was used after all others.
