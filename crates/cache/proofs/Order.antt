@@ -1,12 +1,12 @@
 -- The order in which places were used last.
-use Rattle.std.proofs.Common.{◌≡◌, ◌≢◌, ℕ, zero, suc, ◌+◌, ◌<◌, ◌≤◌, List, [], ◌∷◌, length, set, get_or, length-set, Bool, true, false, cond, refl, sym, ap, subst, ◌∙◌, arith}
+use Rattle.std.proofs.Common.{◌≡◌, ℕ, zero, suc, ◌+◌, ◌<◌, ◌≤◌, List, [], ◌∷◌, length, set, get_or, length-set, Bool, true, false, cond, refl, sym, ap, subst, ◌∙◌, arith}
 use mathlib.Core.Logic.{inl, inr, ◌⊎◌}
 use Rattle.std.specs.Prelude.{slice_index, nat_lt}
 use Rattle.std.specs.List.{filter}
 use Rattle.std.proofs.lemmas.Bool.{cases_eq, cases_lt, lt-ltb}
 use Rattle.std.proofs.lemmas.Bool.Decides.{nat_tests}
 use Rattle.lemmas.proofs.Numbers.{less_fails}
-use Rattle.cache.specs.Uses.{AllBelow, IsNewest, rank, KeepsOrder, IsUsedLast, OthersKeep}
+use Rattle.cache.specs.Uses.{AllBelow, IsNewest, rank, KeepsOrder}
 
 -- one where this holds
 abbrev one_if : Bool → ℕ
@@ -86,37 +86,6 @@ set_other (y ∷ xs) zero zero x ne = absurd (ne refl)
 set_other (y ∷ xs) zero (suc j) x ne = refl
 set_other (y ∷ xs) (suc i) zero x ne = refl
 set_other (y ∷ xs) (suc i) (suc j) x ne = set_other xs i j x (λ e. ne (ap suc e))
-
--- a place that gets a number above all others was used last
-pub used_last : (old mid : List ℕ) (at next : ℕ) → KeepsOrder old mid → AllBelow mid next → at < length old → IsUsedLast old (set mid at next) at
-used_last old mid at next keeps below lt = record {
-  count = length-set mid at next ∙ keeps.count;
-  last = λ i ini ne.
-      let less = below.each i (omega (arith, ini, keeps.count)) in
-      let there = set_other mid at i next ne in
-      let here = set_same mid at next (omega (arith, lt, keeps.count)) in
-      omega (arith, less, there, here);
-  order = λ i j ini inj ni nj. rw (set_other mid at i next ni, set_other mid at j next nj) (keeps.order i j ini inj);
-}
-
--- nothing is numbered anew
-pub keeps_same : (xs : List ℕ) → KeepsOrder xs xs
-keeps_same xs = record { count = refl; order = λ i j ini inj. refl }
-
--- a number below the next one stays so
-pub below_set : (mid : List ℕ) (at next : ℕ) → AllBelow mid next → AllBelow (set mid at next) (next + 1)
-below_set mid at next below = record {
-  each = λ i ini.
-      elim (cases_eq i at) [
-        | inl e ↦
-            let here = ap (λ k. get_or (set mid at next) k 0) e ∙ set_same mid at next (omega (arith, ini, e, length-set mid at next)) in
-            omega (arith, here)
-        | inr ne ↦
-            let less = below.each i (omega (arith, ini, length-set mid at next)) in
-            let there = set_other mid at i next ne in
-            omega (arith, less, there)
-      ];
-}
 
 -- places that were numbered anew
 pub record Numbered (old new : List ℕ) (n : ℕ) : Type 0 where
@@ -201,40 +170,8 @@ newest_keeps old new at k h = record {
         let none = past_end old at out in
         absurd (let q : ⊥ = omega (arith, less, none) in q)
 
--- a place that gets a number above all others
-pub newest_set : (numbers : List ℕ) (at next : ℕ) → AllBelow numbers next → at < length numbers → IsNewest (set numbers at next) at
-newest_set numbers at next below lt = record {
-  above = λ i ini ne.
-      let less = below.each i (omega (arith, ini, length-set numbers at next)) in
-      let there = set_other numbers at i next ne in
-      let here = set_same numbers at next lt in
-      omega (arith, less, there, here);
-}
-
--- it is used last again
-pub newest_last : (numbers : List ℕ) (at : ℕ) → IsNewest numbers at → IsUsedLast numbers numbers at
-newest_last numbers at h = record { count = refl; last = h.above; order = λ i j ini inj ni nj. refl }
-
--- the others keep their numbers
-pub others_keep : (numbers : List ℕ) (at next : ℕ) → OthersKeep numbers (set numbers at next) at
-others_keep numbers at next = record { each = λ i ne. set_other numbers at i next ne }
-
 -- ---- the beginning
 
 -- each place has its own number
 pub record IsCounted (numbers : List ℕ) (n : ℕ) : Type 0 where
   pub each : (i : ℕ) → i < n → get_or numbers i 0 ≡ i
-
-pub below_begun : (numbers : List ℕ) (count : ℕ) → length numbers ≡ count → IsCounted numbers count → AllBelow numbers count
-below_begun numbers count all c = record { each = λ i ini. let d = c.each i (omega arith) in omega arith }
-
-pub newest_begun : (numbers : List ℕ) (count at : ℕ) → length numbers ≡ count → IsCounted numbers count → (0 < count → at + 1 ≡ count)
-    → IsNewest numbers at
-newest_begun numbers count at all c last = record {
-  above = λ i ini ne.
-      let some : at + 1 ≡ count = last (omega arith) in
-      let d = c.each i (omega arith) in
-      let e = c.each at (omega arith) in
-      let z : i ≢ at = ne in
-      omega arith;
-}

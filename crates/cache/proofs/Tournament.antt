@@ -1,5 +1,5 @@
 -- Tournaments: who wins at the root, and what is played anew after the key of a place was changed.
-use Rattle.std.proofs.Common.{◌≡◌, ◌≢◌, ℕ, zero, suc, ◌+◌, ◌-◌, ◌*◌, ◌/◌, ◌<◌, ◌≤◌, List, [], ◌∷◌, length, set, get_or, length-set, replicate, cond}
+use Rattle.std.proofs.Common.{◌≡◌, ◌≢◌, ℕ, zero, suc, ◌+◌, ◌-◌, ◌*◌, ◌/◌, ◌<◌, ◌≤◌, List, length, set, get_or, length-set, cond}
 use Rattle.std.proofs.Common.{refl, sym, ap, subst, ◌∙◌, arith}
 use mathlib.Core.Logic.{inl, inr, ◌⊎◌}
 use Rattle.std.specs.Prelude.{nat_lt}
@@ -405,66 +405,6 @@ pub record IsMade (nodes : List ℕ) (count node : ℕ) : Type 0 where
   pub count_is : length nodes ≡ count
   pub within : (i : ℕ) → i < count → get_or nodes i 0 < count
   pub each : (i : ℕ) → node ≤ i → 0 < i → i < count → get_or nodes i 0 ≡ winner nodes (2 * i)
-
--- one more
-pub made_more : (nodes : List ℕ) (count node w : ℕ) → IsMade nodes count (node + 1) → 0 < node → node < count → w ≡ winner nodes (2 * node)
-    → IsMade (set nodes node w) count node
-made_more nodes count node w m some lt is = record {
-  count_is = length-set nodes node w ∙ m.count_is;
-  within = λ i ini. elim (cases_eq i node) [
-    | inl e ↦
-        let z = ap (λ (k : ℕ). get_or (set nodes node w) k 0) e ∙ here in
-        let c = m.count_is in
-        let h : (k : ℕ) → k < length nodes → get_or nodes k 0 < length nodes = λ k kn. let y = m.within k (omega arith) in omega (arith, y, c) in
-        let y = win_in nodes (2 * node) h (omega arith) in
-        omega (arith, z, y, is, c)
-    | inr ne ↦ let z = set_other nodes node i w ne in let y = m.within i ini in omega (arith, z, y)
-  ];
-  each = λ i le more ini. elim (cases_eq i node) [
-    | inl e ↦
-        ap (λ (k : ℕ). get_or (set nodes node w) k 0) e ∙ here ∙ is
-        ∙ sym (win_other nodes node w (2 * node) (λ z. absurd (let q : ⊥ = omega arith in q))) ∙ ap (λ (k : ℕ). winner (set nodes node w) (2 * k)) (sym e)
-    | inr ne ↦
-        set_other nodes node i w ne ∙ m.each i (let z : i ≢ node = ne in omega arith) more ini
-        ∙ sym (win_other nodes node w (2 * i) (λ z. absurd (let q : ⊥ = omega arith in q)))
-  ];
-}
-  where
-    here : get_or (set nodes node w) node 0 ≡ w
-    here = set_same nodes node w (let c = m.count_is in omega arith)
-
--- all are made
-pub made_tree : (keys nodes : List ℕ) (count node : ℕ) → IsMade nodes count node → node ≤ 1 → length keys ≡ count
-    → ((i : ℕ) → get_or keys i 0 ≡ 0) → IsTree keys nodes
-made_tree keys nodes count node m le all zeros = record {
-  count = m.count_is ∙ sym all;
-  within = λ i lt. let c = m.count_is in let h = m.within i (omega arith) in omega (arith, h, c);
-  each = λ i some lt.
-      let here = zeros (get_or nodes i 0) in
-      record {
-        one = λ ne. absurd (ne (m.each i (omega arith) some (let c = m.count_is in omega arith)));
-        left = omega (arith, here);
-        right = omega (arith, here);
-      };
-}
-
--- a list of zeros
-abbrev pub zeros : ℕ → List ℕ
-zeros n = replicate n 0
-
-zero_all : (n i : ℕ) → get_or (zeros n) i 0 ≡ 0
-zero_all zero i = refl
-zero_all (suc n) zero = refl
-zero_all (suc n) (suc i) = zero_all n i
-
-pub zero_keys : (keys : List ℕ) (n : ℕ) → keys ≡ zeros n → (i : ℕ) → get_or keys i 0 ≡ 0
-zero_keys keys n e i = ap (λ (l : List ℕ). get_or l i 0) e ∙ zero_all n i
-
--- what stands there, put there again
-pub set_again : (xs : List ℕ) (i x : ℕ) → get_or xs i 0 ≡ x → set xs i x ≡ xs
-set_again [] i x e = refl
-set_again (y ∷ xs) zero x e = ap (λ (z : ℕ). z ∷ xs) (sym e)
-set_again (y ∷ xs) (suc i) x e = ap (λ (l : List ℕ). y ∷ l) (set_again xs i x e)
 
 -- ---- as a loop has it
 

@@ -1,10 +1,9 @@
 -- Which slot goes: the one whose turn is lowest; and the keys of places after one slot is changed.
-use Rattle.std.proofs.Common.{◌≡◌, ◌≢◌, ℕ, ◌+◌, ◌^◌, ◌<◌, ◌≤◌, List, length, set, get_or, length-set, refl, sym, ap, subst, ◌∙◌, arith}
+use Rattle.std.proofs.Common.{◌≡◌, ℕ, ◌+◌, ◌^◌, ◌<◌, ◌≤◌, List, length, set, get_or, length-set, refl, sym, ap, subst, ◌∙◌, arith}
 use Rattle.std.proofs.Common.{Bool, true, false, Option, Some, None}
 use mathlib.Core.Logic.{inl, inr, ◌⊎◌}
 use Rattle.std.specs.Prelude.{slice_get, slice_index, is_some, not, ◌&&◌, if◌then◌else◌}
 use Rattle.std.proofs.lemmas.Bool.{cases_eq, cond-true, cond-false}
-use Rattle.std.proofs.lemmas.Grind.{get_or_default_zero}
 use Rattle.cache.specs.declared.slot.Slot.{Slot}
 use Rattle.cache.specs.Slots.{is_clean, is_unclean_slot}
 use Rattle.cache.specs.Uses.{AllBelow, OthersKeep}
@@ -183,9 +182,6 @@ but_set items numbers keys at t r = record {
   each = λ i s ne is. r.each i s (sym (get_set_other items at i t ne) ∙ is);
 }
 
-pub but_all : (items : List Slot) (numbers keys : List ℕ) (at : ℕ) → IsRanked items numbers keys → IsRankedBut at items numbers keys
-but_all items numbers keys at r = record { count = r.count; each = λ i s ne is. r.each i s is }
-
 -- one slot is used
 pub but_used : (items : List Slot) (old new keys : List ℕ) (at : ℕ) → OthersKeep old new at → IsRankedBut at items old keys
     → IsRankedBut at items new keys
@@ -223,37 +219,7 @@ pub record IsRankedTo (n : ℕ) (items : List Slot) (numbers keys : List ℕ) : 
   pub count : length keys ≡ length items
   pub each : (i : ℕ) (s : Slot) → i < n → slice_get items i ≡ Some s → slice_index keys i ≡ turn s (slice_index numbers i)
 
-pub rank_more : (items : List Slot) (numbers keys new : List ℕ) (at key n : ℕ) (s : Slot) → IsRankedTo at items numbers keys
-    → slice_get items at ≡ Some s → get_or numbers at 0 ≡ n → key ≡ turn s n → new ≡ set keys at key → IsRankedTo (at + 1) items numbers new
-rank_more items numbers keys new at key n s r is number turn_is all = subst (λ (l : List ℕ). IsRankedTo (at + 1) items numbers l) (sym all) (record {
-  count = length-set keys at key ∙ r.count;
-  each = λ i t less it. elim (cases_eq i at) [
-    | inl e ↦
-        let two : Some s ≡ Some t = sym is ∙ ap (slice_get items) (sym e) ∙ it in
-        let one : s ≡ t = cc in
-        let lt : at < length keys = (let c = r.count in let h = in_range items at s is in omega arith) in
-        ap (λ (k : ℕ). get_or (set keys at key) k 0) e ∙ set_same keys at key lt ∙ turn_is ∙ ap (turn s) (sym number)
-        ∙ ap (λ (k : ℕ). turn s (get_or numbers k 0)) (sym e) ∙ ap (λ (y : Slot). turn y (get_or numbers i 0)) one
-    | inr ne ↦ set_other keys at i key ne ∙ r.each i t (let z : i ≢ at = ne in omega arith) it
-  ];
-})
-
-pub rank_done : (items : List Slot) (numbers keys : List ℕ) (n : ℕ) → length items ≤ n → IsRankedTo n items numbers keys
-    → IsRanked items numbers keys
-rank_done items numbers keys n le r = record {
-  count = r.count;
-  each = λ i s is. let lt = in_range items i s is in r.each i s (omega (arith, lt, le)) is;
-}
-
 -- ---- the number of a place
-
--- as it is read
-pub number_at : (numbers : List ℕ) (at n : ℕ) → at < length numbers → n ≡ get_or numbers at n → get_or numbers at 0 ≡ n
-number_at numbers at n lt e = sym (get_or_default_zero numbers at n lt) ∙ sym e
-
--- it is low enough for a turn
-pub number_in : (numbers : List ℕ) (next at n : ℕ) → AllBelow numbers next → next ≤ 2 ^ 62 → at < length numbers → n ≡ get_or numbers at n → n < 2 ^ 62
-number_in numbers next at n below le lt e = let z = number_at numbers at n lt e in let h = below.each at lt in omega (arith, z, h, le)
 
 pub numbers_in : (numbers : List ℕ) (next : ℕ) → AllBelow numbers next → next ≤ 2 ^ 62 → AllBelow numbers (2 ^ 62)
 numbers_in numbers next below le = record { each = λ i lt. let h = below.each i lt in omega (arith, h, le) }

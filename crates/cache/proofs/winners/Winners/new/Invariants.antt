@@ -1,4 +1,4 @@
-use Rattle.std.proofs.Common.{◌-◌, ◌≤◌, ◌+◌}
+use Rattle.std.proofs.Common.{◌-◌, ◌+◌}
 use Rattle.cache.proofs.Tournament.{IsMade}
 use Rattle.cache.proofs.winners.Winners.new.Given as goal
 
