@@ -362,41 +362,33 @@ playing_stopped n at node w before keys nodes p some b same other = record {
         let one = above_one k d (n + at) (p.won k (omega arith) is) there up more in
         ne (ap (winner nodes) (sym one) ∙ is)
 
+    -- nor does it win at the node above
+    no_next : (d i : ℕ) → IsAbove d node → winner nodes d ≢ at → d / 2 ≡ i → 0 < i → IsAbove i (node / 2) → get_or nodes i 0 ≢ at
+    no_next d i a ne up more b is = elim (either before nodes i (get_or nodes i 0) (p.above i more b)) [
+      | inl e ↦ no_child d (2 * i) a ne (left_half i ∙ sym up) (omega arith) (sym e ∙ is)
+      | inr e ↦ no_child d (2 * i + 1) a ne (right_half i ∙ sym up) (omega arith) (sym e ∙ is)
+    ]
+
     -- it wins at none of them
     no_win : (j : ℕ) → 0 < half j node → winner nodes (half j node) ≢ at
     no_win zero more is =
         let lt : node < length nodes = (let c = p.count in let z = p.node_in in omega arith) in
         other (same ∙ sym (win_node nodes node lt) ∙ is)
     no_win (suc j) more is =
-        let up : half j (node / 2) ≡ half j node / 2 = half_last j node in
-        let d : ℕ = half j node in
-        let i : ℕ = half j (node / 2) in
-        let below : 0 < half j node = omega arith in
+        let up = half_last j node in
         let le = half_le j (node / 2) in
         let lt : half j (node / 2) < length nodes = (let c = p.count in let z = p.node_in in omega arith) in
-        let here : get_or nodes (half j (node / 2)) 0 ≡ at = sym (win_node nodes (half j (node / 2)) lt) ∙ is in
-        let a : IsAbove (half j node) node = record { halvings = j; is = refl } in
-        let ne = no_win j below in
-        elim (either before nodes (half j (node / 2)) (get_or nodes (half j (node / 2)) 0) (p.above (half j (node / 2)) more (record { halvings = j; is = refl }))) [
-          | inl e ↦
-              no_child (half j node) (2 * half j (node / 2)) a ne (left_half (half j (node / 2)) ∙ up)
-              (subst (λ (k : ℕ). 0 < k) (sym (left_half (half j (node / 2)))) more) (sym e ∙ here)
-          | inr e ↦
-              no_child (half j node) (2 * half j (node / 2) + 1) a ne (right_half (half j (node / 2)) ∙ up)
-              (subst (λ (k : ℕ). 0 < k) (sym (right_half (half j (node / 2)))) more) (sym e ∙ here)
-        ]
+        no_next (half j node) (half j (node / 2)) (record { halvings = j; is = refl }) (no_win j (omega arith)) (sym up) more
+        (record { halvings = j; is = refl }) (sym (win_node nodes (half j (node / 2)) lt) ∙ is)
 
     rest : (i : ℕ) → 0 < i → i < length nodes → IsAbove i (node / 2) → IsBest keys nodes i (get_or nodes i 0)
     rest i more lt a =
-        let j : ℕ = a.halvings in
         let up : half a.halvings node / 2 ≡ i = sym (half_last a.halvings node) ∙ a.is in
         let d : IsAbove (half a.halvings node) node = record { halvings = a.halvings; is = refl } in
         let ne = no_win a.halvings (omega arith) in
-        same_best before keys nodes at i (get_or nodes i 0) p.others
-        (λ e. no_win (suc a.halvings) (subst (λ (k : ℕ). 0 < k) (sym a.is) more) (ap (winner nodes) a.is ∙ win_node nodes i lt ∙ e))
-        (no_child (half a.halvings node) (2 * i) d ne (left_half i ∙ sym up) (subst (λ (k : ℕ). 0 < k) (sym (left_half i)) more))
-        (no_child (half a.halvings node) (2 * i + 1) d ne (right_half i ∙ sym up) (subst (λ (k : ℕ). 0 < k) (sym (right_half i)) more))
-        (p.above i more a)
+        same_best before keys nodes at i (get_or nodes i 0) p.others (no_next (half a.halvings node) i d ne up more a)
+        (no_child (half a.halvings node) (2 * i) d ne (left_half i ∙ sym up) (omega arith))
+        (no_child (half a.halvings node) (2 * i + 1) d ne (right_half i ∙ sym up) (omega arith)) (p.above i more a)
 
 -- ---- the beginning
 
@@ -449,4 +441,4 @@ children_in at node keys nodes p =
     let h : (k : ℕ) → k < length nodes → get_or nodes k 0 < length nodes = λ k kn. let y = q.within k (omega arith) in omega (arith, y, c) in
     let l = win_in nodes (2 * node) h (omega arith) in
     let r = win_in nodes (2 * node + 1) h (omega arith) in
-    (let z : node < length nodes = omega arith in z, (let z : winner nodes (2 * node) < length keys = omega (arith, l, c, d) in z), (let z : winner nodes (2 * node + 1) < length keys = omega (arith, r, c, d) in z))
+    (omega arith, omega (arith, l, c, d), omega (arith, r, c, d))

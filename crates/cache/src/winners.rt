@@ -47,8 +47,8 @@ fn best(nodes: &[usize], keys: &[u64], node: usize) -> usize
     }
 }
 
-/// Finds anew who wins, from the leaf of a place up, after its key was changed. Where another place goes on winning at a node, those above it
-/// stay.
+/// Finds anew who wins, from the leaf of a place up, after its key was changed: where another place goes on winning at a node, those above
+/// it stay.
 fn play(nodes: &mut [usize], keys: &[u64], at: usize)
     requires at { at < length keys.now }
     requires was { WasTree at keys.now nodes.old }
