@@ -7,9 +7,8 @@ pub mod Staying
 pub mod Filling
 pub mod Issuing
 mod Order
-mod Rings
-mod Links
-mod Sought
+mod Tournament
+mod Turns
 mod Choosing
 mod Making
 mod Indexed

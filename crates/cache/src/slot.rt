@@ -1,9 +1,11 @@
 //! A slot.
 
-ghost use Rattle.std.specs.Prelude.{◌≡◌, ◌≤◌, ◌+◌, ◌-◌, ◌&&◌, ℕ, IfOk, Some, None, slice_index, length, nat_le, nat_lt, if◌then◌else◌};
+ghost use Rattle.std.specs.Prelude.{◌≡◌, ◌<◌, ◌≤◌, ◌+◌, ◌^◌, ◌-◌, ◌&&◌, ℕ, IfOk, Some, None, slice_index, length, nat_le, nat_lt, if◌then◌else◌};
 ghost use Rattle.cache.specs.Slots.{is_number, dirtied, is_under, is_dirty_slot, is_unclean_slot, dirty_block, clean_block};
+ghost use Rattle.cache.specs.Order.{turn};
 
 use crate::state::State;
+use crate::uses::MOST_USES;
 use reissue::Ticket;
 use std::alloc::{AllocError, Global};
 use std::mem;
@@ -107,6 +109,20 @@ impl Slot {
             self.block
         } else {
             None
+        }
+    }
+
+    /// Its turn to go, where this is the number of its last use: the slot whose turn is lowest goes first.
+    pub(crate) fn turn(&self, number: u64) -> u64
+        requires { number < 2 ^ 62 }
+        ensures { result ≡ turn self.now number }
+    {
+        if self.block.is_none() {
+            number
+        } else if self.state.is_clean() {
+            MOST_USES + number
+        } else {
+            2 * MOST_USES + number
         }
     }
 

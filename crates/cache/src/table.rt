@@ -1,16 +1,18 @@
 //! All slots of a cache.
 
 ghost use Rattle.std.specs.Prelude.{◌≡◌, ◌⊎◌, ◌<◌, ◌≤◌, ◌+◌, ◌*◌, ◌^◌, ℕ, true, IfOk, Some, None, slice_get, slice_index, position, length};
-ghost use Rattle.std.specs.Prelude.{if◌then◌else◌};
 ghost use Rattle.std.specs.Bool.{OnTrue, OnFalse};
 ghost use Rattle.std.specs.Vec.{vec_capacity};
 ghost use Rattle.cache.specs.Slots.{held, is_dirty_held, is_unclean_slot, lower_of, IsDistinct, NoneDirtyBelow};
 ghost use Rattle.cache.specs.Index.{IsIndexOf};
+ghost use Rattle.cache.specs.Uses.{IsUsedLast};
+ghost use Rattle.cache.specs.Order.{IsRanked, IsRankedBut};
 
 use crate::index::Index;
 use crate::slot::{Slot, clear, put, zeros};
 use crate::state::State;
 use crate::uses::Uses;
+use crate::winners::Winners;
 use reissue::Ticket;
 use std::alloc::{AllocError, Global};
 use step_count::Steps;
@@ -21,6 +23,8 @@ pub struct Slots {
     items: Vec<Slot>,
     // When each was used last.
     uses: Uses,
+    // Which goes next: the keys are the slots' turns.
+    winners: Winners,
     // Where each block stands.
     index: Index,
     // The block that the search for a dirty slot begins at: none below it has one.
@@ -33,6 +37,7 @@ pub struct Slots {
     pub ghost indexed: { IsIndexOf index.entries.items items.items },
     pub ghost room: { vec_capacity index.entries ≡ length items.items },
     pub ghost paired: { length uses.numbers.items ≡ length items.items },
+    pub ghost ranked: { IsRanked items.items uses.numbers.items winners.keys.items },
     pub ghost skipped: { NoneDirtyBelow items.items search_from },
 }
 
@@ -47,9 +52,38 @@ fn lowered(from: u32, block: Option<u32>) -> u32
     }
 }
 
+/// Gives each slot the key of its turn.
+#[inline(never)]
+fn rank_all(winners: &mut Winners, items: &[Slot], uses: &Uses)
+    requires count { length winners.old.keys.items ≡ length items.now }
+    requires paired { length uses.now.numbers.items ≡ length items.now }
+    ensures { IsRanked items.now uses.now.numbers.items winners.new.keys.items }
+{
+    for at in 0..items.len() {
+        let key = items[at].turn(uses.number(at));
+        winners.set(at, key);
+    }
+}
+
+/// The slot there, which may have been changed, is used now.
+#[inline]
+fn use_now(uses: &mut Uses, winners: &mut Winners, items: &[Slot], at: usize)
+    requires at { at < length items.now }
+    requires paired { length uses.old.numbers.items ≡ length items.now }
+    requires others { IsRankedBut at items.now uses.old.numbers.items winners.old.keys.items }
+    ensures ranked { IsRanked items.now uses.new.numbers.items winners.new.keys.items }
+    ensures used { IsUsedLast uses.old.numbers.items uses.new.numbers.items at }
+{
+    if uses.touch(at) {
+        rank_all(winners, items, uses);
+    } else {
+        let key = items[at].turn(uses.number(at));
+        winners.set(at, key);
+    }
+}
+
 impl Slots {
-    ghost use Rattle.cache.specs.Uses.{IsUsedLast};
-    ghost use Rattle.cache.specs.Order.{key_of, sought, IsFirst, IsVictim};
+    ghost use Rattle.cache.specs.Order.{IsVictim};
     ghost use Rattle.cache.specs.Edits.{IsSetAt, IsFilledAt, IsBlankedAt, IsChangedAt, IsAt, IsPlaceOf, IsWritten, AllStay, AllClean};
     ghost use Rattle.cache.specs.Edits.{SomeUnclean, IsLowestOf, IsLowestBlock, IsRunEnd, AreDirty, AreBegun, AllHeldOn, Leaves, after_write};
     ghost use Rattle.cache.specs.Runs.{IsCopied, AreGathered};
@@ -65,9 +99,13 @@ impl Slots {
         'free: for _ in 0..count {
             items.push(Slot::free(alloc)?)?;
         }
+        let uses = Uses::new(alloc, count)?;
+        let mut winners = Winners::new(alloc, count)?;
+        rank_all(&mut winners, &items, &uses);
         Ok(Slots {
             items,
-            uses: Uses::new(alloc, count)?,
+            uses,
+            winners,
             index: Index::new(alloc, count)?,
             search_from: u32::MAX,
             spare: Box::new(alloc, zeros())?,
@@ -90,46 +128,12 @@ impl Slots {
         self.items.iter().position(|s| s.is_unclean())
     }
 
-    /// Whether the slot there is looked for: a free one where some slot is free, else a clean one.
-    #[inline]
-    fn is_sought(&self, at: usize) -> bool
-        requires { at < length self.now.items.items }
-        ensures { key_of (sought self.now.items.items) self.now.items.items self.now.uses.numbers.items at
-            ≡ (if result then Some (slice_index self.now.uses.numbers.items at) else None) }
-    {
-        let slot = self.get(at);
-        if self.index.len() == self.items.len() {
-            !slot.is_unclean()
-        } else {
-            slot.block.is_none()
-        }
-    }
-
-    /// The one used longest ago of those that are looked for.
-    fn first_sought(&self) -> Option<usize>
-        ensures { IsFirst (key_of (sought self.now.items.items) self.now.items.items self.now.uses.numbers.items)
-            (length self.now.items.items) result }
-    {
-        let mut at = self.uses.oldest();
-        'older: while !self.is_sought(at) {
-            let Some(next) = self.uses.newer(at) else {
-                return None;
-            };
-            at = next;
-        }
-        Some(at)
-    }
-
     /// The slot that goes next: a free one; where none is free, of the clean ones the one used longest ago; where none is clean, of all.
-    #[inline(never)]
     pub fn victim(&self) -> usize
         ensures in_range { result < length self.now.items.items }
         ensures chosen { IsVictim self.now.items.items self.now.uses.numbers.items result }
     {
-        match self.first_sought() {
-            Some(at) => at,
-            None => self.uses.oldest(),
-        }
+        self.winners.first()
     }
 
     /// Whether the bytes of each slot with a block are the disk's.
@@ -277,7 +281,9 @@ impl Slots {
         ensures items { self.new.items.items ≡ self.old.items.items }
         ensures used { IsUsedLast self.old.uses.numbers.items self.new.uses.numbers.items at }
     {
-        self.uses.touch(at);
+        if !self.uses.is_newest(at) {
+            use_now(&mut self.uses, &mut self.winners, &self.items, at);
+        }
     }
 
     /// The slot at this place.
@@ -299,6 +305,8 @@ impl Slots {
         let slot = &mut self.items[at];
         slot.state = state;
         self.search_from = lowered(self.search_from, slot.dirty_block());
+        let key = slot.turn(self.uses.number(at));
+        self.winners.set(at, key);
     }
 
     /// The write with this ticket was answered good.
@@ -339,7 +347,9 @@ impl Slots {
             return;
         };
         slot.block = None;
+        let key = slot.turn(self.uses.number(at));
         self.index.remove(block);
+        self.winners.set(at, key);
     }
 
     /// Makes the bytes of the spare room zero, where they lie.
@@ -363,7 +373,7 @@ impl Slots {
         let slot = &mut self.items[at];
         slot.hold(block, &mut self.spare, state);
         self.search_from = lowered(self.search_from, slot.dirty_block());
-        self.touch(at);
+        use_now(&mut self.uses, &mut self.winners, &self.items, at);
     }
 
     /// Gives a slot zero bytes.
@@ -377,7 +387,7 @@ impl Slots {
         // Of a change a clean slot alone becomes dirty.
         self.search_from = lowered(self.search_from, slot.clean_block());
         slot.clear();
-        self.touch(at);
+        use_now(&mut self.uses, &mut self.winners, &self.items, at);
     }
 
     /// Changes some bytes of a slot.
@@ -393,5 +403,7 @@ impl Slots {
         // Of a change a clean slot alone becomes dirty.
         self.search_from = lowered(self.search_from, slot.clean_block());
         slot.change(from, bytes);
+        let key = slot.turn(self.uses.number(at));
+        self.winners.set(at, key);
     }
 }
