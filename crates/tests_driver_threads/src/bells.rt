@@ -22,10 +22,10 @@ fn rung_at_rest(rt: HostRuntime) -> Result<(), Fail> {
     })
     .ok()
     .ok_or("no thread")?;
-    assert!(!bell.is_rung());
+    assert!(rt; !bell.is_rung());
     bell.ring();
     rests.join(&rt);
-    assert!(bell.is_rung());
+    assert!(rt; bell.is_rung());
     Ok(())
 }
 
