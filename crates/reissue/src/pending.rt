@@ -1,6 +1,6 @@
 //! A pending request.
 
-ghost use Rattle.std.specs.Prelude.{◌≡◌, ◌+◌, ◌<◌, ◌≤◌, ◌^◌, ◌-◌, ◌%◌, ℕ, length, slice_index, true, false};
+ghost use Rattle.std.specs.Prelude.{◌≡◌, ◌+◌, ◌<◌, ◌≤◌, ◌^◌, ◌-◌, ◌%◌, ℕ, length, nat_lt, slice_index, true, false};
 ghost use Rattle.message.specs.Good.{is_write};
 
 use crate::ask::{Ask, Ticket};
@@ -52,6 +52,14 @@ impl Pending {
         ensures { result ≡ meets start size self.now }
     {
         start < self.start + self.size as u64 && self.start < start + size as u64
+    }
+
+    /// Whether something of it is left after an answer that moved so many bytes.
+    #[inline]
+    pub(crate) fn goes_on(&self, moved: u32) -> bool
+        ensures { result ≡ nat_lt moved self.now.request.count }
+    {
+        moved < self.request.count
     }
 
     /// A request that nobody asked for: the room of one that is to come.

@@ -254,8 +254,7 @@ impl Table {
         ensures given_up { self.new.given_up ≡ self.old.given_up }
     {
         self.take_out(at);
-        let left = self.hand.request.count;
-        if n < left {
+        if self.hand.goes_on(n) {
             self.hand.answer(n, &reply.bytes, self.ids + 1);
             self.push();
             return Answer::Rest;

@@ -1,4 +1,6 @@
 use Rattle.std.proofs.Common.{◌≡◌, ◌<◌, ◌≤◌, ℕ, arith, List, refl, sym, ◌∙◌, ap, [], ◌∷◌, ◌++◌, true, false}
+use Rattle.std.proofs.lemmas.Bool.Decides.{nat_tests}
+use Rattle.std.specs.Prelude.{nat_lt}
 use Rattle.message.specs.Good.{is_write}
 use Rattle.records.specs.Marks.{Answered}
 use Rattle.reissue.specs.declared.pending.Pending.{Pending}
@@ -25,10 +27,13 @@ push-requires-clause-ticket c =
 
 -- something of it is left
 part : (c : goal.After-push) → c.args.n < c.deref_mut.result.now.request.count
-part c = omega (arith, c.if-n-left.true, ap (λ (p : Pending). p.request.count) (c.deref.ensures ∙ sym c.deref_mut.ensures.value))
+part c =
+    let less : nat_lt c.args.n c.deref_mut.result.now.request.count ≡ true =
+    ap (λ (p : Pending). nat_lt c.args.n p.request.count) (c.deref_mut.ensures.value ∙ sym c.deref.ensures) ∙ sym c.goes_on.ensures ∙ c.if-goes_on.true in
+    grind (arith, nat_tests)
 
-pub returns-then-n-left-clause-agrees : goal.returns-then-n-left-clause-agrees
-returns-then-n-left-clause-agrees c = λ marks h place m from.
+pub returns-then-goes_on-clause-agrees : goal.returns-then-goes_on-clause-agrees
+returns-then-goes_on-clause-agrees c = λ marks h place m from.
     let o = c.take_out.ensures in
     let w = c.answer.ensures in
     let p = c.push.ensures in
@@ -38,8 +43,8 @@ returns-then-n-left-clause-agrees c = λ marks h place m from.
     c.deref_mut.result.now c.answer.new.self c.args.n
     x m p.items p.ids w.id p.posted p.issued p.current p.given_up w.start w.size w.kind w.position w.before w.moved w.count (λ h k. rw w.begun refl) w.rest
 
-pub returns-then-n-left-clause-hears : goal.returns-then-n-left-clause-hears
-returns-then-n-left-clause-hears c =
+pub returns-then-goes_on-clause-hears : goal.returns-then-goes_on-clause-hears
+returns-then-goes_on-clause-hears c =
     let o = c.take_out.ensures in
     let w = c.answer.ensures in
     let p = c.push.ensures in
@@ -59,16 +64,16 @@ returns-then-n-left-clause-hears c =
     })
     (p.posted ∙ o.posted) (omega (arith, p.issued, o.issued))
 
-pub returns-then-n-left-clause-closes : goal.returns-then-n-left-clause-closes
-returns-then-n-left-clause-closes c =
+pub returns-then-goes_on-clause-closes : goal.returns-then-goes_on-clause-closes
+returns-then-goes_on-clause-closes c =
     let o = c.take_out.ensures in
     let w = c.answer.ensures in
     let lt = issued_within c.args.self.now c.args.at c.requires.at in
     closes_rest c.args.self.now.pending c.take_out.new.self.pending _ c.args.at c.deref_mut.result.now c.answer.new.self c.args.self.now.ids
     lt (rw c.deref_mut.ensures.value o.value) c.args.self.now.numbers o.items c.push.ensures.items w.ticket w.start w.size w.kind (λ h. w.begun)
 
-pub returns-then-n-left-clause-closing : goal.returns-then-n-left-clause-closing
-returns-then-n-left-clause-closing c = λ marks h place m from.
+pub returns-then-goes_on-clause-closing : goal.returns-then-goes_on-clause-closing
+returns-then-goes_on-clause-closing c = λ marks h place m from.
     let o = c.take_out.ensures in
     let lt = issued_within c.args.self.now c.args.at c.requires.at in
     let x = taken c.args.self.now c.take_out.new.self marks c.args.reply.now c.deref_mut.result.now c.args.at c.args.n
@@ -79,8 +84,8 @@ returns-then-n-left-clause-closing c = λ marks h place m from.
     x.there m x.within lt (rw c.deref_mut.ensures.value o.value) o.items c.push.ensures.items (rw x.holds.items x.apart) c.answer.ensures.start c.answer.ensures.size
     c.answer.ensures.position (omega (arith, part c, c.answer.ensures.count)))
 
-pub returns-then-n-left-clause-minors : goal.returns-then-n-left-clause-minors
-returns-then-n-left-clause-minors c = λ minor h.
+pub returns-then-goes_on-clause-minors : goal.returns-then-goes_on-clause-minors
+returns-then-goes_on-clause-minors c = λ minor h.
     let o = c.take_out.ensures in
     let w = c.answer.ensures in
     let lt = issued_within c.args.self.now c.args.at c.requires.at in
@@ -88,9 +93,9 @@ returns-then-n-left-clause-minors c = λ minor h.
     (minors_push minor _ c.answer.new.self (minors_rest minor c.args.self.now.pending c.args.at h)
     (w.minor ∙ minor_there minor c.args.self.now.pending c.args.at c.deref_mut.result.now lt (rw c.deref_mut.ensures.value o.value) h))
 
--- of an entry with so many bytes left, of which as many were moved, nothing is left
-all : (n left count : ℕ) → left ≤ n → n ≤ count → left ≡ count → n ≡ count
-all n left count le most is = omega arith
+-- where no less was moved than was left, nothing is left
+all : (n count : ℕ) → nat_lt n count ≡ false → n ≤ count → n ≡ count
+all n count more most = let le : count ≤ n = grind (arith, nat_tests) in omega (arith, le, most)
 
 pub returns-in-Read-clause-agrees : goal.returns-in-Read-clause-agrees
 returns-in-Read-clause-agrees c = λ marks h place m from.
@@ -103,7 +108,9 @@ pub returns-in-Read-clause-hears : goal.returns-in-Read-clause-hears
 returns-in-Read-clause-hears c =
     let o = c.take_out.ensures in
     answered_whole c.args.self.now _ _ c.args.at c.args.n c.deref-done.result.now c.requires.at (rw c.deref-done.ensures o.value)
-    (c.requires.there c.deref-done.result.now (rw c.deref-done.ensures o.value)) (all _ _ _ c.if-n-left.false (c.requires.within c.deref-done.result.now (rw c.deref-done.ensures o.value)) (ap (λ (p : Pending). p.request.count) (c.deref.ensures ∙ sym c.deref-done.ensures))) o.items o.ids o.posted o.issued
+    (c.requires.there c.deref-done.result.now (rw c.deref-done.ensures o.value)) (all _ _
+    (ap (λ (p : Pending). nat_lt c.args.n p.request.count) (c.deref-done.ensures ∙ sym c.deref.ensures) ∙ sym c.goes_on.ensures ∙ c.if-goes_on.false)
+    (c.requires.within c.deref-done.result.now (rw c.deref-done.ensures o.value))) o.items o.ids o.posted o.issued
 
 pub returns-in-Read-clause-closes : goal.returns-in-Read-clause-closes
 returns-in-Read-clause-closes c =
@@ -125,9 +132,13 @@ returns-in-Read-clause-closing c = λ marks h place m from.
     closing_read _ _ marks (Answered c.args.reply.now ∷ marks) c.deref-done.result.now _ _ d i refl
     (λ image. spares_answered image marks c.args.reply.now c.deref-done.result.now c.args.n c.args.self.now.pending x.there m x.within d i)
     (λ image tr. done_reads c.args.self.now c.take_out.new.self marks image c.args.reply.now c.deref-done.result.now c.args.n _
-    x m tr k (all _ _ _ c.if-n-left.false (c.requires.within c.deref-done.result.now (rw c.deref-done.ensures o.value)) (ap (λ (p : Pending). p.request.count) (c.deref.ensures ∙ sym c.deref-done.ensures))) f.before f.moved)
+    x m tr k (all _ _
+    (ap (λ (p : Pending). nat_lt c.args.n p.request.count) (c.deref-done.ensures ∙ sym c.deref.ensures) ∙ sym c.goes_on.ensures ∙ c.if-goes_on.false)
+    (c.requires.within c.deref-done.result.now (rw c.deref-done.ensures o.value))) f.before f.moved)
     (done_joined c.args.self.now c.take_out.new.self marks c.args.reply.now c.deref-done.result.now c.args.n _
-    x m k (all _ _ _ c.if-n-left.false (c.requires.within c.deref-done.result.now (rw c.deref-done.ensures o.value)) (ap (λ (p : Pending). p.request.count) (c.deref.ensures ∙ sym c.deref-done.ensures))) f.before f.moved)
+    x m k (all _ _
+    (ap (λ (p : Pending). nat_lt c.args.n p.request.count) (c.deref-done.ensures ∙ sym c.deref.ensures) ∙ sym c.goes_on.ensures ∙ c.if-goes_on.false)
+    (c.requires.within c.deref-done.result.now (rw c.deref-done.ensures o.value))) f.before f.moved)
     (reads_out c.args.self.now.pending c.take_out.new.self.pending marks c.args.reply.now c.deref-done.result.now c.args.at c.args.n
     x.there m x.within lt (rw c.deref-done.ensures o.value) o.items (rw x.holds.items x.apart))
 
@@ -145,7 +156,9 @@ pub returns-in-Write-clause-hears : goal.returns-in-Write-clause-hears
 returns-in-Write-clause-hears c =
     let o = c.take_out.ensures in
     answered_whole c.args.self.now _ _ c.args.at c.args.n c.deref-done.result.now c.requires.at (rw c.deref-done.ensures o.value)
-    (c.requires.there c.deref-done.result.now (rw c.deref-done.ensures o.value)) (all _ _ _ c.if-n-left.false (c.requires.within c.deref-done.result.now (rw c.deref-done.ensures o.value)) (ap (λ (p : Pending). p.request.count) (c.deref.ensures ∙ sym c.deref-done.ensures))) o.items o.ids o.posted o.issued
+    (c.requires.there c.deref-done.result.now (rw c.deref-done.ensures o.value)) (all _ _
+    (ap (λ (p : Pending). nat_lt c.args.n p.request.count) (c.deref-done.ensures ∙ sym c.deref.ensures) ∙ sym c.goes_on.ensures ∙ c.if-goes_on.false)
+    (c.requires.within c.deref-done.result.now (rw c.deref-done.ensures o.value))) o.items o.ids o.posted o.issued
 
 pub returns-in-Write-clause-closes : goal.returns-in-Write-clause-closes
 returns-in-Write-clause-closes c =
@@ -165,7 +178,9 @@ returns-in-Write-clause-closing c = λ marks h place m from.
     let d = c.args.self.now.numbers.distinct in
     closing_written _ _ marks (Answered c.args.reply.now ∷ marks) c.deref-done.result.now _ d i refl k
     (λ image. spares_answered image marks c.args.reply.now c.deref-done.result.now c.args.n c.args.self.now.pending x.there m x.within d i)
-    (λ image. done_writes c.args.self.now c.take_out.new.self marks image c.args.reply.now c.deref-done.result.now c.args.n x m k (all _ _ _ c.if-n-left.false (c.requires.within c.deref-done.result.now (rw c.deref-done.ensures o.value)) (ap (λ (p : Pending). p.request.count) (c.deref.ensures ∙ sym c.deref-done.ensures))))
+    (λ image. done_writes c.args.self.now c.take_out.new.self marks image c.args.reply.now c.deref-done.result.now c.args.n x m k (all _ _
+    (ap (λ (p : Pending). nat_lt c.args.n p.request.count) (c.deref-done.ensures ∙ sym c.deref.ensures) ∙ sym c.goes_on.ensures ∙ c.if-goes_on.false)
+    (c.requires.within c.deref-done.result.now (rw c.deref-done.ensures o.value))))
     (rw x.holds.items x.apart)
     (reads_out c.args.self.now.pending c.take_out.new.self.pending marks c.args.reply.now c.deref-done.result.now c.args.at c.args.n
     x.there m x.within lt (rw c.deref-done.ensures o.value) o.items (rw x.holds.items x.apart))
