@@ -225,7 +225,8 @@ impl Slots {
         put(to, from, &slot.bytes[..size]);
     }
 
-    /// Copies the bytes of so many neighbouring blocks from this one on, which have dirty slots, one block after the other.
+    /// Copies the bytes of so many neighbouring blocks from this one on, which have dirty slots, to the front of `into`, one block after the
+    /// other.
     pub fn gather(&self, block: u32, count: u32, size: u32, into: &mut [u8; 4096])
         requires dirty { AreDirty (held self.now.items.items) block count }
         requires bound { block + count ≤ 2 ^ 32 }
