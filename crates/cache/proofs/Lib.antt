@@ -1,5 +1,4 @@
 pub mod Held
-mod Places
 mod Entries
 mod Halves
 pub mod Edits

@@ -1,11 +1,13 @@
 -- Tournaments: who wins at the root, and what is played anew after the key of a place was changed.
-use Rattle.std.proofs.Common.{◌≡◌, ◌≢◌, ℕ, zero, suc, ◌+◌, ◌-◌, ◌*◌, ◌/◌, ◌<◌, ◌≤◌, List, length, set, get_or, length-set, cond}
-use Rattle.std.proofs.Common.{refl, sym, ap, subst, ◌∙◌, arith}
+use Rattle.std.proofs.Common.{◌≡◌, ◌≢◌, ℕ, zero, suc, ◌+◌, ◌-◌, ◌*◌, ◌/◌, ◌^◌, ◌<◌, ◌≤◌, List, [], ◌∷◌, length, set, get_or, length-set, cond}
+use Rattle.std.proofs.Common.{Bool, refl, sym, ap, subst, ◌∙◌, arith}
 use mathlib.Core.Logic.{inl, inr, ◌⊎◌}
-use Rattle.std.specs.Prelude.{nat_lt}
+use Rattle.std.specs.Prelude.{nat_lt, not}
+use Rattle.std.specs.Bool.{OnTrue}
+use Rattle.std.proofs.lemmas.List.Sums.{sum_by-cons, get_or-le-sum_by}
 use Rattle.std.proofs.lemmas.Bool.{cases_eq, cases_lt, cond-true, cond-false, lt-ltb}
 use Rattle.lemmas.proofs.Numbers.{less_fails}
-use Rattle.cache.specs.Winners.{winner, IsBest, IsTree, WasTree, IsLowest}
+use Rattle.cache.specs.Winners.{winner, is_late, late_count, IsBest, IsTree, WasTree, IsLowest, IsNoneLate, IsSomeLate}
 use Rattle.cache.proofs.Order.{set_same, set_other}
 
 -- ---- the way up
@@ -442,3 +444,47 @@ children_in at node keys nodes p =
     let l = win_in nodes (2 * node) h (omega arith) in
     let r = win_in nodes (2 * node + 1) h (omega arith) in
     (omega arith, omega (arith, l, c, d), omega (arith, r, c, d))
+
+-- ---- late keys
+
+-- 1 for a late key, else 0
+abbrev pub one_late : ℕ → ℕ
+one_late key = cond (is_late key) 1 0
+
+one_if_early : (key : ℕ) → key < 2 ^ 63 → one_late key ≡ 0
+one_if_early key lt = cond-false (is_late key) 1 0 (ap not (lt-ltb key (2 ^ 63) lt))
+
+one_if_late : (key : ℕ) → 2 ^ 63 ≤ key → one_late key ≡ 1
+one_if_late key le = cond-true (is_late key) 1 0 (ap not (less_fails key (2 ^ 63) le))
+
+-- where none is counted, none is late
+pub none_late : (keys : List ℕ) → late_count keys ≡ 0 → IsNoneLate keys
+none_late keys none = record {
+  early = λ i lt. elim (cases_lt (get_or keys i 0) (2 ^ 63)) [
+    | inl less ↦ less
+    | inr le ↦
+        let one = one_if_late (get_or keys i 0) le in
+        let counted = get_or-le-sum_by one_late keys i 0 lt in
+        absurd (let q : ⊥ = omega (arith, one, counted, none) in q)
+  ];
+}
+
+-- else one is
+pub some_late : (keys : List ℕ) → 0 < late_count keys → IsSomeLate keys
+some_late [] some = absurd (let q : ⊥ = omega (arith, some) in q)
+some_late (k ∷ ks) some = elim (cases_lt k (2 ^ 63)) [
+  | inr le ↦ record { at = 0; in_range = omega arith; late = le }
+  | inl lt ↦
+      let one = one_if_early k lt in
+      let sum = sum_by-cons one_late k ks in
+      let rest = some_late ks (omega (arith, one, some, sum)) in
+      record { at = suc rest.at; in_range = let h = rest.in_range in omega (arith, h); late = rest.late }
+]
+
+pub on_some_late : (n : ℕ) (keys : List ℕ) → n ≡ late_count keys → OnTrue (nat_lt 0 n) (IsSomeLate keys)
+on_some_late n keys is = elim (cases_lt 0 n) [
+  | inl some ↦
+      let h : 0 < late_count keys = omega (arith, some, is) in
+      subst (λ (b : Bool). OnTrue b (IsSomeLate keys)) (sym (lt-ltb 0 n some)) (some_late keys h)
+  | inr le ↦ subst (λ (b : Bool). OnTrue b (IsSomeLate keys)) (sym (less_fails 0 n le)) tt
+]

@@ -5,12 +5,15 @@ use mathlib.Core.Logic.{inl, inr, ◌⊎◌}
 use Rattle.std.specs.Prelude.{slice_get, slice_index, is_some, not, ◌&&◌, if◌then◌else◌}
 use Rattle.std.proofs.lemmas.Bool.{cases_eq, cond-true, cond-false}
 use Rattle.cache.specs.declared.slot.Slot.{Slot}
-use Rattle.cache.specs.Slots.{is_clean, is_unclean_slot}
+use Rattle.cache.specs.declared.state.State.{State}
+use Rattle.cache.specs.declared.state.State.TheVariants.{Clean, Dirty, Writing, Changed}
+use Rattle.cache.specs.Slots.{held, is_clean, is_unclean_slot, IsDistinct}
+use Rattle.cache.specs.Edits.{AllClean, SomeUnclean}
 use Rattle.cache.specs.Uses.{AllBelow, OthersKeep}
 use Rattle.cache.specs.Order.{Among, slot_key, key_of, IsNone, IsFirstOf, IsVictim, turn, IsRanked, IsRankedBut}
 use Rattle.cache.specs.Order as among
-use Rattle.cache.specs.Winners.{IsLowest}
-use Rattle.cache.proofs.Held.{in_range, get_set_same, get_set_other}
+use Rattle.cache.specs.Winners.{IsLowest, IsNoneLate, IsSomeLate}
+use Rattle.cache.proofs.Held.{place_of, held_at, in_range, get_set_same, get_set_other}
 use Rattle.cache.proofs.Settled.{get_some}
 use Rattle.cache.proofs.Order.{set_same, set_other}
 
@@ -171,6 +174,56 @@ victim_goes items numbers keys at r below all low = elim (bool_cases (is_some he
           let t = get_some items i lt in
           h i t.0 lt t.1 other (sym (ap (λ (o : Option Slot). slot_key a o (num i)) t.1) ∙ e);
     }
+
+-- ---- unclean slots
+
+-- where no key is late each slot with a block is clean
+pub all_clean : (items : List Slot) (numbers keys : List ℕ) → IsRanked items numbers keys → IsNoneLate keys → AllClean (held items)
+all_clean items numbers keys r none b s holds =
+    let p = place_of items b s holds in
+    let lt : p.index < length keys = (let c = r.count in let h = in_range items p.index s p.is in omega arith) in
+    let early = none.early p.index lt in
+    let is = r.each p.index s p.is in
+    let some : is_some s.block ≡ true = ap (λ (o : Option ℕ). is_some o) p.block in
+    elim (bool_cases (is_clean s.state)) [
+      | inl clean ↦ state_clean s.state clean
+      | inr unclean ↦
+          let late = turn_unclean s (get_or numbers p.index 0) some unclean in
+          absurd (let q : ⊥ = omega (arith, early, is, late) in q)
+    ]
+  where
+    state_clean : (x : State) → is_clean x ≡ true → x ≡ Clean
+    state_clean Clean e = refl
+    state_clean Dirty e = cc
+    state_clean (Writing t) e = cc
+    state_clean (Changed t) e = cc
+
+-- where one is, some slot with a block isn't
+pub some_unclean : (items : List Slot) (numbers keys : List ℕ) → IsDistinct items → IsRanked items numbers keys → AllBelow numbers (2 ^ 62)
+    → length numbers ≡ length items → IsSomeLate keys → SomeUnclean (held items)
+some_unclean items numbers keys d r below all l =
+    let at_in : l.at < length items = (let c = r.count in let h = l.in_range in omega arith) in
+    let s = get_some items l.at at_in in
+    let n : ℕ = get_or numbers l.at 0 in
+    let low : get_or numbers l.at 0 < 2 ^ 62 = below.each l.at (omega arith) in
+    let is = r.each l.at s.0 s.1 in
+    let late = l.late in
+    elim (bool_cases (is_some s.0.block)) [
+      | inr free ↦
+          let e = turn_free s.0 (get_or numbers l.at 0) free in
+          absurd (let q : ⊥ = omega (arith, low, is, late, e) in q)
+      | inl some ↦ elim (bool_cases (is_clean s.0.state)) [
+        | inl clean ↦
+            let e = turn_clean s.0 (get_or numbers l.at 0) some clean in
+            absurd (let q : ⊥ = omega (arith, low, is, late, e) in q)
+        | inr unclean ↦ found s.0 s.0.block refl some s.1 unclean
+      ]
+    ]
+  where
+    found : (s : Slot) (o : Option ℕ) → s.block ≡ o → is_some o ≡ true → slice_get items l.at ≡ Some s → is_clean s.state ≡ false
+        → SomeUnclean (held items)
+    found s None e some is unclean = cc
+    found s (Some b) e some is unclean = record { block = b; slot = s; is = held_at items l.at b s d is e; unclean = unclean }
 
 -- ---- the keys
 

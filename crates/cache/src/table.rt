@@ -1,9 +1,9 @@
 //! All slots of a cache.
 
-ghost use Rattle.std.specs.Prelude.{◌≡◌, ◌⊎◌, ◌<◌, ◌≤◌, ◌+◌, ◌*◌, ◌^◌, ℕ, true, IfOk, Some, None, slice_get, slice_index, position, length};
+ghost use Rattle.std.specs.Prelude.{◌≡◌, ◌⊎◌, ◌<◌, ◌≤◌, ◌+◌, ◌*◌, ◌^◌, ℕ, true, IfOk, Some, None, slice_get, length};
 ghost use Rattle.std.specs.Bool.{OnTrue, OnFalse};
 ghost use Rattle.std.specs.Vec.{vec_capacity};
-ghost use Rattle.cache.specs.Slots.{held, is_dirty_held, is_unclean_slot, lower_of, IsDistinct, NoneDirtyBelow};
+ghost use Rattle.cache.specs.Slots.{held, is_dirty_held, lower_of, IsDistinct, NoneDirtyBelow};
 ghost use Rattle.cache.specs.Index.{IsIndexOf};
 ghost use Rattle.cache.specs.Uses.{IsUsedLast};
 ghost use Rattle.cache.specs.Order.{IsRanked, IsRankedBut};
@@ -121,13 +121,6 @@ impl Slots {
         self.index.find(block, steps)
     }
 
-    /// The first slot whose bytes may not be the disk's.
-    fn find_unclean(&self) -> Option<usize>
-        ensures { result ≡ position is_unclean_slot self.now.items.items }
-    {
-        self.items.iter().position(|s| s.is_unclean())
-    }
-
     /// The slot that goes next: a free one; where none is free, of the clean ones the one used longest ago; where none is clean, of all.
     pub fn victim(&self) -> usize
         ensures in_range { result < length self.now.items.items }
@@ -141,10 +134,7 @@ impl Slots {
         ensures clean { OnTrue result (AllClean (held self.now.items.items)) }
         ensures unclean { OnFalse result (SomeUnclean (held self.now.items.items)) }
     {
-        match self.find_unclean() {
-            Some(_) => false,
-            None => true,
-        }
+        !self.winners.any_late()
     }
 
     /// The dirty slot with the lowest block.

@@ -1,9 +1,13 @@
 //! Which of many places has the lowest key.
 
-ghost use Rattle.std.specs.Prelude.{◌≡◌, ◌+◌, ◌*◌, ◌<◌, ◌≤◌, IfOk, length, slice_set};
-ghost use Rattle.cache.specs.Winners.{winner, IsBest, IsTree, WasTree, IsLowest};
+ghost use Rattle.std.specs.Prelude.{◌≡◌, ◌+◌, ◌*◌, ◌<◌, ◌≤◌, IfOk, length, slice_set, if◌then◌else◌};
+ghost use Rattle.std.specs.Bool.{OnTrue, OnFalse};
+ghost use Rattle.cache.specs.Winners.{winner, is_late, late_count, IsBest, IsTree, WasTree, IsLowest, IsNoneLate, IsSomeLate};
 
 use std::alloc::{AllocError, Global};
+
+/// 2 to the power of 63: keys from here on are late.
+const LATE: u64 = 0x8000_0000_0000_0000;
 
 /// Places that each have a key, and what comes of a tournament of them, where the lower key wins. With n places each node, from 1 on and
 /// below n, has two children, of twice its number and one more: a number from n on is the leaf of the place that is so many past n. Their
@@ -14,7 +18,18 @@ pub(crate) struct Winners {
     pub keys: Vec<u64>,
     // The place that wins at each node; the first of these numbers has no meaning.
     nodes: Vec<usize>,
+    // How many keys are late.
+    late: usize,
     ghost tree: { IsTree keys.items nodes.items },
+    ghost counted: { late ≡ late_count keys.items },
+}
+
+/// 1 for a late key, else 0.
+#[inline]
+fn late(key: u64) -> usize
+    ensures { result ≡ (if is_late key then 1 else 0) }
+{
+    if key < LATE { 0 } else { 1 }
 }
 
 /// The place that wins at a node or a leaf.
@@ -76,7 +91,11 @@ impl Winners {
             let node = count - past;
             nodes[node] = winner(&nodes, 2 * node);
         }
-        Ok(Winners { keys, nodes })
+        Ok(Winners {
+            keys,
+            nodes,
+            late: 0,
+        })
     }
 
     /// The place with the lowest key.
@@ -88,15 +107,26 @@ impl Winners {
         winner(&self.nodes, 1)
     }
 
+    /// Whether a key is late.
+    #[inline]
+    pub(crate) fn any_late(&self) -> bool
+        ensures some { OnTrue result (IsSomeLate self.now.keys.items) }
+        ensures none { OnFalse result (IsNoneLate self.now.keys.items) }
+    {
+        0 < self.late
+    }
+
     /// Gives a place this key.
     #[inline]
     pub(crate) fn set(&mut self, at: usize, key: u64)
         requires { at < length self.old.keys.items }
         ensures { self.new.keys.items ≡ slice_set self.old.keys.items at key }
     {
-        if self.keys[at] == key {
+        let old = self.keys[at];
+        if old == key {
             return;
         }
+        self.late = self.late - late(old) + late(key);
         self.keys[at] = key;
         play(&mut self.nodes, &self.keys, at);
     }

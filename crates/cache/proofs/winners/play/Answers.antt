@@ -13,12 +13,12 @@ best-place-requires-clause-right c = (children_in c.args.at c.up.node c.args.key
 
 pub returns-then-place-at : goal.returns-then-place-at
 returns-then-place-at c =
-    play_stopped c.args.at c.up.node c.best-place.result c.args.keys.now c.up.nodes c.up.invariant c.up-test.true c.best-place.ensures
+    play_stopped c.args.at c.up.node c.best-place.result c.args.keys.now c.up.nodes c.up.invariant (omega (arith, c.up-test.true)) c.best-place.ensures
     c.if-place-nodes.true c.if-place-at.true
 
 pub up-preserved : goal.up-preserved
 up-preserved c =
-    play_up c.args.at c.up.node c.best-place.result _ c.args.keys.now c.up.nodes c.up.invariant c.up-test.true c.best-place.ensures refl
+    play_up c.args.at c.up.node c.best-place.result _ c.args.keys.now c.up.nodes c.up.invariant (omega (arith, c.up-test.true)) c.best-place.ensures refl
 
 pub returns : goal.returns
 returns c = play_done c.args.at c.up.node c.args.keys.now c.up.nodes c.up.invariant (omega (arith, c.up-test.false))

@@ -1,4 +1,3 @@
-use Rattle.std.proofs.Common.{arith}
 use Rattle.cache.proofs.Turns.{victim_goes, numbers_in}
 use Rattle.cache.proofs.table.Slots.victim.Goals as goal
 
