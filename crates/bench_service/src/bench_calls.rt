@@ -124,7 +124,7 @@ pub fn run<R: Threads + Wait + Copy + Send + Sync + 'static>(
     };
     let supply = drivers_for(alloc, 0, false, table_in(&image))?;
     let setup = setup_for(0);
-    let gate = Arc::new(alloc, Paced::new(*rt))?;
+    let gate = Arc::new(alloc, Paced::new(waits))?;
     let prepared = match prepare(image, &setup, &supply) {
         Ok(prepared) => prepared,
         Err(refusal) => return eprintln!(*rt; "{refusal}"),

@@ -87,10 +87,13 @@ pub(crate) fn count_clear(bytes: &[u8], from: u32, end: u32, steps: &mut Steps) 
     ensures cost { steps.new ≤ steps.old + words_for end }
 {
     let mut clear = 0;
+    // A count of its own, so that it stands in a register.
+    let mut words = Steps::new();
     for place in from / 64..end.div_ceil(64) {
         let first = 64 * place;
-        let word = word_at(bytes, place, steps);
+        let word = word_at(bytes, place, &mut words);
         clear += count_in_word(word, from.saturating_sub(first), (end - first).min(64));
     }
+    steps.add(&words);
     clear
 }

@@ -1,7 +1,7 @@
--- Which dirty slot has the lowest block, and whether a slot is unclean.
+-- Which dirty slot has the lowest block.
 use Rattle.std.proofs.Common.{◌≡◌, ℕ, ◌+◌, ◌<◌, ◌≤◌, List, length, set, refl, sym, ap, ◌∙◌, arith, true, false, cond, Option, Some, None}
 use mathlib.Core.Logic.{inl, inr}
-use Rattle.std.specs.Prelude.{slice_get, ◌&&◌, is_some, not, position, min}
+use Rattle.std.specs.Prelude.{slice_get, min}
 use Rattle.std.specs.Option.{unwrap_or}
 use Rattle.std.proofs.lemmas.Bool.{cases_eq, cases_lt}
 use Rattle.std.proofs.lemmas.Option.{slice_get_within}
@@ -9,13 +9,12 @@ use Rattle.cache.specs.declared.slot.Slot.{Slot}
 use Rattle.cache.specs.declared.index.Entry.{Entry}
 use Rattle.cache.specs.declared.state.State.{State}
 use Rattle.cache.specs.declared.state.State.TheVariants.{Clean, Dirty, Writing, Changed}
-use Rattle.cache.specs.Slots.{held, is_clean, is_dirty, is_unclean_slot, dirtied, IsDistinct}
+use Rattle.cache.specs.Slots.{held, is_clean, is_dirty, dirtied, IsDistinct}
 use Rattle.cache.specs.Slots.{dirty_block, clean_block, lower_of, NoneDirtyBelow}
 use Rattle.cache.specs.Index.{place_there, IsRising, IsIndexOf, IsStartOf}
-use Rattle.cache.specs.Edits.{IsLowestDirty, IsLowestBlock, NoneDirty, AllClean, SomeUnclean}
+use Rattle.cache.specs.Edits.{IsLowestDirty, IsLowestBlock, NoneDirty}
 use Rattle.cache.proofs.Edits.{one_slot}
 use Rattle.cache.proofs.Held.{place_of, held_at, in_range, get_set_same, get_set_other}
-use Rattle.cache.proofs.Places.{none_at, some_at}
 use Rattle.cache.proofs.Entries.{entry_of, entry_there}
 use Rattle.cache.proofs.Indexed.{at_of, slot_by}
 use Rattle.cache.proofs.Making.{AllFree}
@@ -217,31 +216,3 @@ none_found entries items n x all h b s holds = by s.state refl
         absurd (h.each f.0 b f.1 s (omega (arith, lt, all)) f.2 (ap (slice_get items) f.4 ∙ p.is) (has_dirty_block s b e p.block))
     by (Writing t) e = ap is_dirty e
     by (Changed t) e = ap is_dirty e
-
--- ---- the unclean slots
-
--- where none is found each is clean
-pub all_clean : (items : List Slot) → position is_unclean_slot items ≡ None → AllClean (held items)
-all_clean items h b s is =
-    let p = place_of items b s is in
-    by s.block s.state p.block refl (none_at is_unclean_slot items h p.index s p.is)
-  where
-    by : (o : Option ℕ) (x : State) → o ≡ Some b → s.state ≡ x → (is_some o && not (is_clean x)) ≡ false → s.state ≡ Clean
-    by None x e st k = cc
-    by (Some c) Clean e st k = st
-    by (Some c) Dirty e st k = cc
-    by (Some c) (Writing t) e st k = cc
-    by (Some c) (Changed t) e st k = cc
-
--- the one that is found isn't
-pub some_unclean : (items : List Slot) (at : ℕ) → IsDistinct items → position is_unclean_slot items ≡ Some at → SomeUnclean (held items)
-some_unclean items at d h =
-    let x = some_at is_unclean_slot items at h in
-    by x.slot x.slot.block x.slot.state refl refl x.is x.passes
-  where
-    by : (s : Slot) (o : Option ℕ) (x : State) → s.block ≡ o → s.state ≡ x → slice_get items at ≡ Some s → (is_some o && not (is_clean x)) ≡ true → SomeUnclean (held items)
-    by s None x e st is k = cc
-    by s (Some b) Clean e st is k = cc
-    by s (Some b) Dirty e st is k = record { block = b; slot = s; is = held_at items at b s d is e; unclean = rw st refl }
-    by s (Some b) (Writing t) e st is k = record { block = b; slot = s; is = held_at items at b s d is e; unclean = rw st refl }
-    by s (Some b) (Changed t) e st is k = record { block = b; slot = s; is = held_at items at b s d is e; unclean = rw st refl }

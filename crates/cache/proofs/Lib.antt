@@ -1,5 +1,4 @@
 pub mod Held
-mod Places
 mod Entries
 mod Halves
 pub mod Edits
@@ -7,9 +6,8 @@ pub mod Staying
 pub mod Filling
 pub mod Issuing
 mod Order
-mod Rings
-mod Links
-mod Sought
+mod Tournament
+mod Turns
 mod Choosing
 mod Making
 mod Indexed

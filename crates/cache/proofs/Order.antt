@@ -1,12 +1,12 @@
 -- The order in which places were used last.
 use Rattle.std.proofs.Common.{◌≡◌, ℕ, zero, suc, ◌+◌, ◌<◌, ◌≤◌, List, [], ◌∷◌, length, set, get_or, length-set, Bool, true, false, cond, refl, sym, ap, subst, ◌∙◌, arith}
-use mathlib.Core.Logic.{inl, inr}
+use mathlib.Core.Logic.{inl, inr, ◌⊎◌}
 use Rattle.std.specs.Prelude.{slice_index, nat_lt}
 use Rattle.std.specs.List.{filter}
 use Rattle.std.proofs.lemmas.Bool.{cases_eq, cases_lt, lt-ltb}
 use Rattle.std.proofs.lemmas.Bool.Decides.{nat_tests}
 use Rattle.lemmas.proofs.Numbers.{less_fails}
-use Rattle.cache.specs.Uses.{AllBelow, rank, KeepsOrder, IsUsedLast}
+use Rattle.cache.specs.Uses.{AllBelow, IsNewest, rank, KeepsOrder}
 
 -- one where this holds
 abbrev one_if : Bool → ℕ
@@ -87,37 +87,6 @@ set_other (y ∷ xs) zero (suc j) x ne = refl
 set_other (y ∷ xs) (suc i) zero x ne = refl
 set_other (y ∷ xs) (suc i) (suc j) x ne = set_other xs i j x (λ e. ne (ap suc e))
 
--- a place that gets a number above all others was used last
-pub used_last : (old mid : List ℕ) (at next : ℕ) → KeepsOrder old mid → AllBelow mid next → at < length old → IsUsedLast old (set mid at next) at
-used_last old mid at next keeps below lt = record {
-  count = length-set mid at next ∙ keeps.count;
-  last = λ i ini ne.
-      let less = below.each i (omega (arith, ini, keeps.count)) in
-      let there = set_other mid at i next ne in
-      let here = set_same mid at next (omega (arith, lt, keeps.count)) in
-      omega (arith, less, there, here);
-  order = λ i j ini inj ni nj. rw (set_other mid at i next ni, set_other mid at j next nj) (keeps.order i j ini inj);
-}
-
--- nothing is numbered anew
-pub keeps_same : (xs : List ℕ) → KeepsOrder xs xs
-keeps_same xs = record { count = refl; order = λ i j ini inj. refl }
-
--- a number below the next one stays so
-pub below_set : (mid : List ℕ) (at next : ℕ) → AllBelow mid next → AllBelow (set mid at next) (next + 1)
-below_set mid at next below = record {
-  each = λ i ini.
-      elim (cases_eq i at) [
-        | inl e ↦
-            let here = ap (λ k. get_or (set mid at next) k 0) e ∙ set_same mid at next (omega (arith, ini, e, length-set mid at next)) in
-            omega (arith, here)
-        | inr ne ↦
-            let less = below.each i (omega (arith, ini, length-set mid at next)) in
-            let there = set_other mid at i next ne in
-            omega (arith, less, there)
-      ];
-}
-
 -- places that were numbered anew
 pub record Numbered (old new : List ℕ) (n : ℕ) : Type 0 where
   pub count : length new ≡ length old
@@ -171,3 +140,38 @@ numbered_below old new h = record {
         let more = rank_lt (get_or xs i 0) (get_or xs i 0 + 1) xs i (omega arith) lt refl in
         let most = rank_most (get_or xs i 0 + 1) xs in
         omega (arith, more, most)
+
+-- ---- the place that was used last
+
+-- what stands past the end
+past_end : (xs : List ℕ) (i : ℕ) → length xs ≤ i → get_or xs i 0 ≡ 0
+past_end [] i le = refl
+past_end (x ∷ xs) zero le = absurd (let q : ⊥ = omega (arith, le) in q)
+past_end (x ∷ xs) (suc i) le = past_end xs i (omega (arith, le))
+
+-- of places that were numbered anew
+pub newest_keeps : (old new : List ℕ) (at : ℕ) → KeepsOrder old new → IsNewest old at → IsNewest new at
+newest_keeps old new at k h = record {
+  above = λ i ini ne. by i (let c = k.count in omega arith) ne (cases_lt at (length old));
+}
+  where
+    by : (i : ℕ) → i < length old → (i ≡ at → ⊥) → (at < length old) ⊎ (length old ≤ at) → get_or new i 0 < get_or new at 0
+    by i ini ne (inl lt) = elim (cases_lt (get_or new i 0) (get_or new at 0)) [
+      | inl less ↦ less
+      | inr ge ↦
+          let no = less_fails (get_or new i 0) (get_or new at 0) ge in
+          let yes = lt-ltb (get_or old i 0) (get_or old at 0) (h.above i ini ne) in
+          let same = k.order i at ini lt in
+          absurd (let q : ⊥ = cc in q)
+    ]
+    by i ini ne (inr out) =
+        -- a place out of range has the number 0
+        let less = h.above i ini ne in
+        let none = past_end old at out in
+        absurd (let q : ⊥ = omega (arith, less, none) in q)
+
+-- ---- the beginning
+
+-- each place has its own number
+pub record IsCounted (numbers : List ℕ) (n : ℕ) : Type 0 where
+  pub each : (i : ℕ) → i < n → get_or numbers i 0 ≡ i

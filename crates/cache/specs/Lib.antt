@@ -5,7 +5,7 @@ pub mod Slots
 pub mod Index
 pub mod Edits
 pub mod Uses
-pub mod Ring
+pub mod Winners
 pub mod Order
 pub mod Refusals
 pub mod Settling

@@ -1,9 +1,8 @@
 -- Which slot goes first, in the order of their last use.
-use Rattle.std.specs.Prelude.{◌≡◌, ◌⊎◌, ℕ, ◌<◌, ◌≤◌, List, length, slice_get, slice_index, Option, Some, None, is_some}
-use Rattle.std.specs.Prelude.{◌==◌, if◌then◌else◌}
+use Rattle.std.specs.Prelude.{◌≡◌, ◌⊎◌, ℕ, ◌+◌, ◌^◌, ◌<◌, ◌≤◌, List, length, slice_get, slice_index, Option, Some, None, is_some}
+use Rattle.std.specs.Prelude.{if◌then◌else◌}
 use Rattle.cache.specs.declared.slot.Slot.{Slot}
-use Rattle.cache.specs.Slots.{is_unclean_slot}
-use Rattle.cache.specs.Index.{held_count}
+use Rattle.cache.specs.Slots.{is_clean, is_unclean_slot}
 
 -- which slots are looked among, the one used longest ago first: the free ones, those that aren't unclean, all
 pub data Among : Type 0 where
@@ -21,10 +20,6 @@ slot_key All (Some s) used = Some used
 -- the same of the slot at a place
 abbrev pub key_of : Among → List Slot → List ℕ → ℕ → Option ℕ
 key_of a items numbers at = slot_key a (slice_get items at) (slice_index numbers at)
-
--- the free slots where there are some, else the clean ones
-abbrev pub sought : List Slot → Among
-sought items = if held_count items == length items then Clean else Free
 
 -- it is among them, and no number of those below n is lower
 pub record IsLeast (keys : ℕ → Option ℕ) (n at : ℕ) : Type 0 where
@@ -51,3 +46,17 @@ pub record IsVictim (items : List Slot) (numbers : List ℕ) (at : ℕ) : Type 0
   pub chosen : IsFirstOf Free items numbers at
       ⊎ (IsNone Free items numbers × (IsFirstOf Clean items numbers at
       ⊎ (IsNone Clean items numbers × IsFirstOf All items numbers at)))
+
+-- a slot's turn by the number of its last use, which is below 2 ^ 62: a lower one goes first
+abbrev pub turn : Slot → ℕ → ℕ
+turn s used = if is_some s.block then (if is_clean s.state then 2 ^ 62 + used else 2 ^ 63 + used) else used
+
+-- each key but the one at this place is the turn of its slot
+pub record IsRankedBut (at : ℕ) (items : List Slot) (numbers keys : List ℕ) : Type 0 where
+  pub count : length keys ≡ length items
+  pub each : (i : ℕ) (s : Slot) → (i ≡ at → ⊥) → slice_get items i ≡ Some s → slice_index keys i ≡ turn s (slice_index numbers i)
+
+-- each key is the turn of its slot
+pub record IsRanked (items : List Slot) (numbers keys : List ℕ) : Type 0 where
+  pub count : length keys ≡ length items
+  pub each : (i : ℕ) (s : Slot) → slice_get items i ≡ Some s → slice_index keys i ≡ turn s (slice_index numbers i)

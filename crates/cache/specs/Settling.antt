@@ -22,7 +22,7 @@ pub data Taking : Type 0 where
   Nothing : Taking
   Read : ℕ → List ℕ → Taking
 
--- what the code answers, and the bytes that it leaves where the caller had room
+-- what the code answers, and the bytes that it leaves in the room for them
 abbrev pub taking : Took → List ℕ → Taking
 taking took.Nothing bytes = Nothing
 taking (took.Read t) bytes = Read t bytes

@@ -56,7 +56,7 @@ pub record IsReadAt (pending : ℕ → Option Begun) (ticket start size : ℕ) :
 abbrev pub IsBlockRead : (ℕ → Option Begun) → ℕ → ℕ → ℕ → Type 0
 IsBlockRead pending ticket block size = IsReadAt pending ticket (block * size) size
 
--- what was read stands where the caller had room, unless it was cut
+-- what was read stands in the room for it, unless it was cut
 abbrev pub read_into : Result (Unit {0}) Cut → List ℕ → Result (List ℕ) Cut
 read_into (Ok done) bytes = Ok bytes
 read_into (Err cut) bytes = Err cut

@@ -20,6 +20,12 @@ use reissue::{Link, Ticket, Transfers};
 use std::alloc::Global;
 use step_count::Steps;
 
+/// How many requests to write are begun at most where a slot that goes has to be written: half of those that may be pending (own).
+const AHEAD: usize = 8;
+
+/// How many blocks a request takes at most, whatever their size.
+const MOST_BLOCKS: u32 = 4;
+
 /// A read of a block that isn't settled.
 #[derive(Clone, Copy)]
 struct Reading {
@@ -31,7 +37,7 @@ struct Reading {
 ///
 /// A frame reads as its last change, or as the disk where it wasn't changed. A block without a frame is read when it is
 /// fetched. Where no slot is free, the frame used longest ago of those that are the disk's goes; where none is, the one
-/// used longest ago is written and awaited, and then goes. No memory is taken after making. What goes on in the link goes on through each
+/// used longest ago is written and awaited, and then goes, and writes of others are begun. No memory is taken after making. What goes on in the link goes on through each
 /// call, and the number of frames stays.
 #[derive(Drop)]
 pub struct Cache<L> {
@@ -47,7 +53,7 @@ pub struct Cache<L> {
 impl<L: Link> Cache<L> {
     ghost use Rattle.cache.specs.Slots.{held, is_dirty_slot, is_unclean_slot};
     ghost use Rattle.cache.specs.Edits.{AllClean, SomeUnclean, IsIssued, IssuesLowest, IsWritten, IsSlotAt, IsFreeAt, IsAt, Leaves};
-    ghost use Rattle.cache.specs.Edits.{AllStay, StayBut, IsChangedAt, AreDirty};
+    ghost use Rattle.cache.specs.Edits.{AllStay, StayBut, AllHeldOn, IsChangedAt, AreDirty};
     ghost use Rattle.cache.specs.Frames.{frames_of, view, with_bytes};
     ghost use Rattle.cache.specs.Calls.{caching, held_by, frame_count, IsReady, IsIdle, IsLive, IsWhyCut, IsFrame, IsFrameOf, IsMade, IsStuck};
     ghost use Rattle.cache.specs.Calls.{IsRefusing, PostsAlone, messages_left, Does, Keeps, HandsOver, Blanks, Rewrites, LinkGoesOn};
@@ -144,14 +150,15 @@ impl<L: Link> Cache<L> {
         Ok(())
     }
 
-    /// Takes a message and does what it asks for; a settled read is handed out, and its bytes stand in `into` then.
-    pub fn take(&mut self, into: &mut [u8; 4096]) -> Result<Took, Cut>
+    /// Takes a message and does what it asks for; a settled read is handed out, and its bytes stand in the spare room of the slots then.
+    pub fn take(&mut self) -> Result<Took, Cut>
         requires ready { IsReady (caching L.Link self.old) }
         requires busy { IsLive (caching L.Link self.old) → IsBusy (begun_in self.old.transfers) }
-        ensures runs { Does L.Link self.old self.new (Takes (taking_in result into.new)) }
+        ensures runs { Does L.Link self.old self.new (Takes (taking_in result self.new.slots.spare.value)) }
         ensures goes { LinkGoesOn L.Link self.old self.new }
         ensures left { OnOk result (messages_left (caching L.Link self.new) < messages_left (caching L.Link self.old)) }
-        ensures reads { ReadsStay (taking_in result into.new) (begun_in self.old.transfers) (begun_in self.new.transfers) }
+        ensures reads { ReadsStay (taking_in result self.new.slots.spare.value)
+            (begun_in self.old.transfers) (begun_in self.new.transfers) }
         ensures leaves { Leaves self.old.slots.items.items self.new.slots.items.items }
         ensures stay { AllStay self.old.slots self.new.slots }
         ensures cut { IfErr result (λ cut. IsWhyCut (caching L.Link self.new) cut) }
@@ -159,7 +166,7 @@ impl<L: Link> Cache<L> {
         ensures flush { WantsFlush L.Link self.old self.new }
     {
         self.live()?;
-        let settled = self.transfers.step(into);
+        let settled = self.transfers.step(&mut self.slots.spare);
         self.ended = is_end(&settled);
         Ok(settle(&mut self.slots, &mut self.flush, settled))
     }
@@ -220,8 +227,11 @@ impl<L: Link> Cache<L> {
         ensures refused { OnFalse result (self.new ≡ self.old) }
         ensures refusing { OnFalse result (IsRefusing (caching L.Link self.old)) }
         ensures reads { NoReadBegun (begun_in self.old.transfers) (begun_in self.new.transfers) }
+        ensures held_on { AllHeldOn self.old.slots self.new.slots }
     {
-        let bytes = self.slots.gather(block, count, self.shape.block_size);
+        let mut bytes = zeros();
+        self.slots
+            .gather(block, count, self.shape.block_size, &mut bytes);
         let ask = self.shape.write_run(block, count, &bytes);
         match self.transfers.begin_run(&ask) {
             Ok(ticket) => {
@@ -262,14 +272,13 @@ impl<L: Link> Cache<L> {
         ensures cut { IfErr result (λ cut. IsWhyCut (caching L.Link self.new) cut) }
         ensures flush { WantsFlush L.Link self.old self.new }
     {
-        let mut bytes = zeros();
         'tries: loop {
             if !self.slots.get(at).is_unclean() {
                 return Ok(());
             }
             self.live()?;
             self.write_out(at);
-            self.take(&mut bytes)?;
+            self.take()?;
         }
     }
 
@@ -292,6 +301,29 @@ impl<L: Link> Cache<L> {
         self.wait_for(at)
     }
 
+    /// Begins writes of dirty frames, the lowest block first, in runs, where the slot that goes has to be written: so others are clean when
+    /// the next ones have to go. It waits for none.
+    fn write_ahead(&mut self, at: usize)
+        requires ready { IsReady (caching L.Link self.old) }
+        requires at { at < length self.old.slots.items.items }
+        ensures keeps { Keeps (caching L.Link self.old) (caching L.Link self.new) }
+        ensures goes { LinkGoesOn L.Link self.old self.new }
+        ensures count { frame_count self.new ≡ frame_count self.old }
+        ensures leaves { Leaves self.old.slots.items.items self.new.slots.items.items }
+        ensures held_on { AllHeldOn self.old.slots self.new.slots }
+        ensures flush { WantsFlush L.Link self.old self.new }
+        ensures at_once { IsSlotAt self.old.slots.items.items at (λ s. not (is_unclean_slot s)) → self.new ≡ self.old }
+    {
+        if !self.slots.get(at).is_unclean() {
+            return;
+        }
+        'runs: for _ in 0..AHEAD {
+            if self.write_run(MOST_BLOCKS) == 0 {
+                return;
+            }
+        }
+    }
+
     /// Makes a slot free.
     fn make_room(&mut self) -> Result<usize, Cut>
         requires ready { IsReady (caching L.Link self.old) }
@@ -306,6 +338,7 @@ impl<L: Link> Cache<L> {
         ensures at_once { IsAtOnce result self.old self.new }
     {
         let at = self.slots.victim();
+        self.write_ahead(at);
         self.clean(at)?;
         self.slots.vacate(at);
         Ok(at)
@@ -331,8 +364,8 @@ impl<L: Link> Cache<L> {
         }
     }
 
-    /// Begins the read of a block, as soon as there is a place for it. Until then it takes messages, for which there is room in `into`.
-    fn begin_read(&mut self, block: u32, into: &mut [u8; 4096]) -> Result<Reading, Cut>
+    /// Begins the read of a block, as soon as there is a place for it. Until then it takes messages.
+    fn begin_read(&mut self, block: u32) -> Result<Reading, Cut>
         requires ready { IsReady (caching L.Link self.old) }
         ensures keeps { Keeps (caching L.Link self.old) (caching L.Link self.new) }
         ensures goes { LinkGoesOn L.Link self.old self.new }
@@ -348,16 +381,16 @@ impl<L: Link> Cache<L> {
             if let Some(reading) = self.try_read(block) {
                 return Ok(reading);
             }
-            self.take(into)?;
+            self.take()?;
         }
     }
 
-    /// Takes messages until a read is settled: its bytes stand in `into` then.
-    fn wait(&mut self, reading: Reading, into: &mut [u8; 4096]) -> Result<(), Cut>
+    /// Takes messages until a read is settled: its bytes stand in the spare room of the slots then.
+    fn wait(&mut self, reading: Reading) -> Result<(), Cut>
         requires ready { IsReady (caching L.Link self.old) }
         requires reading { IsBlockRead (begun_in self.old.transfers) reading.ticket reading.block self.old.shape.block_size }
         ensures runs { Does L.Link self.old self.new
-            (Reads (read_into result into.new) (reading.block * self.old.shape.block_size) self.old.shape.block_size) }
+            (Reads (read_into result self.new.slots.spare.value) (reading.block * self.old.shape.block_size) self.old.shape.block_size) }
         ensures goes { LinkGoesOn L.Link self.old self.new }
         ensures leaves { Leaves self.old.slots.items.items self.new.slots.items.items }
         ensures stay { AllStay self.old.slots self.new.slots }
@@ -365,7 +398,7 @@ impl<L: Link> Cache<L> {
         ensures flush { WantsFlush L.Link self.old self.new }
     {
         'messages: loop {
-            let Took::Read(settled) = self.take(into)? else {
+            let Took::Read(settled) = self.take()? else {
                 continue;
             };
             if settled == reading.ticket {
@@ -374,19 +407,19 @@ impl<L: Link> Cache<L> {
         }
     }
 
-    /// Reads a block without a frame: its bytes stand in `into` then.
-    fn read(&mut self, block: u32, into: &mut [u8; 4096]) -> Result<(), Cut>
+    /// Reads a block without a frame: its bytes stand in the spare room of the slots then.
+    fn read(&mut self, block: u32) -> Result<(), Cut>
         requires ready { IsReady (caching L.Link self.old) }
         ensures runs { Does L.Link self.old self.new
-            (Reads (read_into result into.new) (block * self.old.shape.block_size) self.old.shape.block_size) }
+            (Reads (read_into result self.new.slots.spare.value) (block * self.old.shape.block_size) self.old.shape.block_size) }
         ensures goes { LinkGoesOn L.Link self.old self.new }
         ensures leaves { Leaves self.old.slots.items.items self.new.slots.items.items }
         ensures stay { AllStay self.old.slots self.new.slots }
         ensures cut { IfErr result (λ cut. IsWhyCut (caching L.Link self.new) cut) }
         ensures flush { WantsFlush L.Link self.old self.new }
     {
-        let reading = self.begin_read(block, into)?;
-        self.wait(reading, into)
+        let reading = self.begin_read(block)?;
+        self.wait(reading)
     }
 
     /// The frame of a block, if it has one. No frame is used by it. A step is an entry of the index that is compared: 13 at most.
@@ -437,9 +470,8 @@ impl<L: Link> Cache<L> {
         ensures flush { WantsFlush L.Link self.old self.new }
     {
         let at = self.make_room()?;
-        let mut bytes = zeros();
-        self.read(block, &mut bytes)?;
-        self.slots.fill(at, block, &bytes, State::Clean);
+        self.read(block)?;
+        self.slots.fill(at, block, State::Clean);
         Ok(Frame { block, at })
     }
 
@@ -480,7 +512,8 @@ impl<L: Link> Cache<L> {
         ensures at_once { IsAtOnce result self.old self.new }
     {
         let at = self.make_room()?;
-        self.slots.fill(at, block, &zeros(), State::Dirty);
+        self.slots.clear_spare();
+        self.slots.fill(at, block, State::Dirty);
         Ok(Frame { block, at })
     }
 
@@ -589,6 +622,8 @@ impl<L: Link> Cache<L> {
         ensures live { 0 < result → IsLive (caching L.Link self.old) }
         ensures uses { self.new.slots.uses ≡ self.old.slots.uses }
         ensures reads { NoReadBegun (begun_in self.old.transfers) (begun_in self.new.transfers) }
+        ensures leaves { Leaves self.old.slots.items.items self.new.slots.items.items }
+        ensures held_on { AllHeldOn self.old.slots self.new.slots }
     {
         if self.live().is_err() {
             return 0;

@@ -9,13 +9,13 @@ mod frame;
 mod index;
 pub mod laws;
 pub mod refusals;
-mod ring;
 mod settling;
 mod shape;
 mod slot;
 mod state;
 mod table;
 mod uses;
+mod winners;
 
 pub use cache::Cache;
 pub use frame::Frame;

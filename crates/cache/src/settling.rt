@@ -13,16 +13,17 @@ use reissue::{Settled, Ticket};
 pub enum Took {
     /// No read was settled by it.
     Nothing,
-    /// This read was settled: its bytes were put where the caller had room.
+    /// This read was settled: its bytes stand in the spare room.
     Read(Ticket),
 }
 
 /// Does with the slots what a message came to: after a write that is settled its slot's bytes are the disk's, unless they were changed
-/// since it was begun. A Flush is noted.
+/// since it was begun. A Flush is noted. The spare room stays.
 pub fn settle(slots: &mut Slots, flush: &mut bool, settled: Settled) -> Took
     ensures slots { (bytes : List ℕ) → Settles (settlement settled bytes) slots.old.items.items slots.new.items.items }
     ensures took { (bytes : List ℕ) → taking result bytes ≡ took_of (settlement settled bytes) }
     ensures stay { AllStay slots.old slots.new }
+    ensures spare { slots.new.spare ≡ slots.old.spare }
     ensures wanted { (bytes : List ℕ) → IsWantedFor (settlement settled bytes ≡ Flush) flush.old flush.new }
     ensures end { (bytes : List ℕ) → settlement settled bytes ≡ End → slots.new ≡ slots.old }
 {

@@ -1,17 +1,27 @@
 //! A slot.
 
-ghost use Rattle.std.specs.Prelude.{◌≡◌, ◌≤◌, ◌+◌, ◌-◌, ◌&&◌, ℕ, IfOk, Some, None, slice_index, length, nat_le, nat_lt, if◌then◌else◌};
+ghost use Rattle.std.specs.Prelude.{◌≡◌, ◌<◌, ◌≤◌, ◌+◌, ◌^◌, ◌-◌, ◌&&◌, ℕ, IfOk, Some, None, slice_index, length, nat_le, nat_lt, if◌then◌else◌};
 ghost use Rattle.cache.specs.Slots.{is_number, dirtied, is_under, is_dirty_slot, is_unclean_slot, dirty_block, clean_block};
+ghost use Rattle.cache.specs.Order.{turn};
 
 use crate::state::State;
+use crate::uses::MOST_USES;
 use reissue::Ticket;
 use std::alloc::{AllocError, Global};
+use std::mem;
 
 /// A block of zero bytes.
 pub fn zeros() -> [u8; 4096]
     ensures { (o : ℕ) → slice_index result o ≡ 0 }
 {
     [0; 4096]
+}
+
+/// Makes these bytes zero, where they lie.
+pub(crate) fn clear(bytes: &mut [u8; 4096])
+    ensures { (o : ℕ) → slice_index bytes.new o ≡ 0 }
+{
+    bytes.fill(0);
 }
 
 /// Changes bytes to these, from this place on.
@@ -102,14 +112,29 @@ impl Slot {
         }
     }
 
-    /// Holds a block from now on, with these bytes.
-    pub(crate) fn hold(&mut self, block: u32, bytes: &[u8; 4096], state: State)
+    /// Its turn to go, where this is the number of its last use: the slot whose turn is lowest goes first.
+    pub(crate) fn turn(&self, number: u64) -> u64
+        requires { number < 2 ^ 62 }
+        ensures { result ≡ turn self.now number }
+    {
+        if self.block.is_none() {
+            number
+        } else if self.state.is_clean() {
+            MOST_USES + number
+        } else {
+            2 * MOST_USES + number
+        }
+    }
+
+    /// Holds a block from now on, whose bytes stand in this room; what it had before is the room then.
+    pub(crate) fn hold(&mut self, block: u32, room: &mut Box<[u8; 4096]>, state: State)
         ensures block { self.new.block ≡ Some block }
-        ensures bytes { self.new.bytes.value ≡ bytes.now }
+        ensures bytes { self.new.bytes ≡ room.old }
         ensures state { self.new.state ≡ state }
+        ensures room { room.new ≡ self.old.bytes }
     {
         self.block = Some(block);
-        *self.bytes = *bytes;
+        mem::swap(&mut self.bytes, room);
         self.state = state;
     }
 
@@ -120,7 +145,7 @@ impl Slot {
         ensures bytes { (o : ℕ) → slice_index self.new.bytes.value o ≡ 0 }
     {
         self.state = self.state.dirtied();
-        *self.bytes = zeros();
+        clear(&mut self.bytes);
     }
 
     /// Changes these bytes from this place on.

@@ -1,16 +1,18 @@
 //! All slots of a cache.
 
-ghost use Rattle.std.specs.Prelude.{◌≡◌, ◌⊎◌, ◌<◌, ◌≤◌, ◌+◌, ◌*◌, ◌^◌, ℕ, true, IfOk, Some, None, slice_get, slice_index, position, length};
-ghost use Rattle.std.specs.Prelude.{if◌then◌else◌};
+ghost use Rattle.std.specs.Prelude.{◌≡◌, ◌⊎◌, ◌<◌, ◌≤◌, ◌+◌, ◌*◌, ◌^◌, ℕ, true, IfOk, Some, None, slice_get, slice_index, length};
 ghost use Rattle.std.specs.Bool.{OnTrue, OnFalse};
 ghost use Rattle.std.specs.Vec.{vec_capacity};
-ghost use Rattle.cache.specs.Slots.{held, is_dirty_held, is_unclean_slot, lower_of, IsDistinct, NoneDirtyBelow};
+ghost use Rattle.cache.specs.Slots.{held, is_dirty_held, lower_of, IsDistinct, NoneDirtyBelow};
 ghost use Rattle.cache.specs.Index.{IsIndexOf};
+ghost use Rattle.cache.specs.Uses.{IsUsedLast};
+ghost use Rattle.cache.specs.Order.{IsRanked, IsRankedBut};
 
 use crate::index::Index;
-use crate::slot::{Slot, put, zeros};
+use crate::slot::{Slot, clear, put, zeros};
 use crate::state::State;
 use crate::uses::Uses;
+use crate::winners::Winners;
 use reissue::Ticket;
 use std::alloc::{AllocError, Global};
 use step_count::Steps;
@@ -21,16 +23,21 @@ pub struct Slots {
     items: Vec<Slot>,
     // When each was used last.
     uses: Uses,
+    // Which goes next: the keys are the slots' turns.
+    winners: Winners,
     // Where each block stands.
     index: Index,
     // The block that the search for a dirty slot begins at: none below it has one.
     search_from: u32,
+    /// Room for a block that is in no slot: a read's bytes come here, and go into a slot by its pointer.
+    pub spare: Box<[u8; 4096]>,
     pub ghost distinct: { IsDistinct items.items },
     pub ghost some: { 0 < length items.items },
     pub ghost few: { length items.items ≤ 4096 },
     pub ghost indexed: { IsIndexOf index.entries.items items.items },
     pub ghost room: { vec_capacity index.entries ≡ length items.items },
     pub ghost paired: { length uses.numbers.items ≡ length items.items },
+    pub ghost ranked: { IsRanked items.items uses.numbers.items winners.keys.items },
     pub ghost skipped: { NoneDirtyBelow items.items search_from },
 }
 
@@ -45,11 +52,40 @@ fn lowered(from: u32, block: Option<u32>) -> u32
     }
 }
 
+/// Gives each slot the key of its turn.
+#[inline(never)]
+fn rank_all(winners: &mut Winners, items: &[Slot], uses: &Uses)
+    requires count { length winners.old.keys.items ≡ length items.now }
+    requires paired { length uses.now.numbers.items ≡ length items.now }
+    ensures { IsRanked items.now uses.now.numbers.items winners.new.keys.items }
+{
+    for at in 0..items.len() {
+        let key = items[at].turn(uses.number(at));
+        winners.set(at, key);
+    }
+}
+
+/// The slot there, which may have been changed, is used now.
+#[inline]
+fn use_now(uses: &mut Uses, winners: &mut Winners, items: &[Slot], at: usize)
+    requires at { at < length items.now }
+    requires paired { length uses.old.numbers.items ≡ length items.now }
+    requires others { IsRankedBut at items.now uses.old.numbers.items winners.old.keys.items }
+    ensures ranked { IsRanked items.now uses.new.numbers.items winners.new.keys.items }
+    ensures used { IsUsedLast uses.old.numbers.items uses.new.numbers.items at }
+{
+    if uses.touch(at) {
+        rank_all(winners, items, uses);
+    } else {
+        let key = items[at].turn(uses.number(at));
+        winners.set(at, key);
+    }
+}
+
 impl Slots {
-    ghost use Rattle.cache.specs.Uses.{IsUsedLast};
-    ghost use Rattle.cache.specs.Order.{key_of, sought, IsFirst, IsVictim};
+    ghost use Rattle.cache.specs.Order.{IsVictim};
     ghost use Rattle.cache.specs.Edits.{IsSetAt, IsFilledAt, IsBlankedAt, IsChangedAt, IsAt, IsPlaceOf, IsWritten, AllStay, AllClean};
-    ghost use Rattle.cache.specs.Edits.{SomeUnclean, IsLowestOf, IsLowestBlock, IsRunEnd, AreDirty, AreBegun, Leaves, after_write};
+    ghost use Rattle.cache.specs.Edits.{SomeUnclean, IsLowestOf, IsLowestBlock, IsRunEnd, AreDirty, AreBegun, AllHeldOn, Leaves, after_write};
     ghost use Rattle.cache.specs.Runs.{IsCopied, AreGathered};
 
     /// So many slots, all free.
@@ -63,11 +99,16 @@ impl Slots {
         'free: for _ in 0..count {
             items.push(Slot::free(alloc)?)?;
         }
+        let uses = Uses::new(alloc, count)?;
+        let mut winners = Winners::new(alloc, count)?;
+        rank_all(&mut winners, &items, &uses);
         Ok(Slots {
             items,
-            uses: Uses::new(alloc, count)?,
+            uses,
+            winners,
             index: Index::new(alloc, count)?,
             search_from: u32::MAX,
+            spare: Box::new(alloc, zeros())?,
         })
     }
 
@@ -80,53 +121,12 @@ impl Slots {
         self.index.find(block, steps)
     }
 
-    /// The first slot whose bytes may not be the disk's.
-    fn find_unclean(&self) -> Option<usize>
-        ensures { result ≡ position is_unclean_slot self.now.items.items }
-    {
-        self.items.iter().position(|s| s.is_unclean())
-    }
-
-    /// Whether the slot there is looked for: a free one where some slot is free, else a clean one.
-    #[inline]
-    fn is_sought(&self, at: usize) -> bool
-        requires { at < length self.now.items.items }
-        ensures { key_of (sought self.now.items.items) self.now.items.items self.now.uses.numbers.items at
-            ≡ (if result then Some (slice_index self.now.uses.numbers.items at) else None) }
-    {
-        let slot = self.get(at);
-        if self.index.len() == self.items.len() {
-            !slot.is_unclean()
-        } else {
-            slot.block.is_none()
-        }
-    }
-
-    /// The one used longest ago of those that are looked for.
-    fn first_sought(&self) -> Option<usize>
-        ensures { IsFirst (key_of (sought self.now.items.items) self.now.items.items self.now.uses.numbers.items)
-            (length self.now.items.items) result }
-    {
-        let mut at = self.uses.oldest();
-        'older: while !self.is_sought(at) {
-            let Some(next) = self.uses.newer(at) else {
-                return None;
-            };
-            at = next;
-        }
-        Some(at)
-    }
-
     /// The slot that goes next: a free one; where none is free, of the clean ones the one used longest ago; where none is clean, of all.
-    #[inline(never)]
     pub fn victim(&self) -> usize
         ensures in_range { result < length self.now.items.items }
         ensures chosen { IsVictim self.now.items.items self.now.uses.numbers.items result }
     {
-        match self.first_sought() {
-            Some(at) => at,
-            None => self.uses.oldest(),
-        }
+        self.winners.first()
     }
 
     /// Whether the bytes of each slot with a block are the disk's.
@@ -134,10 +134,7 @@ impl Slots {
         ensures clean { OnTrue result (AllClean (held self.now.items.items)) }
         ensures unclean { OnFalse result (SomeUnclean (held self.now.items.items)) }
     {
-        match self.find_unclean() {
-            Some(_) => false,
-            None => true,
-        }
+        !self.winners.any_late()
     }
 
     /// The dirty slot with the lowest block.
@@ -218,20 +215,19 @@ impl Slots {
         put(to, from, &slot.bytes[..size]);
     }
 
-    /// The bytes of so many neighbouring blocks from this one on, which have dirty slots, one block after the other.
-    pub fn gather(&self, block: u32, count: u32, size: u32) -> [u8; 4096]
+    /// Copies the bytes of so many neighbouring blocks from this one on, which have dirty slots, to the front of `into`, one block after the
+    /// other.
+    pub fn gather(&self, block: u32, count: u32, size: u32, into: &mut [u8; 4096])
         requires dirty { AreDirty (held self.now.items.items) block count }
         requires bound { block + count ≤ 2 ^ 32 }
         requires fits { count * size ≤ 4096 }
-        ensures { AreGathered (held self.now.items.items) block count size result }
+        ensures { AreGathered (held self.now.items.items) block count size into.new }
     {
-        let mut bytes = zeros();
         let mut from = 0;
         for past in 0..count {
-            self.copy(block + past, size as usize, &mut bytes, from);
+            self.copy(block + past, size as usize, into, from);
             from += size as usize;
         }
-        bytes
     }
 
     /// The writes of so many neighbouring blocks from this one on, which have dirty slots, are begun under this ticket.
@@ -241,6 +237,7 @@ impl Slots {
         ensures begun { AreBegun block count ticket (held self.old.items.items) (held self.new.items.items) }
         ensures leaves { Leaves self.old.items.items self.new.items.items }
         ensures uses { self.new.uses ≡ self.old.uses }
+        ensures held_on { AllHeldOn self.old self.new }
     {
         for past in 0..count {
             let at = self.dirty_at(block + past);
@@ -275,7 +272,9 @@ impl Slots {
         ensures items { self.new.items.items ≡ self.old.items.items }
         ensures used { IsUsedLast self.old.uses.numbers.items self.new.uses.numbers.items at }
     {
-        self.uses.touch(at);
+        if !self.uses.is_newest(at) {
+            use_now(&mut self.uses, &mut self.winners, &self.items, at);
+        }
     }
 
     /// The slot at this place.
@@ -292,16 +291,20 @@ impl Slots {
         requires { at < length self.old.items.items }
         ensures set { IsSetAt self.old.items.items self.new.items.items at (λ s. record s { state = state }) }
         ensures uses { self.new.uses ≡ self.old.uses }
+        ensures spare { self.new.spare ≡ self.old.spare }
     {
         let slot = &mut self.items[at];
         slot.state = state;
         self.search_from = lowered(self.search_from, slot.dirty_block());
+        let key = slot.turn(self.uses.number(at));
+        self.winners.set(at, key);
     }
 
     /// The write with this ticket was answered good.
     pub fn settle(&mut self, ticket: Ticket)
         ensures written { IsWritten ticket self.old.items.items self.new.items.items }
         ensures stay { AllStay self.old self.new }
+        ensures spare { self.new.spare ≡ self.old.spare }
     {
         for at in 0..self.items.len() {
             self.settle_at(at, ticket);
@@ -313,6 +316,7 @@ impl Slots {
         requires { at < length self.old.items.items }
         ensures set { IsSetAt self.old.items.items self.new.items.items at (after_write ticket) }
         ensures uses { self.new.uses ≡ self.old.uses }
+        ensures spare { self.new.spare ≡ self.old.spare }
     {
         let slot = self.get(at);
         if slot.is_under(ticket) {
@@ -327,29 +331,40 @@ impl Slots {
         ensures set { IsSetAt self.old.items.items self.new.items.items at (λ s. record s { block = None }) }
         ensures uses { self.new.uses ≡ self.old.uses }
         ensures count { length self.new.items.items ≡ length self.old.items.items }
+        ensures spare { self.new.spare ≡ self.old.spare }
     {
         let slot = &mut self.items[at];
         let Some(block) = slot.block else {
             return;
         };
         slot.block = None;
+        let key = slot.turn(self.uses.number(at));
         self.index.remove(block);
+        self.winners.set(at, key);
     }
 
-    /// Gives a slot to a block that has none.
-    pub fn fill(&mut self, at: usize, block: u32, bytes: &[u8; 4096], state: State)
+    /// Makes the bytes of the spare room zero, where they lie.
+    pub fn clear_spare(&mut self)
+        ensures zero { (o : ℕ) → slice_index self.new.spare.value o ≡ 0 }
+        ensures rest { self.new ≡ record self.old { spare = self.new.spare } }
+    {
+        clear(&mut self.spare);
+    }
+
+    /// Gives a slot to a block that has none: the spare room goes into it, and the room that it had is spare then. No byte is copied.
+    pub fn fill(&mut self, at: usize, block: u32, state: State)
         requires at { at < length self.old.items.items }
         requires free { held self.old.items.items block ≡ None }
-        ensures filled { IsFilledAt self.old.items.items self.new.items.items at block bytes.now state }
+        ensures filled { IsFilledAt self.old.items.items self.new.items.items at block self.old.spare.value state }
         ensures used { IsUsedLast self.old.uses.numbers.items self.new.uses.numbers.items at }
         ensures count { length self.new.items.items ≡ length self.old.items.items }
     {
         self.vacate(at);
         self.index.insert(block, at);
         let slot = &mut self.items[at];
-        slot.hold(block, bytes, state);
+        slot.hold(block, &mut self.spare, state);
         self.search_from = lowered(self.search_from, slot.dirty_block());
-        self.touch(at);
+        use_now(&mut self.uses, &mut self.winners, &self.items, at);
     }
 
     /// Gives a slot zero bytes.
@@ -363,7 +378,7 @@ impl Slots {
         // Of a change a clean slot alone becomes dirty.
         self.search_from = lowered(self.search_from, slot.clean_block());
         slot.clear();
-        self.touch(at);
+        use_now(&mut self.uses, &mut self.winners, &self.items, at);
     }
 
     /// Changes some bytes of a slot.
@@ -379,5 +394,7 @@ impl Slots {
         // Of a change a clean slot alone becomes dirty.
         self.search_from = lowered(self.search_from, slot.clean_block());
         slot.change(from, bytes);
+        let key = slot.turn(self.uses.number(at));
+        self.winners.set(at, key);
     }
 }

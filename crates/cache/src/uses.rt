@@ -1,14 +1,16 @@
 //! The order in which places were used last.
 
-ghost use Rattle.std.specs.Prelude.{◌≡◌, ◌<◌, ◌≤◌, ◌+◌, IfOk, length};
-ghost use Rattle.cache.specs.Uses.{AllBelow, IsUsedLast, KeepsOrder, rank};
-ghost use Rattle.cache.specs.Ring.{IsInOrder, IsNewer, IsOldest};
+ghost use Rattle.std.specs.Prelude.{◌≡◌, ◌<◌, ◌≤◌, ◌+◌, ◌^◌, IfOk, length, slice_index};
+ghost use Rattle.std.specs.Bool.{OnTrue, OnFalse};
+ghost use Rattle.cache.specs.Uses.{AllBelow, IsNewest, IsUsedLast, KeepsOrder, OthersKeep, rank};
 
-use crate::ring::Ring;
 use std::alloc::{AllocError, Global};
 use std::mem;
 
-/// Places that each have the number of their last use: a lower one was used longer ago. Its memory is taken when it is made.
+/// 2 to the power of 62: each use has a lower number.
+pub(crate) const MOST_USES: u64 = 0x4000_0000_0000_0000;
+
+/// Places, 4096 at most, that each have the number of their last use: a lower one was used longer ago. Its memory is taken when it is made.
 #[derive(Drop)]
 pub(crate) struct Uses {
     /// The number of each place's last use.
@@ -17,12 +19,13 @@ pub(crate) struct Uses {
     spare: Vec<u64>,
     // The number of the next use.
     next: u64,
-    // The places in the order of their numbers.
-    ring: Ring,
+    // The place that was used last.
+    newest: usize,
     ghost below: { AllBelow numbers.items next },
+    ghost bound: { next ≤ 2 ^ 62 },
+    ghost few: { length numbers.items ≤ 4096 },
     ghost paired: { length spare.items ≡ length numbers.items },
-    ghost linked: { length ring.newer.items ≡ length numbers.items },
-    ghost in_order: { IsInOrder numbers.items ring.newer.items ring.newest },
+    ghost last: { IsNewest numbers.items newest },
 }
 
 /// How many of these numbers are lower.
@@ -35,6 +38,7 @@ fn rank(numbers: &[u64], number: u64) -> u64
 impl Uses {
     /// So many places, as if each was used after the one below it.
     pub(crate) fn new(alloc: Global, count: usize) -> Result<Uses, AllocError>
+        requires { count ≤ 4096 }
         ensures { IfOk result (λ u. length u.numbers.items ≡ count) }
     {
         let mut numbers = vec![in alloc; 0; count]?;
@@ -45,42 +49,43 @@ impl Uses {
             numbers,
             spare: vec![in alloc; 0; count]?,
             next: count as u64,
-            ring: Ring::new(alloc, count)?,
+            newest: count.saturating_sub(1),
         })
     }
 
-    /// This place is used now.
+    /// The number of a place's last use.
     #[inline]
-    pub(crate) fn touch(&mut self, at: usize)
-        requires { at < length self.old.numbers.items }
-        ensures { IsUsedLast self.old.numbers.items self.new.numbers.items at }
+    pub(crate) fn number(&self, at: usize) -> u64
+        requires { at < length self.now.numbers.items }
+        ensures number { slice_index self.now.numbers.items at ≡ result }
+        ensures bound { result < 2 ^ 62 }
     {
-        if self.ring.is_newest(at) {
-            return;
-        }
-        if self.next == u64::MAX {
+        self.numbers[at]
+    }
+
+    /// Whether this place was used after all others.
+    #[inline]
+    pub(crate) fn is_newest(&self, at: usize) -> bool
+        ensures { OnTrue result (IsUsedLast self.now.numbers.items self.now.numbers.items at) }
+    {
+        at == self.newest
+    }
+
+    /// This place is used now. True where all places were numbered anew.
+    #[inline]
+    pub(crate) fn touch(&mut self, at: usize) -> bool
+        requires { at < length self.old.numbers.items }
+        ensures used { IsUsedLast self.old.numbers.items self.new.numbers.items at }
+        ensures others { OnFalse result (OthersKeep self.old.numbers.items self.new.numbers.items at) }
+    {
+        let anew = self.next == MOST_USES;
+        if anew {
             self.renumber();
         }
         self.numbers[at] = self.next;
         self.next += 1;
-        self.ring.renew(at);
-    }
-
-    /// The place that was used longest ago.
-    pub(crate) fn oldest(&self) -> usize
-        requires { 0 < length self.now.numbers.items }
-        ensures within { result < length self.now.numbers.items }
-        ensures oldest { IsOldest self.now.numbers.items result }
-    {
-        self.ring.oldest()
-    }
-
-    /// The place that was used next after this one.
-    pub(crate) fn newer(&self, at: usize) -> Option<usize>
-        requires { at < length self.now.numbers.items }
-        ensures { IsNewer self.now.numbers.items at result }
-    {
-        self.ring.newer(at)
+        self.newest = at;
+        anew
     }
 
     /// Numbers all places anew, in their order.
@@ -88,7 +93,6 @@ impl Uses {
     fn renumber(&mut self)
         ensures order { KeepsOrder self.old.numbers.items self.new.numbers.items }
         ensures next { self.new.next ≡ length self.old.numbers.items + 1 }
-        ensures ring { self.new.ring ≡ self.old.ring }
     {
         for at in 0..self.numbers.len() {
             self.spare[at] = rank(&self.numbers, self.numbers[at]) + 1;

@@ -75,7 +75,7 @@ impl<N: Room, D: BlockDriver, G: Gate> DriverTask<N, D, G> {
     fn step<R: Wait>(&mut self, rt: &R, reply: &mut BlockReply) -> Option<Progress> {
         let generation = self.news.endpoint().generation;
         self.shared.gate.pass(Point::DriverStep(generation));
-        if self.shared.ending.load(Ordering::SeqCst) {
+        if self.shared.ending.is_rung() {
             return None;
         }
         let mut media = self.shared.media.lock(rt);

@@ -17,12 +17,12 @@ use channel_link::link::ChannelLink;
 use channel_link::messages::Report;
 use channel_link::server_line::open_line;
 use gate::Gate;
+use gate::bell::Bell;
 use media::Media;
 use message::endpoint::{DISK_DRIVER, Endpoint};
 use reincarnate::Reincarnation;
 use reissue::link::Link;
 use std::alloc::{AllocError, Global};
-use std::sync::atomic::{AtomicBool, Ordering};
 use std::sync::{Arc, Mutex, Wait};
 use std::thread::{JoinHandle, Threads};
 
@@ -34,7 +34,7 @@ const LINE: usize = 64;
 pub struct Running<N: Room> {
     supervisor: JoinHandle<()>,
     media: Arc<Mutex<Confined<N>>>,
-    ending: Arc<AtomicBool>,
+    ending: Arc<Bell>,
 }
 
 impl<N: Room> Drop for Running<N> {
@@ -44,7 +44,7 @@ impl<N: Room> Drop for Running<N> {
             media: _,
             ending,
         } = self;
-        ending.store(true, Ordering::SeqCst);
+        ending.ring();
     }
 }
 
@@ -86,7 +86,7 @@ pub fn start_drivers<
         media: Arc::new(alloc, Mutex::new(Confined::new(media, range)))?,
         board: Arc::try_clone(board)?,
         gate,
-        ending: Arc::new(alloc, AtomicBool::new(false))?,
+        ending: Arc::new(alloc, Bell::new())?,
     };
     let media = Arc::try_clone(&shared.media)?;
     let ending = Arc::try_clone(&shared.ending)?;
@@ -125,7 +125,7 @@ impl<N: Room> Running<N> {
             media,
             ending,
         } = self;
-        ending.store(true, Ordering::SeqCst);
+        ending.ring();
         supervisor.join(rt);
         match Arc::try_unwrap(media) {
             Ok(media) => Some(media.into_inner().into_media()),

@@ -7,17 +7,17 @@ use crate::confined::Confined;
 use board::Board;
 use board::counting::room::Room;
 use gate::Gate;
+use gate::bell::Bell;
 use std::alloc::AllocError;
-use std::sync::atomic::AtomicBool;
 use std::sync::{Arc, Mutex};
 
-/// The media under their lock, the board, the gate, and the word that says that all threads are to end.
+/// The media under their lock, the board, the gate, and the bell that tells all threads to end.
 #[derive(Drop)]
 pub(crate) struct Shared<N: Room, G: Gate> {
     pub(crate) media: Arc<Mutex<Confined<N>>>,
     pub(crate) board: Arc<Board>,
     pub(crate) gate: Arc<G>,
-    pub(crate) ending: Arc<AtomicBool>,
+    pub(crate) ending: Arc<Bell>,
 }
 
 impl<N: Room, G: Gate> Shared<N, G> {

@@ -236,8 +236,9 @@ impl<N: Room + Send + Sync + 'static, D: BlockDriver + 'static, G: Gate + 'stati
         rt: &R,
         workers: &mut Vec<Worker>,
     ) -> bool {
-        self.shared.gate.pass(Point::Tick);
-        if self.shared.ending.load(Ordering::SeqCst) {
+        let ending = &*self.shared.ending;
+        self.shared.gate.pass_or_end(Point::Tick, ending);
+        if ending.is_rung() {
             return false;
         }
         self.tick(rt, workers);

@@ -72,8 +72,8 @@ fn write_some<L: Link>(cache: &mut Cache<L>)
 }
 
 /// Takes a message of a sync: only where no further write can be begun before it, and some frame isn't the disk's yet. The bytes of a read
-/// that it settles go into `into`, and are let go.
-fn take_next<L: Link>(cache: &mut Cache<L>, into: &mut [u8; 4096]) -> Result<(), Cut>
+/// that it settles are let go.
+fn take_next<L: Link>(cache: &mut Cache<L>) -> Result<(), Cut>
     requires ready { IsReady (caching L.Link cache.old) }
     requires stuck { IsLive (caching L.Link cache.old) → IsStuck (caching L.Link cache.old) }
     requires unclean { SomeUnclean (held_by cache.old) }
@@ -87,7 +87,7 @@ fn take_next<L: Link>(cache: &mut Cache<L>, into: &mut [u8; 4096]) -> Result<(),
     ensures uses { cache.new.slots.uses ≡ cache.old.slots.uses }
     ensures reads { NoReadBegun (begun_in cache.old.transfers) (begun_in cache.new.transfers) }
 {
-    cache.take(into)?;
+    cache.take()?;
     Ok(())
 }
 
@@ -104,13 +104,12 @@ fn write_all<L: Link>(cache: &mut Cache<L>) -> Result<(), Cut>
     ensures uses { cache.new.slots.uses ≡ cache.old.slots.uses }
     ensures reads { NoReadBegun (begun_in cache.old.transfers) (begun_in cache.new.transfers) }
 {
-    let mut bytes = [0; 4096];
     'messages: loop {
         write_some(cache);
         if cache.is_clean() {
             return Ok(());
         }
-        take_next(cache, &mut bytes)?;
+        take_next(cache)?;
     }
 }
 

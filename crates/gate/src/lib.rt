@@ -1,7 +1,10 @@
 //! Where the threads of a service ask before they go on, so that a test can hold one of them back, and a program sets their pace.
 #![tactic(auto)]
 
+pub mod bell;
 pub mod paced_gate;
+
+use bell::Bell;
 
 /// A place at which a thread of a service asks its gate.
 #[derive(Clone, Copy, Debug, PartialEq, Eq)]
@@ -19,6 +22,11 @@ pub enum Point {
 pub trait Gate: Send + Sync + Drop {
     /// Comes back when the thread may go on. It is asked under no lock.
     fn pass(&self, at: Point);
+
+    /// The same for a thread that ends once this bell is rung: a gate that lets time pass comes back then at once.
+    fn pass_or_end(&self, at: Point, _end: &Bell) {
+        self.pass(at);
+    }
 }
 
 /// A gate that holds nobody back. Ticks pass as fast as they can under it, so a driver that has no time to beat is soon replaced.

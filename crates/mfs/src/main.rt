@@ -63,7 +63,7 @@ fn play_files<W: Threads + Wait + Copy + Send + Sync + 'static>(
     let supply = drivers_for(alloc, words.spares, words.model, table)?;
     let mut setup = setup_for(words.minor);
     setup.frames = words.frames as usize;
-    let gate = Arc::new(alloc, Paced::new(rt))?;
+    let gate = Arc::new(alloc, Paced::new(waits))?;
     let image = Image {
         name: words.image,
         bytes: image,

@@ -67,7 +67,7 @@ fn mount_file<W: Threads + Wait + Copy + Send + Sync + 'static>(
     let supply = mortal_drivers(alloc, words.spares, words.model, mortality, table)?;
     let mut setup = mortal_setup(words.minor, mortality);
     setup.frames = words.frames as usize;
-    let gate = Arc::new(alloc, Telling::new(Paced::new(rt), rt))?;
+    let gate = Arc::new(alloc, Telling::new(Paced::new(waits), rt))?;
     let streams = Streams {
         input: BufReader::with_capacity(alloc, ROOM, rt.reader())?,
         output: rt.stdout(),

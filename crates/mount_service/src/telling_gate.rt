@@ -1,5 +1,6 @@
 //! A gate that tells which drivers take the place of others.
 
+use gate::bell::Bell;
 use gate::{Gate, Point};
 use std::sync::atomic::{AtomicU32, Ordering};
 
@@ -17,6 +18,13 @@ impl<E: Drop> Drop for Teller<E> {
 }
 
 impl<E: Eprint> Teller<E> {
+    /// Tells the driver that comes to this place, if it is a step's.
+    fn note(&self, at: Point) {
+        if let Point::DriverStep(generation) = at {
+            self.tell(generation);
+        }
+    }
+
     /// Tells a driver, unless it or a later one was told. Of two drivers at one time the older one may be left out.
     fn tell(&self, generation: u32) {
         if self.newest.load(Ordering::SeqCst) < generation {
@@ -51,9 +59,12 @@ impl<G, E> Telling<G, E> {
 
 impl<G: Gate, E: Eprint + Send + Sync + Drop> Gate for Telling<G, E> {
     fn pass(&self, at: Point) {
-        if let Point::DriverStep(generation) = at {
-            self.teller.tell(generation);
-        }
+        self.teller.note(at);
         self.gate.pass(at);
+    }
+
+    fn pass_or_end(&self, at: Point, end: &Bell) {
+        self.teller.note(at);
+        self.gate.pass_or_end(at, end);
     }
 }

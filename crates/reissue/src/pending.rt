@@ -80,7 +80,8 @@ impl Pending {
         }
     }
 
-    /// It is what is asked for from now on, under this id. A write's bytes are copied, once; a read has none.
+    /// It is what is asked for from now on, under this id. A write's bytes are copied, once. Those of a read have no meaning; zeros take the
+    /// place of an earlier write's, since a run's notes keep what isn't zero.
     pub(crate) fn begin(&mut self, ask: &Ask<'_>, id: u64)
         ensures ticket { self.new.ticket ≡ id }
         ensures start { self.new.start ≡ ask.now.position }
@@ -88,10 +89,8 @@ impl Pending {
         ensures given { self.new.given.value ≡ ask.now.bytes.now }
         ensures begun { begun_of self.new ≡ begun_by ask.now }
         ensures request { IsRequestFor ask.now id self.new.request }
-
-        // Of a read no byte is touched: those of the room's last request stay.
-        ensures kept { is_write ask.now.kind ≡ false → self.new.request.bytes ≡ self.old.request.bytes }
     {
+        let was_write = self.request.kind == Kind::Write;
         self.ticket = Ticket::of_id(id);
         self.start = ask.position;
         self.size = ask.count;
@@ -102,6 +101,7 @@ impl Pending {
         self.request.position = ask.position;
         self.request.count = ask.count;
         match ask.kind {
+            Kind::Read if was_write => self.request.bytes = [0; 4096],
             Kind::Read => {}
             Kind::Write => self.request.bytes = *ask.bytes,
         }

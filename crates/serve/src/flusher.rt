@@ -4,27 +4,27 @@ use crate::service::Shared;
 use board::counting::recorder::Recorder;
 use board::counting::room::Room;
 use file_server::FileServer;
+use gate::bell::Bell;
 use gate::{Gate, Point};
 use std::alloc::{AllocError, Global};
-use std::sync::atomic::{AtomicBool, Ordering};
 use std::sync::{Arc, Wait};
 use std::thread;
 use std::thread::{JoinHandle, Threads};
 
-/// A word that threads look at: once this is let go it tells them to end.
-pub(crate) struct Ends(Arc<AtomicBool>);
+/// A thread's bell, which is rung once this is let go: then the thread ends.
+pub(crate) struct Ends(Arc<Bell>);
 
 impl Drop for Ends {
     fn drop(self) {
-        let Self(word) = self;
-        word.store(true, Ordering::SeqCst);
+        let Self(bell) = self;
+        bell.ring();
     }
 }
 
 impl Ends {
-    /// Of threads that look at this word.
-    pub(crate) fn new(word: Arc<AtomicBool>) -> Ends {
-        Ends(word)
+    /// Of the thread that listens for this bell.
+    pub(crate) fn new(bell: Arc<Bell>) -> Ends {
+        Ends(bell)
     }
 }
 
@@ -49,10 +49,10 @@ impl Flusher {
         shared: Arc<Shared<N, R, L, S>>,
         gate: Arc<G>,
     ) -> Result<Flusher, AllocError> {
-        let word = Arc::new(alloc, AtomicBool::new(false))?;
-        let end = Ends::new(Arc::try_clone(&word)?);
+        let bell = Arc::new(alloc, Bell::new())?;
+        let end = Ends::new(Arc::try_clone(&bell)?);
         let mine = *rt;
-        match thread::spawn(rt, move || flush_on(&mine, &*shared, &*gate, &*word)) {
+        match thread::spawn(rt, move || flush_on(&mine, &*shared, &*gate, &*bell)) {
             Ok(handle) => Ok(Flusher { end, handle }),
             Err(_) => Err(AllocError),
         }
@@ -71,11 +71,11 @@ fn flush_on<N: Room, R: Wait + Copy, L: Recorder<N>, S: FileServer<L>, G: Gate>(
     rt: &R,
     shared: &Shared<N, R, L, S>,
     gate: &G,
-    word: &AtomicBool,
+    bell: &Bell,
 ) {
     for _ in rt.forever() {
-        gate.pass(Point::FlusherTurn);
-        if word.load(Ordering::SeqCst) {
+        gate.pass_or_end(Point::FlusherTurn, bell);
+        if bell.is_rung() {
             break;
         }
         shared.flush();

@@ -31,15 +31,11 @@ use std::thread::{Threads, yield_now};
 use tree::Who;
 
 /// How often a session looks whether the server is free before it sleeps.
-const LOOKS: u32 = 16;
+const LOOKS: u32 = 10;
 
-/// How often in a row it lets other threads run between two looks. Whoever has the server then makes some calls one after the other, over
-/// memory that stays at that thread's processor.
-const YIELDS: u32 = 16;
-
-/// Lets other threads run.
-fn step_aside() {
-    for _ in 0..YIELDS {
+/// Lets other threads run, so many times.
+fn step_aside(times: u32) {
+    for _ in 0..times {
         yield_now();
     }
 }
@@ -58,13 +54,14 @@ impl<N: Room, R: Wait + Copy, L: Recorder<N>, S: FileServer<L>> Shared<N, R, L, 
     }
 
     /// The server, once no other thread has it. A thread that finds it taken lets others run and looks again before it sleeps: most calls
-    /// take less time than waking a thread.
+    /// take less time than waking a thread. Each time it lets others run twice as often as before, so where many sessions call, whoever has
+    /// the server makes many calls one after the other, over memory that stays at that thread's processor.
     pub(crate) fn locked(&self) -> MutexGuard<'_, Locked<N, L, S>> {
-        for _ in 0..LOOKS {
+        for look in 0..LOOKS {
             if let Some(server) = self.server.try_lock() {
                 return server;
             }
-            step_aside();
+            step_aside(1 << look);
         }
         self.server.lock(&self.rt)
     }

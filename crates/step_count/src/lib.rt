@@ -29,10 +29,19 @@ impl Steps {
     }
 
     /// One step more. Behind 2^64 - 1 comes 0: no run gets there.
+    #[inline]
     pub fn tick(&mut self)
         ensures { self.new ≡ (self.old + 1) % 2 ^ 64 }
     {
         self.count = self.count.wrapping_add(1);
+    }
+
+    /// Takes over as many steps as another count has.
+    #[inline]
+    pub fn add(&mut self, other: &Steps)
+        ensures { self.new ≡ (self.old + other.now) % 2 ^ 64 }
+    {
+        self.count = self.count.wrapping_add(other.count);
     }
 
     /// How many steps were taken.

@@ -92,8 +92,8 @@ fn measure_on<N: Room + Send + Sync + 'static, R: Threads + Wait + Copy + Send +
         return say(rt, "no memory");
     };
     let board = Arc::new(alloc, board)?;
-    let gate = Arc::new(alloc, Paced::new(*rt))?;
-    let (link, running) = start_drivers::<N, RamDriver, Paced<HostRuntime>, R>(
+    let gate = Arc::new(alloc, Paced::new(waits))?;
+    let (link, running) = start_drivers::<N, RamDriver, Paced<R>, R>(
         alloc,
         waits,
         media,

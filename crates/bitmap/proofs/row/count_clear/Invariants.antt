@@ -8,5 +8,5 @@ abbrev pub invariant-loop-place : goal.invariant-loop-place
 invariant-loop-place l = record {
   value : l.clear ≡ count_free_in (bit_in (slice_index l.bytes)) l.from (max l.from (min l.end (64 * l.place)));
   most : l.clear + l.from ≤ max l.from (min l.end (64 * l.place));
-  cost : l.steps + l.from / 64 ≤ l.fn.steps + l.place;
+  cost : l.words + l.from / 64 ≤ l.place;
 }

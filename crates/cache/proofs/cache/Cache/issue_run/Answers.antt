@@ -5,6 +5,7 @@ use Rattle.cache.specs.Calls.{Caching, caching, caching_of, Keeps}
 use Rattle.cache.proofs.Edits.{leaves_none}
 use Rattle.cache.proofs.Beginning.{refusing, write_many, busy_begun}
 use Rattle.cache.proofs.Placing.{keeps_none}
+use Rattle.cache.proofs.Staying.{held_on_none}
 use Rattle.cache.proofs.cache.Cache.issue_run.Goals as goal
 
 pub returns-in-Ok-clause-keeps : goal.returns-in-Ok-clause-keeps
@@ -13,7 +14,7 @@ returns-in-Ok-clause-keeps g c =
     let x = c.in-Ok.ensures in
     let a = c.write_run-ask.ensures in
     let from : AreGathered (held s.slots.items.items) c.args.block c.args.count s.shape.block_size c.write_run-ask.result.bytes.now =
-    subst (λ (l : List ℕ). AreGathered (held s.slots.items.items) c.args.block c.args.count s.shape.block_size l) (sym a.bytes) c.gather-bytes.ensures in
+    subst (λ (l : List ℕ). AreGathered (held s.slots.items.items) c.args.block c.args.count s.shape.block_size l) (sym a.bytes) c.gather.ensures in
     write_many c.write_run-ask.result (caching g.L.Link s) (caching_of g.L.Link c.begin_run.new.self s.shape c.set_writing.new.self.items.items s.ended)
     c.args.block c.args.count c.in-Ok.ticket c.requires.some c.set_writing.ensures.begun from
     x.begins x.adds x.opens a.kind a.minor a.position a.count c.requires.ready refl refl refl x.budget x.room
@@ -67,3 +68,6 @@ returns-in-Err-clause-goes g c = c.in-Err.ensures.goes
 
 pub returns-in-Err-clause-leaves : goal.returns-in-Err-clause-leaves
 returns-in-Err-clause-leaves g c = leaves_none _
+
+pub returns-in-Err-clause-held_on : goal.returns-in-Err-clause-held_on
+returns-in-Err-clause-held_on g c = held_on_none _

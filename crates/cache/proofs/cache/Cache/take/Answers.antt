@@ -1,11 +1,12 @@
-use Rattle.std.proofs.Common.{◌≡◌, refl, sym, subst, None, Ok}
+use Rattle.std.proofs.Common.{◌≡◌, refl, sym, ap, subst, ◌∙◌, None, Ok}
 use Rattle.cache.specs.Calls.{Caching, caching, caching_of, Runs}
-use Rattle.cache.specs.Takes.{Takes}
+use Rattle.cache.specs.Takes.{Takes, ReadsStay}
 use Rattle.reissue.specs.Settlements.{settlement}
-use Rattle.cache.specs.Settling.{took_of, is_ended_by}
+use Rattle.reissue.specs.Transfers.{begun_in}
+use Rattle.cache.specs.Settling.{Taking, taking, took_of, is_ended_by}
 use Rattle.cache.proofs.Runs.{runs_none}
 use Rattle.cache.proofs.Staying.{all_none}
-use Rattle.cache.proofs.Taking.{cut_off, takes_none, takes_one, leaves_settled}
+use Rattle.cache.proofs.Taking.{cut_off, takes_none, takes_one, leaves_settled, reads_stay}
 use Rattle.cache.proofs.Flushes.{follows_none, follows_take, wanted_for}
 use Rattle.cache.proofs.cache.Cache.take.Goals as goal
 
@@ -30,7 +31,20 @@ returns-clause-runs g c =
     let new = as_it_ends c.is_end-self.result in
     let both : Runs None old new (λ w v. Takes (Ok (took_of came)) old new w v) =
     subst (λ (n : Caching). Runs None old n (λ w v. Takes (Ok (took_of came)) old n w v)) (sym same) one in
-    rw (e.took bytes) both
+    let taken : taking c.settle.result c.settle.new.slots.spare.value ≡ took_of came = ap (λ b. taking c.settle.result b.value) e.spare ∙ e.took bytes in
+    subst (λ (t : Taking). Runs None old new (λ w v. Takes (Ok t) old new w v)) (sym taken) both
+
+pub returns-clause-reads : goal.returns-clause-reads
+returns-clause-reads g c =
+    let e = c.settle.ensures in
+    let bytes = c.step-settled.new.into in
+    let came = settlement c.step-settled.result bytes in
+    let taken : taking c.settle.result c.settle.new.slots.spare.value ≡ took_of came = ap (λ b. taking c.settle.result b.value) e.spare ∙ e.took bytes in
+    subst (λ (t : Taking). ReadsStay (Ok t) (begun_in c.args.self.now.transfers) (begun_in c.step-settled.new.self)) (sym taken)
+    (reads_stay came _ _ c.step-settled.ensures.steps.closes)
+
+pub returns-clause-stay : goal.returns-clause-stay
+returns-clause-stay g c = let stay = c.settle.ensures.stay in record { uses = stay.uses; each = stay.each }
 
 pub returns-in_err-live-clause-stay : goal.returns-in_err-live-clause-stay
 returns-in_err-live-clause-stay g c = all_none _

@@ -31,7 +31,7 @@ messages-preserved-in_default g c = record {
   leaves = leaves_then _ _ _ c.messages.invariant.leaves c.take.ensures.leaves;
   stay = all_then _ _ _ c.messages.invariant.stay c.take.ensures.stay;
   pending = still_reading _ _ _ c.args.reading.ticket _ _ c.take.ensures.reads
-      (ap (λ (r : Result Took Cut). is_read_of (taking_in r c.take.new.into) c.args.reading.ticket) (c.in_ok-settled.was ∙ ap Ok c.in_default.is))
+      (ap (λ (r : Result Took Cut). is_read_of (taking_in r c.take.new.self.slots.spare.value) c.args.reading.ticket) (c.in_ok-settled.was ∙ ap Ok c.in_default.is))
       c.messages.invariant.pending;
   flush = follows_then _ _ _ _ _ _ c.messages.invariant.flush c.take.ensures.flush;
   goes = g.met.L.Link.joins _ _ _ c.messages.invariant.goes c.take.ensures.goes;
@@ -40,8 +40,8 @@ messages-preserved-in_default g c = record {
 pub returns-then-eq-clause-runs : goal.returns-then-eq-clause-runs
 returns-then-eq-clause-runs g c =
     let same = eqb-true c.in-Read.settled c.args.reading.ticket (sym c.eq.ensures ∙ c.if-eq.true) in
-    reads_done _ _ _ _ c.in-Read.settled c.args.reading.ticket _ _ c.take.new.into
-    (ap (λ (r : Result Took Cut). taking_in r c.take.new.into) (c.in_ok-settled.was ∙ ap Ok c.in-Read.is)) same
+    reads_done _ _ _ _ c.in-Read.settled c.args.reading.ticket _ _ c.take.new.self.slots.spare.value
+    (ap (λ (r : Result Took Cut). taking_in r c.take.new.self.slots.spare.value) (c.in_ok-settled.was ∙ ap Ok c.in-Read.is)) same
     c.messages.invariant.pending c.messages.invariant.keeps c.take.ensures.runs
 
 pub returns-then-eq-clause-stay : goal.returns-then-eq-clause-stay
@@ -53,7 +53,7 @@ messages-preserved g c = record {
   leaves = leaves_then _ _ _ c.messages.invariant.leaves c.take.ensures.leaves;
   stay = all_then _ _ _ c.messages.invariant.stay c.take.ensures.stay;
   pending = still_reading _ _ _ c.args.reading.ticket _ _ c.take.ensures.reads
-      (ap (λ (r : Result Took Cut). is_read_of (taking_in r c.take.new.into) c.args.reading.ticket) (c.in_ok-settled.was ∙ ap Ok c.in-Read.is)
+      (ap (λ (r : Result Took Cut). is_read_of (taking_in r c.take.new.self.slots.spare.value) c.args.reading.ticket) (c.in_ok-settled.was ∙ ap Ok c.in-Read.is)
       ∙ (sym c.eq.ensures ∙ c.if-eq.false)) c.messages.invariant.pending;
   flush = follows_then _ _ _ _ _ _ c.messages.invariant.flush c.take.ensures.flush;
   goes = g.met.L.Link.joins _ _ _ c.messages.invariant.goes c.take.ensures.goes;

@@ -6,6 +6,7 @@ use Rattle.cache.specs.Slots.{lower_of}
 use Rattle.cache.proofs.Held.{distinct_kept}
 use Rattle.cache.proofs.Choosing.{none_below_changed}
 use Rattle.cache.proofs.Indexed.{few_set, index_kept}
+use Rattle.cache.proofs.Turns.{rank_changed}
 use Rattle.cache.proofs.table.Slots.change.Goals as goal
 
 pub invariant_of-self : goal.invariant_of-self
@@ -22,6 +23,8 @@ invariant_of-self c =
       indexed = index_kept _ items c.args.at c.index_mut-slot.result.now _ s.indexed at c.change.ensures.block;
       room = s.room ∙ sym (length-set items c.args.at _);
       paired = s.paired ∙ sym (length-set items c.args.at _);
+      ranked = rank_changed items s.uses.numbers.items s.winners.keys.items _ c.args.at _ c.number.result c.index_mut-slot.result.now _ s.ranked at
+          c.number.ensures.number c.turn-key.ensures c.set.ensures;
       skipped = none_below_changed items c.args.at s.search_from _ c.index_mut-slot.result.now _ at
           (c.lowered-self.ensures ∙ ap (lower_of s.search_from) c.clean_block.ensures)
           c.change.ensures.block c.change.ensures.state s.skipped;

@@ -7,6 +7,9 @@ use Rattle.cache.proofs.Held.{distinct_filled}
 use Rattle.cache.proofs.Choosing.{none_below_lowered}
 use Rattle.cache.proofs.Filling.{free_at, vacated_none}
 use Rattle.cache.proofs.Indexed.{few_set, has_no_place, count_free, index_filled, set_again}
+use Rattle.cache.specs.declared.slot.Slot.{Slot}
+use Rattle.cache.specs.Order.{IsRanked, IsRankedBut}
+use Rattle.cache.proofs.Turns.{but_set}
 use Rattle.cache.proofs.table.Slots.fill.Goals as goal
 
 pub insert-requires-clause-missing : goal.insert-requires-clause-missing
@@ -24,6 +27,12 @@ insert-requires-clause-room c =
     let less = count_free v.items.items c.args.at f.slot f.is f.none in
     omega (arith, less, v.indexed.count, v.room)
 
+pub use_now-requires-clause-others : goal.use_now-requires-clause-others
+use_now-requires-clause-others c =
+    let v = c.vacate.new.self in
+    subst (λ (l : List Slot). IsRankedBut c.args.at l v.uses.numbers.items v.winners.keys.items) (sym c.deref.ensures.value)
+    (but_set v.items.items v.uses.numbers.items v.winners.keys.items c.args.at _ v.ranked)
+
 pub invariant_of-self : goal.invariant_of-self
 invariant_of-self c =
     let s = c.args.self.now in
@@ -39,7 +48,9 @@ invariant_of-self c =
       indexed = index_filled v.index.entries.items c.insert.new.self.entries.items v.items.items c.args.at c.args.block f.slot _ v.indexed f.is f.none
           c.hold.ensures.block free i.this i.others i.count;
       room = i.room ∙ v.room ∙ sym (length-set v.items.items c.args.at _);
-      paired = v.paired ∙ sym (length-set v.items.items c.args.at _);
+      paired = c.use_now.ensures.used.count ∙ v.paired ∙ sym (length-set v.items.items c.args.at _);
+      ranked = subst (λ (l : List Slot). IsRanked l c.use_now.new.uses.numbers.items c.use_now.new.winners.keys.items) c.deref.ensures.value
+          c.use_now.ensures.ranked;
       skipped = none_below_lowered v.items.items c.args.at v.search_from _ f.slot _ f.is
           (c.lowered-self.ensures ∙ ap (lower_of v.search_from) c.dirty_block.ensures) v.skipped;
     }
@@ -54,12 +65,12 @@ returns-clause-filled c =
       slot = e.slot;
       after = c.hold.new.self;
       is = e.is;
-      all = c.touch.ensures.items ∙ set_again s.items.items v.items.items c.args.at _ c.hold.new.self e.all;
+      all = set_again s.items.items v.items.items c.args.at _ c.hold.new.self e.all;
       block_is = h.block;
-      bytes_are = h.bytes;
+      bytes_are = ap (λ b. b.value) (h.bytes ∙ c.vacate.ensures.spare);
       state_is = h.state;
     }
 
 pub returns-clause-used : goal.returns-clause-used
 returns-clause-used c =
-    subst (λ (l : List ℕ). IsUsedLast l c.touch.new.self.uses.numbers.items c.args.at) (ap (λ u. u.numbers.items) c.vacate.ensures.uses) c.touch.ensures.used
+    subst (λ (l : List ℕ). IsUsedLast l c.use_now.new.uses.numbers.items c.args.at) (ap (λ u. u.numbers.items) c.vacate.ensures.uses) c.use_now.ensures.used

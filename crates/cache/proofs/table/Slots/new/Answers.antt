@@ -2,6 +2,7 @@ use Rattle.std.proofs.Common.{◌≡◌, List, length, sym, ap, subst, ◌∙◌
 use Rattle.cache.specs.declared.index.Entry.{Entry}
 use Rattle.cache.specs.declared.slot.Slot.{Slot}
 use Rattle.cache.specs.Index.{IsIndexOf}
+use Rattle.cache.specs.Order.{IsRanked}
 use Rattle.cache.proofs.Making.{AllFree, free_none, free_held, free_distinct}
 use Rattle.cache.proofs.Indexed.{index_none}
 use Rattle.cache.proofs.Choosing.{none_below_free}
@@ -20,7 +21,7 @@ pub invariant_of-result : goal.invariant_of-result
 invariant_of-result c =
     let items = c.free.items.items in
     let i = c.free.invariant in
-    let index = c.in_ok-new-2.ensures in
+    let index = c.in_ok-new.ensures in
     let count : length items ≡ c.args.count = i.count ∙ omega (arith, c.free-test.false) in
     record {
       distinct = free_distinct items i.free;
@@ -28,6 +29,8 @@ invariant_of-result c =
       few = omega (arith, count, c.requires.few);
       indexed = subst (λ (l : List Entry). IsIndexOf l items) (sym index.none) (index_none items i.free);
       room = index.room ∙ sym count;
-      paired = c.in_ok-new.ensures ∙ sym count;
+      paired = c.in_ok-uses.ensures ∙ sym count;
+      ranked = subst (λ (l : List Slot). IsRanked l c.in_ok-uses.uses.numbers.items c.rank_all.new.winners.keys.items) c.deref.ensures.value
+          c.rank_all.ensures;
       skipped = none_below_free items _ i.free;
     }

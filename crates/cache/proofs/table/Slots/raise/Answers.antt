@@ -11,5 +11,6 @@ invariant_of-self c =
       indexed = s.indexed;
       room = s.room;
       paired = s.paired;
+      ranked = s.ranked;
       skipped = none_below_lowest s.items.items c.lowest_block.result _ _ s.distinct c.lowest_block.ensures c.unwrap_or-self.ensures;
     }

@@ -3,7 +3,7 @@ use Rattle.cache.proofs.Settled.{Settling, settling_none, settling_more, settled
 use Rattle.cache.proofs.table.Slots.settle.Goals as goal
 
 pub loop-at-init : goal.loop-at-init
-loop-at-init c = record { settling = settling_none c.args.ticket c.args.self.now.items.items; within = omega arith; uses = refl }
+loop-at-init c = record { settling = settling_none c.args.ticket c.args.self.now.items.items; within = omega arith; uses = refl; spare = refl }
 
 pub settle_at-requires : goal.settle_at-requires
 settle_at-requires c = let k = c.loop-at.invariant.settling.count in omega (arith, k, c.loop-at-test.true, c.len-at-end.ensures)
@@ -15,6 +15,7 @@ loop-at-preserved c =
       settling = settling_more c.args.ticket _ _ _ c.loop-at.at i.settling c.settle_at.ensures.set;
       within = omega (arith, c.loop-at-test.true, c.len-at-end.ensures);
       uses = c.settle_at.ensures.uses ∙ i.uses;
+      spare = c.settle_at.ensures.spare ∙ i.spare;
     }
 
 pub returns-clause-written : goal.returns-clause-written

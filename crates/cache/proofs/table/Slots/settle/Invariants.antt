@@ -7,4 +7,5 @@ invariant-loop-at l = record {
   settling : Settling l.ticket l.initial.self.items.items l.self.items.items l.at;
   within : l.at ≤ length l.initial.self.items.items;
   uses : l.self.uses ≡ l.initial.self.uses;
+  spare : l.self.spare ≡ l.initial.self.spare;
 }

@@ -1,5 +1,5 @@
 use Rattle.std.proofs.Common.{◌≡◌, ◌≤◌, length}
-use Rattle.cache.proofs.Links.{IsCounted}
+use Rattle.cache.proofs.Order.{IsCounted}
 use Rattle.cache.proofs.uses.Uses.new.Given as goal
 
 abbrev pub invariant-loop-at : goal.invariant-loop-at

@@ -1,12 +1,11 @@
-use Rattle.std.proofs.Common.{◌≡◌, ℕ, ◌+◌, List, length, sym, ap, subst, ◌∙◌, arith}
-use Rattle.cache.specs.Uses.{AllBelow, KeepsOrder}
-use Rattle.cache.specs.Ring.{IsInOrder}
-use Rattle.cache.proofs.Links.{order_keeps}
-use Rattle.cache.proofs.Order.{Numbered, numbered_all, rank_most, numbered_below, numbered_order}
+use Rattle.std.proofs.Common.{◌≡◌, ◌≤◌, ℕ, ◌+◌, List, length, sym, ap, subst, ◌∙◌, arith}
+use Rattle.cache.specs.Uses.{AllBelow, IsNewest, KeepsOrder}
+use Rattle.cache.proofs.Order.{Numbered, numbered_all, rank_most, numbered_below, numbered_order, newest_keeps}
 use Rattle.cache.proofs.uses.Uses.renumber.Goals as goal
 
 pub invariant_of-self-2 : goal.invariant_of-self-2
 invariant_of-self-2 c =
+    let s = c.loop-at.self in
     let old = c.args.self.now.numbers.items in
     let new = c.loop-at.self.spare.items in
     let i = c.loop-at.invariant in
@@ -16,17 +15,16 @@ invariant_of-self-2 c =
     let x : c.swap.new.x.items ≡ new = ap (λ v. v.items) c.swap.ensures.x_after in
     let y : c.swap.new.y.items ≡ old = ap (λ v. v.items) c.swap.ensures.y_after ∙ same in
     let count : length c.swap.new.x.items ≡ length old = ap (λ (l : List ℕ). length l) x ∙ h.count in
-    let r = c.loop-at.self.ring in
-    let linked : length r.newer.items ≡ length old = c.loop-at.self.linked ∙ ap (λ (l : List ℕ). length l) same in
     let is : c.len.result ≡ length old = omega (arith, c.len.ensures, c.swap.new.x.ok, count) in
+    let few : length old ≤ 4096 = c.args.self.now.few in
     record {
       below = subst (λ (n : ℕ). AllBelow c.swap.new.x.items (n + 1)) (sym is)
           (subst (λ (l : List ℕ). AllBelow l (length old + 1)) (sym x) (numbered_below old new h));
+      bound = omega (arith, is, few);
+      few = omega (arith, count, few);
       paired = ap (λ (l : List ℕ). length l) y ∙ sym count;
-      linked = linked ∙ sym count;
-      in_order = subst (λ (l : List ℕ). IsInOrder l r.newer.items r.newest) (sym x)
-          (order_keeps old new r.newer.items r.older.items r.newest (numbered_order old new h) linked r.ring
-          (subst (λ (l : List ℕ). IsInOrder l r.newer.items r.newest) same c.loop-at.self.in_order));
+      last = subst (λ (l : List ℕ). IsNewest l s.newest) (sym x)
+          (newest_keeps old new s.newest (numbered_order old new h) (subst (λ (l : List ℕ). IsNewest l s.newest) same s.last));
     }
 
 pub returns-clause-order : goal.returns-clause-order

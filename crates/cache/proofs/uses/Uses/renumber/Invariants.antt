@@ -5,7 +5,6 @@ use Rattle.cache.proofs.uses.Uses.renumber.Given as goal
 abbrev pub invariant-loop-at : goal.invariant-loop-at
 invariant-loop-at l = record {
   numbers : l.self.numbers ≡ l.fn.self.numbers;
-  ring : l.self.ring ≡ l.fn.self.ring;
   within : l.at ≤ length l.fn.self.numbers.items;
   numbered : Numbered l.fn.self.numbers.items l.self.spare.items l.at;
 }
