@@ -188,7 +188,7 @@ began_reads start size [] ps asked d same b = tt
 began_reads start size (Began r ∷ acts) ps asked d same b =
     let p = b.0.0 in
     let is = piece_of start size ps asked d same p b.0.1 in
-    (ap (λ (q : BlockRequest). is_write q.kind) (sym b.0.2) ∙ only_read p.request.kind p.given.value (ap (λ (x : Begun). x.written) is.2), began_reads start size acts ps asked d same b.1)
+    (ap (λ (q : BlockRequest). is_write q.kind) (sym b.0.2) ∙ only_read p.request.kind p.bytes (ap (λ (x : Begun). x.written) is.2), began_reads start size acts ps asked d same b.1)
 began_reads start size (Absorbed m ∷ acts) ps asked d same b = began_reads start size acts ps asked d same b
 began_reads start size (AtLink t ∷ acts) ps asked d same b = began_reads start size acts ps asked d same b
 

@@ -276,7 +276,7 @@ joined_reads : (image : Contents) (marks : List Mark) (a : BlockReply) (q : Pend
     → HasTrueReplies image (Answered a ∷ marks)
     → is_write q.request.kind ≡ false
     → ReadsDisk image marks q
-    → ((k : ℕ) → q.start + k < q.request.position → slice_index bytes k ≡ slice_index q.request.bytes k)
+    → ((k : ℕ) → q.start + k < q.request.position → slice_index bytes k ≡ slice_index q.bytes k)
     → ((k : ℕ) → k < n → slice_index bytes (q.request.position - q.start + k) ≡ slice_index a.bytes k)
     → (k : ℕ) → q.start + k < q.request.position + n → unsure (Answered a ∷ marks) (q.start + k) ≡ false
     → slice_index bytes k ≡ disk_after image (Answered a ∷ marks) (q.start + k)
@@ -306,13 +306,13 @@ rest_reads : (image : Contents) (marks : List Mark) (a : BlockReply) (q r : Pend
     → is_write q.request.kind ≡ false
     → ReadsDisk image marks q
     → r.start ≡ q.start → r.request.position ≡ q.request.position + n
-    → ((k : ℕ) → q.start + k < q.request.position → slice_index r.request.bytes k ≡ slice_index q.request.bytes k)
-    → ((k : ℕ) → k < n → slice_index r.request.bytes (q.request.position - q.start + k) ≡ slice_index a.bytes k)
+    → ((k : ℕ) → q.start + k < q.request.position → slice_index r.bytes k ≡ slice_index q.bytes k)
+    → ((k : ℕ) → k < n → slice_index r.bytes (q.request.position - q.start + k) ≡ slice_index a.bytes k)
     → ReadsDisk image (Answered a ∷ marks) r
 rest_reads image marks a q r n w m tr read old start position before new = record {
   each = λ k lt sure.
       let at : q.start + k ≡ r.start + k = omega (arith, start) in
-      joined_reads image marks a q n r.request.bytes w m tr read old before new k (omega (arith, lt, start, position))
+      joined_reads image marks a q n r.bytes w m tr read old before new k (omega (arith, lt, start, position))
       (ap (λ (x : ℕ). unsure (Answered a ∷ marks) x) at ∙ sure)
       ∙ ap (λ (x : ℕ). disk_after image (Answered a ∷ marks) x) at;
 }
@@ -367,10 +367,10 @@ pub agrees_rest : (t v u : Table) (marks : List Mark) (a : BlockReply) (e r : Pe
     → u.pending ≡ v.pending ++ r ∷ [] → u.ids ≡ v.ids + 1 → r.request.id ≡ v.ids + 1
     → u.posted ≡ v.posted → u.issued ≡ v.issued → u.current ≡ v.current → u.given_up ≡ v.given_up
     → r.start ≡ e.start → r.size ≡ e.size → r.request.kind ≡ e.request.kind → r.request.position ≡ e.request.position + n
-    → (is_write e.request.kind ≡ false → (k : ℕ) → e.start + k < e.request.position → slice_index r.request.bytes k ≡ slice_index e.request.bytes k)
-    → (is_write e.request.kind ≡ false → (k : ℕ) → k < n → slice_index r.request.bytes (e.request.position - e.start + k) ≡ slice_index a.bytes k)
+    → (is_write e.request.kind ≡ false → (k : ℕ) → e.start + k < e.request.position → slice_index r.bytes k ≡ slice_index e.bytes k)
+    → (is_write e.request.kind ≡ false → (k : ℕ) → k < n → slice_index r.bytes (e.request.position - e.start + k) ≡ slice_index a.bytes k)
     → r.request.count + n ≡ e.request.count
-    → (is_write e.request.kind ≡ true → (k : ℕ) → slice_index r.given.value k ≡ slice_index e.given.value k)
+    → (is_write e.request.kind ≡ true → (k : ℕ) → slice_index r.bytes k ≡ slice_index e.bytes k)
     → (is_write e.request.kind ≡ true → (k : ℕ) → k < r.request.count → slice_index r.request.bytes k ≡ slice_index e.request.bytes (n + k))
     → Agrees u (Answered a ∷ marks)
 agrees_rest t v u marks a e r n x m items ids number posted issued current given_up start size kind position before new count bytes left =
@@ -399,7 +399,7 @@ agrees_done t v marks a e n x = record { opened = x.opened; waiting = x.waiting;
 pub done_reads : (t v : Table) (marks : List Mark) (image : Contents) (a : BlockReply) (e : Pending) (n : ℕ) (bytes : List ℕ)
     → Taken t v marks a e n → moved_by a marks ≡ Some n
     → HasTrueReplies image (Answered a ∷ marks) → is_write e.request.kind ≡ false → n ≡ e.request.count
-    → ((k : ℕ) → e.start + k < e.request.position → slice_index bytes k ≡ slice_index e.request.bytes k)
+    → ((k : ℕ) → e.start + k < e.request.position → slice_index bytes k ≡ slice_index e.bytes k)
     → ((k : ℕ) → k < n → slice_index bytes (e.request.position - e.start + k) ≡ slice_index a.bytes k)
     → AreDisk image (Answered a ∷ marks) e.start e.size bytes
 done_reads t v marks image a e n bytes x m tr read all before new = record {
@@ -410,7 +410,7 @@ done_reads t v marks image a e n bytes x m tr read all before new = record {
 -- and the bytes of the answers to it, joined
 pub done_joined : (t v : Table) (marks : List Mark) (a : BlockReply) (e : Pending) (n : ℕ) (bytes : List ℕ)
     → Taken t v marks a e n → moved_by a marks ≡ Some n → is_write e.request.kind ≡ false → n ≡ e.request.count
-    → ((k : ℕ) → e.start + k < e.request.position → slice_index bytes k ≡ slice_index e.request.bytes k)
+    → ((k : ℕ) → e.start + k < e.request.position → slice_index bytes k ≡ slice_index e.bytes k)
     → ((k : ℕ) → k < n → slice_index bytes (e.request.position - e.start + k) ≡ slice_index a.bytes k)
     → (k : ℕ) → k < e.size → WasRead (Answered a ∷ marks) (e.start + k) (slice_index bytes k)
 done_joined t v marks a e n bytes x m read all before new k lt =
@@ -586,7 +586,7 @@ pub agrees_add : (t u : Table) (marks : List Mark) (q : Pending) → Agrees t ma
     → u.posted ≡ t.posted → u.issued ≡ t.issued → u.current ≡ t.current → u.given_up ≡ t.given_up
     → length t.pending < 16
     → q.request.position ≡ q.start
-    → (is_write q.request.kind ≡ true → (k : ℕ) → slice_index q.request.bytes k ≡ slice_index q.given.value k)
+    → (is_write q.request.kind ≡ true → (k : ℕ) → slice_index q.request.bytes k ≡ slice_index q.bytes k)
     → list_any (meets q.start q.size) t.pending ≡ false
     → Agrees u marks
 agrees_add t u marks q h items ids number posted issued current given_up few begins bytes free =
@@ -602,6 +602,6 @@ agrees_add t u marks q h items ids number posted issued current given_up few beg
           (λ image w. record {
             moved = λ k lt. absurd (omega arith);
             left = λ k lt. let at : k ≡ q.request.position - q.start + k = omega (arith, begins) in
-                bytes w k ∙ ap (λ (x : ℕ). slice_index q.given.value x) at;
+                bytes w k ∙ ap (λ (x : ℕ). slice_index q.bytes x) at;
           });
     }

@@ -63,9 +63,9 @@ pub closes_written : (ps us : List Pending) (at t : ℕ) (e : Pending) (ids : �
 closes_written ps us at t e ids lt is h items ticket w =
     rw (ticket, items) (
       begun_of e,
-      e.given.value,
+      e.bytes,
       pending_among e ps h.distinct (among_here ps at e lt is),
-      is_written e.request.kind e.given.value w,
+      is_written e.request.kind e.bytes w,
       removed_put ps at e lt is h.distinct,
     )
 
@@ -77,7 +77,7 @@ closes_read ps us at t bytes e ids lt is h items ticket w =
     rw (ticket, items) (
       begun_of e,
       pending_among e ps h.distinct (among_here ps at e lt is),
-      not_written e.request.kind e.given.value w,
+      not_written e.request.kind e.bytes w,
       removed_put ps at e lt is h.distinct,
     )
 
@@ -92,18 +92,18 @@ same_written kind.Write b c h = ap (λ (l : List ℕ). Some l) (h refl)
 
 -- the same request as it was begun
 open_same : (e r : Pending) → r.start ≡ e.start → r.size ≡ e.size → r.request.kind ≡ e.request.kind
-    → (is_write e.request.kind ≡ true → r.given.value ≡ e.given.value) → begun_of r ≡ begun_of e
+    → (is_write e.request.kind ≡ true → r.bytes ≡ e.bytes) → begun_of r ≡ begun_of e
 open_same e r s z k b =
-    ap (λ (x : ℕ). begun x r.size (written_by r.request.kind r.given.value)) s
-    ∙ ap (λ (x : ℕ). begun e.start x (written_by r.request.kind r.given.value)) z
-    ∙ ap (λ (x : Kind). begun e.start e.size (written_by x r.given.value)) k
-    ∙ ap (λ (x : Option (List ℕ)). begun e.start e.size x) (same_written e.request.kind r.given.value e.given.value b)
+    ap (λ (x : ℕ). begun x r.size (written_by r.request.kind r.bytes)) s
+    ∙ ap (λ (x : ℕ). begun e.start x (written_by r.request.kind r.bytes)) z
+    ∙ ap (λ (x : Kind). begun e.start e.size (written_by x r.bytes)) k
+    ∙ ap (λ (x : Option (List ℕ)). begun e.start e.size x) (same_written e.request.kind r.bytes e.bytes b)
 
 -- a request goes on with its rest
 pub closes_rest : (ps vs us : List Pending) (at : ℕ) (e r : Pending) (ids : ℕ) → at < length ps → e ≡ get_or ps at e → HasNumbers ids ps
     → vs ≡ remove ps at → us ≡ vs ++ r ∷ [] → r.ticket ≡ e.ticket
     → r.start ≡ e.start → r.size ≡ e.size → r.request.kind ≡ e.request.kind
-    → (is_write e.request.kind ≡ true → r.given.value ≡ e.given.value)
+    → (is_write e.request.kind ≡ true → r.bytes ≡ e.bytes)
     → Closes settled.Nothing (pending_of ps) (pending_of us)
 closes_rest ps vs us at e r ids lt is h gone items t s z k b =
     let x = split_at ps at e lt is in
@@ -135,11 +135,11 @@ joins_read ps e more bytes d i h = λ r is.
 
 -- a settled write is the disk's, and sure
 pub tells_written : (ps : List Pending) (e : Pending) (image : Contents) (more : List Mark)
-    → AreDistinct ps → IsAmong e ps → is_write e.request.kind ≡ true → AreWritten image more e.start e.size e.given.value
+    → AreDistinct ps → IsAmong e ps → is_write e.request.kind ≡ true → AreWritten image more e.start e.size e.bytes
     → Tells (settled.Written e.ticket) (pending_of ps) (state_after image more)
 tells_written ps e image more d i w h = λ r bytes is wr k lt.
     let same : begun_of e ≡ r = some_same (sym (pending_among e ps d i) ∙ is) in
-    let b : e.given.value ≡ bytes = some_bytes (sym (is_written e.request.kind e.given.value w) ∙ ap (λ (x : Begun). x.written) same ∙ wr) in
+    let b : e.bytes ≡ bytes = some_bytes (sym (is_written e.request.kind e.bytes w) ∙ ap (λ (x : Begun). x.written) same ∙ wr) in
     let s : e.start ≡ r.start = ap (λ (x : Begun). x.start) same in
     let z : e.size ≡ r.size = ap (λ (x : Begun). x.size) same in
     let x = h.each k (omega (arith, lt, z)) in
@@ -148,7 +148,7 @@ tells_written ps e image more d i w h = λ r bytes is wr k lt.
     some_same : {r : Begun} → Some (begun_of e) ≡ Some r → begun_of e ≡ r
     some_same h = cc
 
-    some_bytes : {b : List ℕ} → Some e.given.value ≡ Some b → e.given.value ≡ b
+    some_bytes : {b : List ℕ} → Some e.bytes ≡ Some b → e.bytes ≡ b
     some_bytes h = cc
 
 -- a place of an entry that is apart from all pending ones
@@ -194,7 +194,7 @@ closing_read ps us marks more e t bytes d i ticket s h j on = rw ticket (record 
 pub closing_written : (ps us : List Pending) (marks more : List Mark) (e : Pending) (t : ℕ)
     → AreDistinct ps → IsAmong e ps → t ≡ e.ticket → is_write e.request.kind ≡ true
     → ((image : Contents) → Spares (pending_of ps) (state_after image marks) (state_after image more))
-    → ((image : Contents) → AreWritten image more e.start e.size e.given.value)
+    → ((image : Contents) → AreWritten image more e.start e.size e.bytes)
     → ApartFromAll e us → ReadsOn ps us marks more
     → Closing (settled.Written t) ps us marks more
 closing_written ps us marks more e t d i ticket w s h a on = rw ticket (record {
@@ -242,7 +242,7 @@ closing_dropped ps marks = closing_nothing ps ps marks marks (λ image. spares_s
 pub done_writes : (t v : Table) (marks : List Mark) (image : Contents) (a : BlockReply) (e : Pending) (n : ℕ)
     → Taken t v marks a e n → moved_by a marks ≡ Some n
     → is_write e.request.kind ≡ true → n ≡ e.request.count
-    → AreWritten image (Answered a ∷ marks) e.start e.size e.given.value
+    → AreWritten image (Answered a ∷ marks) e.start e.size e.bytes
 done_writes t v marks image a e n x m w all = record {
   each = λ k lt. was_moved image marks a e n x.there m x.within w (x.writes image w) k (omega (arith, lt, all, e.end));
 }

@@ -88,7 +88,7 @@ joined_answered marks a q n (p ∷ ps) w m le ap' h = (
 pub was_joined : (marks : List Mark) (a : BlockReply) (q : Pending) (n : ℕ) (bytes : List ℕ)
     → asked_by a marks ≡ Some q.request → moved_by a marks ≡ Some n
     → is_write q.request.kind ≡ false → IsJoined marks q
-    → ((k : ℕ) → q.start + k < q.request.position → slice_index bytes k ≡ slice_index q.request.bytes k)
+    → ((k : ℕ) → q.start + k < q.request.position → slice_index bytes k ≡ slice_index q.bytes k)
     → ((k : ℕ) → k < n → slice_index bytes (q.request.position - q.start + k) ≡ slice_index a.bytes k)
     → (k : ℕ) → q.start + k < q.request.position + n → WasRead (Answered a ∷ marks) (q.start + k) (slice_index bytes k)
 was_joined marks a q n bytes w m read old before new k lt = elim (leb_tells (q.start + k + 1) q.request.position) [
@@ -107,11 +107,11 @@ pub joined_rest : (marks : List Mark) (a : BlockReply) (q r : Pending) (n : ℕ)
     → asked_by a marks ≡ Some q.request → moved_by a marks ≡ Some n
     → is_write q.request.kind ≡ false → IsJoined marks q
     → r.start ≡ q.start → r.request.position ≡ q.request.position + n
-    → ((k : ℕ) → q.start + k < q.request.position → slice_index r.request.bytes k ≡ slice_index q.request.bytes k)
-    → ((k : ℕ) → k < n → slice_index r.request.bytes (q.request.position - q.start + k) ≡ slice_index a.bytes k)
+    → ((k : ℕ) → q.start + k < q.request.position → slice_index r.bytes k ≡ slice_index q.bytes k)
+    → ((k : ℕ) → k < n → slice_index r.bytes (q.request.position - q.start + k) ≡ slice_index a.bytes k)
     → IsJoined (Answered a ∷ marks) r
 joined_rest marks a q r n w m read old start position before new = record {
-  each = λ k lt. rw start (was_joined marks a q n r.request.bytes w m read old before new k (omega (arith, lt, start, position)));
+  each = λ k lt. rw start (was_joined marks a q n r.bytes w m read old before new k (omega (arith, lt, start, position)));
 }
 
 -- one more, and one less

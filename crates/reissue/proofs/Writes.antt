@@ -148,7 +148,7 @@ pub was_moved : (image : Contents) (marks : List Mark) (a : BlockReply) (q : Pen
     → is_write q.request.kind ≡ true
     → Wrote image marks q
     → (k : ℕ) → q.start + k < q.request.position + n
-    → (disk_after image (Answered a ∷ marks) (q.start + k) ≡ slice_index q.given.value k) × (unsure (Answered a ∷ marks) (q.start + k) ≡ false)
+    → (disk_after image (Answered a ∷ marks) (q.start + k) ≡ slice_index q.bytes k) × (unsure (Answered a ∷ marks) (q.start + k) ≡ false)
 was_moved image marks a q n w m le is_w old k lt = elim (leb_tells (q.start + k + 1) q.request.position) [
   | inl h ↦
       let s = same_at image marks a q.request n (q.start + k) w m (inr (inl (omega (arith, h.1)))) in
@@ -158,7 +158,7 @@ was_moved image marks a q n w m le is_w old k lt = elim (leb_tells (q.start + k 
       let j = q.start + k - q.request.position in
       let x = moved_at image marks a q.request n (q.start + k) w m is_w (omega (arith, h.1)) lt in
       let at : q.request.position - q.start + j ≡ k = omega (arith, h.1, q.from) in
-      (x.0 ∙ old.left j (omega (arith, h.1, le)) ∙ ap (λ (x : ℕ). slice_index q.given.value x) at, x.1)
+      (x.0 ∙ old.left j (omega (arith, h.1, le)) ∙ ap (λ (x : ℕ). slice_index q.bytes x) at, x.1)
 ]
 
 -- so it is of its rest
@@ -168,7 +168,7 @@ pub wrote_rest : (image : Contents) (marks : List Mark) (a : BlockReply) (q r : 
     → is_write q.request.kind ≡ true
     → Wrote image marks q
     → r.start ≡ q.start → r.request.position ≡ q.request.position + n → r.request.count + n ≡ q.request.count
-    → ((k : ℕ) → slice_index r.given.value k ≡ slice_index q.given.value k)
+    → ((k : ℕ) → slice_index r.bytes k ≡ slice_index q.bytes k)
     → ((k : ℕ) → k < r.request.count → slice_index r.request.bytes k ≡ slice_index q.request.bytes (n + k))
     → Wrote image (Answered a ∷ marks) r
 wrote_rest image marks a q r n w m le is_w old start position count bytes left = record {
@@ -178,7 +178,7 @@ wrote_rest image marks a q r n w m le is_w old start position count bytes left =
       );
   left = λ k lt.
       let at : q.request.position - q.start + (n + k) ≡ r.request.position - r.start + k = omega (arith, q.from, start, position) in
-      left k lt ∙ old.left (n + k) (omega (arith, count)) ∙ ap (λ (x : ℕ). slice_index q.given.value x) at
+      left k lt ∙ old.left (n + k) (omega (arith, count)) ∙ ap (λ (x : ℕ). slice_index q.bytes x) at
       ∙ sym (bytes (r.request.position - r.start + k));
 }
 
@@ -195,7 +195,7 @@ quiet_at q ps place d i w h =
       | inr l ↦ inl (omega (arith, l.1))
       | inl l ↦ elim (leb_tells (q.start + q.size) place) [
         | inl r ↦ inr r.1
-        | inr r ↦ absurd (h.none q.ticket (begun_of q) q.given.value (pending_among q ps d i) (is_written q.request.kind q.given.value w)
+        | inr r ↦ absurd (h.none q.ticket (begun_of q) q.bytes (pending_among q ps d i) (is_written q.request.kind q.bytes w)
             (record { from = l.1; to = omega (arith, r.1) }))
       ]
     ]

@@ -41,7 +41,7 @@ AllApart (p ∷ ps) = ApartFromAll p ps × AllApart ps
 -- of a read: what was read so far is the disk's, where the disk is sure
 pub record ReadsDisk (image : Contents) (marks : List Mark) (p : Pending) : Type 0 where
   pub each : (k : ℕ) → p.start + k < p.request.position → unsure marks (p.start + k) ≡ false
-      → slice_index p.request.bytes k ≡ disk_after image marks (p.start + k)
+      → slice_index p.bytes k ≡ disk_after image marks (p.start + k)
 
 -- so it is of each read among them
 abbrev pub AllReadDisk : Contents → List Mark → List Pending → Type 0
@@ -52,9 +52,9 @@ AllReadDisk image marks (p ∷ ps) =
 -- of a write: what was moved is the disk's, which is sure of it, and the rest is what is asked for
 pub record Wrote (image : Contents) (marks : List Mark) (p : Pending) : Type 0 where
   pub moved : (k : ℕ) → p.start + k < p.request.position
-      → (disk_after image marks (p.start + k) ≡ slice_index p.given.value k) × (unsure marks (p.start + k) ≡ false)
+      → (disk_after image marks (p.start + k) ≡ slice_index p.bytes k) × (unsure marks (p.start + k) ≡ false)
   pub left : (k : ℕ) → k < p.request.count
-      → slice_index p.request.bytes k ≡ slice_index p.given.value (p.request.position - p.start + k)
+      → slice_index p.request.bytes k ≡ slice_index p.bytes (p.request.position - p.start + k)
 
 -- so it is of each write among them
 abbrev pub AllWrote : Contents → List Mark → List Pending → Type 0
@@ -63,7 +63,7 @@ AllWrote image marks (p ∷ ps) = (is_write p.request.kind ≡ true → Wrote im
 
 -- of a read: what was read so far are the answers' bytes, joined, and each place of it was read
 pub record IsJoined (marks : List Mark) (p : Pending) : Type 0 where
-  pub each : (k : ℕ) → p.start + k < p.request.position → WasRead marks (p.start + k) (slice_index p.request.bytes k)
+  pub each : (k : ℕ) → p.start + k < p.request.position → WasRead marks (p.start + k) (slice_index p.bytes k)
 
 -- so it is of each read among them
 abbrev pub AllJoined : List Mark → List Pending → Type 0

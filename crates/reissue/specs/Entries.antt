@@ -8,7 +8,7 @@ use Rattle.reissue.specs.declared.pending.Pending.{Pending}
 
 -- the request as it was begun
 abbrev pub begun_of : Pending → Begun
-begun_of p = record { start = p.start; size = p.size; written = written_by p.request.kind p.given.value }
+begun_of p = record { start = p.start; size = p.size; written = written_by p.request.kind p.bytes }
 
 -- the request for what is left
 abbrev pub request_of : Pending → BlockRequest

@@ -5,10 +5,9 @@ ghost use Rattle.message.specs.Good.{is_write};
 
 use crate::ask::{Ask, Ticket};
 use message::{BlockRequest, Kind};
-use std::snapshot::Snapshot;
 
 /// A request that isn't settled: the range that was asked for, and the request for what is left of it.
-#[derive(Drop)]
+#[derive(Clone, Copy)]
 pub struct Pending {
     /// What whoever began it knows it by.
     pub ticket: Ticket,
@@ -16,10 +15,9 @@ pub struct Pending {
     pub start: u64,
     /// How many bytes were asked for.
     pub size: u32,
-    /// A write's bytes as they were given, for contracts alone: here they take no room.
-    pub given: Snapshot<[u8; 4096]>,
-    /// The request for what is left, under its present id. A write has the bytes that are left. In a read, whose bytes have no meaning for
-    /// a driver, what was read so far stands at the front.
+    /// Of a read, what was read so far, and the others have no meaning; of a write, the bytes as they were given.
+    pub bytes: [u8; 4096],
+    /// The request for what is left, under its present id. A read's bytes have no meaning.
     pub request: BlockRequest,
     pub ghost some: { 0 < size },
     pub ghost small: { size ≤ 4096 },
@@ -68,7 +66,7 @@ impl Pending {
             ticket: Ticket::of_id(0),
             start: 0,
             size: 512,
-            given: Snapshot::of(&[0; 4096]),
+            bytes: [0; 4096],
             request: BlockRequest {
                 id: 0,
                 kind: Kind::Read,
@@ -80,13 +78,13 @@ impl Pending {
         }
     }
 
-    /// It is what is asked for from now on, under this id. A write's bytes are copied, once. Those of a read have no meaning; zeros take the
-    /// place of an earlier write's, since a run's notes keep what isn't zero.
+    /// It is what is asked for from now on, under this id. A write's bytes are copied. Those of a read have no meaning; zeros take the place
+    /// of an earlier write's, since a run's notes keep what isn't zero.
     pub(crate) fn begin(&mut self, ask: &Ask<'_>, id: u64)
         ensures ticket { self.new.ticket ≡ id }
         ensures start { self.new.start ≡ ask.now.position }
         ensures size { self.new.size ≡ ask.now.count }
-        ensures given { self.new.given.value ≡ ask.now.bytes.now }
+        ensures bytes { is_write ask.now.kind ≡ true → self.new.bytes ≡ ask.now.bytes.now }
         ensures begun { begun_of self.new ≡ begun_by ask.now }
         ensures request { IsRequestFor ask.now id self.new.request }
     {
@@ -94,7 +92,6 @@ impl Pending {
         self.ticket = Ticket::of_id(id);
         self.start = ask.position;
         self.size = ask.count;
-        self.given = Snapshot::of(ask.bytes);
         self.request.id = id;
         self.request.kind = ask.kind;
         self.request.minor = ask.minor;
@@ -103,7 +100,10 @@ impl Pending {
         match ask.kind {
             Kind::Read if was_write => self.request.bytes = [0; 4096],
             Kind::Read => {}
-            Kind::Write => self.request.bytes = *ask.bytes,
+            Kind::Write => {
+                self.bytes = *ask.bytes;
+                self.request.bytes = *ask.bytes;
+            }
         }
     }
 
@@ -122,12 +122,12 @@ impl Pending {
 
         // A read keeps what was read before, and goes on with what was read now.
         ensures before { is_write self.old.request.kind ≡ false → (k : ℕ) → self.old.start + k < self.old.request.position
-            → slice_index self.new.request.bytes k ≡ slice_index self.old.request.bytes k }
+            → slice_index self.new.bytes k ≡ slice_index self.old.bytes k }
         ensures moved { is_write self.old.request.kind ≡ false → (k : ℕ) → k < moved
-            → slice_index self.new.request.bytes (self.old.request.position - self.old.start + k) ≡ slice_index bytes.now k }
+            → slice_index self.new.bytes (self.old.request.position - self.old.start + k) ≡ slice_index bytes.now k }
 
-        // What a write was given stays, and the bytes that are left go to the front of its request.
-        ensures begun { self.new.given.value ≡ self.old.given.value }
+        // A write keeps its bytes, and those that are left go to the front of its request.
+        ensures begun { is_write self.old.request.kind ≡ true → self.new.bytes ≡ self.old.bytes }
         ensures rest { is_write self.old.request.kind ≡ true → (k : ℕ) → k < self.new.request.count
             → slice_index self.new.request.bytes k ≡ slice_index self.old.request.bytes (moved + k) }
     {
@@ -137,7 +137,7 @@ impl Pending {
         self.request.position += moved as u64;
         self.request.count -= moved;
         match self.request.kind {
-            Kind::Read => self.request.bytes[done..done + n].copy_from_slice(&bytes[..n]),
+            Kind::Read => self.bytes[done..done + n].copy_from_slice(&bytes[..n]),
             Kind::Write => self.request.bytes = shifted(&self.request.bytes, n),
         }
     }
@@ -147,7 +147,7 @@ impl Pending {
     pub(crate) fn finish(&self, moved: u32, bytes: &[u8; 4096], into: &mut [u8; 4096])
         requires within { moved ≤ self.now.request.count }
         ensures before { (k : ℕ) → self.now.start + k < self.now.request.position
-            → slice_index into.new k ≡ slice_index self.now.request.bytes k }
+            → slice_index into.new k ≡ slice_index self.now.bytes k }
         ensures moved { (k : ℕ) → k < moved
             → slice_index into.new (self.now.request.position - self.now.start + k) ≡ slice_index bytes.now k }
         ensures after { (k : ℕ) → self.now.request.position + moved ≤ self.now.start + k
@@ -155,7 +155,7 @@ impl Pending {
     {
         let done = (self.request.position - self.start) as usize;
         let n = moved as usize;
-        into[..done].copy_from_slice(&self.request.bytes[..done]);
+        into[..done].copy_from_slice(&self.bytes[..done]);
         into[done..done + n].copy_from_slice(&bytes[..n]);
     }
 }

@@ -15,7 +15,7 @@ returns-clause-agrees c = λ marks h.
     let r = b.request in
     agrees_add c.args.self.now c.push.new.self marks c.begin.new.self h p.items p.ids r.number
     p.posted p.issued p.current p.given_up c.requires.room (r.position ∙ sym b.start)
-    (λ w k. let w' : is_write c.args.ask.now.kind ≡ true = rw (← r.kind) w in ap (λ (l : List ℕ). slice_index l k) (r.bytes w' ∙ sym b.given))
+    (λ w k. let w' : is_write c.args.ask.now.kind ≡ true = rw (← r.kind) w in ap (λ (l : List ℕ). slice_index l k) (r.bytes w' ∙ sym (b.bytes w')))
     (rw (b.start, b.size) c.requires.free)
 
 pub returns-clause-fresh : goal.returns-clause-fresh

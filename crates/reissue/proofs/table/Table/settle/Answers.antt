@@ -41,7 +41,7 @@ returns-then-goes_on-clause-agrees c = λ marks h place m from.
     h place m from (rw c.deref_mut.ensures.value o.value) o.items o.issued o.ids o.current o.given_up in
     agrees_rest c.args.self.now c.take_out.new.self c.push.new.self marks c.args.reply.now
     c.deref_mut.result.now c.answer.new.self c.args.n
-    x m p.items p.ids w.id p.posted p.issued p.current p.given_up w.start w.size w.kind w.position w.before w.moved w.count (λ h k. rw w.begun refl) w.rest
+    x m p.items p.ids w.id p.posted p.issued p.current p.given_up w.start w.size w.kind w.position w.before w.moved w.count (λ h k. rw (w.begun h) refl) w.rest
 
 pub returns-then-goes_on-clause-hears : goal.returns-then-goes_on-clause-hears
 returns-then-goes_on-clause-hears c =
@@ -70,7 +70,7 @@ returns-then-goes_on-clause-closes c =
     let w = c.answer.ensures in
     let lt = issued_within c.args.self.now c.args.at c.requires.at in
     closes_rest c.args.self.now.pending c.take_out.new.self.pending _ c.args.at c.deref_mut.result.now c.answer.new.self c.args.self.now.ids
-    lt (rw c.deref_mut.ensures.value o.value) c.args.self.now.numbers o.items c.push.ensures.items w.ticket w.start w.size w.kind (λ h. w.begun)
+    lt (rw c.deref_mut.ensures.value o.value) c.args.self.now.numbers o.items c.push.ensures.items w.ticket w.start w.size w.kind w.begun
 
 pub returns-then-goes_on-clause-closing : goal.returns-then-goes_on-clause-closing
 returns-then-goes_on-clause-closing c = λ marks h place m from.
