@@ -20,9 +20,8 @@ use reissue::{Link, Ticket, Transfers};
 use std::alloc::Global;
 use step_count::Steps;
 
-/// How many requests to write are begun beside that of a slot that goes and has to be written (own). None: the lowest dirty blocks are those of
-/// the maps and the inodes, which are changed again soon.
-const AHEAD: usize = 0;
+/// How many requests to write are begun at most where a slot that goes has to be written: half of those that may be pending (own).
+const AHEAD: usize = 8;
 
 /// How many blocks a request takes at most, whatever their size.
 const MOST_BLOCKS: u32 = 4;
@@ -38,7 +37,7 @@ struct Reading {
 ///
 /// A frame reads as its last change, or as the disk where it wasn't changed. A block without a frame is read when it is
 /// fetched. Where no slot is free, the frame used longest ago of those that are the disk's goes; where none is, the one
-/// used longest ago is written and awaited, and then goes. No memory is taken after making. What goes on in the link goes on through each
+/// used longest ago is written and awaited, and then goes, and writes of others are begun. No memory is taken after making. What goes on in the link goes on through each
 /// call, and the number of frames stays.
 #[derive(Drop)]
 pub struct Cache<L> {
