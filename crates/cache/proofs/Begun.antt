@@ -107,15 +107,6 @@ pub still_dirty : (held mid : ℕ → Option Slot) (b i n : ℕ) → AreBegun b 
     → is_dirty_held (mid (b + i)) ≡ true
 still_dirty held mid b i n h one = ap is_dirty_held (h.others (b + i) (inr (omega arith))) ∙ one
 
--- so is its slot
-pub next_dirty : (held' : ℕ → Option Slot) (items : List Slot) (b i n at : ℕ) → IsDistinct items → AreBegun b i n held' (held items)
-    → is_dirty_held (held' (b + i)) ≡ true → (x : IsAt items at (b + i)) → x.slot.state ≡ Dirty
-next_dirty held' items b i n at d h one x =
-    let its = dirty_held (held items (b + i)) (still_dirty held' (held items) b i n h one) in
-    let z : Some its.0 ≡ Some x.slot = sym its.1 ∙ held_at items at (b + i) x.slot d x.is x.block_is in
-    let same : its.0 ≡ x.slot = cc in
-    ap (λ (y : Slot). y.state) (sym same) ∙ its.2
-
 -- the slot of the next one is set
 pub begun_set : (held' : ℕ → Option Slot) (items items' : List Slot) (b i n at : ℕ) → IsDistinct items → AreBegun b i n held' (held items)
     → is_dirty_held (held' (b + i)) ≡ true → IsAt items at (b + i) → IsSetAt items items' at (λ t. record t { state = Writing n })
@@ -123,7 +114,10 @@ pub begun_set : (held' : ℕ → Option Slot) (items items' : List Slot) (b i n 
 begun_set held' items items' b i n at d h one x e =
     let s = x.slot in
     let here : held items (b + i) ≡ Some s = held_at items at (b + i) s d x.is x.block_is in
-    let dirty : s.state ≡ Dirty = next_dirty held' items b i n at d h one x in
+    let its = dirty_held (held items (b + i)) (still_dirty held' (held items) b i n h one) in
+    let z : Some its.0 ≡ Some s = sym its.1 ∙ here in
+    let same : its.0 ≡ s = cc in
+    let dirty : s.state ≡ Dirty = ap (λ (y : Slot). y.state) (sym same) ∙ its.2 in
     let y : Some e.slot ≡ Some s = sym e.is ∙ x.is in
     let it : e.slot ≡ s = cc in
     let all : items' ≡ set items at (record s { state = Writing n }) = e.all ∙ ap (λ (v : Slot). set items at (record v { state = Writing n })) it in

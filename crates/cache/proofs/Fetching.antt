@@ -11,11 +11,11 @@ use Rattle.cache.specs.declared.refusals.Cut.{Cut}
 use Rattle.cache.specs.Slots.{held}
 use Rattle.cache.specs.Uses.{IsUsedLast}
 use Rattle.cache.specs.Order.{IsVictim}
-use Rattle.cache.specs.Edits.{IsAt, IsFilledAt, IsFreeAt, HeldOnBut}
+use Rattle.cache.specs.Edits.{IsAt, IsFilledAt, IsFreeAt, StayBut}
 use Rattle.cache.specs.Calls.{IsFrameOf}
 use Rattle.cache.specs.Fetches.{Misses}
 use Rattle.cache.proofs.Filling.{filled_held, filled_slot}
-use Rattle.cache.proofs.Staying.{put_others, others_held, others_held_then}
+use Rattle.cache.proofs.Staying.{put_others, others_then}
 
 -- the block of a frame that was found stands there
 pub found_there : {L : Type 0} (cache : Cache L) (frame : Frame) (b : ℕ) → IsFrameOf cache (Some frame) b → IsAt cache.slots.items.items frame.at b
@@ -28,7 +28,7 @@ no_place (Ok x) P h = cc
 
 -- a call that was cut
 pub misses_cut : {L : Type 0} (x : State) (r : Result Frame Cut) (old new : Cache L) (at : ℕ) → IsErr r
-    → IsVictim old.slots.items.items old.slots.uses.numbers.items at → HeldOnBut at old.slots new.slots
+    → IsVictim old.slots.items.items old.slots.uses.numbers.items at → StayBut at old.slots new.slots
     → ((b : ℕ) → held old.slots.items.items b ≡ None → held new.slots.items.items b ≡ None) → Misses x r old new
 misses_cut x (Err cut) old new at h goes stay none =
     record { at = at; goes = goes; stands = ap (λ u. u.numbers.items) stay.uses; others = stay.each; none = λ b not n. none b n }
@@ -37,7 +37,7 @@ misses_cut x (Ok frame) old new at h goes stay none = cc
 -- a block that came into the slot that was made free
 pub misses_filled : {L : Type 0} (old new : Cache L) (mid : Slots) (frame : Frame) (at b : ℕ) (bytes : List ℕ) (x : State)
     → frame.at ≡ at → frame.block ≡ b
-    → IsVictim old.slots.items.items old.slots.uses.numbers.items at → HeldOnBut at old.slots mid
+    → IsVictim old.slots.items.items old.slots.uses.numbers.items at → StayBut at old.slots mid
     → ((c : ℕ) → held old.slots.items.items c ≡ None → held mid.items.items c ≡ None)
     → IsFreeAt mid.items.items at → held mid.items.items b ≡ None
     → IsFilledAt mid.items.items new.slots.items.items at b bytes x
@@ -51,8 +51,8 @@ misses_filled old new mid frame at b bytes x its block goes stay none free here 
     (λ s h. ap state_of (sym h ∙ filled_slot mid.items.items new.slots.items.items at b bytes x e) ∙ e.state_is),
     subst (λ (u : List ℕ). IsUsedLast u new.slots.uses.numbers.items at) (ap (λ u. u.numbers.items) stay.uses) used,
   );
-  others = others_held_then at old.slots.items.items mid.items.items new.slots.items.items stay.each
-      (others_held at mid.items.items new.slots.items.items (put_others mid.items.items new.slots.items.items at e.after e.all));
+  others = others_then at old.slots.items.items mid.items.items new.slots.items.items stay.each
+      (put_others mid.items.items new.slots.items.items at e.after e.all);
   none = λ c not n. ap (λ (f : ℕ → Option Slot). f c) (filled_held mid.items.items new.slots.items.items at b bytes x mid.distinct free here e)
       ∙ elim (put_cases (held mid.items.items) b (Some e.after) c) [
         | inl p ↦ absurd (not (block ∙ sym p.0))

@@ -1,16 +1,14 @@
 -- Which slots stay.
-use Rattle.std.proofs.Common.{◌≡◌, ◌≢◌, ℕ, List, refl, sym, ap, subst, ◌∙◌, true, Some}
+use Rattle.std.proofs.Common.{◌≡◌, ◌≢◌, ℕ, List, refl, sym, ap, subst, ◌∙◌, Some}
 use mathlib.Core.Logic.{inl, inr}
 use Rattle.std.specs.Prelude.{slice_get, slice_set}
 use Rattle.cache.specs.declared.slot.Slot.{Slot}
 use Rattle.cache.specs.declared.table.Slots.{Slots}
 use Rattle.cache.specs.declared.state.State.{State}
 use Rattle.cache.specs.declared.state.State.TheVariants.{Clean, Dirty, Writing, Changed}
-use Rattle.cache.specs.Slots.{written, is_clean}
+use Rattle.cache.specs.Slots.{written}
 use Rattle.cache.specs.Edits.{IsSetAt, IsAt, IsKept, AllStay, OthersStay, StayBut}
-use Rattle.cache.specs.Edits.{IsHeldOn, AllHeldOn, OthersHeldOn, HeldOnBut}
-use Rattle.std.proofs.lemmas.Bool.{cases_eq}
-use Rattle.cache.proofs.Held.{get_set_other, get_set_same}
+use Rattle.cache.proofs.Held.{get_set_other}
 use Rattle.cache.proofs.Edits.{one_slot}
 
 -- a write is answered good once
@@ -93,88 +91,3 @@ frame_stays old new at b i c change here ne e x =
     ne cc in
     let k = set_others old new at change e i x.slot no x.is in
     record { slot = k.slot; is = k.is; block_is = k.kept.block ∙ x.block_is }
-
--- bytes that are the disk's stay so when a write is answered good
-written_clean : (x : State) → is_clean x ≡ true → is_clean (written x) ≡ true
-written_clean Clean h = refl
-written_clean Dirty h = h
-written_clean (Writing t) h = refl
-written_clean (Changed t) h = h
-
--- a slot that stays keeps its block and bytes
-pub held_kept : (a b : Slot) → IsKept a b → IsHeldOn a b
-held_kept a b x = record {
-  block = x.block;
-  bytes = x.bytes;
-  clean = λ h. elim x.state [
-    | inl p ↦ ap is_clean p ∙ h
-    | inr p ↦ ap is_clean p ∙ written_clean a.state h
-  ];
-}
-
-held_then : (a b c : Slot) → IsHeldOn a b → IsHeldOn b c → IsHeldOn a c
-held_then a b c x y = record { block = y.block ∙ x.block; bytes = y.bytes ∙ x.bytes; clean = λ h. y.clean (x.clean h) }
-
--- nothing is changed
-pub held_on_none : (s : Slots) → AllHeldOn s s
-held_on_none s = record { uses = refl; each = λ i t h. record { slot = t; is = h; kept = held_kept t t (kept_same t) } }
-
--- one after the other
-pub held_on_then : (a b c : Slots) → AllHeldOn a b → AllHeldOn b c → AllHeldOn a c
-held_on_then a b c x y = record {
-  uses = y.uses ∙ x.uses;
-  each = λ i s h.
-      let p = x.each i s h in
-      let q = y.each i p.slot p.is in
-      record { slot = q.slot; is = q.is; kept = held_then s p.slot q.slot p.kept q.kept };
-}
-
--- where the others stay, they keep their blocks and bytes
-pub others_held : (at : ℕ) (a b : List Slot) → OthersStay at a b → OthersHeldOn at a b
-others_held at a b x = λ i s ne h. let p = x i s ne h in record { slot = p.slot; is = p.is; kept = held_kept s p.slot p.kept }
-
-pub others_held_then : (at : ℕ) (a b c : List Slot) → OthersHeldOn at a b → OthersHeldOn at b c → OthersHeldOn at a c
-others_held_then at a b c x y = λ i s ne h.
-    let p = x i s ne h in
-    let q = y i p.slot ne p.is in
-    record { slot = q.slot; is = q.is; kept = held_then s p.slot q.slot p.kept q.kept }
-
--- all keep theirs, and then all but one stay
-pub held_but : (at : ℕ) (a b c : Slots) → AllHeldOn a b → StayBut at b c → HeldOnBut at a c
-held_but at a b c x y = record {
-  uses = y.uses ∙ x.uses;
-  each = others_held_then at a.items.items b.items.items c.items.items (λ i s ne h. x.each i s h)
-      (others_held at b.items.items c.items.items y.each);
-}
-
--- all but one keep theirs, and then stay
-pub held_but_then : (at : ℕ) (a b c : Slots) → HeldOnBut at a b → StayBut at b c → HeldOnBut at a c
-held_but_then at a b c x y = record {
-  uses = y.uses ∙ x.uses;
-  each = others_held_then at a.items.items b.items.items c.items.items x.each (others_held at b.items.items c.items.items y.each);
-}
-
--- the state of one slot that isn't the disk's is changed
-pub held_state : (old new : Slots) (at : ℕ) (s : Slot) (x : State) → slice_get old.items.items at ≡ Some s → (is_clean s.state ≡ true → ⊥)
-    → IsSetAt old.items.items new.items.items at (λ t. record t { state = x }) → new.uses ≡ old.uses → AllHeldOn old new
-held_state old new at s x here unclean e uses = record {
-  uses = uses;
-  each = λ i t h. elim (cases_eq i at) [
-    | inl same ↦
-        let two : t ≡ e.slot = one_slot old.items.items at t e.slot (subst (λ (k : ℕ). slice_get old.items.items k ≡ Some t) same h) e.is in
-        let its : e.slot ≡ s = one_slot old.items.items at e.slot s e.is here in
-        record {
-          slot = record e.slot { state = x };
-          is = ap (slice_get new.items.items) same ∙ ap (λ (l : List Slot). slice_get l at) e.all
-              ∙ get_set_same old.items.items at e.slot (record e.slot { state = x }) e.is;
-          kept = record {
-            block = sym (ap (λ (k : Slot). k.block) two);
-            bytes = sym (ap (λ (k : Slot). k.bytes.value) two);
-            clean = λ c. absurd (unclean (ap (λ (k : Slot). is_clean k.state) (sym (two ∙ its)) ∙ c));
-          };
-        }
-    | inr ne ↦
-        let k = set_others old.items.items new.items.items at (λ t. record t { state = x }) e i t ne h in
-        record { slot = k.slot; is = k.is; kept = held_kept t k.slot k.kept }
-  ];
-}

@@ -91,32 +91,6 @@ pub record AllStay (old new : Slots) : Type 0 where
   pub uses : new.uses ≡ old.uses
   pub each : (i : ℕ) (s : Slot) → slice_get old.items.items i ≡ Some s → IsKeptAt s new.items.items i
 
--- a slot keeps its block and its bytes, and the disk's bytes are so still; its write may have been begun since, or answered good
-pub record IsHeldOn (old new : Slot) : Type 0 where
-  pub block : new.block ≡ old.block
-  pub bytes : new.bytes.value ≡ old.bytes.value
-  pub clean : is_clean old.state ≡ true → is_clean new.state ≡ true
-
--- so does the slot there
-pub record IsHeldOnAt (old : Slot) (new : List Slot) (i : ℕ) : Type 0 where
-  pub slot : Slot
-  pub is : slice_get new i ≡ Some slot
-  pub kept : IsHeldOn old slot
-
--- each slot does so, and none is used
-pub record AllHeldOn (old new : Slots) : Type 0 where
-  pub uses : new.uses ≡ old.uses
-  pub each : (i : ℕ) (s : Slot) → slice_get old.items.items i ≡ Some s → IsHeldOnAt s new.items.items i
-
--- each slot but one does so
-abbrev pub OthersHeldOn : ℕ → List Slot → List Slot → Type 0
-OthersHeldOn at old new = (i : ℕ) (s : Slot) → (i ≡ at → ⊥) → slice_get old i ≡ Some s → IsHeldOnAt s new i
-
--- each but one does so, and none is used
-pub record HeldOnBut (at : ℕ) (old new : Slots) : Type 0 where
-  pub uses : new.uses ≡ old.uses
-  pub each : OthersHeldOn at old.items.items new.items.items
-
 -- each slot but one stays so
 abbrev pub OthersStay : ℕ → List Slot → List Slot → Type 0
 OthersStay at old new = (i : ℕ) (s : Slot) → (i ≡ at → ⊥) → slice_get old i ≡ Some s → IsKeptAt s new i

@@ -9,7 +9,7 @@ use Rattle.cache.specs.declared.refusals.Cut.{Cut}
 use Rattle.cache.specs.Slots.{held, is_unclean_slot}
 use Rattle.cache.specs.Uses.{IsUsedLast}
 use Rattle.cache.specs.Order.{IsVictim}
-use Rattle.cache.specs.Edits.{IsBlankedAt, IsSlotAt, OthersHeldOn, HeldOnBut}
+use Rattle.cache.specs.Edits.{IsBlankedAt, IsSlotAt, OthersStay, StayBut}
 
 -- a slot is used now, and nothing else is changed: the link was told nothing, and no message was taken
 pub record IsUsed {L : Type 0} (old new : Cache L) (at : ℕ) : Type 0 where
@@ -33,12 +33,12 @@ abbrev pub BlanksFrame : {L : Type 0} → Result Frame Cut → Cache L → Cache
 BlanksFrame (Ok frame) old new = IsBlanked old new frame.at
 BlanksFrame (Err cut) old new = ⊥
 
--- a slot is made free, or the call is cut: it is the one that goes, and the others keep their blocks and bytes
+-- a slot is made free, or the call is cut: it is the one that goes, and the others stay
 pub record MakesRoom (result : Result ℕ Cut) (old new : Slots) : Type 0 where
   pub at : ℕ
   pub goes : IsVictim old.items.items old.uses.numbers.items at
   pub is : IfOk result (λ made. made ≡ at)
-  pub stay : HeldOnBut at old new
+  pub stay : StayBut at old new
 
 -- the slot there, if there is one, has this state
 abbrev pub IsOfState : List Slot → ℕ → State → Type 0
@@ -55,13 +55,13 @@ abbrev pub IsNotFor : Result Frame Cut → ℕ → Type 0
 IsNotFor (Ok frame) block = frame.block ≡ block → ⊥
 IsNotFor (Err cut) block = Unit {0}
 
--- A block that has no frame is given the slot that goes, in this state. The other slots keep their blocks and bytes, though writes of them
--- may have been begun or answered good since, and no other block gets a frame.
+-- A block that has no frame is given the slot that goes, in this state. The other slots stay, but for writes that were answered good since,
+-- and no other block gets a frame.
 pub record Misses {L : Type 0} (state : State) (result : Result Frame Cut) (old new : Cache L) : Type 0 where
   pub at : ℕ
   pub goes : IsVictim old.slots.items.items old.slots.uses.numbers.items at
   pub stands : StandsAt state result at old.slots new.slots
-  pub others : OthersHeldOn at old.slots.items.items new.slots.items.items
+  pub others : OthersStay at old.slots.items.items new.slots.items.items
   pub none : (b : ℕ) → IsNotFor result b → held old.slots.items.items b ≡ None → held new.slots.items.items b ≡ None
 
 -- Where the slot that goes needs no writing, the call isn't cut and changes slots alone: the link is told nothing, and no message is taken.

@@ -20,12 +20,6 @@ use reissue::{Link, Ticket, Transfers};
 use std::alloc::Global;
 use step_count::Steps;
 
-/// How many requests to write are begun at most where a slot that goes has to be written: half of those that may be pending (own).
-const AHEAD: usize = 8;
-
-/// How many blocks a request takes at most, whatever their size.
-const MOST_BLOCKS: u32 = 4;
-
 /// A read of a block that isn't settled.
 #[derive(Clone, Copy)]
 struct Reading {
@@ -37,7 +31,7 @@ struct Reading {
 ///
 /// A frame reads as its last change, or as the disk where it wasn't changed. A block without a frame is read when it is
 /// fetched. Where no slot is free, the frame used longest ago of those that are the disk's goes; where none is, the one
-/// used longest ago is written and awaited, and then goes, and writes of others are begun. No memory is taken after making. What goes on in the link goes on through each
+/// used longest ago is written and awaited, and then goes. No memory is taken after making. What goes on in the link goes on through each
 /// call, and the number of frames stays.
 #[derive(Drop)]
 pub struct Cache<L> {
@@ -53,7 +47,7 @@ pub struct Cache<L> {
 impl<L: Link> Cache<L> {
     ghost use Rattle.cache.specs.Slots.{held, is_dirty_slot, is_unclean_slot};
     ghost use Rattle.cache.specs.Edits.{AllClean, SomeUnclean, IsIssued, IssuesLowest, IsWritten, IsSlotAt, IsFreeAt, IsAt, Leaves};
-    ghost use Rattle.cache.specs.Edits.{AllStay, StayBut, AllHeldOn, IsChangedAt, AreDirty};
+    ghost use Rattle.cache.specs.Edits.{AllStay, StayBut, IsChangedAt, AreDirty};
     ghost use Rattle.cache.specs.Frames.{frames_of, view, with_bytes};
     ghost use Rattle.cache.specs.Calls.{caching, held_by, frame_count, IsReady, IsIdle, IsLive, IsWhyCut, IsFrame, IsFrameOf, IsMade, IsStuck};
     ghost use Rattle.cache.specs.Calls.{IsRefusing, PostsAlone, messages_left, Does, Keeps, HandsOver, Blanks, Rewrites, LinkGoesOn};
@@ -227,7 +221,6 @@ impl<L: Link> Cache<L> {
         ensures refused { OnFalse result (self.new ≡ self.old) }
         ensures refusing { OnFalse result (IsRefusing (caching L.Link self.old)) }
         ensures reads { NoReadBegun (begun_in self.old.transfers) (begun_in self.new.transfers) }
-        ensures held_on { AllHeldOn self.old.slots self.new.slots }
     {
         let mut bytes = zeros();
         self.slots
@@ -301,29 +294,6 @@ impl<L: Link> Cache<L> {
         self.wait_for(at)
     }
 
-    /// Begins writes of dirty frames, the lowest block first, in runs, where the slot that goes has to be written: so others are clean when
-    /// the next ones have to go. It waits for none.
-    fn write_ahead(&mut self, at: usize)
-        requires ready { IsReady (caching L.Link self.old) }
-        requires at { at < length self.old.slots.items.items }
-        ensures keeps { Keeps (caching L.Link self.old) (caching L.Link self.new) }
-        ensures goes { LinkGoesOn L.Link self.old self.new }
-        ensures count { frame_count self.new ≡ frame_count self.old }
-        ensures leaves { Leaves self.old.slots.items.items self.new.slots.items.items }
-        ensures held_on { AllHeldOn self.old.slots self.new.slots }
-        ensures flush { WantsFlush L.Link self.old self.new }
-        ensures at_once { IsSlotAt self.old.slots.items.items at (λ s. not (is_unclean_slot s)) → self.new ≡ self.old }
-    {
-        if !self.slots.get(at).is_unclean() {
-            return;
-        }
-        'runs: for _ in 0..AHEAD {
-            if self.write_run(MOST_BLOCKS) == 0 {
-                return;
-            }
-        }
-    }
-
     /// Makes a slot free.
     fn make_room(&mut self) -> Result<usize, Cut>
         requires ready { IsReady (caching L.Link self.old) }
@@ -338,7 +308,6 @@ impl<L: Link> Cache<L> {
         ensures at_once { IsAtOnce result self.old self.new }
     {
         let at = self.slots.victim();
-        self.write_ahead(at);
         self.clean(at)?;
         self.slots.vacate(at);
         Ok(at)
@@ -622,8 +591,6 @@ impl<L: Link> Cache<L> {
         ensures live { 0 < result → IsLive (caching L.Link self.old) }
         ensures uses { self.new.slots.uses ≡ self.old.slots.uses }
         ensures reads { NoReadBegun (begun_in self.old.transfers) (begun_in self.new.transfers) }
-        ensures leaves { Leaves self.old.slots.items.items self.new.slots.items.items }
-        ensures held_on { AllHeldOn self.old.slots self.new.slots }
     {
         if self.live().is_err() {
             return 0;

@@ -85,7 +85,7 @@ fn use_now(uses: &mut Uses, winners: &mut Winners, items: &[Slot], at: usize)
 impl Slots {
     ghost use Rattle.cache.specs.Order.{IsVictim};
     ghost use Rattle.cache.specs.Edits.{IsSetAt, IsFilledAt, IsBlankedAt, IsChangedAt, IsAt, IsPlaceOf, IsWritten, AllStay, AllClean};
-    ghost use Rattle.cache.specs.Edits.{SomeUnclean, IsLowestOf, IsLowestBlock, IsRunEnd, AreDirty, AreBegun, AllHeldOn, Leaves, after_write};
+    ghost use Rattle.cache.specs.Edits.{SomeUnclean, IsLowestOf, IsLowestBlock, IsRunEnd, AreDirty, AreBegun, Leaves, after_write};
     ghost use Rattle.cache.specs.Runs.{IsCopied, AreGathered};
 
     /// So many slots, all free.
@@ -237,7 +237,6 @@ impl Slots {
         ensures begun { AreBegun block count ticket (held self.old.items.items) (held self.new.items.items) }
         ensures leaves { Leaves self.old.items.items self.new.items.items }
         ensures uses { self.new.uses ≡ self.old.uses }
-        ensures held_on { AllHeldOn self.old self.new }
     {
         for past in 0..count {
             let at = self.dirty_at(block + past);

@@ -1,10 +1,10 @@
 use Rattle.std.proofs.Common.{ℕ, refl, sym, subst}
-use Rattle.cache.specs.Edits.{HeldOnBut}
+use Rattle.cache.specs.Edits.{StayBut}
 use Rattle.cache.specs.Order.{IsVictim}
 use Rattle.cache.specs.declared.state.State.TheVariants.{Clean}
 use Rattle.cache.proofs.Held.{in_range}
 use Rattle.cache.proofs.Filling.{filled_at}
-use Rattle.cache.proofs.Staying.{held_but_then, all_but}
+use Rattle.cache.proofs.Staying.{but_then, all_but}
 use Rattle.cache.specs.Calls.{caching, caching_of}
 use Rattle.cache.proofs.Placing.{keeps_then, keeps_read, reads_after, placed}
 use Rattle.cache.proofs.Fetching.{misses_cut, misses_filled}
@@ -43,15 +43,15 @@ pub returns-in_err-read-clause-miss : goal.returns-in_err-read-clause-miss
 returns-in_err-read-clause-miss g c =
     let m = c.in_ok-at.ensures.made in
     misses_cut Clean c.from_residual-in_err-read.result _ _ m.at c.from_residual-in_err-read.ensures.0 m.goes
-    (held_but_then m.at _ _ _ m.stay (all_but m.at _ _ c.read.ensures.stay)) (λ b h. c.read.ensures.leaves.none b (c.make_room.ensures.none b h))
+    (but_then m.at _ _ _ m.stay (all_but m.at _ _ c.read.ensures.stay)) (λ b h. c.read.ensures.leaves.none b (c.make_room.ensures.none b h))
 
 pub returns-clause-miss : goal.returns-clause-miss
 returns-clause-miss g c =
     let m = c.in_ok-at.ensures.made in
     misses_filled _ _ c.read.new.self.slots _ c.in_ok-at.at c.args.block c.read.new.self.slots.spare.value Clean refl refl
     (subst (λ (n : ℕ). IsVictim c.args.self.now.slots.items.items c.args.self.now.slots.uses.numbers.items n) (sym m.is) m.goes)
-    (subst (λ (n : ℕ). HeldOnBut n c.args.self.now.slots c.read.new.self.slots) (sym m.is)
-    (held_but_then m.at _ _ _ m.stay (all_but m.at _ _ c.read.ensures.stay)))
+    (subst (λ (n : ℕ). StayBut n c.args.self.now.slots c.read.new.self.slots) (sym m.is)
+    (but_then m.at _ _ _ m.stay (all_but m.at _ _ c.read.ensures.stay)))
     (λ b h. c.read.ensures.leaves.none b (c.make_room.ensures.none b h))
     (c.read.ensures.leaves.free c.in_ok-at.at c.in_ok-at.ensures.free)
     (c.read.ensures.leaves.none c.args.block (c.make_room.ensures.none c.args.block c.requires.missing))

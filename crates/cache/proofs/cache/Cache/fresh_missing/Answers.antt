@@ -1,5 +1,5 @@
 use Rattle.std.proofs.Common.{◌≡◌, ℕ, List, ◌<◌, length, subst, refl, sym, ap, None}
-use Rattle.cache.specs.Edits.{IsFilledAt, HeldOnBut}
+use Rattle.cache.specs.Edits.{IsFilledAt, StayBut}
 use Rattle.cache.specs.Slots.{held}
 use Rattle.cache.specs.Uses.{IsUsedLast}
 use Rattle.cache.specs.declared.slot.Slot.{Slot}
@@ -60,7 +60,7 @@ returns-clause-miss g c =
     subst (λ (l : List ℕ). IsUsedLast l c.fill.new.self.uses.numbers.items c.in_ok-at.at) (ap (λ (s : Slots). s.uses.numbers.items) rest) c.fill.ensures.used in
     misses_filled _ _ c.make_room.new.self.slots _ c.in_ok-at.at c.args.block zeros Dirty refl refl
     (subst (λ (n : ℕ). IsVictim c.args.self.now.slots.items.items c.args.self.now.slots.uses.numbers.items n) (sym m.is) m.goes)
-    (subst (λ (n : ℕ). HeldOnBut n c.args.self.now.slots c.make_room.new.self.slots) (sym m.is) m.stay)
+    (subst (λ (n : ℕ). StayBut n c.args.self.now.slots c.make_room.new.self.slots) (sym m.is) m.stay)
     c.make_room.ensures.none c.in_ok-at.ensures.free (c.make_room.ensures.none c.args.block c.requires.missing) filled used
 
 pub returns-in_err-at-clause-at_once : goal.returns-in_err-at-clause-at_once

@@ -5,7 +5,6 @@ use Rattle.cache.specs.Calls.{Caching, caching, caching_of, Keeps}
 use Rattle.cache.proofs.Edits.{leaves_none}
 use Rattle.cache.proofs.Beginning.{refusing, write_many, busy_begun}
 use Rattle.cache.proofs.Placing.{keeps_none}
-use Rattle.cache.proofs.Staying.{held_on_none}
 use Rattle.cache.proofs.cache.Cache.issue_run.Goals as goal
 
 pub returns-in-Ok-clause-keeps : goal.returns-in-Ok-clause-keeps
@@ -68,6 +67,3 @@ returns-in-Err-clause-goes g c = c.in-Err.ensures.goes
 
 pub returns-in-Err-clause-leaves : goal.returns-in-Err-clause-leaves
 returns-in-Err-clause-leaves g c = leaves_none _
-
-pub returns-in-Err-clause-held_on : goal.returns-in-Err-clause-held_on
-returns-in-Err-clause-held_on g c = held_on_none _

@@ -2,8 +2,7 @@ use Rattle.std.proofs.Common.{refl}
 use Rattle.cache.specs.Calls.{caching, caching_of}
 use Rattle.cache.proofs.Filling.{free_at, vacated_none}
 use Rattle.cache.proofs.Placing.{keeps_then, vacated}
-use Rattle.cache.proofs.Staying.{held_but, held_but_then, set_others}
-use Rattle.cache.proofs.Flushes.{follows_then}
+use Rattle.cache.proofs.Staying.{but_then, set_others}
 use Rattle.cache.proofs.Fetching.{no_place}
 use Rattle.cache.proofs.cache.Cache.make_room.Goals as goal
 
@@ -11,9 +10,9 @@ pub returns-clause-keeps : goal.returns-clause-keeps
 returns-clause-keeps g c =
     let m = c.clean.new.self in
     let k = c.clean.ensures.keeps in
-    keeps_then _ _ _ c.write_ahead.ensures.keeps (keeps_then _ _ _ k
+    keeps_then _ _ _ k
     (vacated (caching g.L.Link m) (caching_of g.L.Link m.transfers m.shape c.vacate.new.self.items.items m.ended) m.slots.items.items c.vacate.new.self.items.items
-    c.victim-at.result m.slots.distinct c.in_ok-clean.ensures.clean c.vacate.ensures.set refl refl k.ready))
+    c.victim-at.result m.slots.distinct c.in_ok-clean.ensures.clean c.vacate.ensures.set refl refl k.ready)
 
 pub returns-clause-free : goal.returns-clause-free
 returns-clause-free g c = free_at c.clean.new.self.slots.items.items c.vacate.new.self.items.items c.victim-at.result c.vacate.ensures.set
@@ -22,15 +21,14 @@ pub returns-clause-none : goal.returns-clause-none
 returns-clause-none g c = λ n e.
     let m = c.clean.new.self in
     let f = c.in_ok-clean.ensures.clean in
-    vacated_none m.slots.items.items c.vacate.new.self.items.items c.victim-at.result f.slot m.slots.distinct f.is c.vacate.ensures.set n
-    (c.clean.ensures.leaves.none n (c.write_ahead.ensures.leaves.none n e))
+    vacated_none m.slots.items.items c.vacate.new.self.items.items c.victim-at.result f.slot m.slots.distinct f.is c.vacate.ensures.set n (c.clean.ensures.leaves.none n e)
 
 pub returns-in_err-clean-clause-made : goal.returns-in_err-clean-clause-made
 returns-in_err-clean-clause-made g c = record {
   at = c.victim-at.result;
   goes = c.victim-at.ensures.chosen;
   is = no_place c.from_residual.result _ c.from_residual.ensures.0;
-  stay = held_but c.victim-at.result _ _ _ c.write_ahead.ensures.held_on c.clean.ensures.others;
+  stay = c.clean.ensures.others;
 }
 
 pub returns-clause-made : goal.returns-clause-made
@@ -38,15 +36,6 @@ returns-clause-made g c = record {
   at = c.victim-at.result;
   goes = c.victim-at.ensures.chosen;
   is = refl;
-  stay = held_but_then c.victim-at.result _ _ _ (held_but c.victim-at.result _ _ _ c.write_ahead.ensures.held_on c.clean.ensures.others)
+  stay = but_then c.victim-at.result _ _ _ c.clean.ensures.others
       (record { uses = c.vacate.ensures.uses; each = set_others _ _ c.victim-at.result _ c.vacate.ensures.set });
 }
-
-pub returns-in_err-clean-clause-keeps : goal.returns-in_err-clean-clause-keeps
-returns-in_err-clean-clause-keeps g c = keeps_then _ _ _ c.write_ahead.ensures.keeps c.clean.ensures.keeps
-
-pub returns-in_err-clean-clause-flush : goal.returns-in_err-clean-clause-flush
-returns-in_err-clean-clause-flush g c = follows_then _ _ _ _ _ _ c.write_ahead.ensures.flush c.clean.ensures.flush
-
-pub returns-clause-flush : goal.returns-clause-flush
-returns-clause-flush g c = follows_then _ _ _ _ _ _ c.write_ahead.ensures.flush c.clean.ensures.flush

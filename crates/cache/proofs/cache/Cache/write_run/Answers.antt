@@ -4,9 +4,7 @@ use Rattle.std.specs.Prelude.{min}
 use Rattle.reissue.specs.Transfers.{begun_in}
 use Rattle.cache.specs.Calls.{held_by}
 use Rattle.cache.proofs.Begun.{begins_run}
-use Rattle.cache.proofs.Edits.{leaves_none}
 use Rattle.cache.proofs.Placing.{keeps_none}
-use Rattle.cache.proofs.Staying.{held_on_none}
 use Rattle.cache.proofs.cache.Cache.write_run.Goals as goal
 
 pub returns-then-is_err-clause-keeps : goal.returns-then-is_err-clause-keeps
@@ -39,15 +37,3 @@ returns-clause-issued g c =
         | inr over ↦ inr over
       ];
     })
-
-pub returns-then-is_err-clause-leaves : goal.returns-then-is_err-clause-leaves
-returns-then-is_err-clause-leaves g c = leaves_none _
-
-pub returns-then-is_err-clause-held_on : goal.returns-then-is_err-clause-held_on
-returns-then-is_err-clause-held_on g c = held_on_none _
-
-pub returns-in_default-clause-leaves : goal.returns-in_default-clause-leaves
-returns-in_default-clause-leaves g c = leaves_none _
-
-pub returns-in_default-clause-held_on : goal.returns-in_default-clause-held_on
-returns-in_default-clause-held_on g c = held_on_none _

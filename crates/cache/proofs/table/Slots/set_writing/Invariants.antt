@@ -1,6 +1,6 @@
 use Rattle.std.proofs.Common.{◌≡◌, ◌≤◌}
 use Rattle.cache.specs.Slots.{held}
-use Rattle.cache.specs.Edits.{AreBegun, AllHeldOn, Leaves}
+use Rattle.cache.specs.Edits.{AreBegun, Leaves}
 use Rattle.cache.proofs.table.Slots.set_writing.Given as goal
 
 abbrev pub invariant-loop-past : goal.invariant-loop-past
@@ -9,5 +9,4 @@ invariant-loop-past l = record {
   begun : AreBegun l.block l.past l.ticket (held l.initial.self.items.items) (held l.self.items.items);
   leaves : Leaves l.initial.self.items.items l.self.items.items;
   uses : l.self.uses ≡ l.initial.self.uses;
-  held_on : AllHeldOn l.initial.self l.self;
 }
