@@ -42,6 +42,8 @@ pub struct Cache<L> {
     ended: bool,
     // A Flush was taken and isn't done.
     flush: bool,
+    // The message that was taken last, or End: room for the next one.
+    message: Incoming,
 }
 
 impl<L: Link> Cache<L> {
@@ -95,6 +97,7 @@ impl<L: Link> Cache<L> {
             shape: Shape::new(minor, geometry.block_size),
             ended: false,
             flush: false,
+            message: Incoming::End,
         })
     }
 
@@ -160,7 +163,9 @@ impl<L: Link> Cache<L> {
         ensures flush { WantsFlush L.Link self.old self.new }
     {
         self.live()?;
-        let settled = self.transfers.step(&mut self.slots.spare);
+        let settled = self
+            .transfers
+            .step(&mut self.message, &mut self.slots.spare);
         self.ended = is_end(&settled);
         Ok(settle(&mut self.slots, &mut self.flush, settled))
     }

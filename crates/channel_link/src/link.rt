@@ -11,7 +11,7 @@ ghost use Rattle.board.specs.Steady.{enough_room};
 use crate::channel::{NotSent, Sender};
 use crate::messages::{Exchange, News, Report};
 use crate::order_line::OrderLine;
-use crate::server_line::{NewsReceiver, message_of};
+use crate::server_line::{NewsReceiver, put_message};
 use board::History;
 use board::counting::steady::{Steady, Supplied};
 use message::endpoint::Endpoint;
@@ -120,20 +120,19 @@ impl<R: Wait + Copy> ChannelLink<R> {
     }
 
     // One message is received, which costs one of the budget.
-    fn receive(&mut self) -> Incoming
+    fn receive(&mut self, message: &mut Incoming)
         requires { 0 < self.old.budget }
         ensures budget { self.new.budget + 1 ≡ self.old.budget }
         ensures history { self.new.history ≡ self.old.history }
-        ensures live { (told : List Told) → took_end (heard result told) ≡ took_end told }
+        ensures live { (told : List Told) → took_end (heard message.new told) ≡ took_end told }
         ensures truth { (marks : List Mark) → AreReceived marks self.old.line
-            → AreReceived (received result marks) self.new.line }
+            → AreReceived (received message.new marks) self.new.line }
     {
         let rt = self.rt;
         self.budget -= 1;
         let news = self.line.next(&rt);
-        let message = message_of(&news);
+        put_message(&news, message);
         self.keep(news);
-        message
     }
 
     // Keeps what came with news: the line of a driver that was started, and the exchange of an answer, if it is one of that line's.
@@ -188,14 +187,19 @@ impl<R: Wait + Copy> Link for ChannelLink<R> {
     }
 
     #[tactic(auto, using(crate::proofs::Receives::still_live))]
-    fn take(&mut self) -> Incoming {
+    fn take_into(&mut self, message: &mut Incoming) {
         self.report();
         if self.budget == 0 {
-            self.history.heard(&Incoming::End);
-            return Incoming::End;
+            *message = Incoming::End;
+        } else {
+            self.receive(message);
         }
-        let message = self.receive();
-        self.history.heard(&message);
+        self.history.heard(message);
+    }
+
+    fn take(&mut self) -> Incoming {
+        let mut message = Incoming::End;
+        self.take_into(&mut message);
         message
     }
 

@@ -9,7 +9,7 @@ use crate::messages::{Exchange, News, NewsView};
 use crate::order_line::OrderLine;
 use crossbeam_channel::protocol::{Lesson, Outcome, Protocol, Split};
 use crossbeam_channel::{Pass, RuledReceiver, RuledSender, bounded_with};
-use message::Incoming;
+use message::{BlockReply, Incoming};
 use message::endpoint::Endpoint;
 use std::alloc::{AllocError, Global};
 use std::marker::{Brand, Model, PhantomData};
@@ -265,13 +265,23 @@ impl NewsReceiver {
     }
 }
 
-/// The message that news are to a server.
-pub fn message_of(news: &News) -> Incoming
-    ensures { result ≡ incoming_of news.now }
+// Puts a driver's reply where a message was.
+fn put_reply(reply: &BlockReply, message: &mut Incoming)
+    ensures { message.new ≡ Incoming.Reply reply.now }
+{
+    match message {
+        Incoming::Reply(former) => *former = *reply,
+        _ => *message = Incoming::Reply(*reply),
+    }
+}
+
+/// Puts the message that news are to a server where the caller has room for it.
+pub fn put_message(news: &News, message: &mut Incoming)
+    ensures { message.new ≡ incoming_of news.now }
 {
     match news {
-        News::Answer(exchange) => Incoming::Reply(exchange.reply),
-        News::Started(endpoint, _) => Incoming::Started(*endpoint),
-        News::GaveUp => Incoming::GaveUp,
+        News::Answer(exchange) => put_reply(&exchange.reply, message),
+        News::Started(endpoint, _) => *message = Incoming::Started(*endpoint),
+        News::GaveUp => *message = Incoming::GaveUp,
     }
 }

@@ -8,7 +8,7 @@ ghost use Rattle.mounting.specs.Sought.{piece_size};
 ghost use Rattle.mounting.specs.Reading.{BeginsNext, BeginsNothing, ReadsRange};
 
 use crate::sought::{Sought, piece_size, put_bytes};
-use message::Kind;
+use message::{Incoming, Kind};
 use reissue::{Ask, Link, Settled, Transfers};
 use std::alloc::Global;
 
@@ -112,6 +112,7 @@ pub fn read_range<L: Link>(
     };
     let size = into.len();
     let mut next = 0;
+    let mut message = Incoming::End;
     let mut bytes = [0; 4096];
     'messages: loop {
         if let Some(after) = begin_next(transfers, &mut asked, minor, start, size, next) {
@@ -121,7 +122,7 @@ pub fn read_range<L: Link>(
         if asked.is_empty() {
             return Ok(());
         }
-        match transfers.step(&mut bytes) {
+        match transfers.step(&mut message, &mut bytes) {
             Settled::Read(ticket) => put_bytes(&mut asked, into, ticket, &bytes),
             Settled::GaveUp => return Err(Stop::GaveUp),
             Settled::End => return Err(Stop::Ended),

@@ -91,6 +91,19 @@ pub trait Link {
         ensures truth { (opening : Opening) (marks : List Mark) → truth self.old opening marks
             → truth self.new opening (received result marks) };
 
+    /// As `take`, but the message is put where the caller has room for it.
+    fn take_into(&mut self, message: &mut Incoming)
+        ensures told { history self.new ≡ heard message.new (history self.old) }
+        ensures budget { 0 < budget_left self.old → budget_left self.new < budget_left self.old }
+        ensures spent { budget_left self.old ≡ 0 → message.new ≡ Incoming.End }
+        ensures room { room_needed message.new ≤ room self.new }
+        ensures goes { goes_on self.old self.new }
+        ensures truth { (opening : Opening) (marks : List Mark) → truth self.old opening marks
+            → truth self.new opening (received message.new marks) }
+    {
+        *message = self.take();
+    }
+
     /// How many messages it still gives, at most.
     fn budget(&self) -> u64
         ensures { result ≡ budget_left self.now };

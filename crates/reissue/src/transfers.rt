@@ -207,8 +207,8 @@ impl<L: Link> Transfers<L> {
         settled
     }
 
-    /// Takes a message and absorbs it. The bytes of a read that is settled stand in `into` then.
-    pub fn step(&mut self, into: &mut [u8; 4096]) -> Settled
+    /// Takes a message, for which the caller has room, and absorbs it. The bytes of a read that is settled stand in `into` then.
+    pub fn step(&mut self, message: &mut Incoming, into: &mut [u8; 4096]) -> Settled
         requires { (table_of self.old).ids < 2 ^ 60 }
         ensures steps { Between L.Link (Steps (settlement result into.new)) self.old self.new }
         ensures budget { 0 < L.budget_left (link_of self.old) → L.budget_left (link_of self.new) < L.budget_left (link_of self.old) }
@@ -222,8 +222,8 @@ impl<L: Link> Transfers<L> {
         ensures closed { (table_of self.new).ids + length (table_of self.old).pending
             ≤ (table_of self.old).ids + length (table_of self.new).pending + 1 }
     {
-        let message = self.link.take();
-        self.absorb(&message, into)
+        self.link.take_into(message);
+        self.absorb(message, into)
     }
 
     /// Takes a request up, for any range of whole sectors: 1 TableFull where sixteen are pending, 2 BlockPending where a byte of its range

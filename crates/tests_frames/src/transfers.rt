@@ -30,9 +30,10 @@ fn take<L: Link>(transfers: &mut Transfers<L>, count: u8) -> (Settled, [u8; 4096
     ensures { (table_of transfers.new).ids < 2 ^ 50 + 256 }
 {
     let mut settled = Settled::Nothing;
+    let mut message = Incoming::End;
     let mut bytes = [0; 4096];
     'messages: for _ in 0..count {
-        settled = transfers.step(&mut bytes);
+        settled = transfers.step(&mut message, &mut bytes);
     }
     (settled, bytes)
 }

@@ -100,16 +100,22 @@ impl<N: Room, L: Link> Link for Noting<N, L> {
     }
 
     fn take(&mut self) -> Incoming {
-        if self.ended {
-            return Incoming::End;
-        }
-        let message = self.link.take();
-        self.ended = matches!(message, Incoming::End);
-        if self.heard.leaves_mark(&message) {
-            self.keeper.note(&message);
-            self.heard.takes(&message);
-        }
+        let mut message = Incoming::End;
+        self.take_into(&mut message);
         message
+    }
+
+    fn take_into(&mut self, message: &mut Incoming) {
+        if self.ended {
+            *message = Incoming::End;
+            return;
+        }
+        self.link.take_into(message);
+        self.ended = matches!(message, Incoming::End);
+        if self.heard.leaves_mark(message) {
+            self.keeper.note(message);
+            self.heard.takes(message);
+        }
     }
 
     fn budget(&self) -> u64 {
