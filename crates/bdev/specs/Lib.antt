@@ -1,2 +1,3 @@
 pub mod DriverState
 pub mod Promises
+pub mod Stepping

@@ -8,6 +8,7 @@
 ghost use Rattle.std.specs.Prelude.{◌≡◌};
 ghost use Rattle.bdev.specs.DriverState.{DriverState, range_while_fresh};
 ghost use Rattle.bdev.specs.Promises.{IsDriver, AcceptKeeps, StepKeeps};
+ghost use Rattle.bdev.specs.Stepping.{step_with};
 
 use errno::Errno;
 use media::Media;
@@ -46,6 +47,46 @@ pub enum Step {
     Done(Answer),
     /// The driver failed; a request in work stays in work.
     Failed,
+}
+
+/// The end of a request: its answer without the bytes.
+#[derive(Clone, Copy, Debug, PartialEq, Eq)]
+pub struct Completion {
+    /// The id of the request.
+    pub id: u64,
+    /// How many bytes were moved, from the position on, or why none.
+    pub outcome: Result<u32, Errno>,
+}
+
+/// What a step of a driver did, where an answer's bytes stand elsewhere.
+#[derive(Clone, Copy, Debug, PartialEq, Eq)]
+pub enum Stepped {
+    /// The request stays in work.
+    Working,
+    /// There is no request in work.
+    Idle,
+    /// The request in work has ended.
+    Done(Completion),
+    /// The driver failed; a request in work stays in work.
+    Failed,
+}
+
+impl Stepped {
+    /// The step, an answer with these bytes.
+    pub fn with_bytes(self, bytes: &[u8; 4096]) -> Step
+        ensures { result ≡ step_with self bytes.now }
+    {
+        match self {
+            Stepped::Working => Step::Working,
+            Stepped::Idle => Step::Idle,
+            Stepped::Done(completion) => Step::Done(Answer {
+                id: completion.id,
+                outcome: completion.outcome,
+                bytes: *bytes,
+            }),
+            Stepped::Failed => Step::Failed,
+        }
+    }
 }
 
 /// Sectors of the media that follow one another.
@@ -100,6 +141,26 @@ pub trait BlockDriver: Send + Drop {
     fn step(&mut self, media: &mut Media, generation: u32) -> Step
         ensures keeps { StepKeeps (state self.old) media.old generation result (state self.new) media.new }
         ensures driver { IsDriver (state self.new) };
+
+    /// As `step`, but the bytes of an answer to a read are put where the caller has room. After any other step they have no meaning.
+    fn step_into(&mut self, media: &mut Media, generation: u32, bytes: &mut [u8; 4096]) -> Stepped
+        ensures keeps { StepKeeps (state self.old) media.old generation (step_with result bytes.new) (state self.new) media.new }
+        ensures driver { IsDriver (state self.new) }
+    {
+        match self.step(media, generation) {
+            Step::Working => Stepped::Working,
+            Step::Idle => Stepped::Idle,
+            Step::Done(answer) => {
+                let given = answer.bytes;
+                *bytes = given;
+                Stepped::Done(Completion {
+                    id: answer.id,
+                    outcome: answer.outcome,
+                })
+            }
+            Step::Failed => Stepped::Failed,
+        }
+    }
 }
 
 /// A boxed driver.
@@ -127,5 +188,9 @@ impl BlockDriver for Driver {
 
     fn step(&mut self, media: &mut Media, generation: u32) -> Step {
         (**self).step(media, generation)
+    }
+
+    fn step_into(&mut self, media: &mut Media, generation: u32, bytes: &mut [u8; 4096]) -> Stepped {
+        (**self).step_into(media, generation, bytes)
     }
 }

@@ -7,7 +7,7 @@ ghost use Rattle.true_replies.specs.Events.{opening_media};
 ghost use Rattle.bdev.specs.Promises.{StepKeeps};
 ghost use Rattle.driver_threads.specs.Confined.{KeepsOutside, IsImageOutside, IsInVolume, StaysInVolume, step_of};
 
-use bdev::{BlockDriver, Step};
+use bdev::{BlockDriver, Stepped};
 use board::counting::room::Room;
 use media::Media;
 use message::BlockReply;
@@ -93,17 +93,15 @@ impl<N: Room> Confined<N> {
         if !self.admits(driver) {
             return Progress::Failed;
         }
-        match driver.step(&mut self.media, generation) {
-            Step::Working => Progress::Working,
-            Step::Idle => Progress::Idle,
-            Step::Done(answer) => {
-                let bytes = answer.bytes;
-                reply.id = answer.id;
-                reply.outcome = answer.outcome;
-                reply.bytes = bytes;
+        match driver.step_into(&mut self.media, generation, &mut reply.bytes) {
+            Stepped::Working => Progress::Working,
+            Stepped::Idle => Progress::Idle,
+            Stepped::Done(completion) => {
+                reply.id = completion.id;
+                reply.outcome = completion.outcome;
                 Progress::Done
             }
-            Step::Failed => Progress::Failed,
+            Stepped::Failed => Progress::Failed,
         }
     }
 

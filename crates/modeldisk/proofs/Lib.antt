@@ -6,4 +6,5 @@ pub mod SweepLaws
 pub mod FilterLaws
 mod Rows
 pub mod FaultLaws
+pub mod HandedLaws
 pub mod Tables

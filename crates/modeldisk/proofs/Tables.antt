@@ -1,5 +1,5 @@
 -- The table in the first sector.
-use Rattle.std.proofs.Common.{◌≡◌, ℕ, List, [], ◌∷◌, length, min, refl, sym, ◌∙◌, ap, Option, Some, None, Result, Ok, Err}
+use Rattle.std.proofs.Common.{◌≡◌, ℕ, List, [], ◌∷◌, sym, ◌∙◌, ap, Some, Result}
 use Rattle.std.specs.Prelude.{slice_get}
 use Rattle.media.specs.declared.partition.PartitionRefusal.{PartitionRefusal}
 use Rattle.media.specs.Table.{TableState}

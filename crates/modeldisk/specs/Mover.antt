@@ -3,9 +3,13 @@ use Rattle.std.specs.Prelude.{ℕ, ◌≡◌, ◌+◌, ◌<◌, ◌≤◌, ◌&&
 use Rattle.std.specs.List.{list_any}
 use Rattle.errno.specs.declared.Errno.{Errno}
 use Rattle.message.specs.Good.{is_good, is_write}
+use Rattle.message.specs.declared.Kind.{Kind}
+use Rattle.message.specs.declared.Kind.TheVariants.{Read, Write}
 use Rattle.media.specs.Contents.{MediaState}
 use Rattle.media.specs.Table.{ranges_of}
 use Rattle.bdev.specs.declared.Run.{Run}
+use Rattle.bdev.specs.declared.Stepped.{Stepped}
+use Rattle.bdev.specs.declared.Stepped.TheVariants.{Working, Idle, Done, Failed}
 use Rattle.bdev.specs.DriverState.{DriverState, Work, plan}
 use Rattle.modeldisk.specs.declared.sector_mover.mover.Mover.{Mover}
 use Rattle.modeldisk.specs.Transfer.{TransfersIf}
@@ -54,6 +58,14 @@ IsFew d = d.bad + (if d.busy then 1 else 0) ≤ d.last
 -- a mover after it answered the request in work
 abbrev pub ended : Result ℕ Errno → Mover → Mover
 ended outcome d = record d { busy = false; bad = d.bad + (if is_good d.request.count outcome then 0 else 1) }
+
+-- the caller's bytes after a step: those that a read has, where it is answered; else as they are
+abbrev pub handed : Kind → Stepped → List ℕ → List ℕ → List ℕ
+handed Read (Done completion) got room = got
+handed Read Working got room = room
+handed Read Idle got room = room
+handed Read Failed got room = room
+handed Write stepped got room = room
 
 -- the next sector of the run, at place `number` in the request, is moved where the media accept it; else nothing changes
 pub record MovesNext (run : Run) (b : Mover) (m : MediaState) (g : ℕ) (moved : Bool) (a : Mover) (m' : MediaState) : Type 0 where

@@ -1,10 +1,11 @@
 ghost use Rattle.std.specs.Prelude.{◌≡◌, ◌≤◌, Some};
 ghost use Rattle.bdev.specs.Promises.{StepKeeps};
+ghost use Rattle.bdev.specs.Stepping.{step_with};
 ghost use Rattle.modeldisk.specs.Mover.{IsFew, state_of};
 ghost use Rattle.modeldisk.specs.Faults.{IsLeading, StepsBy};
 
 use crate::sector_mover::mover::{Mover, plan};
-use bdev::{Run, Step};
+use bdev::{Run, Stepped};
 use errno::Errno;
 use media::Media;
 
@@ -32,30 +33,36 @@ pub struct Fault {
     pub kind: FaultKind,
 }
 
-/// Plays a fault on the request in work; a step without one is idle.
-pub(crate) fn play(mover: &mut Mover, kind: FaultKind, media: &mut Media, generation: u32) -> Step
+/// Plays a fault on the request in work; a step without one is idle. The bytes of an answer stay in the mover's `got`.
+pub(crate) fn play(
+    mover: &mut Mover,
+    kind: FaultKind,
+    media: &mut Media,
+    generation: u32,
+) -> Stepped
     requires { IsFew mover.old }
-    ensures keeps { StepKeeps (state_of mover.old) media.old generation result (state_of mover.new) media.new }
-    ensures fault { StepsBy mover.old.busy (Some kind) mover.old media.old generation result mover.new }
+    ensures keeps { StepKeeps (state_of mover.old) media.old generation (step_with result mover.new.got) (state_of mover.new) media.new }
+    ensures fault { StepsBy mover.old.busy (Some kind) mover.old media.old generation (step_with result mover.new.got) mover.new }
     ensures arm { mover.new.arm ≡ mover.old.arm }
     ensures last { mover.new.last ≡ mover.old.last }
+    ensures request { mover.new.request ≡ mover.old.request }
     ensures few { IsFew mover.new }
 {
     if !mover.busy {
-        return Step::Idle;
+        return Stepped::Idle;
     }
     match kind {
         FaultKind::Die => {
             mover.failed = true;
-            Step::Failed
+            Stepped::Failed
         }
-        FaultKind::Hang => Step::Working,
+        FaultKind::Hang => Stepped::Working,
         FaultKind::Short => match plan(&mover.table, &mover.request) {
-            None => mover.step(media, generation),
+            None => mover.advance(media, generation),
             Some(run) => mover.end(Ok(512 * leading(mover, run))),
         },
         FaultKind::Error(errno) => match plan(&mover.table, &mover.request) {
-            None => mover.step(media, generation),
+            None => mover.advance(media, generation),
             Some(_) => mover.end(Err(errno)),
         },
     }

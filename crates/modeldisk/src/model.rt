@@ -2,10 +2,11 @@ ghost use Rattle.std.specs.Prelude.{◌≡◌, ◌+◌, ◌≤◌, if◌then◌e
 ghost use Rattle.media.specs.Table.{ranges_of};
 ghost use Rattle.bdev.specs.DriverState.{fresh, plan};
 ghost use Rattle.bdev.specs.Promises.{AcceptKeeps, IsDriver, StepKeeps};
+ghost use Rattle.bdev.specs.Stepping.{step_with};
 ghost use Rattle.modeldisk.specs.Order.{arm_after, order_in, StepsInOrder};
 
 use crate::sector_mover::mover::Mover;
-use bdev::{Accept, BlockDriver, Step};
+use bdev::{Accept, BlockDriver, Step, Stepped};
 use media::Media;
 use media::partition::Table;
 use message::BlockRequest;
@@ -76,5 +77,17 @@ impl BlockDriver for ModelDriver {
         ensures arm { arm_of self.new ≡ arm_after (model_left self.old) media.old generation (arm_of self.old) }
     {
         self.mover.step(media, generation)
+    }
+
+    /// As `step`, but the bytes of an answer to a read are put where the caller has room.
+    fn step_into(&mut self, media: &mut Media, generation: u32, bytes: &mut [u8; 4096]) -> Stepped
+        ensures keeps { StepKeeps (model_state self.old) media.old generation (step_with result bytes.new) (model_state self.new)
+            media.new }
+        ensures driver { IsDriver (model_state self.new) }
+        ensures order { StepsInOrder (model_busy self.old) (model_left self.old) (model_outcome self.old) media.old generation
+            (step_with result bytes.new) (model_left self.new) }
+        ensures arm { arm_of self.new ≡ arm_after (model_left self.old) media.old generation (arm_of self.old) }
+    {
+        self.mover.step_into(media, generation, bytes)
     }
 }

@@ -2,10 +2,11 @@ ghost use Rattle.std.specs.Prelude.{◌≡◌, ◌+◌, ◌≤◌, if◌then◌e
 ghost use Rattle.media.specs.Table.{ranges_of};
 ghost use Rattle.bdev.specs.DriverState.{fresh, plan};
 ghost use Rattle.bdev.specs.Promises.{AcceptKeeps, IsDriver, StepKeeps};
+ghost use Rattle.bdev.specs.Stepping.{step_with};
 ghost use Rattle.modeldisk.specs.Order.{order_in, StepsInOrder};
 
 use crate::sector_mover::mover::Mover;
-use bdev::{Accept, BlockDriver, Step};
+use bdev::{Accept, BlockDriver, Step, Stepped};
 use media::Media;
 use media::partition::Table;
 use message::BlockRequest;
@@ -64,5 +65,15 @@ impl BlockDriver for RamDriver {
             (ram_left self.new) }
     {
         self.mover.step(media, generation)
+    }
+
+    /// As `step`, but the bytes of an answer to a read are put where the caller has room.
+    fn step_into(&mut self, media: &mut Media, generation: u32, bytes: &mut [u8; 4096]) -> Stepped
+        ensures keeps { StepKeeps (ram_state self.old) media.old generation (step_with result bytes.new) (ram_state self.new) media.new }
+        ensures driver { IsDriver (ram_state self.new) }
+        ensures order { StepsInOrder (ram_busy self.old) (ram_left self.old) (ram_outcome self.old) media.old generation
+            (step_with result bytes.new) (ram_left self.new) }
+    {
+        self.mover.step_into(media, generation, bytes)
     }
 }

@@ -2,14 +2,15 @@ ghost use Rattle.std.specs.Prelude.{◌≡◌, ◌+◌, ◌≤◌, if◌then◌e
 ghost use Rattle.media.specs.Table.{ranges_of};
 ghost use Rattle.bdev.specs.DriverState.{plan};
 ghost use Rattle.bdev.specs.Promises.{AcceptKeeps, IsDriver, StepKeeps};
+ghost use Rattle.bdev.specs.Stepping.{step_with};
 ghost use Rattle.modeldisk.specs.Order.{order_in};
-ghost use Rattle.modeldisk.specs.Mover.{left_of};
+ghost use Rattle.modeldisk.specs.Mover.{IsFew, left_of};
 
 use crate::fault::{Fault, FaultKind, play};
 use crate::model::ModelDriver;
 use crate::ram::RamDriver;
 use crate::sector_mover::mover::Mover;
-use bdev::{Accept, BlockDriver, Step};
+use bdev::{Accept, BlockDriver, Step, Stepped};
 use media::Media;
 use message::BlockRequest;
 
@@ -34,7 +35,8 @@ pub struct ScriptedDriver {
 }
 
 impl ScriptedDriver {
-    ghost use Rattle.modeldisk.specs.Script.{due_of, has_arm, inner_arm, inner_state, script_of, scripted_arm, scripted_state};
+    ghost use Rattle.modeldisk.specs.Script.{arm_with, due_of, has_arm, inner_arm, inner_state, mover_of, script_of, scripted_arm};
+    ghost use Rattle.modeldisk.specs.Script.{scripted_state, FollowsScript};
 
     /// The inner driver with a script of faults.
     pub fn new(inner: Inner, faults: Vec<Fault>) -> ScriptedDriver
@@ -61,6 +63,23 @@ impl ScriptedDriver {
         let fault = self.faults.iter().find(|fault| u64::from(fault.request) == self.taken
             && fault.after == self.mover.done)?;
         Some(fault.kind)
+    }
+
+    /// Plays the fault that is due, or moves the next sector. The bytes of an answer stay in the mover's `got`.
+    fn advance(&mut self, media: &mut Media, generation: u32) -> Stepped
+        ensures keeps { StepKeeps (scripted_state self.old) media.old generation (step_with result (mover_of self.new).got)
+            (scripted_state self.new) media.new }
+        ensures fault { FollowsScript (due_of self.old) (mover_of self.old) media.old generation (step_with result (mover_of self.new).got)
+            (mover_of self.new) }
+        ensures script { script_of self.new ≡ script_of self.old }
+        ensures arm { scripted_arm self.new ≡ arm_with (due_of self.old) (mover_of self.old) media.old generation }
+        ensures request { (mover_of self.new).request ≡ (mover_of self.old).request }
+        ensures few { IsFew (mover_of self.new) }
+    {
+        match self.due() {
+            None => self.mover.advance(media, generation),
+            Some(kind) => play(&mut self.mover, kind, media, generation),
+        }
     }
 }
 
@@ -108,9 +127,23 @@ impl BlockDriver for ScriptedDriver {
         ensures script { script_of self.new ≡ script_of self.old }
         ensures arm { scripted_arm self.new ≡ arm_with (due_of self.old) (mover_of self.old) media.old generation }
     {
-        match self.due() {
-            None => self.mover.step(media, generation),
-            Some(kind) => play(&mut self.mover, kind, media, generation),
-        }
+        let stepped = self.advance(media, generation);
+        stepped.with_bytes(&self.mover.got)
+    }
+
+    /// As `step`, but the bytes of an answer to a read are put where the caller has room.
+    #[tactic(auto, using(crate::proofs::HandedLaws::script_bearing))]
+    fn step_into(&mut self, media: &mut Media, generation: u32, bytes: &mut [u8; 4096]) -> Stepped
+        ensures keeps { StepKeeps (scripted_state self.old) media.old generation (step_with result bytes.new) (scripted_state self.new)
+            media.new }
+        ensures driver { IsDriver (scripted_state self.new) }
+        ensures fault { FollowsScript (due_of self.old) (mover_of self.old) media.old generation (step_with result bytes.new)
+            (mover_of self.new) }
+        ensures script { script_of self.new ≡ script_of self.old }
+        ensures arm { scripted_arm self.new ≡ arm_with (due_of self.old) (mover_of self.old) media.old generation }
+    {
+        let stepped = self.advance(media, generation);
+        self.mover.hand_over(stepped, bytes);
+        stepped
     }
 }

@@ -1,4 +1,5 @@
 //! What drivers answer, step by step.
+use crate::roomy::Roomy;
 use bdev::{BlockDriver, Driver, Step};
 use errno::Errno;
 use media::partition::{Table, parse};
@@ -264,4 +265,33 @@ fn drivers_answer(rt: HostRuntime) -> Result<(), Fail> {
         &mut media,
         REVOKED,
     )
+}
+
+/// A driver that is stepped with room for its bytes answers as it does without.
+#[test]
+fn bytes_find_room(rt: HostRuntime) -> Result<(), Fail> {
+    let alloc = rt.alloc();
+    for (row, (arm, steps, after)) in SWEEPS.iter().enumerate() {
+        let mut roomy = Roomy {
+            driver: ModelDriver::new(Table::whole(16), *arm),
+        };
+        acts(alloc, row, &mut roomy, &mut numbered(alloc, 16)?, steps)?;
+        if roomy.driver.arm() != *after {
+            return Err(Fail::new(format_args!("row {row}: {}", roomy.driver.arm())));
+        }
+    }
+    let mut bounded = Roomy {
+        driver: RamDriver::new(parse(&table_sector(), 129)?),
+    };
+    acts(alloc, 2, &mut bounded, &mut numbered(alloc, 129)?, BOUNDED)?;
+    // the driver in it has no step with room of its own
+    let mut twice = Roomy {
+        driver: Roomy {
+            driver: RamDriver::new(parse(&table_sector(), 129)?),
+        },
+    };
+    acts(alloc, 3, &mut twice, &mut numbered(alloc, 129)?, BOUNDED)?;
+    let inner: Driver = Box::new(alloc, RamDriver::new(Table::whole(16)))?;
+    let mut boxed = Roomy { driver: inner };
+    acts(alloc, 4, &mut boxed, &mut numbered(alloc, 16)?, TURNED_AWAY)
 }

@@ -1,5 +1,6 @@
 //! What a script of faults makes of a driver's answers, what is moved before a fault, and what a script leaves as it is.
 use crate::drivers::{Act, Acts, acts, numbered};
+use crate::roomy::Roomy;
 use errno::Errno;
 use media::partition::Table;
 use message::Kind;
@@ -191,6 +192,16 @@ fn faults_come(rt: HostRuntime) -> Result<(), Fail> {
             rt.alloc(),
             row,
             &mut driver,
+            &mut numbered(rt.alloc(), 16)?,
+            steps,
+        )?;
+        let mut roomy = Roomy {
+            driver: scripted(rt.alloc(), *arm, slips)?,
+        };
+        acts(
+            rt.alloc(),
+            row,
+            &mut roomy,
             &mut numbered(rt.alloc(), 16)?,
             steps,
         )?;

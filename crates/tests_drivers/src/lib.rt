@@ -8,6 +8,8 @@ mod faults;
 #[cfg(test)]
 mod restarts;
 #[cfg(test)]
+mod roomy;
+#[cfg(test)]
 mod sectors;
 #[cfg(test)]
 mod texts;

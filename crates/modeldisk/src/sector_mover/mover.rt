@@ -2,12 +2,13 @@ ghost use Rattle.std.specs.Prelude.{◌≡◌, ◌+◌, ◌*◌, ◌<◌, ◌≤
 ghost use Rattle.media.specs.Table.{ranges_of};
 ghost use Rattle.bdev.specs.DriverState.{fresh, plan, range_while_fresh};
 ghost use Rattle.bdev.specs.Promises.{AcceptKeeps, IsDriver, StepKeeps};
+ghost use Rattle.bdev.specs.Stepping.{step_with};
 ghost use Rattle.modeldisk.specs.Order.{arm_after, order_in, order_of, StepsInOrder};
 ghost use Rattle.modeldisk.specs.Transfer.{TransfersIf};
-ghost use Rattle.modeldisk.specs.Mover.{IsFew, MovesNext, ended, left_of, order, outcome_of, state_of};
+ghost use Rattle.modeldisk.specs.Mover.{IsFew, MovesNext, ended, handed, left_of, order, outcome_of, state_of};
 
 use crate::sector_mover::chunks::{chunk_at, put_chunk};
-use bdev::{Accept, Answer, Run, Step};
+use bdev::{Accept, Completion, Run, Step, Stepped};
 use errno::Errno;
 use media::Media;
 use media::partition::Table;
@@ -165,17 +166,19 @@ impl Mover {
         self.bad
     }
 
-    /// Moves the next sector, or answers.
-    pub fn step(&mut self, media: &mut Media, generation: u32) -> Step
+    /// Moves the next sector, or answers. The bytes of an answer stay in `got`.
+    pub fn advance(&mut self, media: &mut Media, generation: u32) -> Stepped
         requires { IsFew self.old }
-        ensures keeps { StepKeeps (state_of self.old) media.old generation result (state_of self.new) media.new }
-        ensures order { StepsInOrder self.old.busy (left_of self.old) (outcome_of self.old) media.old generation result (left_of self.new) }
+        ensures keeps { StepKeeps (state_of self.old) media.old generation (step_with result self.new.got) (state_of self.new) media.new }
+        ensures order { StepsInOrder self.old.busy (left_of self.old) (outcome_of self.old) media.old generation
+            (step_with result self.new.got) (left_of self.new) }
         ensures arm { self.new.arm ≡ arm_after (left_of self.old) media.old generation self.old.arm }
         ensures last { self.new.last ≡ self.old.last }
+        ensures request { self.new.request ≡ self.old.request }
         ensures few { IsFew self.new }
     {
         if !self.busy {
-            return Step::Idle;
+            return Stepped::Idle;
         }
         let Some(run) = plan(&self.table, &self.request) else {
             return self.end(Err(Errno::EINVAL));
@@ -185,12 +188,56 @@ impl Mover {
         }
         if !self.move_next(run, media, generation) {
             self.failed = true;
-            return Step::Failed;
+            return Stepped::Failed;
         }
         if self.done < run.count {
-            return Step::Working;
+            return Stepped::Working;
         }
         self.end(Ok(512 * run.count))
+    }
+
+    /// Moves the next sector, or answers.
+    pub fn step(&mut self, media: &mut Media, generation: u32) -> Step
+        requires { IsFew self.old }
+        ensures keeps { StepKeeps (state_of self.old) media.old generation result (state_of self.new) media.new }
+        ensures order { StepsInOrder self.old.busy (left_of self.old) (outcome_of self.old) media.old generation result (left_of self.new) }
+        ensures arm { self.new.arm ≡ arm_after (left_of self.old) media.old generation self.old.arm }
+        ensures last { self.new.last ≡ self.old.last }
+        ensures few { IsFew self.new }
+    {
+        let stepped = self.advance(media, generation);
+        stepped.with_bytes(&self.got)
+    }
+
+    /// Moves the next sector, or answers. The bytes of an answer to a read are put where the caller has room.
+    #[tactic(auto, using(crate::proofs::HandedLaws::order_bearing))]
+    pub fn step_into(
+        &mut self,
+        media: &mut Media,
+        generation: u32,
+        bytes: &mut [u8; 4096],
+    ) -> Stepped
+        requires { IsFew self.old }
+        ensures keeps { StepKeeps (state_of self.old) media.old generation (step_with result bytes.new) (state_of self.new) media.new }
+        ensures order { StepsInOrder self.old.busy (left_of self.old) (outcome_of self.old) media.old generation
+            (step_with result bytes.new) (left_of self.new) }
+        ensures arm { self.new.arm ≡ arm_after (left_of self.old) media.old generation self.old.arm }
+        ensures last { self.new.last ≡ self.old.last }
+        ensures few { IsFew self.new }
+    {
+        let stepped = self.advance(media, generation);
+        self.hand_over(stepped, bytes);
+        stepped
+    }
+
+    /// Puts the bytes of an answer to a read where the caller has room; after any other step it puts none.
+    pub fn hand_over(&self, stepped: Stepped, bytes: &mut [u8; 4096])
+        ensures { bytes.new ≡ handed self.now.request.kind stepped self.now.got bytes.old }
+    {
+        match (self.request.kind, stepped) {
+            (Kind::Read, Stepped::Done(_)) => bytes.copy_from_slice(&self.got),
+            _ => {}
+        }
     }
 
     /// Moves the next sector of the run; false where the media refused it.
@@ -232,20 +279,19 @@ impl Mover {
         }
     }
 
-    /// Answers the request in work.
-    pub fn end(&mut self, outcome: Result<u32, Errno>) -> Step
+    /// Answers the request in work. The bytes of the answer are those in `got`.
+    pub fn end(&mut self, outcome: Result<u32, Errno>) -> Stepped
         requires { self.old.bad < self.old.last }
         ensures rest { self.new ≡ ended outcome self.old }
-        ensures step { result ≡ Step.Done (record { id = self.old.request.id; outcome = outcome; bytes = self.old.got }) }
+        ensures step { result ≡ Stepped.Done (record { id = self.old.request.id; outcome = outcome }) }
     {
         if moved_bytes(self.request.count, &outcome).is_none() {
             self.bad += 1;
         }
         self.busy = false;
-        Step::Done(Answer {
+        Stepped::Done(Completion {
             id: self.request.id,
             outcome,
-            bytes: self.got,
         })
     }
 }

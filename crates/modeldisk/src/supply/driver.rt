@@ -1,7 +1,7 @@
 //! A driver of either kind.
 
 use crate::{ModelDriver, RamDriver};
-use bdev::{Accept, BlockDriver, Step};
+use bdev::{Accept, BlockDriver, Step, Stepped};
 use media::Media;
 use message::BlockRequest;
 
@@ -51,6 +51,13 @@ impl BlockDriver for DiskDriver {
         match self {
             DiskDriver::Ram(driver) => driver.step(media, generation),
             DiskDriver::Arm(driver) => driver.step(media, generation),
+        }
+    }
+
+    fn step_into(&mut self, media: &mut Media, generation: u32, bytes: &mut [u8; 4096]) -> Stepped {
+        match self {
+            DiskDriver::Ram(driver) => driver.step_into(media, generation, bytes),
+            DiskDriver::Arm(driver) => driver.step_into(media, generation, bytes),
         }
     }
 }

@@ -1,4 +1,4 @@
-use Rattle.std.proofs.Common.{◌≡◌, List, ℕ, Result, Some, sym, ◌∙◌, ap}
+use Rattle.std.proofs.Common.{◌≡◌, Result, Some, sym, ◌∙◌, ap}
 use Rattle.std.specs.Prelude.{slice_get}
 use Rattle.std.specs.Option.{option_copied}
 use Rattle.media.specs.declared.partition.PartitionRefusal.{PartitionRefusal}

@@ -1,7 +1,7 @@
 use Rattle.std.proofs.Common.{sym, ◌∙◌}
 use Rattle.modeldisk.proofs.MoverLaws.{keeps_unsound, keeps_empty, keeps_working, keeps_last}
 use Rattle.modeldisk.proofs.SweepLaws.{unsound_in_order, empty_in_order, unsound_arm, empty_arm, refused_in_order, refused_arm, moved_arm, working_in_order, last_in_order}
-use Rattle.modeldisk.proofs.sector_mover.mover.Mover.step.Goals as goal
+use Rattle.modeldisk.proofs.sector_mover.mover.Mover.advance.Goals as goal
 
 pub returns-in_default-clause-keeps : goal.returns-in_default-clause-keeps
 returns-in_default-clause-keeps c =
