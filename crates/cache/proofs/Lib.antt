@@ -12,6 +12,7 @@ mod Choosing
 mod Making
 mod Indexed
 mod Settled
+mod Open
 mod Copying
 pub mod Begun
 pub mod Sizes

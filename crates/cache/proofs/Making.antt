@@ -1,28 +1,33 @@
 -- Slots as they are made.
-use Rattle.std.proofs.Common.{◌≡◌, ℕ, zero, suc, ◌++◌, List, [], ◌∷◌, refl, sym, ap, ◌∙◌, Some, None}
+use Rattle.std.proofs.Common.{◌≡◌, ℕ, zero, suc, ◌++◌, List, [], ◌∷◌, refl, sym, ap, subst, ◌∙◌, Some, None}
 use Rattle.std.specs.Prelude.{slice_get}
 use Rattle.std.proofs.lemmas.Bool.{cond-false}
 use Rattle.cache.specs.declared.slot.Slot.{Slot}
+use Rattle.cache.specs.declared.state.State.TheVariants.{Clean}
 use Rattle.cache.specs.Slots.{is_number, held, IsDistinct}
 
--- no slot holds a block
+-- no slot holds a block, and no write is under way
 pub record AllFree (items : List Slot) : Type 0 where
   pub each : (i : ℕ) (s : Slot) → slice_get items i ≡ Some s → s.block ≡ None
+  pub clean : (i : ℕ) (s : Slot) → slice_get items i ≡ Some s → s.state ≡ Clean
 
 -- there are none at first
 pub free_none : AllFree []
-free_none = record { each = λ i s h. cc }
+free_none = record { each = λ i s h. cc; clean = λ i s h. cc }
 
 -- one more
-pub free_more : (items : List Slot) (t : Slot) → AllFree items → t.block ≡ None → AllFree (items ++ t ∷ [])
-free_more items t h k = record { each = λ i s. at items i s h.each }
+pub free_more : (items : List Slot) (t : Slot) → AllFree items → t.block ≡ None → t.state ≡ Clean → AllFree (items ++ t ∷ [])
+free_more items t h k c = record {
+  each = λ i s. at (λ (x : Slot). x.block ≡ None) items k i s h.each;
+  clean = λ i s. at (λ (x : Slot). x.state ≡ Clean) items c i s h.clean;
+}
   where
-    at : (xs : List Slot) (i : ℕ) (s : Slot) → ((j : ℕ) (u : Slot) → slice_get xs j ≡ Some u → u.block ≡ None)
-        → slice_get (xs ++ t ∷ []) i ≡ Some s → s.block ≡ None
-    at [] zero s f e = let same : t ≡ s = cc in ap (λ (x : Slot). x.block) (sym same) ∙ k
-    at [] (suc i) s f e = cc
-    at (x ∷ xs) zero s f e = f zero s e
-    at (x ∷ xs) (suc i) s f e = at xs i s (λ j u is. f (suc j) u is) e
+    at : (P : Slot → Type 0) (xs : List Slot) → P t → (i : ℕ) (s : Slot) → ((j : ℕ) (u : Slot) → slice_get xs j ≡ Some u → P u)
+        → slice_get (xs ++ t ∷ []) i ≡ Some s → P s
+    at P [] p zero s f e = let same : t ≡ s = cc in subst P same p
+    at P [] p (suc i) s f e = absurd (let q : ⊥ = cc in q)
+    at P (x ∷ xs) p zero s f e = f zero s e
+    at P (x ∷ xs) p (suc i) s f e = at P xs p i s (λ j u is. f (suc j) u is) e
 
 -- no block has a slot then
 pub free_held : (items : List Slot) (b : ℕ) → AllFree items → held items b ≡ None

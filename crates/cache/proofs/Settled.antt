@@ -17,10 +17,6 @@ pub record Settling (ticket : ℕ) (old new : List Slot) (at : ℕ) : Type 0 whe
   pub done : (i : ℕ) (s : Slot) → i < at → slice_get old i ≡ Some s → slice_get new i ≡ Some (after_write ticket s)
   pub rest : (i : ℕ) → at ≤ i → slice_get new i ≡ slice_get old i
 
--- none yet
-pub settling_none : (ticket : ℕ) (old : List Slot) → Settling ticket old old 0
-settling_none ticket old = record { count = refl; done = λ i s lt is. absurd (omega (arith, lt)); rest = λ i le. refl }
-
 -- one more
 pub settling_more : (ticket : ℕ) (old mid new : List Slot) (at : ℕ) → Settling ticket old mid at
     → IsSetAt mid new at (after_write ticket) → Settling ticket old new (at + 1)
@@ -70,25 +66,25 @@ kept ticket s = by (is_under ticket s)
     by true = record { block = refl; bytes = refl; state = inr refl }
     by false = record { block = refl; bytes = refl; state = inl refl }
 
--- all are
-all_done : (ticket : ℕ) (old new : List Slot) → Settling ticket old new (length old)
-    → (i : ℕ) (s : Slot) → slice_get old i ≡ Some s → slice_get new i ≡ Some (after_write ticket s)
-all_done ticket old new h i s is = h.done i s (in_range old i s is) is
+-- all slots are written
+pub record AllSettled (ticket : ℕ) (old new : List Slot) : Type 0 where
+  pub count : length new ≡ length old
+  pub done : (i : ℕ) (s : Slot) → slice_get old i ≡ Some s → slice_get new i ≡ Some (after_write ticket s)
 
 -- the slots of blocks
-pub settled_written : (ticket : ℕ) (old new : List Slot) → IsDistinct new → Settling ticket old new (length old) → IsWritten ticket old new
+pub settled_written : (ticket : ℕ) (old new : List Slot) → IsDistinct new → AllSettled ticket old new → IsWritten ticket old new
 settled_written ticket old new distinct h = record {
   slots = by_block;
   leaves = record {
     count = h.count;
     at = λ i b x. record {
       slot = after_write ticket x.slot;
-      is = all_done ticket old new h i x.slot x.is;
+      is = h.done i x.slot x.is;
       block_is = block_stays ticket x.slot ∙ x.block_is;
     };
     free = λ i x. record {
       slot = after_write ticket x.slot;
-      is = all_done ticket old new h i x.slot x.is;
+      is = h.done i x.slot x.is;
       none = block_stays ticket x.slot ∙ x.none;
     };
     none = λ b none. by_block b ∙ ap (held_after_write ticket) none;
@@ -102,7 +98,7 @@ settled_written ticket old new distinct h = record {
           let place = place_of new b p.0 p.1 in
           let lt : place.index < length old = subst (λ (n : ℕ). place.index < n) h.count (in_range new place.index p.0 place.is) in
           let was = get_some old place.index lt in
-          let z : Some (after_write ticket was.0) ≡ Some p.0 = sym (all_done ticket old new h place.index was.0 was.1) ∙ place.is in
+          let z : Some (after_write ticket was.0) ≡ Some p.0 = sym (h.done place.index was.0 was.1) ∙ place.is in
           let same : after_write ticket was.0 ≡ p.0 = cc in
           absurd (some_holds old place.index b was.0 was.1
           (sym (block_stays ticket was.0) ∙ ap (λ (x : Slot). x.block) same ∙ place.block) none)
@@ -113,18 +109,18 @@ settled_written ticket old new distinct h = record {
       | inl n ↦ has_none b n ∙ ap (held_after_write ticket) (sym n)
       | inr p ↦
           let place = place_of old b p.0 p.1 in
-          held_at new place.index b (after_write ticket p.0) distinct (all_done ticket old new h place.index p.0 place.is)
+          held_at new place.index b (after_write ticket p.0) distinct (h.done place.index p.0 place.is)
           (block_stays ticket p.0 ∙ place.block) ∙ ap (held_after_write ticket) (sym p.1)
     ]
 
 -- and each slot stays otherwise
 pub settled_stays : (ticket : ℕ) (old new : Slots) → new.uses ≡ old.uses
-    → Settling ticket old.items.items new.items.items (length old.items.items) → AllStay old new
+    → AllSettled ticket old.items.items new.items.items → AllStay old new
 settled_stays ticket old new uses h = record {
   uses = uses;
   each = λ i s is. record {
     slot = after_write ticket s;
-    is = all_done ticket old.items.items new.items.items h i s is;
+    is = h.done i s is;
     kept = kept ticket s;
   };
 }

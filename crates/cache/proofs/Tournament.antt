@@ -1,11 +1,12 @@
 -- Tournaments: who wins at the root, and what is played anew after the key of a place was changed.
 use Rattle.std.proofs.Common.{◌≡◌, ◌≢◌, ℕ, zero, suc, ◌+◌, ◌-◌, ◌*◌, ◌/◌, ◌^◌, ◌<◌, ◌≤◌, List, [], ◌∷◌, length, set, get_or, length-set, cond}
-use Rattle.std.proofs.Common.{Bool, refl, sym, ap, subst, ◌∙◌, arith}
+use Rattle.std.proofs.Common.{Bool, true, refl, sym, ap, subst, ◌∙◌, arith}
 use mathlib.Core.Logic.{inl, inr, ◌⊎◌}
-use Rattle.std.specs.Prelude.{nat_lt, not}
+use Rattle.std.specs.Prelude.{nat_lt, not, ◌&&◌, ◌==◌}
 use Rattle.std.specs.Bool.{OnTrue}
-use Rattle.std.proofs.lemmas.List.Sums.{sum_by-cons, get_or-le-sum_by}
-use Rattle.std.proofs.lemmas.Bool.{cases_eq, cases_lt, cond-true, cond-false, lt-ltb}
+use Rattle.std.proofs.lemmas.List.Sums.{sum_by-cons, sum_by-set, get_or-le-sum_by}
+use Rattle.std.proofs.lemmas.Bool.{cases_eq, cases_lt, cond-true, cond-false, lt-ltb, ltb-true, eqb-true}
+use Rattle.lemmas.proofs.Bools.{and_left, and_right}
 use Rattle.lemmas.proofs.Numbers.{less_fails}
 use Rattle.cache.specs.Winners.{winner, is_late, late_count, IsBest, IsTree, WasTree, IsLowest, IsNoneLate, IsSomeLate}
 use Rattle.cache.proofs.Order.{set_same, set_other}
@@ -392,6 +393,89 @@ playing_stopped n at node w before keys nodes p some b same other = record {
         (no_child (half a.halvings node) (2 * i) d ne (left_half i ∙ sym up) (omega arith))
         (no_child (half a.halvings node) (2 * i + 1) d ne (right_half i ∙ sym up) (omega arith)) (p.above i more a)
 
+-- ---- the place that wins at the root gets a lower key
+
+-- it wins everywhere on the way up from its leaf
+won_way : (keys nodes : List ℕ) (at m c : ℕ) → IsTree keys nodes → winner nodes 1 ≡ at → at < length nodes → c ≤ m → 0 < c
+    → IsAbove c (length nodes + at) → winner nodes c ≡ at
+won_way keys nodes at zero c t root lt le some a = absurd (let q : ⊥ = omega arith in q)
+won_way keys nodes at (suc m) c t root lt le some a = elim (cases_eq c 1) [
+  | inl e ↦ ap (winner nodes) e ∙ root
+  | inr ne ↦
+      let p : 0 < c / 2 = omega arith in
+      let low = above_le c (length nodes + at) a in
+      let in_range : c / 2 < length nodes = omega (arith, low, lt) in
+      let up = won_way keys nodes at m (c / 2) t root lt (omega arith) p (above_up c (length nodes + at) a) in
+      let here : get_or nodes (c / 2) 0 ≡ at = sym (win_node nodes (c / 2) in_range) ∙ up in
+      elim (either keys nodes (c / 2) (get_or nodes (c / 2) 0) (t.each (c / 2) p in_range)) [
+        | inl e ↦ same_child (2 * (c / 2)) (left_half (c / 2)) (omega arith) p (sym e ∙ here)
+        | inr e ↦ same_child (2 * (c / 2) + 1) (right_half (c / 2)) (omega arith) p (sym e ∙ here)
+      ]
+]
+  where
+    same_child : (k : ℕ) → k / 2 ≡ c / 2 → 0 < k → 0 < c / 2 → winner nodes k ≡ at → winner nodes c ≡ at
+    same_child k up more half_more is =
+        let b = won_above keys nodes at (length nodes) k t (omega arith) more is in
+        ap (winner nodes) (above_one c k (length nodes + at) a b (sym up) half_more) ∙ is
+
+-- where it doesn't win at a node, it wins at no child of it
+no_child_won : (keys nodes : List ℕ) (at i k : ℕ) → IsTree keys nodes → winner nodes 1 ≡ at → at < length nodes → 0 < i → i < length nodes
+    → 0 < k → k / 2 ≡ i → get_or nodes i 0 ≢ at → winner nodes k ≢ at
+no_child_won keys nodes at i k t root lt some in_range more up ne is =
+    let a = won_above keys nodes at (length nodes) k t (omega arith) more is in
+    let b = subst (λ (j : ℕ). IsAbove j (length nodes + at)) up (above_up k (length nodes + at) a) in
+    ne (sym (win_node nodes i in_range) ∙ won_way keys nodes at i i t root lt (omega arith) some b)
+
+-- its lower key is no higher than those that it is compared with
+lower_best : (before keys nodes : List ℕ) (at i : ℕ) → ((k : ℕ) → (k ≡ at → ⊥) → get_or before k 0 ≡ get_or keys k 0)
+    → get_or keys at 0 ≤ get_or before at 0 → get_or nodes i 0 ≡ at → IsBest before nodes i (get_or nodes i 0)
+    → IsBest keys nodes i (get_or nodes i 0)
+lower_best before keys nodes at i others less here b = record {
+  one = b.one;
+  left = low (winner nodes (2 * i)) b.left;
+  right = low (winner nodes (2 * i + 1)) b.right;
+}
+  where
+    low : (w : ℕ) → get_or before (get_or nodes i 0) 0 ≤ get_or before w 0 → get_or keys (get_or nodes i 0) 0 ≤ get_or keys w 0
+    low w le =
+        let x = ap (λ (k : ℕ). get_or before k 0) here in
+        let y = ap (λ (k : ℕ). get_or keys k 0) here in
+        elim (cases_eq w at) [
+          | inl e ↦ let z = ap (λ (k : ℕ). get_or keys k 0) e in omega (arith, y, z)
+          | inr ne ↦ let z = others w ne in omega (arith, x, y, z, le, less)
+        ]
+
+-- no node changes
+pub first_lowered : (before keys nodes : List ℕ) (at : ℕ) → length before ≡ length keys
+    → ((k : ℕ) → (k ≡ at → ⊥) → get_or before k 0 ≡ get_or keys k 0) → get_or keys at 0 ≤ get_or before at 0 → winner nodes 1 ≡ at
+    → at < length nodes → IsTree before nodes → IsTree keys nodes
+first_lowered before keys nodes at paired others less root lt t = record {
+  count = t.count ∙ paired;
+  within = t.within;
+  each = λ i some in_range. elim (cases_eq (get_or nodes i 0) at) [
+    | inl e ↦ lower_best before keys nodes at i others less e (t.each i some in_range)
+    | inr ne ↦
+        same_best before keys nodes at i (get_or nodes i 0) others ne
+        (no_child_won before nodes at i (2 * i) t root lt some in_range (omega arith) (left_half i) ne)
+        (no_child_won before nodes at i (2 * i + 1) t root lt some in_range (omega arith) (right_half i) ne)
+        (t.each i some in_range)
+  ];
+}
+
+-- so where it was tested
+pub tested_lowered : (keys nodes : List ℕ) (at key : ℕ) (b : Bool) → b ≡ (nat_lt key (get_or keys at 0) && (winner nodes 1 == at)) → b ≡ true
+    → at < length keys → IsTree keys nodes → IsTree (set keys at key) nodes
+tested_lowered keys nodes at key b is so lt t =
+    first_lowered keys (set keys at key) nodes at (sym (length-set keys at key)) (λ k ne. sym (set_other keys at k key ne))
+    (omega (arith, lower, set_same keys at key lt)) (eqb-true (winner nodes 1) at (and_right (nat_lt key (get_or keys at 0)) _ both))
+    (let c = t.count in omega (arith, lt, c)) t
+  where
+    both : (nat_lt key (get_or keys at 0) && (winner nodes 1 == at)) ≡ true
+    both = sym is ∙ so
+
+    lower : key < get_or keys at 0
+    lower = ltb-true key (get_or keys at 0) (and_left (nat_lt key (get_or keys at 0)) _ both)
+
 -- ---- the beginning
 
 -- all keys are 0, and the places at the left win from this node on
@@ -456,6 +540,14 @@ one_if_early key lt = cond-false (is_late key) 1 0 (ap not (lt-ltb key (2 ^ 63) 
 
 one_if_late : (key : ℕ) → 2 ^ 63 ≤ key → one_late key ≡ 1
 one_if_late key le = cond-true (is_late key) 1 0 (ap not (less_fails key (2 ^ 63) le))
+
+-- how many are, after a key was changed
+pub late_set : (keys : List ℕ) (at key d n a b : ℕ) → at < length keys → n ≡ late_count keys → a ≡ one_late (get_or keys at d) → b ≡ one_late key
+    → n - a + b ≡ late_count (set keys at key)
+late_set keys at key d n a b lt is old new =
+    let sum = sum_by-set one_late keys at key d lt in
+    let le = get_or-le-sum_by one_late keys at d lt in
+    omega (arith, is, old, new, sum, le)
 
 -- where none is counted, none is late
 pub none_late : (keys : List ℕ) → late_count keys ≡ 0 → IsNoneLate keys

@@ -1,5 +1,5 @@
 -- The slots of a cache by their blocks, and the states of their bytes.
-use Rattle.std.specs.Prelude.{◌≡◌, ℕ, ◌≤◌, ◌==◌, ◌&&◌, List, Option, Some, None, is_some, not, Bool, true, false}
+use Rattle.std.specs.Prelude.{◌≡◌, ℕ, ◌<◌, ◌≤◌, ◌==◌, ◌&&◌, List, length, Option, Some, None, is_some, not, Bool, true, false}
 use Rattle.std.specs.Prelude.{min, if◌then◌else◌, slice_get}
 use Rattle.std.specs.List.{find}
 use Rattle.cache.specs.declared.state.State.{State}
@@ -83,6 +83,11 @@ pub record NoneDirtyBelow (items : List Slot) (from : ℕ) : Type 0 where
 abbrev pub lower_of : ℕ → Option ℕ → ℕ
 lower_of from None = from
 lower_of from (Some b) = min from b
+
+-- each slot with a write under way stands from the first of these places on, and before the second, which is no place past the end
+pub record AreOpenWithin (items : List Slot) (from to : ℕ) : Type 0 where
+  pub bound : to ≤ length items
+  pub each : (i t : ℕ) (s : Slot) → slice_get items i ≡ Some s → ticket_of s.state ≡ Some t → (from ≤ i) × (i < to)
 
 -- no block has two slots
 pub record IsDistinct (items : List Slot) : Type 0 where

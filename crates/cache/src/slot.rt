@@ -1,7 +1,8 @@
 //! A slot.
 
 ghost use Rattle.std.specs.Prelude.{◌≡◌, ◌<◌, ◌≤◌, ◌+◌, ◌^◌, ◌-◌, ◌&&◌, ℕ, IfOk, Some, None, slice_index, length, nat_le, nat_lt, if◌then◌else◌};
-ghost use Rattle.cache.specs.Slots.{is_number, dirtied, is_under, is_dirty_slot, is_unclean_slot, dirty_block, clean_block};
+ghost use Rattle.std.specs.Prelude.{min, max, is_some};
+ghost use Rattle.cache.specs.Slots.{is_number, ticket_of, dirtied, is_under, is_dirty_slot, is_unclean_slot, dirty_block, clean_block};
 ghost use Rattle.cache.specs.Order.{turn};
 
 use crate::state::State;
@@ -47,7 +48,8 @@ pub struct Slot {
 impl Slot {
     /// A slot that holds no block.
     pub(crate) fn free(alloc: Global) -> Result<Slot, AllocError>
-        ensures { IfOk result (λ s. s.block ≡ None) }
+        ensures block { IfOk result (λ s. s.block ≡ None) }
+        ensures state { IfOk result (λ s. s.state ≡ State.Clean) }
     {
         Ok(Slot {
             block: None,
@@ -123,6 +125,19 @@ impl Slot {
             MOST_USES + number
         } else {
             2 * MOST_USES + number
+        }
+    }
+
+    /// Widens the range of places from `from` on and before `to` to its own, if its write is under way.
+    #[inline]
+    pub(crate) fn widen(&self, at: usize, from: &mut usize, to: &mut usize)
+        requires { at < 4096 }
+        ensures from { from.new ≡ (if is_some (ticket_of self.now.state) then min from.old at else from.old) }
+        ensures to { to.new ≡ (if is_some (ticket_of self.now.state) then max to.old (at + 1) else to.old) }
+    {
+        if self.state.ticket().is_some() {
+            *from = (*from).min(at);
+            *to = (*to).max(at + 1);
         }
     }
 

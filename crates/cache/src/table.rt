@@ -3,7 +3,7 @@
 ghost use Rattle.std.specs.Prelude.{◌≡◌, ◌⊎◌, ◌<◌, ◌≤◌, ◌+◌, ◌*◌, ◌^◌, ℕ, true, IfOk, Some, None, slice_get, slice_index, length};
 ghost use Rattle.std.specs.Bool.{OnTrue, OnFalse};
 ghost use Rattle.std.specs.Vec.{vec_capacity};
-ghost use Rattle.cache.specs.Slots.{held, is_dirty_held, lower_of, IsDistinct, NoneDirtyBelow};
+ghost use Rattle.cache.specs.Slots.{held, is_dirty_held, lower_of, IsDistinct, NoneDirtyBelow, AreOpenWithin};
 ghost use Rattle.cache.specs.Index.{IsIndexOf};
 ghost use Rattle.cache.specs.Uses.{IsUsedLast};
 ghost use Rattle.cache.specs.Order.{IsRanked, IsRankedBut};
@@ -29,6 +29,9 @@ pub struct Slots {
     index: Index,
     // The block that the search for a dirty slot begins at: none below it has one.
     search_from: u32,
+    // The slots with a write under way stand from the first of these places on, and before the second.
+    open_from: usize,
+    open_to: usize,
     /// Room for a block that is in no slot: a read's bytes come here, and go into a slot by its pointer.
     pub spare: Box<[u8; 4096]>,
     pub ghost distinct: { IsDistinct items.items },
@@ -39,6 +42,7 @@ pub struct Slots {
     pub ghost paired: { length uses.numbers.items ≡ length items.items },
     pub ghost ranked: { IsRanked items.items uses.numbers.items winners.keys.items },
     pub ghost skipped: { NoneDirtyBelow items.items search_from },
+    pub ghost opened: { AreOpenWithin items.items open_from open_to },
 }
 
 /// Where the search for a dirty slot begins once this block has one too, where it began at `from` before.
@@ -108,6 +112,8 @@ impl Slots {
             winners,
             index: Index::new(alloc, count)?,
             search_from: u32::MAX,
+            open_from: usize::MAX,
+            open_to: 0,
             spare: Box::new(alloc, zeros())?,
         })
     }
@@ -295,6 +301,7 @@ impl Slots {
         let slot = &mut self.items[at];
         slot.state = state;
         self.search_from = lowered(self.search_from, slot.dirty_block());
+        slot.widen(at, &mut self.open_from, &mut self.open_to);
         let key = slot.turn(self.uses.number(at));
         self.winners.set(at, key);
     }
@@ -305,9 +312,14 @@ impl Slots {
         ensures stay { AllStay self.old self.new }
         ensures spare { self.new.spare ≡ self.old.spare }
     {
-        for at in 0..self.items.len() {
+        let mut from = usize::MAX;
+        let mut to = 0;
+        for at in self.open_from..self.open_to {
             self.settle_at(at, ticket);
+            self.get(at).widen(at, &mut from, &mut to);
         }
+        self.open_from = from;
+        self.open_to = to;
     }
 
     /// The write with this ticket was answered good: what becomes of the slot there.
@@ -363,6 +375,7 @@ impl Slots {
         let slot = &mut self.items[at];
         slot.hold(block, &mut self.spare, state);
         self.search_from = lowered(self.search_from, slot.dirty_block());
+        slot.widen(at, &mut self.open_from, &mut self.open_to);
         use_now(&mut self.uses, &mut self.winners, &self.items, at);
     }
 

@@ -1,6 +1,6 @@
 //! Which of many places has the lowest key.
 
-ghost use Rattle.std.specs.Prelude.{◌≡◌, ◌+◌, ◌*◌, ◌<◌, ◌≤◌, IfOk, length, slice_set, if◌then◌else◌};
+ghost use Rattle.std.specs.Prelude.{◌≡◌, ◌+◌, ◌*◌, ◌<◌, ◌≤◌, ◌==◌, ◌&&◌, nat_lt, IfOk, length, slice_index, slice_set, if◌then◌else◌};
 ghost use Rattle.std.specs.Bool.{OnTrue, OnFalse};
 ghost use Rattle.cache.specs.Winners.{winner, is_late, late_count, IsBest, IsTree, WasTree, IsLowest, IsNoneLate, IsSomeLate};
 
@@ -116,6 +116,15 @@ impl Winners {
         0 < self.late
     }
 
+    /// Whether this key is lower than the one of the place, which wins at the root: it then wins where it did.
+    #[inline]
+    fn lowers_first(&self, at: usize, key: u64) -> bool
+        requires { at < length self.now.keys.items }
+        ensures { result ≡ (nat_lt key (slice_index self.now.keys.items at) && (winner self.now.nodes.items 1 == at)) }
+    {
+        key < self.keys[at] && winner(&self.nodes, 1) == at
+    }
+
     /// Gives a place this key.
     #[inline]
     pub(crate) fn set(&mut self, at: usize, key: u64)
@@ -126,8 +135,11 @@ impl Winners {
         if old == key {
             return;
         }
+        let stays = self.lowers_first(at, key);
         self.late = self.late - late(old) + late(key);
         self.keys[at] = key;
-        play(&mut self.nodes, &self.keys, at);
+        if !stays {
+            play(&mut self.nodes, &self.keys, at);
+        }
     }
 }

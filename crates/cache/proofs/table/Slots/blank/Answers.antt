@@ -9,6 +9,7 @@ use Rattle.cache.proofs.Indexed.{few_set, index_kept}
 use Rattle.cache.specs.declared.slot.Slot.{Slot}
 use Rattle.cache.specs.Order.{IsRanked, IsRankedBut}
 use Rattle.cache.proofs.Turns.{but_set}
+use Rattle.cache.proofs.Open.{open_changed}
 use Rattle.cache.proofs.table.Slots.blank.Goals as goal
 
 pub use_now-requires-clause-others : goal.use_now-requires-clause-others
@@ -36,6 +37,7 @@ invariant_of-self c =
       skipped = none_below_changed items c.args.at s.search_from _ c.index_mut-slot.result.now _ at
           (c.lowered-self.ensures ∙ ap (lower_of s.search_from) c.clean_block.ensures)
           c.clear.ensures.block c.clear.ensures.state s.skipped;
+      opened = open_changed items c.args.at _ _ c.index_mut-slot.result.now _ at c.clear.ensures.state s.opened;
     }
 
 pub returns-clause-blanked : goal.returns-clause-blanked

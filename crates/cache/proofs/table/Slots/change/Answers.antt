@@ -7,6 +7,7 @@ use Rattle.cache.proofs.Held.{distinct_kept}
 use Rattle.cache.proofs.Choosing.{none_below_changed}
 use Rattle.cache.proofs.Indexed.{few_set, index_kept}
 use Rattle.cache.proofs.Turns.{rank_changed}
+use Rattle.cache.proofs.Open.{open_changed}
 use Rattle.cache.proofs.table.Slots.change.Goals as goal
 
 pub invariant_of-self : goal.invariant_of-self
@@ -28,6 +29,7 @@ invariant_of-self c =
       skipped = none_below_changed items c.args.at s.search_from _ c.index_mut-slot.result.now _ at
           (c.lowered-self.ensures ∙ ap (lower_of s.search_from) c.clean_block.ensures)
           c.change.ensures.block c.change.ensures.state s.skipped;
+      opened = open_changed items c.args.at _ _ c.index_mut-slot.result.now _ at c.change.ensures.state s.opened;
     }
 
 pub returns-clause-changed : goal.returns-clause-changed

@@ -10,6 +10,7 @@ use Rattle.cache.proofs.Indexed.{few_set, has_no_place, count_free, index_filled
 use Rattle.cache.specs.declared.slot.Slot.{Slot}
 use Rattle.cache.specs.Order.{IsRanked, IsRankedBut}
 use Rattle.cache.proofs.Turns.{but_set}
+use Rattle.cache.proofs.Open.{open_widened}
 use Rattle.cache.proofs.table.Slots.fill.Goals as goal
 
 pub insert-requires-clause-missing : goal.insert-requires-clause-missing
@@ -53,6 +54,7 @@ invariant_of-self c =
           c.use_now.ensures.ranked;
       skipped = none_below_lowered v.items.items c.args.at v.search_from _ f.slot _ f.is
           (c.lowered-self.ensures ∙ ap (lower_of v.search_from) c.dirty_block.ensures) v.skipped;
+      opened = open_widened v.items.items c.args.at _ _ _ _ f.slot _ f.is c.widen.ensures.from c.widen.ensures.to v.opened;
     }
 
 pub returns-clause-filled : goal.returns-clause-filled

@@ -6,6 +6,7 @@ use Rattle.cache.specs.Order.{IsRanked}
 use Rattle.cache.proofs.Making.{AllFree, free_none, free_held, free_distinct}
 use Rattle.cache.proofs.Indexed.{index_none}
 use Rattle.cache.proofs.Choosing.{none_below_free}
+use Rattle.cache.proofs.Open.{open_free}
 use Rattle.cache.proofs.table.Slots.new.Goals as goal
 
 pub free-init : goal.free-init
@@ -33,4 +34,5 @@ invariant_of-result c =
       ranked = subst (λ (l : List Slot). IsRanked l c.in_ok-uses.uses.numbers.items c.rank_all.new.winners.keys.items) c.deref.ensures.value
           c.rank_all.ensures;
       skipped = none_below_free items _ i.free;
+      opened = open_free items _ i.free;
     }

@@ -13,4 +13,5 @@ invariant_of-self c =
       paired = s.paired;
       ranked = s.ranked;
       skipped = none_below_lowest s.items.items c.lowest_block.result _ _ s.distinct c.lowest_block.ensures c.unwrap_or-self.ensures;
+      opened = s.opened;
     }

@@ -7,6 +7,7 @@ use Rattle.cache.proofs.Held.{distinct_kept}
 use Rattle.cache.proofs.Choosing.{none_below_lowered}
 use Rattle.cache.proofs.Indexed.{few_set, index_kept}
 use Rattle.cache.proofs.Turns.{rank_changed}
+use Rattle.cache.proofs.Open.{open_widened}
 use Rattle.cache.proofs.table.Slots.set_state.Goals as goal
 
 pub invariant_of-self : goal.invariant_of-self
@@ -27,6 +28,7 @@ invariant_of-self c =
           c.number.ensures.number c.turn-key.ensures c.set.ensures;
       skipped = none_below_lowered items c.args.at s.search_from _ c.index_mut-slot.result.now _ at
           (c.lowered-self.ensures ∙ ap (lower_of s.search_from) c.dirty_block.ensures) s.skipped;
+      opened = open_widened items c.args.at _ _ _ _ c.index_mut-slot.result.now _ at c.widen.ensures.from c.widen.ensures.to s.opened;
     }
 
 pub returns-clause-set : goal.returns-clause-set

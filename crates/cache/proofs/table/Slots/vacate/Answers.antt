@@ -6,6 +6,7 @@ use Rattle.cache.proofs.Held.{distinct_vacated}
 use Rattle.cache.proofs.Choosing.{none_below_vacated}
 use Rattle.cache.proofs.Indexed.{few_set, has_place, index_vacated}
 use Rattle.cache.proofs.Turns.{rank_changed}
+use Rattle.cache.proofs.Open.{open_kept}
 use Rattle.cache.proofs.table.Slots.vacate.Goals as goal
 
 pub remove-requires : goal.remove-requires
@@ -34,6 +35,7 @@ invariant_of-self-2 c =
       ranked = rank_changed s.items.items s.uses.numbers.items s.winners.keys.items _ c.args.at _ c.number.result c.index_mut-slot.result.now _ s.ranked at
           c.number.ensures.number c.turn-key.ensures c.set.ensures;
       skipped = none_below_vacated s.items.items c.args.at s.search_from c.index_mut-slot.result.now _ at refl s.skipped;
+      opened = open_kept s.items.items c.args.at _ _ c.index_mut-slot.result.now _ at refl s.opened;
     }
 
 pub returns-clause-set : goal.returns-clause-set
