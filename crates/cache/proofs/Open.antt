@@ -45,8 +45,11 @@ widened : (i from to from' to' : ℕ) (o : Option ℕ) → from' ≡ cond (is_so
     → IsWider from to from' to' × InRange i from' to' o × ((n : ℕ) → i < n → to ≤ n → to' ≤ n)
 widened i from to from' to' None e f =
     (record { low = omega (arith, e); high = omega (arith, f) }, (λ k is. (let q : ⊥ = cc in absurd q)), (λ n lt le. omega (arith, f, le)))
-widened i from to from' to' (Some t) e f =
-    (record { low = omega (arith, e); high = omega (arith, f) }, (λ k is. (omega (arith, e), omega (arith, f))), (λ n lt le. omega (arith, f, lt, le)))
+widened i from to from' to' (Some t) e f = (
+  record { low = omega (arith, e); high = omega (arith, f) },
+  (λ k is. (omega (arith, e), omega (arith, f))),
+  (λ n lt le. omega (arith, f, lt, le)),
+)
 
 -- the range is widened to it
 pub open_widened : (items : List Slot) (i from to from' to' : ℕ) (s t : Slot) → slice_get items i ≡ Some s
@@ -86,7 +89,8 @@ open_free items from f = record {
 
 -- a slot with no write under way is under no ticket
 not_under : (ticket : ℕ) (s : Slot) (o : Option ℕ) → ticket_of s.state ≡ o → ((t : ℕ) → o ≡ Some t → ⊥) → after_write ticket s ≡ s
-not_under ticket s None e none = cond-false (is_under ticket s) (record s { state = written s.state }) s (ap (λ (o : Option ℕ). is_number o ticket) e)
+not_under ticket s None e none =
+    cond-false (is_under ticket s) (record s { state = written s.state }) s (ap (λ (o : Option ℕ). is_number o ticket) e)
 not_under ticket s (Some t) e none = absurd (none t refl)
 
 shut : (ticket : ℕ) (items : List Slot) (i from to : ℕ) (s : Slot) → AreOpenWithin items from to → slice_get items i ≡ Some s
@@ -158,8 +162,8 @@ open_below_more ticket old new at from to from' to' s e is f g h = record {
     ]
 
 -- all that are left
-pub open_left : (ticket : ℕ) (old new : List Slot) (from to at from' to' : ℕ) → AreOpenWithin old from to → to ≤ at → Settling ticket old new at
-    → OpenBelow new at from' to' → AreOpenWithin new from' to'
+pub open_left : (ticket : ℕ) (old new : List Slot) (from to at from' to' : ℕ) → AreOpenWithin old from to → to ≤ at
+    → Settling ticket old new at → OpenBelow new at from' to' → AreOpenWithin new from' to'
 open_left ticket old new from to at from' to' within end h left = record {
   bound = left.bound;
   each = λ i t s is under. elim (cases_lt i at) [

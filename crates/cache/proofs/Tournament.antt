@@ -1,6 +1,6 @@
 -- Tournaments: who wins at the root, and what is played anew after the key of a place was changed.
-use Rattle.std.proofs.Common.{◌≡◌, ◌≢◌, ℕ, zero, suc, ◌+◌, ◌-◌, ◌*◌, ◌/◌, ◌^◌, ◌<◌, ◌≤◌, List, [], ◌∷◌, length, set, get_or, length-set, cond}
-use Rattle.std.proofs.Common.{Bool, true, refl, sym, ap, subst, ◌∙◌, arith}
+use Rattle.std.proofs.Common.{◌≡◌, ◌≢◌, ℕ, zero, suc, ◌+◌, ◌-◌, ◌*◌, ◌/◌, ◌^◌, ◌<◌, ◌≤◌, List, [], ◌∷◌, length, set, get_or, length-set}
+use Rattle.std.proofs.Common.{cond, Bool, true, refl, sym, ap, subst, ◌∙◌, arith}
 use mathlib.Core.Logic.{inl, inr, ◌⊎◌}
 use Rattle.std.specs.Prelude.{nat_lt, not, ◌&&◌, ◌==◌}
 use Rattle.std.specs.Bool.{OnTrue}
@@ -462,9 +462,10 @@ first_lowered before keys nodes at paired others less root lt t = record {
   ];
 }
 
--- so where it was tested
-pub tested_lowered : (keys nodes : List ℕ) (at key : ℕ) (b : Bool) → b ≡ (nat_lt key (get_or keys at 0) && (winner nodes 1 == at)) → b ≡ true
-    → at < length keys → IsTree keys nodes → IsTree (set keys at key) nodes
+-- so where a test says that this is the case
+pub tested_lowered : (keys nodes : List ℕ) (at key : ℕ) (b : Bool)
+    → b ≡ (nat_lt key (get_or keys at 0) && (winner nodes 1 == at)) → b ≡ true → at < length keys → IsTree keys nodes
+    → IsTree (set keys at key) nodes
 tested_lowered keys nodes at key b is so lt t =
     first_lowered keys (set keys at key) nodes at (sym (length-set keys at key)) (λ k ne. sym (set_other keys at k key ne))
     (omega (arith, lower, set_same keys at key lt)) (eqb-true (winner nodes 1) at (and_right (nat_lt key (get_or keys at 0)) _ both))
@@ -542,8 +543,8 @@ one_if_late : (key : ℕ) → 2 ^ 63 ≤ key → one_late key ≡ 1
 one_if_late key le = cond-true (is_late key) 1 0 (ap not (less_fails key (2 ^ 63) le))
 
 -- how many are, after a key was changed
-pub late_set : (keys : List ℕ) (at key d n a b : ℕ) → at < length keys → n ≡ late_count keys → a ≡ one_late (get_or keys at d) → b ≡ one_late key
-    → n - a + b ≡ late_count (set keys at key)
+pub late_set : (keys : List ℕ) (at key d n a b : ℕ) → at < length keys → n ≡ late_count keys → a ≡ one_late (get_or keys at d)
+    → b ≡ one_late key → n - a + b ≡ late_count (set keys at key)
 late_set keys at key d n a b lt is old new =
     let sum = sum_by-set one_late keys at key d lt in
     let le = get_or-le-sum_by one_late keys at d lt in

@@ -18,7 +18,8 @@ loop-at-preserved c =
     let i = c.loop-at.invariant in
     record {
       settling = settling_more c.args.ticket _ _ _ c.loop-at.at i.settling c.settle_at.ensures.set;
-      left = open_below_more c.args.ticket _ _ c.loop-at.at _ _ _ _ _ c.settle_at.ensures.set c.get.ensures c.widen.ensures.from c.widen.ensures.to i.left;
+      left = open_below_more c.args.ticket _ _ c.loop-at.at _ _ _ _ _ c.settle_at.ensures.set c.get.ensures
+          c.widen.ensures.from c.widen.ensures.to i.left;
       uses = c.settle_at.ensures.uses ∙ i.uses;
       spare = c.settle_at.ensures.spare ∙ i.spare;
     }
@@ -46,11 +47,13 @@ returns-clause-written c =
     let i = c.loop-at.invariant in
     let s = c.args.self.now in
     settled_written c.args.ticket s.items.items _ c.loop-at.self.distinct
-    (settling_ended c.args.ticket s.items.items _ s.open_from s.open_to c.loop-at.at s.opened (omega (arith, c.loop-at-test.false)) i.settling)
+    (settling_ended c.args.ticket s.items.items _ s.open_from s.open_to c.loop-at.at s.opened
+    (omega (arith, c.loop-at-test.false)) i.settling)
 
 pub returns-clause-stay : goal.returns-clause-stay
 returns-clause-stay c =
     let i = c.loop-at.invariant in
     let s = c.args.self.now in
     settled_stays c.args.ticket s _ i.uses
-    (settling_ended c.args.ticket s.items.items _ s.open_from s.open_to c.loop-at.at s.opened (omega (arith, c.loop-at-test.false)) i.settling)
+    (settling_ended c.args.ticket s.items.items _ s.open_from s.open_to c.loop-at.at s.opened
+    (omega (arith, c.loop-at-test.false)) i.settling)
