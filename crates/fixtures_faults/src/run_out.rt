@@ -100,6 +100,19 @@ fn judged(
     Ok(RanOut::Image(transcript.image(alloc)?))
 }
 
+/// The run of events on an image, over drivers of the setting; none where there is no run.
+fn run_on<'a>(
+    alloc: Global,
+    setting: &Setting,
+    image: &[u8],
+    events: &'a [Event<'a>],
+) -> Result<Option<Transcript<'a, DiskDriver>>, AllocError>
+    requires few { length events.now < 2 ^ 32 }
+{
+    let supply = drivers_for(alloc, 5, setting.arms, table_in(image))?;
+    Ok(World::run(alloc, image, &whole(), supply, events).ok())
+}
+
 /// Runs events on an image, and says what comes then; `again` where what was done came once more already.
 fn run_once(
     alloc: Global,
@@ -110,8 +123,7 @@ fn run_once(
 ) -> Result<After, AllocError>
     requires few { length events.now < 2 ^ 32 }
 {
-    let supply = drivers_for(alloc, 5, setting.arms, table_in(image))?;
-    let Ok(transcript) = World::run(alloc, image, &whole(), supply, events) else {
+    let Some(transcript) = run_on(alloc, setting, image, events)? else {
         return Ok(After::End(RanOut::Wrong("no run")));
     };
     let standing = standing_after(alloc, &transcript, events)?;
