@@ -40,7 +40,10 @@ pub(crate) fn frames(alloc: Global, geometry: &Geometry, count: u32) -> Option<S
 {
     let link = ListLink::new(alloc, Vec::new(alloc)).ok()?;
     let transfers = Transfers::new(alloc, link).ok()?;
-    Some(Stored::new(Cache::new(alloc, transfers, 0, geometry, count).ok()?))
+    match Cache::new(alloc, transfers, 0, geometry, count) {
+        Ok(cache) => Some(Stored::new(cache)),
+        Err(_) => None,
+    }
 }
 
 /// Blocks of a volume in memory.
