@@ -133,8 +133,13 @@ impl<N: Room, D: BlockDriver, G: Gate> DriverTask<N, D, G> {
         }
     }
 
-    // Takes orders until it is told to end, nobody sends it any, the server has left or a step fails; then the driver is dropped.
-    fn run<R: Wait>(mut self, rt: &R) {
+    // Takes orders to the last; then the driver is dropped.
+    fn run_to_end<R: Wait>(mut self, rt: &R) {
+        self.run(rt);
+    }
+
+    // Takes orders until it is told to end, nobody sends it any, the server has left or a step fails.
+    fn run<R: Wait>(&mut self, rt: &R) {
         for _ in rt.forever() {
             if !self.turn(rt) {
                 return;
@@ -151,5 +156,5 @@ pub(crate) fn start_driver<
     R: Threads + Wait + Copy + Send + 'static,
 >(rt: &R, task: DriverTask<N, D, G>) -> Option<JoinHandle<()>> {
     let mine = *rt;
-    thread::spawn(rt, move || task.run(&mine)).ok()
+    thread::spawn(rt, move || task.run_to_end(&mine)).ok()
 }

@@ -8,7 +8,7 @@ ghost use Rattle.driver_threads.specs.Confined.{IsImageOutside, KeepsOutside};
 
 use crate::confined::Confined;
 use crate::shared::Shared;
-use crate::supervisor::{Supervisor, start_supervisor};
+use crate::supervisor::{Lines, Supervisor, start_supervisor};
 use bdev::BlockDriver;
 use board::counting::room::Room;
 use board::{Board, Seat};
@@ -48,6 +48,33 @@ impl<N: Room> Drop for Running<N> {
     }
 }
 
+/// The link of a file server, and the ends of its channels that the reincarnation server has.
+fn open_lines<R: Threads + Wait + Copy>(
+    alloc: Global,
+    rt: R,
+) -> Result<(ChannelLink<R>, Lines), AllocError>
+    ensures history { IfOk result (λ r. ⟦<ChannelLink<R> as Link>⟧.history r.0 ≡ []) }
+    ensures budget { IfOk result (λ r. ⟦<ChannelLink<R> as Link>⟧.budget_left r.0 ≡ 1099511627776) }
+    ensures truth { IfOk result (λ r. (v : Opening) → ⟦<ChannelLink<R> as Link>⟧.truth r.0 v []) }
+{
+    let nobody = Endpoint {
+        slot: DISK_DRIVER,
+        generation: 0,
+    };
+    let (news, line) = open_line(alloc, LINE, nobody)?;
+    let (mut reports, heard) = bounded::<Report>(alloc, LINE)?;
+    let report_end = reports.another()?;
+    let link = ChannelLink::new(alloc, rt, line, reports)?;
+    Ok((
+        link,
+        Lines {
+            heard,
+            report_end,
+            news,
+        },
+    ))
+}
+
 /// Starts the reincarnation server on these media, and makes the link to the drivers that it will start, which write in this range of the
 /// media alone: a first sector, and how many there are. Where no memory or no thread was found, all is let go.
 ///
@@ -74,23 +101,11 @@ pub fn start_drivers<
     ensures budget { IfOk result (λ r. ⟦<ChannelLink<R> as Link>⟧.budget_left r.0 ≡ 1099511627776) }
     ensures truth { IfOk result (λ r. (v : Opening) → ⟦<ChannelLink<R> as Link>⟧.truth r.0 v []) }
 {
-    let nobody = Endpoint {
-        slot: DISK_DRIVER,
-        generation: 0,
-    };
-    let (news, line) = open_line(alloc, LINE, nobody)?;
-    let (mut reports, heard) = bounded::<Report>(alloc, LINE)?;
-    let report_end = reports.another()?;
-    let link = ChannelLink::new(alloc, rt, line, reports)?;
-    let shared = Shared {
-        media: Arc::new(alloc, Mutex::new(Confined::new(media, range)))?,
-        board: Arc::try_clone(board)?,
-        gate,
-        ending: Arc::new(alloc, Bell::new())?,
-    };
+    let shared = Shared::new(alloc, media, range, board, gate)?;
     let media = Arc::try_clone(&shared.media)?;
     let ending = Arc::try_clone(&shared.ending)?;
-    let supervisor = Supervisor::new(alloc, reincarnation, heard, report_end, news, shared, seat);
+    let (link, lines) = open_lines(alloc, rt)?;
+    let supervisor = Supervisor::new(alloc, reincarnation, lines, shared, seat);
     let supervisor = start_supervisor(&rt, supervisor).ok_or(AllocError)?;
     Ok((
         link,

@@ -2,13 +2,15 @@
 
 ghost use Rattle.std.specs.Prelude.{◌≡◌, IfOk};
 ghost use Rattle.std.specs.Arc.{arc_value};
+ghost use Rattle.true_replies.specs.Events.{opening_media};
 
 use crate::confined::Confined;
 use board::Board;
 use board::counting::room::Room;
 use gate::Gate;
 use gate::bell::Bell;
-use std::alloc::AllocError;
+use media::Media;
+use std::alloc::{AllocError, Global};
 use std::sync::{Arc, Mutex};
 
 /// The media under their lock, the board, the gate, and the bell that tells all threads to end.
@@ -21,6 +23,26 @@ pub(crate) struct Shared<N: Room, G: Gate> {
 }
 
 impl<N: Room, G: Gate> Shared<N, G> {
+    /// For the first of the threads: these media, which drivers write in this range alone.
+    pub(crate) fn new(
+        alloc: Global,
+        media: Media,
+        range: (u32, u32),
+        board: &Arc<Board>,
+        gate: Arc<G>,
+    ) -> Result<Shared<N, G>, AllocError>
+        requires range { (range.0 ≡ N.opening.first) × (range.1 ≡ N.opening.count) }
+        requires media { media ≡ opening_media N.opening }
+        ensures { IfOk result (λ s. arc_value s.board ≡ arc_value board.now) }
+    {
+        Ok(Shared {
+            media: Arc::new(alloc, Mutex::new(Confined::new(media, range)))?,
+            board: Arc::try_clone(board)?,
+            gate,
+            ending: Arc::new(alloc, Bell::new())?,
+        })
+    }
+
     /// The same for a further thread.
     pub(crate) fn another(&self) -> Result<Shared<N, G>, AllocError>
         ensures { IfOk result (λ s. arc_value s.board ≡ arc_value self.now.board) }

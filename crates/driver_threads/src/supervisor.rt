@@ -54,15 +54,47 @@ struct Spawned {
     pinging: Pinging,
 }
 
+/// The ends of channels that the reincarnation server has.
+#[derive(Drop)]
+pub(crate) struct Lines {
+    /// What drivers and the server report.
+    pub(crate) heard: Receiver<Report>,
+    /// From which the drivers' ends are made.
+    pub(crate) report_end: Sender<Report>,
+    /// The server's line.
+    pub(crate) news: NewsSender,
+}
+
+// A channel of orders: the driver's end, and three for those who send some.
+#[derive(Drop)]
+struct OrderEnds {
+    taken: Receiver<Order>,
+    for_pings: Sender<Order>,
+    for_end: Sender<Order>,
+    orders: OrderLine,
+}
+
+impl OrderEnds {
+    fn new(alloc: Global) -> Result<OrderEnds, AllocError> {
+        let (mut orders, taken) = bounded::<Order>(alloc, ORDERS)?;
+        let for_pings = orders.another()?;
+        let for_end = orders.another()?;
+        let orders = OrderLine::new(alloc, orders, REQUESTS)?;
+        Ok(OrderEnds {
+            taken,
+            for_pings,
+            for_end,
+            orders,
+        })
+    }
+}
+
 /// The reincarnation server, with the ends of channels that its thread uses, and what it shares with the drivers.
 #[derive(Drop)]
 pub(crate) struct Supervisor<N: Room, D: BlockDriver, G: Gate> {
     alloc: Global,
     reincarnation: Reincarnation<D>,
-    reports: Receiver<Report>,
-    // From which the drivers' ends are made.
-    report_end: Sender<Report>,
-    news: NewsSender,
+    lines: Lines,
     shared: Shared<N, G>,
     seat: Seat,
     // The number of the next tick.
@@ -81,9 +113,7 @@ impl<N: Room + Send + Sync + 'static, D: BlockDriver + 'static, G: Gate + 'stati
     pub(crate) fn new(
         alloc: Global,
         reincarnation: Reincarnation<D>,
-        reports: Receiver<Report>,
-        report_end: Sender<Report>,
-        news: NewsSender,
+        lines: Lines,
         shared: Shared<N, G>,
         seat: Seat,
     ) -> Supervisor<N, D, G>
@@ -92,9 +122,7 @@ impl<N: Room + Send + Sync + 'static, D: BlockDriver + 'static, G: Gate + 'stati
         Supervisor {
             alloc,
             reincarnation,
-            reports,
-            report_end,
-            news,
+            lines,
             shared,
             seat,
             ticks: 0,
@@ -109,6 +137,21 @@ impl<N: Room + Send + Sync + 'static, D: BlockDriver + 'static, G: Gate + 'stati
         self.ticks.saturating_sub(1)
     }
 
+    // What a driver's thread works with. Refused where no memory was found: the driver is dropped then.
+    fn task(
+        &mut self,
+        endpoint: Endpoint,
+        driver: D,
+        orders: Receiver<Order>,
+        pinged: Arc<AtomicBool>,
+    ) -> Result<DriverTask<N, D, G>, AllocError> {
+        let news = self.lines.news.another(endpoint)?;
+        let reports = self.lines.report_end.another()?;
+        let shared = self.shared.another()?;
+        let seat = self.shared.board.split(&mut self.seat, None)?;
+        Ok(DriverTask::new(driver, orders, news, reports, pinged, shared, seat))
+    }
+
     // A thread for a driver, with all that it needs. Refused where no memory or no thread was found: the driver is dropped then.
     fn spawn<R: Threads + Wait + Copy + Send + 'static>(
         &mut self,
@@ -116,17 +159,15 @@ impl<N: Room + Send + Sync + 'static, D: BlockDriver + 'static, G: Gate + 'stati
         endpoint: Endpoint,
         driver: D,
     ) -> Result<Spawned, AllocError> {
-        let (mut orders, taken) = bounded::<Order>(self.alloc, ORDERS)?;
-        let for_pings = orders.another()?;
-        let for_end = orders.another()?;
-        let orders = OrderLine::new(self.alloc, orders, REQUESTS)?;
         let pinged = Arc::new(self.alloc, AtomicBool::new(false))?;
         let theirs = Arc::try_clone(&pinged)?;
-        let news = self.news.another(endpoint)?;
-        let reports = self.report_end.another()?;
-        let shared = self.shared.another()?;
-        let seat = self.shared.board.split(&mut self.seat, None)?;
-        let task = DriverTask::new(driver, taken, news, reports, theirs, shared, seat);
+        let OrderEnds {
+            taken,
+            for_pings,
+            for_end,
+            orders,
+        } = OrderEnds::new(self.alloc)?;
+        let task = self.task(endpoint, driver, taken, theirs)?;
         let handle = start_driver(rt, task).ok_or(AllocError)?;
         Ok(Spawned {
             worker: Worker {
@@ -157,7 +198,7 @@ impl<N: Room + Send + Sync + 'static, D: BlockDriver + 'static, G: Gate + 'stati
             if let Ok(spawned) = self.spawn(rt, endpoint, driver) {
                 workers.push_reserved(spawned.worker);
                 self.running = Some(spawned.pinging);
-                let _ = self.news.started(rt, endpoint, spawned.orders);
+                let _ = self.lines.news.started(rt, endpoint, spawned.orders);
                 return;
             }
         }
@@ -169,13 +210,13 @@ impl<N: Room + Send + Sync + 'static, D: BlockDriver + 'static, G: Gate + 'stati
         requires { tick_of event < 2 ^ 48 }
     {
         if let Action::GiveUp = self.reincarnation.on(event) {
-            let _ = self.news.gave_up(rt);
+            let _ = self.lines.news.gave_up(rt);
         }
     }
 
     // One report, if there is one.
     fn hear_one<R: Wait>(&mut self, rt: &R) -> bool {
-        let Some(report) = self.reports.try_receive(rt) else {
+        let Some(report) = self.lines.heard.try_receive(rt) else {
             return false;
         };
         let tick = self.last_tick();
@@ -223,7 +264,7 @@ impl<N: Room + Send + Sync + 'static, D: BlockDriver + 'static, G: Gate + 'stati
         match self.reincarnation.on(Event::Tick(tick, pulse)) {
             Action::Start(endpoint, driver) => self.start(rt, endpoint, driver, workers),
             Action::GiveUp => {
-                let _ = self.news.gave_up(rt);
+                let _ = self.lines.news.gave_up(rt);
             }
             Action::Nothing => self.ping(rt),
             Action::WaitUntil(_) => {}

@@ -113,7 +113,27 @@ fn run_on<'a>(
     Ok(World::run(alloc, image, &whole(), supply, events).ok())
 }
 
-/// Runs events on an image, and says what comes then; `again` where what was done came once more already.
+/// What comes after a run of events; `again` where what was done came once more already.
+fn come_of(
+    alloc: Global,
+    setting: &Setting,
+    transcript: &Transcript<'_, DiskDriver>,
+    events: &[Event<'_>],
+    again: bool,
+) -> Result<After, AllocError> {
+    let standing = standing_after(alloc, transcript, events)?;
+    let next = standing.next_events(alloc, setting.sectors())?;
+    if !next.is_empty() {
+        return Ok(After::More(next));
+    }
+    let last = standing.last_events(alloc, setting.twice)?;
+    if !last.is_empty() && !again {
+        return Ok(After::Again(last));
+    }
+    Ok(After::End(judged(alloc, setting, transcript)?))
+}
+
+/// Runs events on an image, and says what comes then.
 fn run_once(
     alloc: Global,
     setting: &Setting,
@@ -123,19 +143,10 @@ fn run_once(
 ) -> Result<After, AllocError>
     requires few { length events.now < 2 ^ 32 }
 {
-    let Some(transcript) = run_on(alloc, setting, image, events)? else {
-        return Ok(After::End(RanOut::Wrong("no run")));
-    };
-    let standing = standing_after(alloc, &transcript, events)?;
-    let next = standing.next_events(alloc, setting.sectors())?;
-    if !next.is_empty() {
-        return Ok(After::More(next));
+    match run_on(alloc, setting, image, events)? {
+        Some(transcript) => come_of(alloc, setting, &transcript, events, again),
+        None => Ok(After::End(RanOut::Wrong("no run"))),
     }
-    let last = standing.last_events(alloc, setting.twice)?;
-    if !last.is_empty() && !again {
-        return Ok(After::Again(last));
-    }
-    Ok(After::End(judged(alloc, setting, &transcript)?))
 }
 
 /// Adds events to a schedule: as they are, or each reply twice.

@@ -82,6 +82,29 @@ fn base_of<'t>(
     }
 }
 
+/// An image whose volume is clean; or that it isn't.
+fn sound(alloc: Global, image: Vec<u8>) -> Result<Result<Vec<u8>, &'static str>, AllocError> {
+    if is_clean(alloc, image.as_slice())? {
+        Ok(Ok(image))
+    } else {
+        Ok(Err("not clean"))
+    }
+}
+
+/// The image that the base schedule leaves of one without faults; or what is wrong with that.
+fn left_by(
+    alloc: Global,
+    setting: &Setting,
+    image: &[u8],
+    base: &[Event<'_>],
+) -> Result<Result<Vec<u8>, &'static str>, AllocError> {
+    let faultless = with_faults(alloc, base, &[])?;
+    match run_out(alloc, setting, image, faultless)? {
+        RanOut::Image(left) => sound(alloc, left),
+        RanOut::Wrong(why) => Ok(Err(why)),
+    }
+}
+
 /// The base schedule of these calls on a new volume, and the image that it leaves; or what is wrong with that.
 fn trial_of<'t>(
     alloc: Global,
@@ -90,20 +113,15 @@ fn trial_of<'t>(
 ) -> Result<Result<Trial<'t>, &'static str>, AllocError> {
     let image = new_volume(alloc, setting.block)?;
     let base = base_of(alloc, setting, calls)?;
-    let faultless = with_faults(alloc, base.as_slice(), &[])?;
-    let left = match run_out(alloc, setting, image.as_slice(), faultless)? {
-        RanOut::Image(left) => left,
-        RanOut::Wrong(why) => return Ok(Err(why)),
-    };
-    if !is_clean(alloc, left.as_slice())? {
-        return Ok(Err("not clean"));
+    match left_by(alloc, setting, image.as_slice(), base.as_slice())? {
+        Ok(left) => Ok(Ok(Trial {
+            setting: *setting,
+            image,
+            base,
+            left,
+        })),
+        Err(why) => Ok(Err(why)),
     }
-    Ok(Ok(Trial {
-        setting: *setting,
-        image,
-        base,
-        left,
-    }))
 }
 
 /// Whether the volume in an image is clean.

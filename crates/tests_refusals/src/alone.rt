@@ -19,6 +19,7 @@ use launch::StartRefusal;
 use launch::program::Program;
 use launch::start::serve;
 use modeldisk::supply::{drivers_for, table_in};
+use reply_text::mark::MarkRef;
 use schedule::Event;
 use schedule_text::reading::read_schedule;
 use serve::service::Service;
@@ -35,18 +36,22 @@ use tree::Outcome;
 /// What is shown of a run: its transcript, or the refusal's name; and the bytes that its media have then.
 type Shown = (Said, Option<Vec<u8>>);
 
+/// What is said of a run with these marks and so many calls without a reply.
+fn said_of(alloc: Global, marks: &[MarkRef<'_>], unanswered: u64) -> Said {
+    let mut out = Vec::new(alloc);
+    let mut err = Vec::new(alloc);
+    let status = show(alloc, marks, unanswered, &mut out, &mut err).number();
+    Said { status, out, err }
+}
+
 /// What is shown of a transcript.
 fn shown<D: BlockDriver>(
     alloc: Global,
     transcript: &Transcript<'_, D>,
 ) -> Result<Shown, AllocError> {
-    let mut out = Vec::new(alloc);
-    let mut err = Vec::new(alloc);
     let marks = transcript.marks(alloc)?;
-    let unanswered = transcript.unanswered;
-    let status = show(alloc, marks.as_slice(), unanswered, &mut out, &mut err).number();
-    let left = transcript.image(alloc)?;
-    Ok((Said { status, out, err }, Some(left)))
+    let said = said_of(alloc, marks.as_slice(), transcript.unanswered);
+    Ok((said, Some(transcript.image(alloc)?)))
 }
 
 /// What is shown of a refusal.
@@ -122,24 +127,50 @@ fn is_right(came: &Shown, undisturbed: &Shown, refused: bool) -> bool {
     is_left && is_whole_or_none && came.0.is_right(&undisturbed.0.out, refused)
 }
 
-/// Runs a schedule on a new volume with its first request refused, then with its second, until none is. It comes out right each time.
-fn run_each_refused(alloc: Global, number: u16, schedule: &str) -> Result<(), Fail> {
-    let image = new_volume(alloc, 1024)?;
-    let schedule = read_schedule(alloc, schedule.as_bytes())?;
-    let events = schedule.events(alloc)?;
-    let (undisturbed, _) = ran(alloc, &image, events.as_slice(), number, 0)?;
+/// Whether this was the last request of a run on an image, which is refused and comes out right beside the undisturbed one.
+fn is_last_run(
+    alloc: Global,
+    image: &[u8],
+    events: &[Event<'_>],
+    number: u16,
+    request: u32,
+    undisturbed: &Shown,
+) -> Result<bool, Fail>
+    requires few { length events.now < 2 ^ 32 }
+{
+    let (came, refused) = ran(alloc, image, events, number, request)?;
+    is_last(
+        number,
+        request,
+        refused,
+        is_right(&came, undisturbed, refused),
+    )
+}
+
+/// Runs events on an image with the first request refused, then with the second, until none is. It comes out right each time.
+fn runs_each_refused(
+    alloc: Global,
+    image: &[u8],
+    events: &[Event<'_>],
+    number: u16,
+) -> Result<(), Fail>
+    requires few { length events.now < 2 ^ 32 }
+{
+    let (undisturbed, _) = ran(alloc, image, events, number, 0)?;
     for request in 1..=MOST {
-        let (came, refused) = ran(alloc, &image, events.as_slice(), number, request)?;
-        if is_last(
-            number,
-            request,
-            refused,
-            is_right(&came, &undisturbed, refused),
-        )? {
+        if is_last_run(alloc, image, events, number, request, &undisturbed)? {
             return Ok(());
         }
     }
     Err(Fail::from("no end"))
+}
+
+/// The same of a schedule on a new volume.
+fn run_each_refused(alloc: Global, number: u16, schedule: &str) -> Result<(), Fail> {
+    let image = new_volume(alloc, 1024)?;
+    let schedule = read_schedule(alloc, schedule.as_bytes())?;
+    let events = schedule.events(alloc)?;
+    runs_each_refused(alloc, &image, events.as_slice(), number)
 }
 
 #[test]
@@ -223,8 +254,46 @@ fn is_started(came: &Started, undisturbed: &Started, refused: bool) -> bool {
     }
 }
 
-/// Starts a service on a new volume with the start's first request refused, then with its second, until none is. It comes out right each
-/// time.
+/// Whether this was the last request of a start, which is refused and comes out right beside the undisturbed one.
+fn is_last_start<R: Threads + Wait + Clock + Copy + Send + Sync + 'static>(
+    alloc: Global,
+    rt: R,
+    image: &[u8],
+    calls: &[TimedCall<'_>],
+    number: u16,
+    request: u32,
+    undisturbed: &Started,
+) -> Result<bool, Fail> {
+    let (came, refused) = started(alloc, rt, image, calls, number, request)?;
+    is_last(
+        number,
+        request,
+        refused,
+        is_started(&came, undisturbed, refused),
+    )
+}
+
+/// Starts a service on an image with the start's first request refused, then with its second, until none is. It comes out right each time.
+fn starts_each_refused<R: Threads + Wait + Clock + Copy + Send + Sync + 'static>(
+    alloc: Global,
+    rt: R,
+    image: &[u8],
+    calls: &[TimedCall<'_>],
+    number: u16,
+) -> Result<(), Fail> {
+    let (undisturbed, _) = started(alloc, rt, image, calls, number, 0)?;
+    if !matches!(&undisturbed, Ok(Some(_))) {
+        return Err(Fail::from("not started"));
+    }
+    for request in 1..=MOST {
+        if is_last_start(alloc, rt, image, calls, number, request, &undisturbed)? {
+            return Ok(());
+        }
+    }
+    Err(Fail::from("no end"))
+}
+
+/// The same of a new volume, and the calls of a script.
 fn start_each_refused<R: Threads + Wait + Clock + Copy + Send + Sync + 'static>(
     alloc: Global,
     rt: R,
@@ -234,18 +303,7 @@ fn start_each_refused<R: Threads + Wait + Clock + Copy + Send + Sync + 'static>(
     let image = new_volume(alloc, 1024)?;
     let script = read_script(alloc, script.as_bytes())?;
     let calls = script.calls(alloc)?;
-    let (undisturbed, _) = started(alloc, rt, &image, calls.as_slice(), number, 0)?;
-    if !matches!(&undisturbed, Ok(Some(_))) {
-        return Err(Fail::from("not started"));
-    }
-    for request in 1..=MOST {
-        let (came, refused) = started(alloc, rt, &image, calls.as_slice(), number, request)?;
-        let is_right = is_started(&came, &undisturbed, refused);
-        if is_last(number, request, refused, is_right)? {
-            return Ok(());
-        }
-    }
-    Err(Fail::from("no end"))
+    starts_each_refused(alloc, rt, &image, calls.as_slice(), number)
 }
 
 #[test]

@@ -1,10 +1,12 @@
-//! Tests of a service's sessions: in turn, given up and refused, of a service that is stopped, and of one whose link has ended. Each
-//! expected value is worked out by hand.
+//! Tests of a service's sessions: in turn, given up and refused, of a service that is stopped, of one whose link has ended, and of the board
+//! that its seats share. Each expected value is worked out by hand.
 #![tactic(auto)]
 
 #[cfg(test)]
 mod ended;
 #[cfg(test)]
 mod programs;
+#[cfg(test)]
+mod seats;
 #[cfg(test)]
 mod sessions;

@@ -11,11 +11,11 @@ ghost use Rattle.mounting.specs.Starting.{opening_of, IsPrepared};
 ghost use Rattle.true_replies.specs.Events.{opening_media};
 ghost use Rattle.board.specs.View.{IsKeeper, opener};
 
-use crate::drivers::{Notes, Noting};
+use crate::drivers::Noting;
 use crate::endings::{Ending, end};
 use crate::many::{has_all, write_all};
 use crate::no_wait::{Looked, look_meanwhile};
-use crate::setting::patient;
+use crate::setting::{Stage, patient};
 use crate::watch::Watch;
 use bdev::BlockDriver;
 use board::counting::recorder::Recorder;
@@ -26,10 +26,10 @@ use file_server::FileServer;
 use fixtures_sessions::services::two_in_threads;
 use launch::opened::mounted;
 use launch::start::counted_drivers;
+use modeldisk::Fault;
 use mounting::{Prepared, prepare};
 use reincarnate::policy::Setup;
 use serve::service::Service;
-use std::alloc::Global;
 use std::marker::Brand;
 use std::process::Abort;
 use std::sync::{Arc, Wait};
@@ -65,6 +65,28 @@ pub(crate) enum Came {
     Ended(String),
 }
 
+/// It is done in sessions of a service: what came of it. None where it is how the service ends, or where a session or memory was wanting.
+fn came_of<
+    N: Room + Send + Sync,
+    R: Threads + Wait + Abort + Clock + Copy + Send + Sync + 'static,
+    L: Recorder<N> + Send,
+    S: FileServer<L> + Send,
+>(stage: &Stage<R>, what: What, service: &Service<N, R, L, S>) -> Option<Came> {
+    match what {
+        What::Ask => {
+            let (one, two) = two_in_threads(stage.alloc, &stage.rt, service)?;
+            Some(Came::Asked(one, two))
+        }
+        What::Look => {
+            let (lines, looked) = look_meanwhile(stage.alloc, &stage.rt, &stage.gate, service)?;
+            Some(Came::Looked(lines, looked))
+        }
+        What::Write => Some(Came::Files(write_all(stage.alloc, &stage.rt, service)?)),
+        What::Read => Some(Came::Files(has_all(service)?)),
+        What::End(_) => None,
+    }
+}
+
 /// It is done, and the service ends: what came of it, and the image, or no bytes where the service was let go. None where a session, memory
 /// or an image was wanting.
 fn done<
@@ -72,31 +94,13 @@ fn done<
     R: Threads + Wait + Abort + Clock + Copy + Send + Sync + 'static,
     L: Recorder<N> + Send,
     S: FileServer<L> + Send,
->(
-    alloc: Global,
-    rt: &R,
-    what: What,
-    watch: &Arc<Watch<R>>,
-    notes: &Arc<Notes<R>>,
-    service: Service<N, R, L, S>,
-) -> Option<(Came, Vec<u8>)> {
-    let came = match what {
-        What::Ask => {
-            let (one, two) = two_in_threads(alloc, rt, &service)?;
-            Came::Asked(one, two)
-        }
-        What::Look => {
-            let (lines, looked) = look_meanwhile(alloc, rt, watch, &service)?;
-            Came::Looked(lines, looked)
-        }
-        What::Write => Came::Files(write_all(alloc, rt, &service)?),
-        What::Read => Came::Files(has_all(&service)?),
-        What::End(ending) => {
-            let (lines, left) = end(alloc, rt, ending, watch, notes, service)?;
-            return Some((Came::Ended(lines), left));
-        }
-    };
-    let left = service.stop(alloc).ok()?;
+>(stage: &Stage<R>, what: What, service: Service<N, R, L, S>) -> Option<(Came, Vec<u8>)> {
+    if let What::End(ending) = what {
+        let (lines, left) = end(stage, ending, service)?;
+        return Some((Came::Ended(lines), left));
+    }
+    let came = came_of(stage, what, &service)?;
+    let left = service.stop(stage.alloc).ok()?;
     Some((came, left))
 }
 
@@ -106,14 +110,11 @@ fn mount_and_do<
     R: Threads + Wait + Abort + Clock + Copy + Send + Sync + 'static,
     L: Recorder<N> + Send + 'static,
 >(
-    alloc: Global,
-    rt: R,
+    stage: &Stage<R>,
     board: Arc<Board>,
     link: L,
     setup: &Setup,
     running: Running<N>,
-    watch: &Arc<Watch<R>>,
-    notes: &Arc<Notes<R>>,
     what: What,
 ) -> Result<(Came, Vec<u8>), Fail>
     requires board { arc_value board ≡ N.table }
@@ -126,12 +127,13 @@ fn mount_and_do<
     requires truth { L.Link.truth link N.opening [] }
     requires drivers { L.runs_on link N.policy N.supply }
 {
-    let gate = Arc::try_clone(watch)?;
+    let (alloc, rt) = (stage.alloc, stage.rt);
+    let gate = Arc::try_clone(&stage.gate)?;
     let frames = setup.frames as u32;
     let Ok(service) = mounted(alloc, rt, board, link, setup.minor, frames, running, gate) else {
         return Err(Fail::from("not mounted"));
     };
-    match done(alloc, &rt, what, watch, notes, service) {
+    match done(stage, what, service) {
         Some(came) => Ok(came),
         None => Err(Fail::from("not done")),
     }
@@ -142,15 +144,12 @@ fn start_and_do<
     N: Room + Send + Sync + 'static,
     R: Threads + Wait + Abort + Clock + Copy + Send + Sync + 'static,
 >(
-    alloc: Global,
-    rt: R,
+    stage: &Stage<R>,
     board: Board,
     seat: Seat,
     prepared: Prepared,
     setup: &Setup,
     supply: Vec<Noting<R>>,
-    watch: &Arc<Watch<R>>,
-    notes: &Arc<Notes<R>>,
     what: What,
 ) -> Result<(Came, Vec<u8>), Fail>
     requires board { board ≡ N.table }
@@ -161,10 +160,10 @@ fn start_and_do<
     requires contents { prepared.media ≡ opening_media N.opening }
 {
     let Prepared { media, range } = prepared;
-    let asked = Arc::try_clone(watch)?;
+    let asked = Arc::try_clone(&stage.gate)?;
     let (board, link, running) = counted_drivers::<N, R, Noting<R>, Watch<R>>(
-        alloc,
-        rt,
+        stage.alloc,
+        stage.rt,
         board,
         seat,
         media,
@@ -173,29 +172,23 @@ fn start_and_do<
         supply,
         asked,
     )?;
-    mount_and_do(alloc, rt, board, link, setup, running, watch, notes, what)
+    mount_and_do(stage, board, link, setup, running, what)
 }
 
-/// What comes of it over the volume in an image, and the image that is left.
-pub(crate) fn at_once<R: Threads + Wait + Abort + Clock + Copy + Send + Sync + 'static>(
-    alloc: Global,
-    rt: R,
-    image: &[u8],
-    supply: Vec<Noting<R>>,
-    watch: &Arc<Watch<R>>,
-    notes: &Arc<Notes<R>>,
-    what: What,
-) -> Result<(Came, Vec<u8>), Fail> {
-    let setup = patient();
-    let Ok(prepared) = prepare(Vec::from_slice(alloc, image)?, &setup, &supply) else {
-        return Err(Fail::from("not prepared"));
-    };
-    let (board, seat) = Board::new(alloc)?;
-    let came = start_and_do::<Brand, R>(
-        alloc, rt, board, seat, prepared, &setup, supply, watch, notes, what,
-    )?;
-    if watch.is_in_time() {
-        return Ok(came);
+impl<R: Threads + Wait + Abort + Clock + Copy + Send + Sync + 'static> Stage<R> {
+    /// What comes of it with drivers of these faults, and the image that is left.
+    pub(crate) fn at_once(&self, faults: &[Fault], what: What) -> Result<(Came, Vec<u8>), Fail> {
+        let setup = patient();
+        let supply = self.supply(faults)?;
+        let image = Vec::from_slice(self.alloc, &self.image)?;
+        let Ok(prepared) = prepare(image, &setup, &supply) else {
+            return Err(Fail::from("not prepared"));
+        };
+        let (board, seat) = Board::new(self.alloc)?;
+        let came = start_and_do::<Brand, R>(self, board, seat, prepared, &setup, supply, what)?;
+        if self.gate.is_in_time() {
+            return Ok(came);
+        }
+        Err(Fail::from("a thread was held for too long"))
     }
-    Err(Fail::from("a thread was held for too long"))
 }

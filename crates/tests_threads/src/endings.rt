@@ -1,8 +1,8 @@
 //! The ends of services: the threads behind one end, whatever their drivers do, and what was written is left.
 
-use crate::at_once::{Came, What, at_once};
-use crate::drivers::{Notes, drivers};
-use crate::watch::{Holds, Watch, is_alone, is_reached};
+use crate::at_once::{Came, What};
+use crate::setting::Stage;
+use crate::watch::{Holds, is_alone, is_reached};
 use board::counting::recorder::Recorder;
 use board::counting::room::Room;
 use file_server::FileServer;
@@ -44,18 +44,45 @@ fn change<C: Caller>(session: &mut C, lines: &mut String) {
 
 /// Lets the held driver go once some driver is dropped, in a thread of its own. Whether there is one.
 fn lets_go_later<R: Threads + Wait + Abort + Clock + Copy + Send + Sync + 'static>(
-    rt: &R,
-    gate: &Arc<Watch<R>>,
-    notes: &Arc<Notes<R>>,
+    stage: &Stage<R>,
 ) -> Option<()> {
-    let gate = Arc::try_clone(gate).ok()?;
-    let notes = Arc::try_clone(notes).ok()?;
+    let gate = Arc::try_clone(&stage.gate).ok()?;
+    let notes = Arc::try_clone(&stage.notes).ok()?;
     let waits = move || {
         let _ = is_reached(notes.gone(), 1);
         gate.let_go();
     };
-    thread::spawn(rt, waits).ok()?;
+    thread::spawn(&stage.rt, waits).ok()?;
     Some(())
+}
+
+/// Holds the first driver where the service ends while it hangs.
+fn holds<R: Threads + Wait + Abort + Clock + Copy + Send + Sync + 'static>(
+    stage: &Stage<R>,
+    ending: Ending,
+) -> Option<()> {
+    if ending != Ending::Stopped {
+        stage.gate.hold();
+    }
+    if ending == Ending::StoppedAtHang {
+        lets_go_later(stage)?;
+    }
+    Some(())
+}
+
+/// A session changes the root, and ends, after the first driver was held. A line for each answer.
+fn changed_by<
+    N: Room,
+    R: Threads + Wait + Abort + Clock + Copy + Send + Sync + 'static,
+    L: Recorder<N>,
+    S: FileServer<L>,
+>(stage: &Stage<R>, ending: Ending, service: &Service<N, R, L, S>) -> Option<String> {
+    let mut lines = String::new(stage.alloc);
+    let mut session = service.session(0, 0).ok()?;
+    change(&mut session, &mut lines);
+    holds(stage, ending)?;
+    session.end();
+    Some(lines)
 }
 
 /// A session changes the root, and the service ends so. A line for each answer, and the image, or no bytes where the service was let go.
@@ -64,96 +91,85 @@ pub(crate) fn end<
     R: Threads + Wait + Abort + Clock + Copy + Send + Sync + 'static,
     L: Recorder<N>,
     S: FileServer<L>,
->(
-    alloc: Global,
-    rt: &R,
-    ending: Ending,
-    gate: &Arc<Watch<R>>,
-    notes: &Arc<Notes<R>>,
-    service: Service<N, R, L, S>,
-) -> Option<(String, Vec<u8>)> {
-    let mut lines = String::new(alloc);
-    let mut session = service.session(0, 0).ok()?;
-    change(&mut session, &mut lines);
-    if ending != Ending::Stopped {
-        gate.hold();
-    }
-    if ending == Ending::StoppedAtHang {
-        lets_go_later(rt, gate, notes)?;
-    }
-    session.end();
+>(stage: &Stage<R>, ending: Ending, service: Service<N, R, L, S>) -> Option<(String, Vec<u8>)> {
+    let lines = changed_by(stage, ending, &service)?;
     if ending == Ending::LetGo {
-        let _ = gate.awaits_held();
+        let _ = stage.gate.awaits_held();
         drop(service);
-        gate.let_go();
-        return Some((lines, Vec::new(alloc)));
+        stage.gate.let_go();
+        return Some((lines, Vec::new(stage.alloc)));
     }
-    let image = service.stop(alloc).ok()?;
+    let image = service.stop(stage.alloc).ok()?;
     Some((lines, image))
 }
 
-/// What comes of a service of a volume with blocks of this size that ends so, over these drivers' faults, and what its drivers did. By then
-/// all its threads have ended, and all its drivers are dropped.
-fn ended<R: Threads + Wait + Abort + Clock + Copy + Send + Sync + 'static>(
+/// Where a service's first driver may hang: a new volume with blocks of this size.
+fn stage_of<R: Wait + Abort + Clock + Copy>(
     alloc: Global,
     rt: R,
-    image: &[u8],
+    block: usize,
+) -> Result<Stage<R>, Fail> {
+    let image = new_volume(alloc, block)?;
+    Ok(Stage::new(alloc, rt, image, Holds::FirstDriver)?)
+}
+
+/// The lines of a session are those of `end`.
+fn is_changed(alloc: Global, lines: &str) -> Result<(), Fail> {
+    let mut wanted = String::new(alloc);
+    write!(wanted, "{ROOT}ok\n")?;
+    is_told(lines, wanted.as_str())
+}
+
+/// The image that a service leaves which ends so, over these drivers' faults. By then all its threads have ended, and all its drivers are
+/// dropped.
+fn ended<R: Threads + Wait + Abort + Clock + Copy + Send + Sync + 'static>(
+    stage: &Stage<R>,
     faults: &[Fault],
     ending: Ending,
-) -> Result<(Vec<u8>, Arc<Notes<R>>), Fail> {
-    let gate = Arc::new(alloc, Watch::new(rt, Holds::FirstDriver))?;
-    let notes = Arc::new(alloc, Notes::new(alloc, rt))?;
-    let sectors = u32::try_from(image.len() / 512).unwrap_or(0);
-    let supply = drivers(alloc, sectors, faults, &notes)?;
-    let (came, left) = at_once(alloc, rt, image, supply, &gate, &notes, What::End(ending))?;
+) -> Result<Vec<u8>, Fail> {
+    let (came, left) = stage.at_once(faults, What::End(ending))?;
     let lines = match came {
         Came::Ended(lines) => lines,
         _other => return Err(Fail::from("not ended")),
     };
-    let mut wanted = String::new(alloc);
-    write!(wanted, "{ROOT}ok\n")?;
-    is_told(lines.as_str(), wanted.as_str())?;
-    if is_alone(&gate) && is_reached(notes.gone(), 33) {
-        return Ok((left, notes));
+    is_changed(stage.alloc, lines.as_str())?;
+    if is_alone(&stage.gate) && is_reached(stage.notes.gone(), 33) {
+        return Ok(left);
     }
     Err(Fail::from("a thread is left"))
 }
 
-/// The image that is left is a sound volume, and the one that was handed in, changed by these writes, of which there are so many at least.
-fn is_left<R: Wait + Copy>(
-    alloc: Global,
-    image: &[u8],
+/// The image that is left is a sound volume, and the one that was handed in, changed by the drivers' writes, of which there are so many at
+/// least.
+fn is_left<R: Wait + Abort + Clock + Copy>(
+    stage: &Stage<R>,
     left: &[u8],
-    notes: &Notes<R>,
     least: usize,
 ) -> Result<(), Fail> {
-    let changed = notes.changed(alloc, image)?.ok_or("no memory for notes")?;
-    let is_clean = matches!(check(alloc, left), Ok(Verdict::Clean(_)));
-    if is_clean && left == changed.as_slice() && notes.count() >= least {
-        return Ok(());
+    let is_clean = matches!(check(stage.alloc, left), Ok(Verdict::Clean(_)));
+    if !is_clean || stage.notes.count() < least {
+        return Err(Fail::from("not clean, or too few writes"));
     }
-    Err(Fail::new(format_args!("another image after {} writes", notes.count())))
+    stage.check_left(left)
 }
 
 /// A service is stopped while its first driver hangs: the next driver writes what the last sync is for, the first one writes nothing, and
 /// all threads are joined.
 #[test]
 fn stopped_while_held(rt: HostRuntime) -> Result<(), Fail> {
-    let alloc = rt.alloc();
-    let image = new_volume(alloc, 1024)?;
-    let (left, notes) = ended(alloc, rt, &image, &[], Ending::StoppedAtHang)?;
-    is_left(alloc, &image, &left, &notes, 2)?;
-    assert!(rt; !notes.has_written(1));
+    let stage = stage_of(rt.alloc(), rt, 1024)?;
+    let left = ended(&stage, &[], Ending::StoppedAtHang)?;
+    is_left(&stage, &left, 2)?;
+    assert!(rt; !stage.notes.has_written(1));
     Ok(())
 }
 
 /// A service is let go while its first driver hangs, which is then let go: all threads end by themselves.
 #[test]
 fn let_go(rt: HostRuntime) -> Result<(), Fail> {
-    let alloc = rt.alloc();
-    let image = new_volume(alloc, 1024)?;
-    let (_, notes) = ended(alloc, rt, &image, &[], Ending::LetGo)?;
-    assert!(rt; !notes.has_written(1));
+    let stage = stage_of(rt.alloc(), rt, 1024)?;
+    let _ = ended(&stage, &[], Ending::LetGo)?;
+    assert!(rt; !stage.notes.has_written(1));
     Ok(())
 }
 
@@ -178,8 +194,7 @@ const READS: u32 = 65;
 /// ninth one writes all of them. Without those of spurious faults they are 0 to 7, and eight.
 #[test]
 fn dies_in_each_step(rt: HostRuntime) -> Result<(), Fail> {
-    let alloc = rt.alloc();
-    let image = new_volume(alloc, 4096)?;
-    let (left, notes) = ended(alloc, rt, &image, &deaths(READS + 2), Ending::Stopped)?;
-    is_left(alloc, &image, &left, &notes, 36)
+    let stage = stage_of(rt.alloc(), rt, 4096)?;
+    let left = ended(&stage, &deaths(READS + 2), Ending::Stopped)?;
+    is_left(&stage, &left, 36)
 }

@@ -1,7 +1,6 @@
 //! Drivers and a flusher that are held run beside the server: it goes on without them.
 
-use crate::drivers::{Notes, drivers};
-use crate::setting::served;
+use crate::setting::Stage;
 use crate::watch::{Holds, Watch};
 use board::counting::recorder::Recorder;
 use board::counting::room::Room;
@@ -126,6 +125,22 @@ impl<R: Threads + Wait + Abort + Clock + Copy + Send + Sync + 'static> Program<R
     }
 }
 
+/// What comes of a session that calls while what is held is held.
+fn came_of<R: Threads + Wait + Abort + Clock + Copy + Send + Sync + 'static>(
+    stage: &Stage<R>,
+    what: What,
+) -> Result<Came, Fail> {
+    if matches!(what, What::Flusher) {
+        stage.gate.hold();
+    }
+    let program = Held {
+        alloc: stage.alloc,
+        what,
+        gate: Arc::try_clone(&stage.gate)?,
+    };
+    Ok(stage.served(&[], program)?.ok_or("not stopped")?)
+}
+
 /// What comes of it over the small volume: these lines, and an image that is the volume changed by what drivers but the first wrote.
 fn comes_out<R: Threads + Wait + Abort + Clock + Copy + Send + Sync + 'static>(
     alloc: Global,
@@ -133,25 +148,12 @@ fn comes_out<R: Threads + Wait + Abort + Clock + Copy + Send + Sync + 'static>(
     what: What,
     lines: &str,
 ) -> Result<(), Fail> {
-    let image = new_volume(alloc, 1024)?;
-    let gate = Arc::new(alloc, Watch::new(rt, what.holds()))?;
-    let notes = Arc::new(alloc, Notes::new(alloc, rt))?;
-    let supply = drivers(alloc, 128, &[], &notes)?;
-    if matches!(what, What::Flusher) {
-        gate.hold();
-    }
-    let program = Held {
-        alloc,
-        what,
-        gate: Arc::try_clone(&gate)?,
-    };
-    let came = served(alloc, rt, &image, supply, &gate, program)?.ok_or("not stopped")?;
+    let stage = Stage::new(alloc, rt, new_volume(alloc, 1024)?, what.holds())?;
+    let came = came_of(&stage, what)?;
     is_told(came.lines.as_str(), lines)?;
     assert!(rt; !came.is_early && came.has_passed);
-    let changed = notes.changed(alloc, &image)?.ok_or("no memory for notes")?;
-    assert!(rt; came.image.as_slice() == changed.as_slice());
-    assert!(rt; !notes.has_written(1));
-    Ok(())
+    assert!(rt; !stage.notes.has_written(1));
+    stage.check_left(&came.image)
 }
 
 /// The first driver is held before its first step after the start until a later one has answered. The step that it takes then writes

@@ -1,8 +1,7 @@
 //! A service that is stopped while a session is left.
 
-use crate::drivers::{Notes, drivers};
-use crate::setting::served;
-use crate::watch::{Holds, Watch};
+use crate::setting::Stage;
+use crate::watch::Holds;
 use board::counting::recorder::Recorder;
 use board::counting::room::Room;
 use file_server::FileServer;
@@ -14,7 +13,7 @@ use serve::service::Service;
 use serve::stopping::StopRefusal;
 use std::alloc::Global;
 use std::process::Abort;
-use std::sync::{Arc, Wait};
+use std::sync::Wait;
 use std::test::*;
 use std::thread::Threads;
 use std::time::Clock;
@@ -60,14 +59,11 @@ impl<R: Threads + Wait + Abort + Clock + Copy + Send + Sync + 'static> Program<R
 #[test]
 fn left(rt: HostRuntime) -> Result<(), Fail> {
     let alloc = rt.alloc();
-    let image = new_volume(alloc, 1024)?;
-    let gate = Arc::new(alloc, Watch::new(rt, Holds::Flusher))?;
-    let notes = Arc::new(alloc, Notes::new(alloc, rt))?;
-    let supply = drivers(alloc, 128, &[], &notes)?;
-    let came = served(alloc, rt, &image, supply, &gate, StopsTwice { alloc })?;
+    let stage = Stage::new(alloc, rt, new_volume(alloc, 1024)?, Holds::Flusher)?;
+    let came = stage.served(&[], StopsTwice { alloc })?;
     let (lines, left) = came.ok_or("not refused, or not stopped")?;
     is_told(lines.as_str(), "ok\n")?;
     assert!(rt; matches!(check(alloc, &left), Ok(Verdict::Clean(_))));
-    assert!(rt; left.as_slice() != image.as_slice());
+    assert!(rt; left.as_slice() != stage.image.as_slice());
     Ok(())
 }

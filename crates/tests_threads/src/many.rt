@@ -1,8 +1,8 @@
 //! Sixty-four sessions write files of their own, in threads of their own, while drivers die.
 
-use crate::at_once::{Came, What, at_once};
-use crate::drivers::{Notes, drivers};
-use crate::watch::{Holds, Watch};
+use crate::at_once::{Came, What};
+use crate::setting::Stage;
+use crate::watch::Holds;
 use board::counting::recorder::Recorder;
 use board::counting::room::Room;
 use file_server::FileServer;
@@ -11,9 +11,9 @@ use modeldisk::{Fault, FaultKind};
 use new_volume::mkfs;
 use serve::service::{Service, Shared};
 use serve::session::Session;
-use std::alloc::{AllocError, Global};
+use std::alloc::Global;
 use std::process::Abort;
-use std::sync::{Arc, Wait};
+use std::sync::Wait;
 use std::test::*;
 use std::thread;
 use std::thread::Threads;
@@ -28,10 +28,8 @@ const PIECE: usize = 1500;
 
 const PIECES: u8 = 2;
 
-/// How many blocks of 4096 bytes the volume has, and how many sectors these are.
+/// How many blocks of 4096 bytes the volume has.
 const BLOCKS: u32 = 96;
-
-const SECTORS: u32 = 768;
 
 /// Each driver dies in its 26th request, when those before it have moved 200 sectors, eight each.
 const FAULT: Fault = Fault {
@@ -157,28 +155,20 @@ pub(crate) fn has_all<N: Room, R: Threads + Wait + Copy, L: Recorder<N>, S: File
     Some(is_right)
 }
 
-/// The drivers' faults: each dies.
-fn faults(alloc: Global) -> Result<Vec<Fault>, AllocError> {
-    vec![in alloc; FAULT; DRIVERS]
-}
-
 /// It is done over the volume in an image, while drivers die. The image that is left.
 fn done<R: Threads + Wait + Abort + Clock + Copy + Send + Sync + 'static>(
     alloc: Global,
     rt: R,
-    image: &[u8],
+    image: Vec<u8>,
     what: What,
 ) -> Result<Vec<u8>, Fail> {
-    let gate = Arc::new(alloc, Watch::new(rt, Holds::Flusher))?;
-    let notes = Arc::new(alloc, Notes::new(alloc, rt))?;
-    let supply = drivers(alloc, SECTORS, faults(alloc)?.as_slice(), &notes)?;
-    let (came, left) = at_once(alloc, rt, image, supply, &gate, &notes, what)?;
-    let is_right = matches!(came, Came::Files(true));
-    let changed = notes.changed(alloc, image)?.ok_or("no memory for notes")?;
-    if is_right && gate.later() > 0 && left.as_slice() == changed.as_slice() {
-        return Ok(left);
+    let stage = Stage::new(alloc, rt, image, Holds::Flusher)?;
+    let (came, left) = stage.at_once(&[FAULT; DRIVERS], what)?;
+    if !matches!(came, Came::Files(true)) || stage.gate.later() == 0 {
+        return Err(Fail::from("not all was answered, or no driver died"));
     }
-    Err(Fail::new(format_args!("all was answered: {is_right}")))
+    stage.check_left(&left)?;
+    Ok(left)
 }
 
 /// Each session's file has its bytes, as another service finds them.
@@ -186,8 +176,8 @@ fn done<R: Threads + Wait + Abort + Clock + Copy + Send + Sync + 'static>(
 fn many_sessions(rt: HostRuntime) -> Result<(), Fail> {
     let alloc = rt.alloc();
     let image = mkfs(alloc, BLOCKS, 4096, 128, 50)?;
-    let left = done(alloc, rt, &image, What::Write)?;
-    let again = done(alloc, rt, &left, What::Read)?;
+    let left = done(alloc, rt, image, What::Write)?;
+    let again = done(alloc, rt, Vec::from_slice(alloc, &left)?, What::Read)?;
     assert!(rt; again.as_slice() == left.as_slice());
     Ok(())
 }

@@ -2,8 +2,8 @@
 
 ghost use Rattle.std.specs.Prelude.{◌≡◌};
 
-use crate::at_once::{Came, What, at_once};
-use crate::drivers::{Notes, drivers};
+use crate::at_once::{Came, What};
+use crate::setting::Stage;
 use crate::watch::{Holds, Watch};
 use board::counting::recorder::Recorder;
 use board::counting::room::Room;
@@ -69,6 +69,20 @@ fn look<N: Room, R: Threads + Wait + Abort + Clock + Copy, L: Recorder<N>, S: Fi
     }
 }
 
+/// Two sessions of user 0.
+fn two_sessions<N: Room, R: Threads + Wait + Copy, L: Recorder<N>, S: FileServer<L>>(
+    service: &Service<N, R, L, S>,
+) -> Option<
+    (
+        Session<N, Shared<N, R, L, S>>,
+        Session<N, Shared<N, R, L, S>>,
+    ),
+> {
+    let one = service.session(0, 0).ok()?;
+    let two = service.session(0, 0).ok()?;
+    Some((one, two))
+}
+
 /// One session calls while drivers are held, and two others look meanwhile; all three end. What the first is answered, and what the others
 /// saw, if the call was held then.
 pub(crate) fn look_meanwhile<
@@ -82,35 +96,43 @@ pub(crate) fn look_meanwhile<
     watch: &Arc<Watch<R>>,
     service: &Service<N, R, L, S>,
 ) -> Option<(String, Option<Looked>)> {
+    let gate: &Watch<R> = watch;
     let one = service.session(0, 0).ok()?;
-    let two = service.session(0, 0).ok()?;
-    let three = service.session(0, 0).ok()?;
-    let gate = Arc::try_clone(watch).ok()?;
-    watch.hold();
+    let (two, three) = two_sessions(service)?;
+    gate.hold();
     Some(join(
         rt,
         move || calls(alloc, one),
-        move || look(&*gate, two, three),
+        move || look(gate, two, three),
     ))
+}
+
+/// What comes of it over the small volume: the lines of the one, and what the others saw.
+fn looked<R: Threads + Wait + Abort + Clock + Copy + Send + Sync + 'static>(
+    stage: &Stage<R>,
+) -> Result<(String, Looked), Fail> {
+    let (came, _) = stage.at_once(&[], What::Look)?;
+    match came {
+        Came::Looked(lines, seen) => Ok((lines, seen.ok_or("no driver was held")?)),
+        _other => Err(Fail::from("not looked")),
+    }
+}
+
+/// The board's calls come back, of a board of its own.
+#[test]
+fn board_waits_for_nobody(rt: HostRuntime) -> Result<(), Fail> {
+    let (board, mut seat) = Board::new(rt.alloc())?;
+    assert_eq!(rt; felt(&board, &mut seat), (0, 0, (3, 7)));
+    Ok(())
 }
 
 /// The marks at the start are the first driver's start and its answers to the mount's reads; of more drivers there are more.
 #[test]
 fn no_wait(rt: HostRuntime) -> Result<(), Fail> {
     let alloc = rt.alloc();
-    let (board, mut seat) = Board::new(alloc)?;
-    assert_eq!(rt; felt(&board, &mut seat), (0, 0, (3, 7)));
-    let image = new_volume(alloc, 1024)?;
-    let gate = Arc::new(alloc, Watch::new(rt, Holds::Drivers))?;
-    let notes = Arc::new(alloc, Notes::new(alloc, rt))?;
-    let supply = drivers(alloc, 128, &[], &notes)?;
-    let (came, _) = at_once(alloc, rt, &image, supply, &gate, &notes, What::Look)?;
-    let (lines, seen) = match came {
-        Came::Looked(lines, seen) => (lines, seen),
-        _other => return Err(Fail::from("not looked")),
-    };
+    let stage = Stage::new(alloc, rt, new_volume(alloc, 1024)?, Holds::Drivers)?;
+    let (lines, (one, two, device)) = looked(&stage)?;
     is_told(lines.as_str(), ROOT)?;
-    let (one, two, device) = seen.ok_or("no driver was held")?;
     assert!(rt; one == two && one >= u64::from(MOUNT_READS) + 1);
     assert_eq!(rt; device, Device::Live);
     Ok(())

@@ -1,7 +1,6 @@
 //! What one session writes while its driver dies, another one reads, and a further service.
 
-use crate::drivers::{Notes, drivers};
-use crate::setting::served;
+use crate::setting::Stage;
 use crate::watch::{Holds, Watch};
 use board::counting::recorder::Recorder;
 use board::counting::room::Room;
@@ -140,13 +139,30 @@ impl<R: Threads + Wait + Abort + Clock + Copy + Send + Sync + 'static> Program<R
 fn is_read<R: Threads + Wait + Abort + Clock + Copy + Send + Sync + 'static>(
     alloc: Global,
     rt: R,
-    image: &[u8],
+    image: Vec<u8>,
 ) -> Result<(), Fail> {
-    let gate = Arc::new(alloc, Watch::new(rt, Holds::Flusher))?;
-    let notes = Arc::new(alloc, Notes::new(alloc, rt))?;
-    let supply = drivers(alloc, 128, &[], &notes)?;
-    let lines = served(alloc, rt, image, supply, &gate, Reads { alloc })?.ok_or("not stopped")?;
+    let stage = Stage::new(alloc, rt, image, Holds::Flusher)?;
+    let lines = stage.served(&[], Reads { alloc })?.ok_or("not stopped")?;
     is_told(lines.as_str(), "fd 0\nbytes 61\n")
+}
+
+/// The first driver's fault.
+const DEATH: Fault = Fault {
+    request: DIES_IN,
+    after: 1,
+    kind: FaultKind::Die,
+};
+
+/// What comes of two sessions of which one writes while the first driver dies, and the other reads.
+fn came_of<R: Threads + Wait + Abort + Clock + Copy + Send + Sync + 'static>(
+    stage: &Stage<R>,
+) -> Result<Came, Fail> {
+    stage.gate.hold();
+    let program = WritesAndReads {
+        alloc: stage.alloc,
+        gate: Arc::try_clone(&stage.gate)?,
+    };
+    Ok(stage.served(&[DEATH], program)?.ok_or("not stopped")?)
 }
 
 /// What the first session writes while the first driver dies, the second one reads. The image that is left is a sound volume, and the one
@@ -154,21 +170,8 @@ fn is_read<R: Threads + Wait + Abort + Clock + Copy + Send + Sync + 'static>(
 #[test]
 fn read_back(rt: HostRuntime) -> Result<(), Fail> {
     let alloc = rt.alloc();
-    let image = new_volume(alloc, 1024)?;
-    let gate = Arc::new(alloc, Watch::new(rt, Holds::Flusher))?;
-    gate.hold();
-    let notes = Arc::new(alloc, Notes::new(alloc, rt))?;
-    let fault = Fault {
-        request: DIES_IN,
-        after: 1,
-        kind: FaultKind::Die,
-    };
-    let supply = drivers(alloc, 128, &[fault], &notes)?;
-    let program = WritesAndReads {
-        alloc,
-        gate: Arc::try_clone(&gate)?,
-    };
-    let came = served(alloc, rt, &image, supply, &gate, program)?.ok_or("not stopped")?;
+    let stage = Stage::new(alloc, rt, new_volume(alloc, 1024)?, Holds::Flusher)?;
+    let came = came_of(&stage)?;
     is_told(
         came.lines.as_str(),
         "fd 0
@@ -180,7 +183,6 @@ inode 2 mode 0100644 links 1 uid 0 gid 0 size 1 times 100 101 101
     )?;
     assert!(rt; came.is_equal && came.has_died);
     assert!(rt; matches!(check(alloc, &came.image), Ok(Verdict::Clean(_))));
-    let changed = notes.changed(alloc, &image)?.ok_or("no memory for notes")?;
-    assert!(rt; came.image.as_slice() == changed.as_slice());
-    is_read(alloc, rt, &came.image)
+    stage.check_left(&came.image)?;
+    is_read(alloc, rt, came.image)
 }

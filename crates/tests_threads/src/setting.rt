@@ -1,12 +1,13 @@
-//! A service for each test, and what all of them are set up with.
+//! What each test runs on: an image, a gate, drivers that note what they write, and a service over them.
 
-use crate::drivers::Noting;
-use crate::watch::Watch;
+use crate::drivers::{Notes, Noting, drivers};
+use crate::watch::{Holds, Watch};
 use fixtures::whole;
 use launch::program::Program;
 use launch::start::serve;
+use modeldisk::Fault;
 use reincarnate::policy::{Policy, Setup};
-use std::alloc::Global;
+use std::alloc::{AllocError, Global};
 use std::process::Abort;
 use std::sync::{Arc, Wait};
 use std::test::Fail;
@@ -27,23 +28,80 @@ pub(crate) fn patient() -> Setup {
     }
 }
 
-/// What comes of a program over a service on the volume in an image.
-pub(crate) fn served<
-    R: Threads + Wait + Abort + Clock + Copy + Send + Sync + 'static,
-    P: Program<R>,
->(
-    alloc: Global,
-    rt: R,
-    image: &[u8],
-    supply: Vec<Noting<R>>,
-    gate: &Arc<Watch<R>>,
-    program: P,
-) -> Result<P::Output, Fail> {
-    let asked = Arc::try_clone(gate)?;
-    let image = Vec::from_slice(alloc, image)?;
-    match serve(alloc, rt, image, &patient(), supply, asked, program) {
-        Ok(came) if gate.is_in_time() => Ok(came),
-        Ok(_) => Err(Fail::from("a thread was held for too long")),
-        Err(refusal) => Err(Fail::new(format_args!("{refusal}"))),
+/// What a test runs on.
+#[derive(Drop)]
+pub(crate) struct Stage<R: Wait + Abort + Clock + Copy> {
+    pub(crate) alloc: Global,
+    pub(crate) rt: R,
+    /// The image that is handed in.
+    pub(crate) image: Vec<u8>,
+    /// The gate of the service.
+    pub(crate) gate: Arc<Watch<R>>,
+    /// What the drivers did.
+    pub(crate) notes: Arc<Notes<R>>,
+}
+
+impl<R: Wait + Abort + Clock + Copy> Stage<R> {
+    /// On the volume in an image, with a gate that can hold these threads.
+    pub(crate) fn new(
+        alloc: Global,
+        rt: R,
+        image: Vec<u8>,
+        holds: Holds,
+    ) -> Result<Stage<R>, AllocError> {
+        let gate = Arc::new(alloc, Watch::new(rt, holds))?;
+        let notes = Arc::new(alloc, Notes::new(alloc, rt))?;
+        Ok(Stage {
+            alloc,
+            rt,
+            image,
+            gate,
+            notes,
+        })
+    }
+
+    /// Drivers of the image's sectors, the first ones each with its fault in this list.
+    pub(crate) fn supply(&self, faults: &[Fault]) -> Result<Vec<Noting<R>>, AllocError> {
+        let sectors = u32::try_from(self.image.len() / 512).unwrap_or(0);
+        drivers(self.alloc, sectors, faults, &self.notes)
+    }
+
+    /// What comes of a program over a service on the volume, with drivers of these faults.
+    pub(crate) fn served<P: Program<R>>(
+        &self,
+        faults: &[Fault],
+        program: P,
+    ) -> Result<P::Output, Fail>
+    where
+        R: Threads + Send + Sync + 'static,
+    {
+        let supply = self.supply(faults)?;
+        let gate = Arc::try_clone(&self.gate)?;
+        let image = Vec::from_slice(self.alloc, &self.image)?;
+        match serve(
+            self.alloc,
+            self.rt,
+            image,
+            &patient(),
+            supply,
+            gate,
+            program,
+        ) {
+            Ok(came) if self.gate.is_in_time() => Ok(came),
+            Ok(_) => Err(Fail::from("a thread was held for too long")),
+            Err(refusal) => Err(Fail::new(format_args!("{refusal}"))),
+        }
+    }
+
+    /// An image that is left is the one that was handed in, changed by the drivers' writes in their order.
+    pub(crate) fn check_left(&self, left: &[u8]) -> Result<(), Fail> {
+        let changed = self
+            .notes
+            .changed(self.alloc, &self.image)?
+            .ok_or("no memory for notes")?;
+        if left == changed.as_slice() {
+            return Ok(());
+        }
+        Err(Fail::new(format_args!("another image after {} writes", self.notes.count())))
     }
 }

@@ -1,10 +1,9 @@
 //! Two sessions of one service call, in threads of their own.
 
-use crate::at_once::{Came, What, at_once};
-use crate::drivers::{Notes, drivers};
-use crate::watch::{Holds, Watch};
+use crate::at_once::{Came, What};
+use crate::setting::Stage;
+use crate::watch::Holds;
 use fixtures::new_volume;
-use std::sync::Arc;
 use std::test::*;
 use tests_texts::is_told;
 
@@ -17,17 +16,14 @@ inode 1 mode 0040755 links 2 uid 0 gid 0 size 128 times 50 50 50
 #[test]
 fn two_threads_call(rt: HostRuntime) -> Result<(), Fail> {
     let alloc = rt.alloc();
-    let image = new_volume(alloc, 1024)?;
-    let watch = Arc::new(alloc, Watch::new(rt, Holds::Flusher))?;
-    let notes = Arc::new(alloc, Notes::new(alloc, rt))?;
-    let supply = drivers(alloc, 128, &[], &notes)?;
-    let (came, left) = at_once(alloc, rt, &image, supply, &watch, &notes, What::Ask)?;
+    let stage = Stage::new(alloc, rt, new_volume(alloc, 1024)?, Holds::Flusher)?;
+    let (came, left) = stage.at_once(&[], What::Ask)?;
     let (one, two) = match came {
         Came::Asked(one, two) => (one, two),
         _other => return Err(Fail::from("not asked")),
     };
     is_told(one.as_str(), LINES)?;
     is_told(two.as_str(), LINES)?;
-    assert!(rt; left.as_slice() == image.as_slice());
+    assert!(rt; left.as_slice() == stage.image.as_slice());
     Ok(())
 }
