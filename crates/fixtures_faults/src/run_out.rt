@@ -5,7 +5,7 @@ ghost use Rattle.std.specs.Prelude.{◌<◌, ◌^◌, length};
 use crate::requests::Requests;
 use crate::schedules::twice;
 use crate::settings::Setting;
-use crate::standing::standing_after;
+use crate::standing::{Standing, standing_after};
 use fixtures::whole;
 use modeldisk::supply::{DiskDriver, drivers_for, table_in};
 use reply_text::mark::MarkRef;
@@ -79,41 +79,64 @@ fn are_synced(marks: &[MarkRef<'_>]) -> bool {
     true
 }
 
+/// What is wrong with these marks of a run with which all is done, if anything is.
+fn wrong_in(setting: &Setting, marks: &[MarkRef<'_>]) -> Option<&'static str> {
+    for session in 0..setting.clients() {
+        if !are_wanted(marks, session) {
+            return Some("replies");
+        }
+    }
+    if are_synced(marks) {
+        None
+    } else {
+        Some("sync")
+    }
+}
+
+/// What is wrong with a run with which all is done, if anything is.
+fn wrong_with(
+    alloc: Global,
+    setting: &Setting,
+    transcript: &Transcript<'_, DiskDriver>,
+) -> Result<Option<&'static str>, AllocError> {
+    if transcript.unanswered != 0 {
+        return Ok(Some("unanswered"));
+    }
+    let marks = transcript.marks(alloc)?;
+    Ok(wrong_in(setting, marks.as_slice()))
+}
+
 /// What became of a run with which all is done.
 fn judged(
     alloc: Global,
     setting: &Setting,
     transcript: &Transcript<'_, DiskDriver>,
 ) -> Result<RanOut, AllocError> {
-    let marks = transcript.marks(alloc)?;
-    for session in 0..setting.clients() {
-        if !are_wanted(marks.as_slice(), session) {
-            return Ok(RanOut::Wrong("replies"));
-        }
+    match wrong_with(alloc, setting, transcript)? {
+        Some(why) => Ok(RanOut::Wrong(why)),
+        None => Ok(RanOut::Image(transcript.image(alloc)?)),
     }
-    if !are_synced(marks.as_slice()) {
-        return Ok(RanOut::Wrong("sync"));
-    }
-    if transcript.unanswered != 0 {
-        return Ok(RanOut::Wrong("unanswered"));
-    }
-    Ok(RanOut::Image(transcript.image(alloc)?))
 }
 
-/// The run of events on an image, over drivers of the setting; none where there is no run.
-fn run_on<'a>(
+/// What comes after a run that stands so, where anything is left to do; `again` where what was done came once more already.
+fn next_of(
     alloc: Global,
     setting: &Setting,
-    image: &[u8],
-    events: &'a [Event<'a>],
-) -> Result<Option<Transcript<'a, DiskDriver>>, AllocError>
-    requires few { length events.now < 2 ^ 32 }
-{
-    let supply = drivers_for(alloc, 5, setting.arms, table_in(image))?;
-    Ok(World::run(alloc, image, &whole(), supply, events).ok())
+    standing: &Standing,
+    again: bool,
+) -> Result<Option<After>, AllocError> {
+    let next = standing.next_events(alloc, setting.sectors())?;
+    if !next.is_empty() {
+        return Ok(Some(After::More(next)));
+    }
+    let last = standing.last_events(alloc, setting.twice)?;
+    if last.is_empty() || again {
+        return Ok(None);
+    }
+    Ok(Some(After::Again(last)))
 }
 
-/// What comes after a run of events; `again` where what was done came once more already.
+/// What comes after a run of events.
 fn come_of(
     alloc: Global,
     setting: &Setting,
@@ -122,18 +145,13 @@ fn come_of(
     again: bool,
 ) -> Result<After, AllocError> {
     let standing = standing_after(alloc, transcript, events)?;
-    let next = standing.next_events(alloc, setting.sectors())?;
-    if !next.is_empty() {
-        return Ok(After::More(next));
+    match next_of(alloc, setting, &standing, again)? {
+        Some(after) => Ok(after),
+        None => Ok(After::End(judged(alloc, setting, transcript)?)),
     }
-    let last = standing.last_events(alloc, setting.twice)?;
-    if !last.is_empty() && !again {
-        return Ok(After::Again(last));
-    }
-    Ok(After::End(judged(alloc, setting, transcript)?))
 }
 
-/// Runs events on an image, and says what comes then.
+/// Runs events on an image, over drivers of the setting, and says what comes then.
 fn run_once(
     alloc: Global,
     setting: &Setting,
@@ -143,9 +161,10 @@ fn run_once(
 ) -> Result<After, AllocError>
     requires few { length events.now < 2 ^ 32 }
 {
-    match run_on(alloc, setting, image, events)? {
-        Some(transcript) => come_of(alloc, setting, &transcript, events, again),
-        None => Ok(After::End(RanOut::Wrong("no run"))),
+    let supply = drivers_for(alloc, 5, setting.arms, table_in(image))?;
+    match World::run(alloc, image, &whole(), supply, events) {
+        Ok(transcript) => come_of(alloc, setting, &transcript, events, again),
+        Err(_) => Ok(After::End(RanOut::Wrong("no run"))),
     }
 }
 
@@ -163,6 +182,25 @@ fn add<'t>(
     }
 }
 
+/// Adds what comes after a run to its events; what became of it, where nothing comes. `again` is set where what was done comes once more.
+fn go_on(
+    alloc: Global,
+    setting: &Setting,
+    after: After,
+    events: &mut Vec<Event<'_>>,
+    again: &mut bool,
+) -> Result<Option<RanOut>, AllocError> {
+    match after {
+        After::End(end) => return Ok(Some(end)),
+        After::More(more) => add(alloc, setting, events, more.as_slice())?,
+        After::Again(more) => {
+            *again = true;
+            events.extend_from_slice(more.as_slice())?;
+        }
+    }
+    Ok(None)
+}
+
 /// Runs a schedule out on an image.
 pub fn run_out(
     alloc: Global,
@@ -175,13 +213,9 @@ pub fn run_out(
         if events.len() > EVENTS {
             break;
         }
-        match run_once(alloc, setting, image, events.as_slice(), again)? {
-            After::End(end) => return Ok(end),
-            After::More(more) => add(alloc, setting, &mut events, more.as_slice())?,
-            After::Again(more) => {
-                again = true;
-                events.extend_from_slice(more.as_slice())?;
-            }
+        let after = run_once(alloc, setting, image, events.as_slice(), again)?;
+        if let Some(end) = go_on(alloc, setting, after, &mut events, &mut again)? {
+            return Ok(end);
         }
     }
     Ok(RanOut::Wrong("no end"))

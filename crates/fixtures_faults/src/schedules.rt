@@ -29,6 +29,23 @@ pub struct Fault {
 /// How many requests the base schedule has steps and a delivery for.
 const REQUESTS: u32 = 11;
 
+/// A step of driver 1.
+static STEP: [Event<'static>; 1] = [Event::Step(1)];
+
+/// What comes at the end of the base schedule.
+static LAST: [Event<'static>; 2] = [Event::Flush, Event::Tick];
+
+/// A tick.
+static TICK: [Event<'static>; 1] = [Event::Tick];
+
+/// Adds as many steps of driver 1 as a block has sectors.
+fn add_steps(events: &mut Vec<Event<'_>>, sectors: usize) -> Result<(), AllocError> {
+    for _ in 0..sectors {
+        events.extend_from_slice(&STEP)?;
+    }
+    Ok(())
+}
+
 /// The base schedule: these calls; for each request as many steps of driver 1 as a block has sectors, and the delivery of its reply; a
 /// flush and a tick.
 pub fn base<'t>(
@@ -38,13 +55,10 @@ pub fn base<'t>(
 ) -> Result<Vec<Event<'t>>, AllocError> {
     let mut events = Vec::from_slice(alloc, calls)?;
     for reply in 0..REQUESTS {
-        for _ in 0..sectors {
-            events.push(Event::Step(1))?;
-        }
+        add_steps(&mut events, sectors)?;
         events.push(Event::Deliver(reply))?;
     }
-    events.push(Event::Flush)?;
-    events.push(Event::Tick)?;
+    events.extend_from_slice(&LAST)?;
     Ok(events)
 }
 
@@ -52,24 +66,30 @@ pub fn base<'t>(
 pub fn twice<'t>(alloc: Global, events: &[Event<'t>]) -> Result<Vec<Event<'t>>, AllocError> {
     let mut doubled = Vec::new(alloc);
     for event in events {
-        doubled.push(*event)?;
-        if let Event::Deliver(number) = *event {
-            doubled.push(*event)?;
-            doubled.push(Event::Repeat(number))?;
+        match event {
+            Event::Deliver(number) => {
+                doubled.extend_from_slice(&[*event, *event, Event::Repeat(*number)])?;
+            }
+            _other => doubled.push(*event)?,
         }
     }
     Ok(doubled)
 }
 
-/// Puts a fault behind these events.
-fn strike(events: &mut Vec<Event<'_>>, fault: &Fault) -> Result<(), AllocError> {
-    events.push(match fault.end {
+/// The event by which a driver ends.
+fn event_of(fault: &Fault) -> Event<'static> {
+    match fault.end {
         End::Dies => Event::Die(fault.generation, None),
         End::Tears => Event::Die(fault.generation, Some([0xee; 512])),
         End::Hangs => Event::Hang(fault.generation),
-    })?;
+    }
+}
+
+/// Puts a fault behind these events.
+fn strike(events: &mut Vec<Event<'_>>, fault: &Fault) -> Result<(), AllocError> {
+    events.push(event_of(fault))?;
     for _ in 0..fault.ticks {
-        events.push(Event::Tick)?;
+        events.extend_from_slice(&TICK)?;
     }
     Ok(())
 }
@@ -91,6 +111,20 @@ fn stepped<'t>(event: &Event<'t>, generation: u32) -> Event<'t> {
     }
 }
 
+/// Puts the faults of a place behind these events.
+fn strike_at(
+    events: &mut Vec<Event<'_>>,
+    faults: &[Fault],
+    place: usize,
+) -> Result<(), AllocError> {
+    for fault in faults {
+        if fault.place == place {
+            strike(events, fault)?;
+        }
+    }
+    Ok(())
+}
+
 /// A schedule with faults put in, which are given in their order.
 pub fn with_faults<'t>(
     alloc: Global,
@@ -98,15 +132,10 @@ pub fn with_faults<'t>(
     faults: &[Fault],
 ) -> Result<Vec<Event<'t>>, AllocError> {
     let mut events = Vec::new(alloc);
-    for place in 0..=base.len() {
-        for fault in faults {
-            if fault.place == place {
-                strike(&mut events, fault)?;
-            }
-        }
-        if let Some(event) = base.get(place) {
-            events.push(stepped(event, stepping(faults, place)))?;
-        }
+    for (place, event) in base.iter().enumerate() {
+        strike_at(&mut events, faults, place)?;
+        events.push(stepped(event, stepping(faults, place)))?;
     }
+    strike_at(&mut events, faults, base.len())?;
     Ok(events)
 }

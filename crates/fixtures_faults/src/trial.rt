@@ -140,10 +140,16 @@ impl Trial<'_> {
         faults: &[Fault],
     ) -> Result<Option<&'static str>, AllocError> {
         let schedule = with_faults(alloc, self.base.as_slice(), faults)?;
-        match run_out(alloc, &self.setting, self.image.as_slice(), schedule)? {
-            RanOut::Wrong(why) => Ok(Some(why)),
-            RanOut::Image(left) if left == self.left => Ok(None),
-            RanOut::Image(_) => Ok(Some("image")),
+        let came = run_out(alloc, &self.setting, self.image.as_slice(), schedule)?;
+        Ok(self.wrong_in(&came))
+    }
+
+    /// What is wrong with what came of it.
+    fn wrong_in(&self, came: &RanOut) -> Option<&'static str> {
+        match came {
+            RanOut::Wrong(why) => Some(*why),
+            RanOut::Image(left) if *left == self.left => None,
+            RanOut::Image(_) => Some("image"),
         }
     }
 

@@ -203,11 +203,20 @@ impl<R: Threads + Wait + Copy + Send + Sync + 'static> Program<R> for Calls<'_> 
         ensures { Unit {0} }
     {
         was_refused(self.alloc);
-        let mut session = service.session(0, 0).ok()?;
         let mut outcomes = Vec::with_capacity(self.alloc, self.calls.len()).ok()?;
-        make(&mut session, self.calls, &mut outcomes)?;
+        make_in(&service, self.calls, &mut outcomes)?;
         Some(outcomes)
     }
+}
+
+/// Makes calls in a session of a service, and adds what each comes to; nothing where there is no session or no room for it.
+fn make_in<N: Room, R: Threads + Wait + Copy, L: Recorder<N>, S: FileServer<L>>(
+    service: &Service<N, R, L, S>,
+    calls: &[TimedCall<'_>],
+    outcomes: &mut Vec<Outcome>,
+) -> Option<()> {
+    let mut session = service.session(0, 0).ok()?;
+    make(&mut session, calls, outcomes)
 }
 
 /// What a start came to: what calls came to in the service, or its refusal.

@@ -33,16 +33,32 @@ impl<R: Threads + Wait + Copy + Send + Sync + 'static> Program<R> for Asks {
         ensures { Unit {0} }
     {
         for request in 1..=MOST {
-            refuse(self.0, 8, request);
-            let session = service.session(0, 0);
-            let refused = was_refused(self.0);
-            match session {
-                Ok(session) => return !refused && session.number() == 0,
-                Err(SessionRefusal::OutOfMemory) if refused => {}
-                Err(_) => return false,
+            match self.asks(&service, request) {
+                Some(is_last) if is_last => return true,
+                Some(_) => {}
+                None => return false,
             }
         }
         false
+    }
+}
+
+impl Asks {
+    /// Asks for a session with this request refused: whether it was made, with number 0, where no request was refused. None where it was
+    /// refused or made otherwise.
+    fn asks<N: Room, R: Threads + Wait + Copy, L: Recorder<N>, S: FileServer<L>>(
+        &self,
+        service: &Service<N, R, L, S>,
+        request: u32,
+    ) -> Option<bool> {
+        refuse(self.0, 8, request);
+        let session = service.session(0, 0);
+        let refused = was_refused(self.0);
+        match session {
+            Ok(session) if !refused && session.number() == 0 => Some(true),
+            Err(SessionRefusal::OutOfMemory) if refused => Some(false),
+            _other => None,
+        }
     }
 }
 

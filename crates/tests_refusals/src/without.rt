@@ -139,18 +139,39 @@ impl<R: Threads + Wait + Copy + Send + Sync + 'static> Program<R> for Calls<'_> 
     ) -> Option<Vec<Outcome>>
         ensures { Unit {0} }
     {
-        let mut session = service.session(0, 0).ok()?;
         let mut outcomes = Vec::with_capacity(self.alloc, 128).ok()?;
-        if self.without {
-            let hoard = Hoard::all(self.alloc)?;
-            make(&mut session, self.calls, &mut outcomes)?;
-            make(&mut session, self.reads, &mut outcomes)?;
-            hoard.release(self.alloc);
-        } else {
-            make(&mut session, self.calls, &mut outcomes)?;
-        }
-        make(&mut session, self.reads, &mut outcomes)?;
+        self.make_in(&service, &mut outcomes)?;
         Some(outcomes)
+    }
+}
+
+impl Calls<'_> {
+    /// Makes the calls in a session of a service, and adds what each comes to.
+    fn make_in<N: Room, R: Threads + Wait + Copy, L: Recorder<N>, S: FileServer<L>>(
+        &self,
+        service: &Service<N, R, L, S>,
+        outcomes: &mut Vec<Outcome>,
+    ) -> Option<()> {
+        let mut session = service.session(0, 0).ok()?;
+        if self.without {
+            self.make_without(&mut session, outcomes)?;
+        } else {
+            make(&mut session, self.calls, outcomes)?;
+        }
+        make(&mut session, self.reads, outcomes)
+    }
+
+    /// Makes all of them without memory.
+    fn make_without<N: Room, R: Wait + Copy, L: Recorder<N>, S: FileServer<L>>(
+        &self,
+        session: &mut Session<N, Shared<N, R, L, S>>,
+        outcomes: &mut Vec<Outcome>,
+    ) -> Option<()> {
+        let hoard = Hoard::all(self.alloc)?;
+        let made = make(session, self.calls, outcomes).is_some()
+            && make(session, self.reads, outcomes).is_some();
+        hoard.release(self.alloc);
+        if made { Some(()) } else { None }
     }
 }
 
@@ -204,25 +225,14 @@ user 0 0
 /// How long a tick is, in milliseconds.
 const PACE: u64 = 50;
 
-/// What calls come to on an image, with memory or without.
-fn outcomes<R: Threads + Wait + Clock + Copy + Send + Sync + 'static>(
-    alloc: Global,
+/// What the calls and reads of two scripts come to on an image, with memory or without.
+fn come_to<R: Threads + Wait + Clock + Copy + Send + Sync + 'static>(
     rt: R,
     image: &[u8],
-    without: bool,
+    program: Calls<'_>,
 ) -> Result<Vec<Outcome>, Fail> {
-    let (script, reads) = (
-        read_script(alloc, CALLS.as_bytes())?,
-        read_script(alloc, READS.as_bytes())?,
-    );
-    let (calls, reads) = (script.calls(alloc)?, reads.calls(alloc)?);
+    let alloc = program.alloc;
     let supply = drivers_for(alloc, 0, false, table_in(image))?;
-    let program = Calls {
-        alloc,
-        calls: calls.as_slice(),
-        reads: reads.as_slice(),
-        without,
-    };
     let gate = Arc::new(alloc, Ticking::new(rt, PACE))?;
     let image = Vec::from_slice(alloc, image)?;
     match serve(alloc, rt, image, &patient(), supply, gate, program) {
@@ -232,25 +242,38 @@ fn outcomes<R: Threads + Wait + Clock + Copy + Send + Sync + 'static>(
     }
 }
 
+/// What calls come to on an image, with memory or without.
+fn outcomes<R: Threads + Wait + Clock + Copy + Send + Sync + 'static>(
+    alloc: Global,
+    rt: R,
+    image: &[u8],
+    without: bool,
+) -> Result<Vec<Outcome>, Fail> {
+    let script = read_script(alloc, CALLS.as_bytes())?;
+    let calls = script.calls(alloc)?;
+    let reads = read_script(alloc, READS.as_bytes())?;
+    let reads = reads.calls(alloc)?;
+    let program = Calls {
+        alloc,
+        calls: calls.as_slice(),
+        reads: reads.as_slice(),
+        without,
+    };
+    come_to(rt, image, program)
+}
+
 /// Whether a call wanted memory.
 fn wants_memory(outcome: &Outcome) -> bool {
     *outcome == Outcome::Reply(Reply::Refused(Errno::ENOMEM))
 }
 
-/// On a volume with blocks of this size each call but the two reads comes without memory to what it comes to with it. The reads want
-/// memory, and give then what they would have given.
-fn are_made_without<R: Threads + Wait + Clock + Copy + Send + Sync + 'static>(
-    alloc: Global,
-    rt: R,
-    block: usize,
-) -> Result<(), Fail> {
-    let image = new_volume(alloc, block)?;
-    let with = outcomes(alloc, rt, &image, false)?;
-    let without = outcomes(alloc, rt, &image, true)?;
+/// Whether each call but the two reads came without memory to what it came to with it, and the reads, which wanted memory, then gave what
+/// they would have given.
+fn are_same(with: &[Outcome], without: &[Outcome]) -> Result<(), Fail> {
     let made = with.len().saturating_sub(2);
-    let (calls, rest) = without.as_slice().split_at(made.min(without.len()));
+    let (calls, rest) = without.split_at(made.min(without.len()));
     let (wanting, reads) = rest.split_at(2.min(rest.len()));
-    let (same, last) = with.as_slice().split_at(made.min(with.len()));
+    let (same, last) = with.split_at(made.min(with.len()));
     if calls == same && reads == last && wanting.iter().all(|outcome| wants_memory(outcome)) {
         return Ok(());
     }
@@ -259,7 +282,19 @@ fn are_made_without<R: Threads + Wait + Clock + Copy + Send + Sync + 'static>(
             return Err(Fail::new(format_args!("call {number}: {one:?}, not {other:?}")));
         }
     }
-    Err(Fail::new(format_args!("blocks of {block}: the reads")))
+    Err(Fail::from("the reads"))
+}
+
+/// It is so on a volume with blocks of this size.
+fn are_made_without<R: Threads + Wait + Clock + Copy + Send + Sync + 'static>(
+    alloc: Global,
+    rt: R,
+    block: usize,
+) -> Result<(), Fail> {
+    let image = new_volume(alloc, block)?;
+    let with = outcomes(alloc, rt, &image, false)?;
+    let without = outcomes(alloc, rt, &image, true)?;
+    are_same(with.as_slice(), without.as_slice())
 }
 
 #[test]

@@ -112,9 +112,7 @@ impl<R: Threads + Wait + Abort + Clock + Copy + Send + Sync + 'static> Program<R
         ensures { Unit {0} }
     {
         let mut lines = String::new(self.alloc);
-        let mut session = service.session(0, 0).ok()?;
-        let (is_early, has_passed) = calls(self.what, &self.gate, &mut session, &mut lines);
-        session.end();
+        let (is_early, has_passed) = self.calls_in(&service, &mut lines)?;
         let image = service.stop(self.alloc).ok()?;
         Some(Came {
             lines,
@@ -122,6 +120,23 @@ impl<R: Threads + Wait + Abort + Clock + Copy + Send + Sync + 'static> Program<R
             has_passed,
             image,
         })
+    }
+}
+
+impl<R: Abort + Clock + Copy> Held<R> {
+    /// Calls in a session of a service, which then ends. Whether who was held had passed before, and whether it passed then.
+    fn calls_in<N: Room, L: Recorder<N>, S: FileServer<L>>(
+        &self,
+        service: &Service<N, R, L, S>,
+        lines: &mut String,
+    ) -> Option<(bool, bool)>
+    where
+        R: Threads + Wait,
+    {
+        let mut session = service.session(0, 0).ok()?;
+        let came = calls(self.what, &self.gate, &mut session, lines);
+        session.end();
+        Some(came)
     }
 }
 

@@ -87,11 +87,7 @@ impl<R: Threads + Wait + Abort + Clock + Copy + Send + Sync + 'static> Program<R
         ensures { Unit {0} }
     {
         let mut lines = String::new(self.alloc);
-        let mut one = service.session(0, 0).ok()?;
-        let mut two = service.session(0, 0).ok()?;
-        let (is_equal, has_died) = write_and_read(&self.gate, &mut one, &mut two, &mut lines);
-        one.end();
-        two.end();
+        let (is_equal, has_died) = self.calls_in(&service, &mut lines)?;
         self.gate.let_go();
         let image = service.stop(self.alloc).ok()?;
         Some(Came {
@@ -100,6 +96,25 @@ impl<R: Threads + Wait + Abort + Clock + Copy + Send + Sync + 'static> Program<R
             has_died,
             image,
         })
+    }
+}
+
+impl<R: Abort + Clock + Copy> WritesAndReads<R> {
+    /// Calls in two sessions of a service, which then end. Whether both gave the same number of marks, and whether the driver had died.
+    fn calls_in<N: Room, L: Recorder<N>, S: FileServer<L>>(
+        &self,
+        service: &Service<N, R, L, S>,
+        lines: &mut String,
+    ) -> Option<(bool, bool)>
+    where
+        R: Threads + Wait,
+    {
+        let mut one = service.session(0, 0).ok()?;
+        let mut two = service.session(0, 0).ok()?;
+        let came = write_and_read(&self.gate, &mut one, &mut two, lines);
+        one.end();
+        two.end();
+        Some(came)
     }
 }
 
