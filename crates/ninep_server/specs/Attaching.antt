@@ -3,15 +3,15 @@ use Rattle.std.specs.Prelude.{ℕ, Bool, List, [], ◌∷◌, min, nat_lt, codes
 use Rattle.std.specs.Str.{bytes_eq}
 use Rattle.errno.specs.declared.Errno.TheVariants.{EINVAL}
 use Rattle.tree.specs.declared.Call.TheVariants as call
-use Rattle.ninep_server.specs.Knowledge.{Known, new_fid, user_of, file_at}
-use Rattle.ninep_server.specs.Hearing.{attributes_in, session_in}
-use Rattle.ninep_server.specs.Plans.{Plan, Asks, Changes, OrNoMemory, Begins, Attaches, Puts, refuses, with_it, calls, at}
-use Rattle.ninep_server.specs.Nodes.{says, node_of, qid_of}
-use Rattle.ninep_server.specs.declared.refused.Refused.{Refused}
-use Rattle.ninep_server.specs.declared.refused.Refused.TheVariants.{By}
-use Rattle.ninep_server.specs.declared.users.User.{User}
-use Rattle.ninep_server.specs.declared.ask.Ask.TheVariants as ask
-use Rattle.ninep_server.specs.declared.answer.Answer.TheVariants as answer
+use Rattle.ninep_fids.specs.Knowledge.{Known, new_fid, user_of, file_at}
+use Rattle.ninep_fids.specs.Hearing.{attributes_in, session_in}
+use Rattle.ninep_fids.specs.Plans.{Plan, Asks, Changes, OrNoMemory, Begins, Attaches, Puts, refuses, with_it, calls, at}
+use Rattle.ninep_fids.specs.Nodes.{says, node_of, qid_of}
+use Rattle.ninep_fids.specs.declared.refused.Refused.{Refused}
+use Rattle.ninep_fids.specs.declared.refused.Refused.TheVariants.{By}
+use Rattle.ninep_fids.specs.declared.users.User.{User}
+use Rattle.ninep_fids.specs.declared.ask.Ask.TheVariants as ask
+use Rattle.ninep_fids.specs.declared.answer.Answer.TheVariants as answer
 
 -- Tversion: all sessions end, and a connection begins whose messages have at most so many bytes. EINVAL below the least.
 abbrev pub beginning : ℕ → Bool → Plan

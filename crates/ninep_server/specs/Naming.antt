@@ -3,18 +3,18 @@ use Rattle.std.specs.Prelude.{ℕ, Bool, true, false, List, Option, Result, Ok, 
 use Rattle.tree.specs.declared.Call.{Call}
 use Rattle.tree.specs.declared.Call.TheVariants as call
 use Rattle.tree.specs.declared.Reply.{Reply}
-use Rattle.ninep_server.specs.Paths.{called, below, checked}
-use Rattle.ninep_server.specs.Knowledge.{Known, File, found, named}
-use Rattle.ninep_server.specs.Hearing.{done_in}
-use Rattle.ninep_server.specs.Opens.{is_set}
-use Rattle.ninep_server.specs.Plans.{Plan, Changes, OrNoMemory, Drops, Renames, Unlinks, error, closing, with_it, calls, at}
-use Rattle.ninep_server.specs.Nodes.{says, said_of}
-use Rattle.ninep_server.specs.declared.refused.Refused.{Refused}
-use Rattle.ninep_server.specs.declared.refused.Refused.TheVariants.{Stale}
-use Rattle.ninep_server.specs.declared.fid.Kind.{Kind}
-use Rattle.ninep_server.specs.declared.fid.Kind.TheVariants as kind
-use Rattle.ninep_server.specs.declared.answer.Answer.{Answer}
-use Rattle.ninep_server.specs.declared.answer.Answer.TheVariants as answer
+use Rattle.ninep_fids.specs.Paths.{called, below, checked}
+use Rattle.ninep_fids.specs.Knowledge.{Known, File, found, named}
+use Rattle.ninep_fids.specs.Hearing.{done_in}
+use Rattle.ninep_fids.specs.Flags.{is_set}
+use Rattle.ninep_fids.specs.Plans.{Plan, Changes, OrNoMemory, Drops, Renames, Unlinks, error, closing, with_it, calls, at}
+use Rattle.ninep_fids.specs.Nodes.{says, said_of}
+use Rattle.ninep_fids.specs.declared.refused.Refused.{Refused}
+use Rattle.ninep_fids.specs.declared.refused.Refused.TheVariants.{Stale}
+use Rattle.ninep_fids.specs.declared.fid.Kind.{Kind}
+use Rattle.ninep_fids.specs.declared.fid.Kind.TheVariants as kind
+use Rattle.ninep_fids.specs.declared.answer.Answer.{Answer}
+use Rattle.ninep_fids.specs.declared.answer.Answer.TheVariants as answer
 
 -- Tlink: the file of a fid gets a further name in a directory
 abbrev pub linking : ℕ → List ℕ → List ℕ → Plan

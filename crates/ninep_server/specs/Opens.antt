@@ -1,45 +1,26 @@
 -- Opening, making files, directories and symbolic links.
-use Rattle.std.specs.Prelude.{⊤, ◌+◌, ◌%◌, ℕ, Bool, not, List, nat_lt, Option, Some, None, Result, Ok, Err, if◌then◌else◌, ◌==◌, ◌&&◌}
-use Rattle.std.specs.Int.RustNames.{bit_and}
-use Rattle.errno.specs.declared.Errno.TheVariants.{EINVAL, ELOOP}
+use Rattle.ninep_fids.specs.Flags.{flag_for, open_bits, flags_by, group_of}
+use Rattle.std.specs.Prelude.{⊤, ◌+◌, ◌%◌, ℕ, List, Option, Some, None, Result, Ok, Err}
+use Rattle.errno.specs.declared.Errno.TheVariants.{ELOOP}
 use Rattle.ninep.specs.declared.reply.Qid.{Qid}
 use Rattle.tree.specs.declared.OpenFlags.{OpenFlags}
 use Rattle.tree.specs.declared.Call.{Call}
 use Rattle.tree.specs.declared.Call.TheVariants as call
-use Rattle.ninep_server.specs.Paths.{called, below, checked}
-use Rattle.ninep_server.specs.Knowledge.{Known, named, closed, file_open}
-use Rattle.ninep_server.specs.Hearing.{done_in, attributes_in, descriptor_in}
-use Rattle.ninep_server.specs.Plans.{Plan, Changes, OrNoMemory, Becomes, error, closing, with_it, calls, at}
-use Rattle.ninep_server.specs.Nodes.{says, node_of, qid_of}
-use Rattle.ninep_server.specs.declared.refused.Refused.{Refused}
-use Rattle.ninep_server.specs.declared.refused.Refused.TheVariants.{By}
-use Rattle.ninep_server.specs.declared.users.User.{User}
-use Rattle.ninep_server.specs.declared.fid.Kind.{Kind}
-use Rattle.ninep_server.specs.declared.fid.Kind.TheVariants as kind
-use Rattle.ninep_server.specs.declared.fid.Node.{Node}
+use Rattle.ninep_fids.specs.Paths.{called, below, checked}
+use Rattle.ninep_fids.specs.Knowledge.{Known, named, closed, file_open}
+use Rattle.ninep_fids.specs.Hearing.{done_in, attributes_in, descriptor_in}
+use Rattle.ninep_fids.specs.Plans.{Plan, Changes, OrNoMemory, Becomes, error, closing, with_it, calls, at}
+use Rattle.ninep_fids.specs.Nodes.{says, node_of, qid_of}
+use Rattle.ninep_fids.specs.declared.refused.Refused.{Refused}
+use Rattle.ninep_fids.specs.declared.refused.Refused.TheVariants.{By}
+use Rattle.ninep_fids.specs.declared.users.User.{User}
+use Rattle.ninep_fids.specs.declared.fid.Kind.{Kind}
+use Rattle.ninep_fids.specs.declared.fid.Kind.TheVariants as kind
+use Rattle.ninep_fids.specs.declared.fid.Node.{Node}
 use Rattle.ninep_server.specs.declared.making.Made.{Made}
 use Rattle.ninep_server.specs.declared.making.Made.TheVariants as made
-use Rattle.ninep_server.specs.declared.answer.Answer.{Answer}
-use Rattle.ninep_server.specs.declared.answer.Answer.TheVariants as answer
-
--- a bit is set
-abbrev pub is_set : ℕ → ℕ → Bool
-is_set flags bit = not (bit_and flags bit == 0)
-
--- a flag of the server's open, where a bit is set
-abbrev pub flag_for : ℕ → ℕ → ℕ → ℕ
-flag_for flags bit flag = if is_set flags bit then flag else 0
-
--- Flags of the server's open (1 reads, 2 writes, 4 appends, 32 truncates) by Linux's: 0 reads, 1 writes, 2 does both, and 3 is EINVAL.
--- Without writing nothing is truncated or appended. Other bits mean nothing.
-abbrev pub open_bits : ℕ → Result ℕ Refused
-open_bits flags =
-    if flags % 4 == 0 then Ok 1
-    else if flags % 4 == 3 then Err (By EINVAL)
-    else Ok ((if flags % 4 == 1 then 2 else 3) + (flag_for flags 0x200 32 + flag_for flags 0x400 4))
-
-abbrev pub flags_by : ℕ → OpenFlags
-flags_by bits = record { 0 = bits }
+use Rattle.ninep_fids.specs.declared.answer.Answer.{Answer}
+use Rattle.ninep_fids.specs.declared.answer.Answer.TheVariants as answer
 
 -- a symbolic link isn't opened
 abbrev pub not_link : Kind → Result ⊤ Refused
@@ -54,10 +35,6 @@ opening fid user path node flags = calls user.session (call.Open (at (called pat
 abbrev pub opens : Known → ℕ → ℕ → Plan
 opens k fid flags = with_it (named k.fids fid) (λ file. with_it (closed file.descriptor) (λ _. with_it (not_link file.node.kind)
     (λ _. with_it (open_bits flags) (λ bits. OrNoMemory (opening fid file.user file.path file.node (flags_by bits))))))
-
--- the group that a new node is given: the one that is asked for, where user 0 asks and it isn't its own
-abbrev pub group_of : User → ℕ → Option ℕ
-group_of user gid = if (user.uid == 0) && (not (gid == 0) && nat_lt gid 65536) then Some gid else None
 
 -- a file that was made is closed where it goes on no further
 abbrev pub or_closes : {A : Type 0} → ℕ → ℕ → Result A Refused → (A → Plan) → Plan

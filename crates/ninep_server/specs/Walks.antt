@@ -6,18 +6,18 @@ use Rattle.ninep.specs.Fields.{Two, Number}
 use Rattle.ninep.specs.Replies.{qid_fields}
 use Rattle.ninep.specs.declared.reply.Qid.{Qid}
 use Rattle.tree.specs.declared.Call.TheVariants as call
-use Rattle.ninep_server.specs.Paths.{called, leads, stepped}
-use Rattle.ninep_server.specs.Knowledge.{Known, named, new_fid, closed, file_at}
-use Rattle.ninep_server.specs.Hearing.{attributes_in}
-use Rattle.ninep_server.specs.Plans.{Plan, Says, Changes, OrNoMemory, Puts, reply, refuses, with_it, calls, at}
-use Rattle.ninep_server.specs.Nodes.{node_of, qid_of}
-use Rattle.ninep_server.specs.Written.{walked}
-use Rattle.ninep_server.specs.declared.refused.Refused.{Refused}
-use Rattle.ninep_server.specs.declared.refused.Refused.TheVariants.{By}
-use Rattle.ninep_server.specs.declared.users.User.{User}
-use Rattle.ninep_server.specs.declared.fid.Kind.{Kind}
-use Rattle.ninep_server.specs.declared.fid.Kind.TheVariants as kind
-use Rattle.ninep_server.specs.declared.fid.Node.{Node}
+use Rattle.ninep_fids.specs.Paths.{called, leads, stepped}
+use Rattle.ninep_fids.specs.Knowledge.{Known, named, new_fid, closed, file_at}
+use Rattle.ninep_fids.specs.Hearing.{attributes_in}
+use Rattle.ninep_fids.specs.Plans.{Plan, Says, Changes, OrNoMemory, Puts, reply, refuses, with_it, calls, at}
+use Rattle.ninep_fids.specs.Nodes.{node_of, qid_of}
+use Rattle.ninep_fids.specs.Written.{walked}
+use Rattle.ninep_fids.specs.declared.refused.Refused.{Refused}
+use Rattle.ninep_fids.specs.declared.refused.Refused.TheVariants.{By}
+use Rattle.ninep_fids.specs.declared.users.User.{User}
+use Rattle.ninep_fids.specs.declared.fid.Kind.{Kind}
+use Rattle.ninep_fids.specs.declared.fid.Kind.TheVariants as kind
+use Rattle.ninep_fids.specs.declared.fid.Node.{Node}
 
 -- Rwalk: what the names lead to, at most sixteen
 abbrev pub says_walked : List Qid → Plan

@@ -3,15 +3,15 @@
 ghost use Rattle.std.specs.Prelude.{◌≡◌, ◌≤◌, Ok};
 ghost use Rattle.ninep_server.specs.Attaching.{user_number};
 
-use crate::answer::Answer;
-use crate::ask::Ask;
-use crate::fid::{Fid, Node};
-use crate::heard::Heard;
-use crate::knows::{Knows, MAX_MESSAGE, MIN_MESSAGE};
-use crate::refused::Refused;
-use crate::users::User;
 use crate::work::{Next, Work};
 use errno::Errno;
+use ninep_fids::answer::Answer;
+use ninep_fids::ask::Ask;
+use ninep_fids::fid::{Fid, Node};
+use ninep_fids::heard::Heard;
+use ninep_fids::knows::{Knows, MAX_MESSAGE, MIN_MESSAGE};
+use ninep_fids::refused::Refused;
+use ninep_fids::users::User;
 use tree::Call;
 
 /// The number for no user, which Linux sends where all users of the client share one: it is user 0 here.
@@ -26,8 +26,8 @@ pub(crate) struct Version {
 }
 
 impl Version {
-    ghost use Rattle.ninep_server.specs.Knowledge.{Known, known_of};
-    ghost use Rattle.ninep_server.specs.Attaching.{begins};
+    ghost use Rattle.ninep_fids.specs.Knowledge.{Known, known_of, known_of};
+    ghost use Rattle.ninep_server.specs.Attaching.{begins, attaching};
     ghost use Rattle.ninep_server.specs.Progress.{Leaves, behind, left_of_next, left_of_version};
 
     /// Refused with EINVAL where messages would be shorter than may be.
@@ -80,8 +80,6 @@ pub(crate) enum Attach {
 }
 
 impl Attach {
-    ghost use Rattle.ninep_server.specs.Knowledge.{known_of};
-    ghost use Rattle.ninep_server.specs.Attaching.{attaching};
     ghost use Rattle.ninep_server.specs.Progress.{AsksNext, BeginsAs, Leaves, behind, left_of_attach, left_of_next};
 
     pub(crate) fn begin<'m>(knows: &mut Knows, fid: u32, uid: u32) -> Result<Next<'m>, Refused>

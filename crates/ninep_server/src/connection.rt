@@ -1,28 +1,29 @@
 //! A connection, which answers messages.
 
 ghost use Rattle.std.specs.Prelude.{◌≡◌, ◌<◌, ◌+◌, ℕ, suc, [], length, vec_len, vec_capacity, IfOk, IfErr, IsErr, OnOk, OnErr, ◌↔◌, Err};
-ghost use Rattle.ninep_server.specs.Talks.{MayHear, Reaches, HasAsked};
-ghost use Rattle.ninep_server.specs.Written.{tag_in};
-ghost use Rattle.ninep_server.specs.Knowledge.{known_of};
-ghost use Rattle.ninep_server.specs.Plans.{Follows};
+ghost use Rattle.ninep_fids.specs.Talks.{MayHear, HasAsked};
+ghost use Rattle.ninep_server.specs.Turns.{Reaches};
+ghost use Rattle.ninep_fids.specs.Written.{tag_in};
+ghost use Rattle.ninep_fids.specs.Knowledge.{known_of};
+ghost use Rattle.ninep_fids.specs.Plans.{Follows};
 ghost use Rattle.ninep_server.specs.Answering.{IsAnswered};
 ghost use Rattle.ninep_server.specs.Messages.{plan_of, refusal_for};
 ghost use Rattle.ninep_server.specs.Progress.{IsCarriedOn, Within, left_of_turn};
 
-use crate::answer::{Answer, Said};
-use crate::ask::Ask;
 use crate::begin::begin;
-use crate::end::End;
-use crate::heard::Heard;
-use crate::knows::{Knows, MAX_MESSAGE};
-use crate::refused::Refused;
-use crate::send::send;
-use crate::sessions::Sessions;
 use crate::turn::Turn;
 use errno::Errno;
 use ninep::fault::Fault;
 use ninep::reading::read;
 use ninep::request::Request;
+use ninep_fids::answer::{Answer, Said};
+use ninep_fids::ask::Ask;
+use ninep_fids::end::End;
+use ninep_fids::heard::Heard;
+use ninep_fids::knows::{Knows, MAX_MESSAGE};
+use ninep_fids::refused::Refused;
+use ninep_fids::send::send;
+use ninep_fids::sessions::Sessions;
 use std::alloc::Global;
 use tree::Call;
 

@@ -1,46 +1,30 @@
 //! Making a file, which its directory's fid stands for from then on, open.
 
-ghost use Rattle.std.specs.Prelude.{◌≡◌, ◌%◌, Ok, Some};
-ghost use Rattle.ninep_server.specs.Knowledge.{Known, known_of};
-ghost use Rattle.ninep_server.specs.Plans.{closing, error};
-ghost use Rattle.ninep_server.specs.Opens.{creates, group_of, made_file};
+ghost use Rattle.std.specs.Prelude.{◌≡◌, Ok, Some};
+ghost use Rattle.ninep_fids.specs.Knowledge.{Known, known_of};
+ghost use Rattle.ninep_fids.specs.Plans.{closing, error};
+ghost use Rattle.ninep_server.specs.Opens.{creates, made_file};
+ghost use Rattle.ninep_fids.specs.Flags.{group_of};
 ghost use Rattle.ninep_server.specs.Progress.{AsksNext, BeginsAs, Leaves, behind, left_of_creation, left_of_next};
 
-use crate::answer::Answer;
-use crate::ask::Ask;
-use crate::fid::{Fid, Node};
-use crate::heard::Heard;
-use crate::knows::Knows;
-use crate::opening::{Close, EXCLUSIVE, bits_of, check_closed, flag_for};
-use crate::paths::{below, called, check_name};
-use crate::refused::Refused;
-use crate::users::User;
+use crate::opening::{Close, check_closed};
 use crate::work::{Next, Work};
 use bitflags::Flags;
+use ninep_fids::answer::Answer;
+use ninep_fids::ask::Ask;
+use ninep_fids::fid::{Fid, Node};
+use ninep_fids::flags::{EXCLUSIVE, bits_of, flag_for, group_of, mode_of};
+use ninep_fids::heard::Heard;
+use ninep_fids::knows::Knows;
+use ninep_fids::paths::{below, called, check_name};
+use ninep_fids::refused::Refused;
+use ninep_fids::users::User;
 use tree::{Call, OpenFlags};
 
 /// The flag of the server's open that makes a file, and the one by which it refuses one that is there.
 const CREATE: u8 = 8;
 
 const ONLY_NEW: u8 = 16;
-
-/// The permission bits of a mode of Linux, with those that the server refuses.
-pub(crate) fn mode_of(mode: u32) -> u16
-    ensures { result ≡ mode % 4096 }
-{
-    (mode % 0o10000) as u16
-}
-
-/// The group that a new node is given: the one that is asked for, where user 0 asks and it isn't its own.
-pub(crate) fn group_of(user: User, gid: u32) -> Option<u16>
-    ensures { result ≡ group_of user gid }
-{
-    if user.uid == 0 && gid != 0 && gid <= 0xffff {
-        Some(gid as u16)
-    } else {
-        None
-    }
-}
 
 /// The new file.
 #[derive(Drop)]
@@ -151,7 +135,6 @@ impl Creation {
 }
 
 impl NewFile {
-    ghost use Rattle.ninep_server.specs.Nodes.{says, qid_of};
     ghost use Rattle.ninep_server.specs.Opens.{became};
 
     /// It was made and opened: it is given its group, where it is given one, or looked at.

@@ -1,19 +1,18 @@
 //! Making a directory or a symbolic link.
 
-ghost use Rattle.std.specs.Prelude.{◌≡◌};
-ghost use Rattle.ninep_server.specs.Knowledge.{known_of};
+ghost use Rattle.ninep_fids.specs.Knowledge.{known_of};
 ghost use Rattle.ninep_server.specs.Opens.{makes_directory, makes_link};
 ghost use Rattle.ninep_server.specs.Progress.{AsksNext, BeginsAs, GoesOnAs, left_of_making};
 
-use crate::answer::Answer;
-use crate::ask::Ask;
-use crate::creation::{group_of, mode_of};
-use crate::fid::Node;
-use crate::heard::Heard;
-use crate::knows::Knows;
-use crate::paths::{below, called, check_name};
-use crate::refused::Refused;
 use crate::work::{Next, Work};
+use ninep_fids::answer::Answer;
+use ninep_fids::ask::Ask;
+use ninep_fids::fid::Node;
+use ninep_fids::flags::{group_of, mode_of};
+use ninep_fids::heard::Heard;
+use ninep_fids::knows::Knows;
+use ninep_fids::paths::{below, called, check_name};
+use ninep_fids::refused::Refused;
 use tree::Call;
 
 /// What is made.

@@ -1,21 +1,22 @@
 //! Names: further ones, changed ones, and ones that are taken away.
 
 ghost use Rattle.std.specs.Prelude.{◌≡◌};
-ghost use Rattle.ninep_server.specs.Knowledge.{known_of};
+ghost use Rattle.ninep_fids.specs.Knowledge.{known_of};
 ghost use Rattle.ninep_server.specs.Naming.{links, renames, renames_at, unlinks, unlink_call, removes, is_directory};
-ghost use Rattle.ninep_server.specs.Plans.{plain_call};
+ghost use Rattle.ninep_fids.specs.Plans.{plain_call};
 ghost use Rattle.ninep_server.specs.Progress.{AsksNext, BeginsAs, GoesOnAs, Leaves, behind, left_of_link, left_of_next, left_of_rename};
 ghost use Rattle.ninep_server.specs.Progress.{left_of_unlink, left_of_remove};
 
-use crate::answer::Answer;
-use crate::ask::Ask;
-use crate::fid::Kind;
-use crate::heard::Heard;
-use crate::knows::Knows;
-use crate::opening::{Close, has};
-use crate::paths::{below, called, check_name};
-use crate::refused::Refused;
+use crate::opening::Close;
 use crate::work::{Next, Work};
+use ninep_fids::answer::Answer;
+use ninep_fids::ask::Ask;
+use ninep_fids::fid::Kind;
+use ninep_fids::flags::has;
+use ninep_fids::heard::Heard;
+use ninep_fids::knows::Knows;
+use ninep_fids::paths::{below, called, check_name};
+use ninep_fids::refused::Refused;
 use tree::Call;
 
 /// A file is given a further name.

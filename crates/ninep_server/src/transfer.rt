@@ -1,18 +1,18 @@
 //! Reads and writes: a seek to the offset, and then the call.
 
 ghost use Rattle.std.specs.Prelude.{◌≡◌, min};
-ghost use Rattle.ninep_server.specs.Knowledge.{known_of};
+ghost use Rattle.ninep_fids.specs.Knowledge.{known_of};
 ghost use Rattle.ninep_server.specs.Messages.{reading, writing};
 ghost use Rattle.ninep_server.specs.Progress.{AsksNext, BeginsAs, GoesOnAs, left_of_transfer};
 
-use crate::answer::Answer;
-use crate::ask::Ask;
-use crate::heard::Heard;
-use crate::knows::Knows;
-use crate::refused::Refused;
-use crate::send::within;
 use crate::work::{Next, Work};
 use errno::Errno;
+use ninep_fids::answer::Answer;
+use ninep_fids::ask::Ask;
+use ninep_fids::heard::Heard;
+use ninep_fids::knows::Knows;
+use ninep_fids::refused::Refused;
+use ninep_fids::send::within;
 use tree::{Call, MAX_SIZE, MAX_TRANSFER, Whence};
 
 /// What is moved.

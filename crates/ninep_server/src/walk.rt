@@ -2,23 +2,23 @@
 
 ghost use Rattle.std.specs.Prelude.{◌≡◌, ◌++◌, ◌∷◌, [], Ok, OnOk};
 ghost use Rattle.ninep.specs.Requests.{names_in};
-ghost use Rattle.ninep_server.specs.Knowledge.{Known, known_of};
+ghost use Rattle.ninep_fids.specs.Knowledge.{Known, known_of};
 ghost use Rattle.ninep_server.specs.Walks.{enters, place, walks, walking, stops};
 ghost use Rattle.ninep_server.specs.Progress.{AsksNext, BeginsAs, Leaves, behind, left_of_next, left_of_walk};
 
-use crate::answer::Answer;
-use crate::ask::Ask;
-use crate::fid::{Fid, Kind, Node};
-use crate::heard::Heard;
-use crate::knows::Knows;
 use crate::opening::check_closed;
-use crate::paths::{called, check_step, step};
-use crate::refused::Refused;
-use crate::users::User;
 use crate::work::{Next, Work};
 use errno::Errno;
 use ninep::names::Names;
 use ninep::reply::Qid;
+use ninep_fids::answer::Answer;
+use ninep_fids::ask::Ask;
+use ninep_fids::fid::{Fid, Kind, Node};
+use ninep_fids::heard::Heard;
+use ninep_fids::knows::Knows;
+use ninep_fids::paths::{called, check_step, step};
+use ninep_fids::refused::Refused;
+use ninep_fids::users::User;
 use std::alloc::AllocError;
 use tree::Call;
 

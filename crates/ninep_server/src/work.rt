@@ -1,23 +1,24 @@
 //! What the answer to a message waits for.
 
-ghost use Rattle.ninep_server.specs.Knowledge.{known_of};
+ghost use Rattle.ninep_fids.specs.Knowledge.{known_of};
 ghost use Rattle.ninep_server.specs.Messages.{measuring};
 ghost use Rattle.ninep_server.specs.Progress.{AsksNext, Leaves, GoesOnAs, behind, left_of, left_of_next};
 
-use crate::answer::Answer;
-use crate::ask::Ask;
 use crate::attach::{Attach, Version};
 use crate::attributes::{Getattr, Setattr};
 use crate::creation::Creation;
-use crate::heard::Heard;
-use crate::knows::Knows;
 use crate::listing::Listing;
 use crate::making::Making;
 use crate::naming::{Link, Remove, Rename, Unlink};
 use crate::opening::{Close, Opening, Readlink};
-use crate::refused::Refused;
 use crate::transfer::Transfer;
 use crate::walk::Walk;
+use ninep_fids::answer::Answer;
+use ninep_fids::ask::Ask;
+use ninep_fids::heard::Heard;
+use ninep_fids::knows::Knows;
+use ninep_fids::refused::Refused;
+use ninep_fids::told::room_of;
 use tree::Call;
 
 /// What the answer to a message waits for: what it asks next of the sessions, and how it goes on.
@@ -112,5 +113,5 @@ fn room_told<'m>(session: u8, heard: Heard) -> Result<Next<'m>, Refused>
     ensures { GoesOnAs (measuring session) heard result }
 {
     let room = heard.space()?;
-    Ok(Next::Done(Answer::Statfs(crate::attributes::room_of(&room))))
+    Ok(Next::Done(Answer::Statfs(room_of(&room))))
 }

@@ -10,7 +10,7 @@ ghost use Rattle.ninep_stream.specs.Exchanges.{answers, nobody};
 
 use crate::framing::{InputRefusal, next_message};
 use ninep_server::connection::Connection;
-use ninep_server::sessions::Sessions;
+use ninep_fids::sessions::Sessions;
 use output::write_text;
 use std::alloc::Global;
 use std::fmt;
