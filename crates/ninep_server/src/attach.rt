@@ -26,8 +26,8 @@ pub(crate) struct Version {
 }
 
 impl Version {
-    ghost use Rattle.ninep_fids.specs.Knowledge.{Known, known_of, known_of};
-    ghost use Rattle.ninep_server.specs.Attaching.{begins, attaching};
+    ghost use Rattle.ninep_fids.specs.Knowledge.{Known, known_of};
+    ghost use Rattle.ninep_server.specs.Attaching.{begins};
     ghost use Rattle.ninep_server.specs.Progress.{Leaves, behind, left_of_next, left_of_version};
 
     /// Refused with EINVAL where messages would be shorter than may be.
@@ -80,6 +80,8 @@ pub(crate) enum Attach {
 }
 
 impl Attach {
+    ghost use Rattle.ninep_fids.specs.Knowledge.{known_of};
+    ghost use Rattle.ninep_server.specs.Attaching.{attaching};
     ghost use Rattle.ninep_server.specs.Progress.{AsksNext, BeginsAs, Leaves, behind, left_of_attach, left_of_next};
 
     pub(crate) fn begin<'m>(knows: &mut Knows, fid: u32, uid: u32) -> Result<Next<'m>, Refused>
