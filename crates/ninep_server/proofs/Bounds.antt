@@ -49,6 +49,11 @@ use Rattle.ninep_fids.specs.declared.answer.Answer.{Answer}
 use Rattle.ninep_fids.specs.declared.answer.Answer.TheVariants as answer
 use Rattle.ninep_server.specs.declared.work.Work.{Work}
 use Rattle.ninep_server.specs.declared.work.Work.TheVariants as work
+use Rattle.ninep_server.specs.declared.work.FidWork.TheVariants as fid_work
+use Rattle.ninep_server.specs.declared.work.OpenWork.TheVariants as open_work
+use Rattle.ninep_server.specs.declared.work.DataWork.TheVariants as data_work
+use Rattle.ninep_server.specs.declared.work.AttributeWork.TheVariants as attribute_work
+use Rattle.ninep_server.specs.declared.work.NameWork.TheVariants as name_work
 use Rattle.ninep_server.specs.declared.turn.Turn.{Turn}
 use Rattle.ninep_server.specs.declared.turn.Turn.TheVariants as turn
 
@@ -311,26 +316,26 @@ asks_listing l (Some above) few = few
 
 -- what may ask nothing more waits for nothing
 none_left : (w : Work) → Within (left_of w) 0 → ⊥
-none_left (work.Transfer t) few = asks_transferring t.session t.fd t.seek t.moved few
-none_left (work.Getattr g) few = asks_looking g.session g.path.items g.descriptor few
-none_left (work.Readlink r) few = few
-none_left (work.Close c) few = few
-none_left (work.Statfs session) few = few
-none_left (work.Version v) few = few
-none_left (work.Attach (attach.Enter fid uid)) few = few
-none_left (work.Attach (attach.Root fid user)) few = few
-none_left (work.Walk w) few = few
-none_left (work.Open o) few = few
-none_left (work.Create (creation.Open file flags mode group)) few = few
-none_left (work.Create (creation.Chown file fd gid)) few = few
-none_left (work.Create (creation.Look file fd)) few = few
-none_left (work.Make m) few = asks_making m m.stage few
-none_left (work.Link l) few = few
-none_left (work.Rename r) few = few
-none_left (work.Unlink u) few = few
-none_left (work.Remove r) few = few
-none_left (work.Setattr x) few = asks_setting x x.change few
-none_left (work.List l) few = asks_listing l l.above few
+none_left (work.Data (data_work.Transfer t)) few = asks_transferring t.session t.fd t.seek t.moved few
+none_left (work.Attribute (attribute_work.Getattr g)) few = asks_looking g.session g.path.items g.descriptor few
+none_left (work.Data (data_work.Readlink r)) few = few
+none_left (work.Open (open_work.Close c)) few = few
+none_left (work.Attribute (attribute_work.Statfs session)) few = few
+none_left (work.Fid (fid_work.Version v)) few = few
+none_left (work.Fid (fid_work.Attach (attach.Enter fid uid))) few = few
+none_left (work.Fid (fid_work.Attach (attach.Root fid user))) few = few
+none_left (work.Fid (fid_work.Walk w)) few = few
+none_left (work.Open (open_work.Open o)) few = few
+none_left (work.Open (open_work.Create (creation.Open file flags mode group))) few = few
+none_left (work.Open (open_work.Create (creation.Chown file fd gid))) few = few
+none_left (work.Open (open_work.Create (creation.Look file fd))) few = few
+none_left (work.Open (open_work.Make m)) few = asks_making m m.stage few
+none_left (work.Name (name_work.Link l)) few = few
+none_left (work.Name (name_work.Rename r)) few = few
+none_left (work.Name (name_work.Unlink u)) few = few
+none_left (work.Name (name_work.Remove r)) few = few
+none_left (work.Attribute (attribute_work.Setattr x)) few = asks_setting x x.change few
+none_left (work.Data (data_work.List l)) few = asks_listing l l.above few
 
 -- a turn that still waits when sixteen things were asked would ask more than any plan does
 pub runs_out : (here : Turn) (asked : ℕ) → 16 ≤ asked → asked ≤ 16

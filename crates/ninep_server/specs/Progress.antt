@@ -45,6 +45,16 @@ use Rattle.ninep_server.specs.declared.opening.Readlink.{Readlink}
 use Rattle.ninep_server.specs.declared.opening.Close.{Close}
 use Rattle.ninep_server.specs.declared.work.Work.{Work}
 use Rattle.ninep_server.specs.declared.work.Work.TheVariants as work
+use Rattle.ninep_server.specs.declared.work.FidWork.{FidWork}
+use Rattle.ninep_server.specs.declared.work.FidWork.TheVariants as fid_work
+use Rattle.ninep_server.specs.declared.work.OpenWork.{OpenWork}
+use Rattle.ninep_server.specs.declared.work.OpenWork.TheVariants as open_work
+use Rattle.ninep_server.specs.declared.work.DataWork.{DataWork}
+use Rattle.ninep_server.specs.declared.work.DataWork.TheVariants as data_work
+use Rattle.ninep_server.specs.declared.work.AttributeWork.{AttributeWork}
+use Rattle.ninep_server.specs.declared.work.AttributeWork.TheVariants as attribute_work
+use Rattle.ninep_server.specs.declared.work.NameWork.{NameWork}
+use Rattle.ninep_server.specs.declared.work.NameWork.TheVariants as name_work
 use Rattle.ninep_server.specs.declared.work.Next.{Next}
 use Rattle.ninep_server.specs.declared.work.Next.TheVariants as next
 
@@ -109,25 +119,40 @@ left_of_setattr s = left_at_change s s.change
 abbrev pub left_of_listing : Listing → Plan
 left_of_listing l = listing l.session l.path.items l.fd l.inode l.offset l.limit l.above
 
+abbrev pub left_of_fid_work : FidWork → Plan
+left_of_fid_work (fid_work.Version v) = left_of_version v
+left_of_fid_work (fid_work.Attach a) = left_of_attach a
+left_of_fid_work (fid_work.Walk w) = left_of_walk w
+
+abbrev pub left_of_open_work : OpenWork → Plan
+left_of_open_work (open_work.Open o) = left_of_opening o
+left_of_open_work (open_work.Create c) = left_of_creation c
+left_of_open_work (open_work.Make m) = left_of_making m
+left_of_open_work (open_work.Close c) = left_of_close c
+
+abbrev pub left_of_data_work : DataWork → Plan
+left_of_data_work (data_work.Transfer t) = left_of_transfer t
+left_of_data_work (data_work.List l) = left_of_listing l
+left_of_data_work (data_work.Readlink r) = left_of_readlink r
+
+abbrev pub left_of_attribute_work : AttributeWork → Plan
+left_of_attribute_work (attribute_work.Getattr g) = left_of_getattr g
+left_of_attribute_work (attribute_work.Setattr s) = left_of_setattr s
+left_of_attribute_work (attribute_work.Statfs session) = measuring session
+
+abbrev pub left_of_name_work : NameWork → Plan
+left_of_name_work (name_work.Link l) = left_of_link l
+left_of_name_work (name_work.Rename r) = left_of_rename r
+left_of_name_work (name_work.Unlink u) = left_of_unlink u
+left_of_name_work (name_work.Remove r) = left_of_remove r
+
 -- what is left of a work
 abbrev pub left_of : Work → Plan
-left_of (work.Transfer t) = left_of_transfer t
-left_of (work.Getattr g) = left_of_getattr g
-left_of (work.Readlink r) = left_of_readlink r
-left_of (work.Close c) = left_of_close c
-left_of (work.Statfs session) = measuring session
-left_of (work.Version v) = left_of_version v
-left_of (work.Attach a) = left_of_attach a
-left_of (work.Walk w) = left_of_walk w
-left_of (work.Open o) = left_of_opening o
-left_of (work.Create c) = left_of_creation c
-left_of (work.Make m) = left_of_making m
-left_of (work.Link l) = left_of_link l
-left_of (work.Rename r) = left_of_rename r
-left_of (work.Unlink u) = left_of_unlink u
-left_of (work.Remove r) = left_of_remove r
-left_of (work.Setattr s) = left_of_setattr s
-left_of (work.List l) = left_of_listing l
+left_of (work.Fid w) = left_of_fid_work w
+left_of (work.Open w) = left_of_open_work w
+left_of (work.Data w) = left_of_data_work w
+left_of (work.Attribute w) = left_of_attribute_work w
+left_of (work.Name w) = left_of_name_work w
 
 abbrev pub left_of_next : Result Next Refused → Plan
 left_of_next (Ok (next.Go w)) = left_of w

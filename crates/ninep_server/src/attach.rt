@@ -3,7 +3,7 @@
 ghost use Rattle.std.specs.Prelude.{◌≡◌, ◌≤◌, Ok};
 ghost use Rattle.ninep_server.specs.Attaching.{user_number};
 
-use crate::work::{Next, Work};
+use crate::work::{FidWork, Next, Work};
 use errno::Errno;
 use ninep_fids::answer::Answer;
 use ninep_fids::ask::Ask;
@@ -37,10 +37,10 @@ impl Version {
         if message_size < MIN_MESSAGE {
             return Err(Refused::By(Errno::EINVAL));
         }
-        Ok(Next::Go(Work::Version(Version {
+        Ok(Next::Go(Work::Fid(FidWork::Version(Version {
             message_size: message_size.min(MAX_MESSAGE),
             known: version == b"9P2000.L".as_slice(),
-        })))
+        }))))
     }
 
     /// The sessions have ended.
@@ -94,7 +94,7 @@ impl Attach {
             Some(user) => Attach::Root { fid, user },
             None => Attach::Enter { fid, uid },
         };
-        Ok(Next::Go(Work::Attach(work)))
+        Ok(Next::Go(Work::Fid(FidWork::Attach(work))))
     }
 
     pub(crate) fn ask(&self) -> Ask<'_>
@@ -120,7 +120,7 @@ impl Attach {
                 let session = heard.session()?;
                 let user = User { uid, session };
                 knows.users.put(user)?;
-                Ok(Next::Go(Work::Attach(Attach::Root { fid, user })))
+                Ok(Next::Go(Work::Fid(FidWork::Attach(Attach::Root { fid, user }))))
             }
             Attach::Root { fid, user } => {
                 let root = Node::of(&heard.attributes()?);

@@ -7,7 +7,7 @@ ghost use Rattle.ninep_fids.specs.Changes.{in_order};
 ghost use Rattle.ninep_server.specs.Settings.{changing, changeable, sets};
 ghost use Rattle.ninep_server.specs.Progress.{AsksNext, BeginsAs, GoesOnAs, Leaves, left_of_getattr, left_of_next, left_of_setattr};
 
-use crate::work::{Next, Work};
+use crate::work::{AttributeWork, Next, Work};
 use ninep_fids::answer::Answer;
 use ninep_fids::ask::Ask;
 use ninep_fids::changes::{Change, Changes, Wanted};
@@ -36,11 +36,11 @@ impl Getattr {
         if file.gone && file.descriptor.is_none() {
             return Err(Refused::Stale);
         }
-        Ok(Next::Go(Work::Getattr(Getattr {
+        Ok(Next::Go(Work::Attribute(AttributeWork::Getattr(Getattr {
             session: file.user.session,
             path: file.path.to_vec(knows.alloc)?,
             descriptor: file.descriptor,
-        })))
+        }))))
     }
 
     pub(crate) fn ask(&self) -> Ask<'_>
@@ -94,13 +94,13 @@ impl Setattr {
     {
         let file = knows.fids.named(fid)?;
         check_changeable(file.node.kind)?;
-        Ok(Next::Go(Work::Setattr(Setattr {
+        Ok(Next::Go(Work::Attribute(AttributeWork::Setattr(Setattr {
             session: file.user.session,
             path: file.path.to_vec(knows.alloc)?,
             wanted,
             change: None,
             left: Changes::none(),
-        })))
+        }))))
     }
 
     /// The call of its stage.
@@ -129,11 +129,11 @@ impl Setattr {
         ensures { (k : Known) → Leaves (changing self.session self.path.items (in_order left)) k (left_of_next (Ok result)) k }
     {
         match left.split_first() {
-            Some((change, left)) => Next::Go(Work::Setattr(Setattr {
+            Some((change, left)) => Next::Go(Work::Attribute(AttributeWork::Setattr(Setattr {
                 change: Some(change),
                 left,
                 ..self
-            })),
+            }))),
             None => Next::Done(Answer::Setattr),
         }
     }

@@ -15,7 +15,7 @@ use crate::opening::{Close, Opening, Readlink};
 use crate::transfer::Transfer;
 use crate::turn::Turn;
 use crate::walk::Walk;
-use crate::work::{Next, Work};
+use crate::work::{AttributeWork, Next, Work};
 use ninep::request::Request;
 use ninep_fids::answer::{Answer, Said};
 use ninep_fids::changes::Wanted;
@@ -89,7 +89,7 @@ fn on_node<'m>(knows: &Knows, now: u32, request: &Request<'m>) -> Result<Next<'m
         Request::Readlink { fid } => Readlink::begin(knows, fid),
         Request::Statfs { fid } => {
             let session = knows.fids.get(fid)?.user.session;
-            Ok(Next::Go(Work::Statfs(session)))
+            Ok(Next::Go(Work::Attribute(AttributeWork::Statfs(session))))
         }
         _ => on_name(knows, request),
     }

@@ -8,7 +8,7 @@ ghost use Rattle.ninep_fids.specs.Flags.{group_of};
 ghost use Rattle.ninep_server.specs.Progress.{AsksNext, BeginsAs, Leaves, behind, left_of_creation, left_of_next};
 
 use crate::opening::{Close, check_closed};
-use crate::work::{Next, Work};
+use crate::work::{Next, OpenWork, Work};
 use bitflags::Flags;
 use ninep_fids::answer::Answer;
 use ninep_fids::ask::Ask;
@@ -74,12 +74,12 @@ impl Creation {
         let bits = bits_of(flags)? + (CREATE + flag_for(flags, EXCLUSIVE, ONLY_NEW));
         let user = directory.user;
         let path = below(knows.alloc, &directory.path, name)?;
-        Ok(Next::Go(Work::Create(Creation::Open {
+        Ok(Next::Go(Work::Open(OpenWork::Create(Creation::Open {
             file: NewFile { fid, user, path },
             flags: OpenFlags::from_bits_retain(bits),
             mode: mode_of(mode),
             group: group_of(user, gid),
-        })))
+        }))))
     }
 
     pub(crate) fn ask(&self) -> Ask<'_>
@@ -123,7 +123,7 @@ impl Creation {
                 Ok(file.opened(fd, group))
             }
             Creation::Chown { file, fd, .. } => match heard.done() {
-                Ok(()) => Ok(Next::Go(Work::Create(Creation::Look { file, fd }))),
+                Ok(()) => Ok(Next::Go(Work::Open(OpenWork::Create(Creation::Look { file, fd })))),
                 Err(refused) => Ok(file.give_up(fd, refused)),
             },
             Creation::Look { file, fd } => match heard.attributes() {
@@ -141,14 +141,14 @@ impl NewFile {
     fn opened<'m>(self, fd: u32, group: Option<u16>) -> Next<'m>
         ensures { left_of_next (Ok result) ≡ made_file self.fid self.user self.path.items group fd }
     {
-        Next::Go(Work::Create(match group {
+        Next::Go(Work::Open(OpenWork::Create(match group {
             Some(gid) => Creation::Chown {
                 file: self,
                 fd,
                 gid,
             },
             None => Creation::Look { file: self, fd },
-        }))
+        })))
     }
 
     /// The fid stands for the file from now on.

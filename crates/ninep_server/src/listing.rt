@@ -6,7 +6,7 @@ ghost use Rattle.ninep_server.specs.Listings.{lists};
 ghost use Rattle.ninep_server.specs.Progress.{AsksNext, BeginsAs, GoesOnAs, left_of_listing};
 
 use crate::transfer::least;
-use crate::work::{Next, Work};
+use crate::work::{DataWork, Next, Work};
 use errno::Errno;
 use ninep_fids::answer::Answer;
 use ninep_fids::ask::Ask;
@@ -46,7 +46,7 @@ impl Listing {
         if (limit as usize) < ENTRY_HEAD + MAX_NAME {
             return Err(Refused::By(Errno::EINVAL));
         }
-        Ok(Next::Go(Work::List(Listing {
+        Ok(Next::Go(Work::Data(DataWork::List(Listing {
             session,
             fd,
             path: directory.path.to_vec(knows.alloc)?,
@@ -54,7 +54,7 @@ impl Listing {
             above: if offset > 1 { Some(0) } else { None },
             offset,
             limit,
-        })))
+        }))))
     }
 
     pub(crate) fn ask(&self) -> Ask<'_>
@@ -77,7 +77,7 @@ impl Listing {
     {
         let Some(above) = self.above else {
             self.above = Some(heard.attributes()?.inode);
-            return Ok(Next::Go(Work::List(self)));
+            return Ok(Next::Go(Work::Data(DataWork::List(self))));
         };
         let names = heard.names()?;
         let limit = self.limit as usize;

@@ -4,7 +4,7 @@ ghost use Rattle.ninep_fids.specs.Knowledge.{known_of};
 ghost use Rattle.ninep_server.specs.Opens.{makes_directory, makes_link};
 ghost use Rattle.ninep_server.specs.Progress.{AsksNext, BeginsAs, GoesOnAs, left_of_making};
 
-use crate::work::{Next, Work};
+use crate::work::{Next, OpenWork, Work};
 use ninep_fids::answer::Answer;
 use ninep_fids::ask::Ask;
 use ninep_fids::fid::Node;
@@ -57,7 +57,7 @@ impl<'m> Making<'m> {
     {
         let parent = knows.fids.named(directory)?;
         check_name(name)?;
-        Ok(Next::Go(Work::Make(Making {
+        Ok(Next::Go(Work::Open(OpenWork::Make(Making {
             session: parent.user.session,
             path: below(knows.alloc, &parent.path, name)?,
             made: Made::Directory {
@@ -65,7 +65,7 @@ impl<'m> Making<'m> {
             },
             group: group_of(parent.user, gid),
             stage: Stage::Make,
-        })))
+        }))))
     }
 
     /// Makes a symbolic link.
@@ -79,13 +79,13 @@ impl<'m> Making<'m> {
     {
         let parent = knows.fids.named(directory)?;
         check_name(name)?;
-        Ok(Next::Go(Work::Make(Making {
+        Ok(Next::Go(Work::Open(OpenWork::Make(Making {
             session: parent.user.session,
             path: below(knows.alloc, &parent.path, name)?,
             made: Made::Symlink { target },
             group: None,
             stage: Stage::Make,
-        })))
+        }))))
     }
 
     /// The call of its stage.
@@ -122,12 +122,12 @@ impl<'m> Making<'m> {
                     Some(gid) => Stage::Chown { gid },
                     None => Stage::Look,
                 };
-                Ok(Next::Go(Work::Make(self)))
+                Ok(Next::Go(Work::Open(OpenWork::Make(self))))
             }
             Stage::Chown { .. } => {
                 heard.done()?;
                 self.stage = Stage::Look;
-                Ok(Next::Go(Work::Make(self)))
+                Ok(Next::Go(Work::Open(OpenWork::Make(self))))
             }
             Stage::Look => {
                 let qid = Node::of(&heard.attributes()?).qid();

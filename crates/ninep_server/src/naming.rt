@@ -8,7 +8,7 @@ ghost use Rattle.ninep_server.specs.Progress.{AsksNext, BeginsAs, GoesOnAs, Leav
 ghost use Rattle.ninep_server.specs.Progress.{left_of_unlink, left_of_remove};
 
 use crate::opening::Close;
-use crate::work::{Next, Work};
+use crate::work::{NameWork, Next, Work};
 use ninep_fids::answer::Answer;
 use ninep_fids::ask::Ask;
 use ninep_fids::fid::Kind;
@@ -39,11 +39,11 @@ impl Link {
         let parent = knows.fids.named(directory)?;
         let file = knows.fids.named(fid)?;
         check_name(name)?;
-        Ok(Next::Go(Work::Link(Link {
+        Ok(Next::Go(Work::Name(NameWork::Link(Link {
             session: parent.user.session,
             old: file.path.to_vec(knows.alloc)?,
             new: below(knows.alloc, &parent.path, name)?,
-        })))
+        }))))
     }
 
     pub(crate) fn ask(&self) -> Ask<'_>
@@ -88,12 +88,12 @@ impl Rename {
         let file = knows.fids.named(fid)?;
         let parent = knows.fids.named(directory)?;
         check_name(name)?;
-        Ok(Next::Go(Work::Rename(Rename {
+        Ok(Next::Go(Work::Name(NameWork::Rename(Rename {
             session: parent.user.session,
             old: file.path.to_vec(knows.alloc)?,
             new: below(knows.alloc, &parent.path, name)?,
             then: Answer::Rename,
-        })))
+        }))))
     }
 
     /// What has a name in a directory gets another one.
@@ -108,12 +108,12 @@ impl Rename {
         let to = knows.fids.named(new.0)?;
         check_name(old.1)?;
         check_name(new.1)?;
-        Ok(Next::Go(Work::Rename(Rename {
+        Ok(Next::Go(Work::Name(NameWork::Rename(Rename {
             session: from.user.session,
             old: below(knows.alloc, &from.path, old.1)?,
             new: below(knows.alloc, &to.path, new.1)?,
             then: Answer::Renameat,
-        })))
+        }))))
     }
 
     pub(crate) fn ask(&self) -> Ask<'_>
@@ -172,11 +172,11 @@ impl Unlink {
     {
         let parent = knows.fids.named(directory)?;
         check_name(name)?;
-        Ok(Next::Go(Work::Unlink(Unlink {
+        Ok(Next::Go(Work::Name(NameWork::Unlink(Unlink {
             session: parent.user.session,
             path: below(knows.alloc, &parent.path, name)?,
             directory: has(flags, REMOVE_DIRECTORY),
-        })))
+        }))))
     }
 
     pub(crate) fn ask(&self) -> Ask<'_>
@@ -226,12 +226,12 @@ impl Remove {
             let stale = Answer::Refused(Refused::Stale);
             return Ok(Close::begin(session, taken.descriptor, stale));
         }
-        Ok(Next::Go(Work::Remove(Remove {
+        Ok(Next::Go(Work::Name(NameWork::Remove(Remove {
             session,
             directory: is_directory(taken.node.kind),
             path: taken.path,
             descriptor: taken.descriptor,
-        })))
+        }))))
     }
 
     pub(crate) fn ask(&self) -> Ask<'_>

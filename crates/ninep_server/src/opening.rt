@@ -9,7 +9,7 @@ ghost use Rattle.ninep_server.specs.Messages.{clunking, following, target_of};
 ghost use Rattle.ninep_server.specs.Progress.{AsksNext, BeginsAs, GoesOnAs, Leaves, behind, left_of_close, left_of_opening};
 ghost use Rattle.ninep_server.specs.Progress.{left_of_readlink, left_of_next};
 
-use crate::work::{Next, Work};
+use crate::work::{DataWork, Next, OpenWork, Work};
 use bitflags::Flags;
 use errno::Errno;
 use ninep_fids::answer::Answer;
@@ -62,13 +62,13 @@ impl Opening {
         check_closed(file.descriptor)?;
         check_kind(file.node.kind)?;
         let bits = bits_of(flags)?;
-        Ok(Next::Go(Work::Open(Opening {
+        Ok(Next::Go(Work::Open(OpenWork::Open(Opening {
             fid,
             user: file.user,
             path: file.path.to_vec(knows.alloc)?,
             node: file.node,
             flags: OpenFlags::from_bits_retain(bits),
-        })))
+        }))))
     }
 
     pub(crate) fn ask(&self) -> Ask<'_>
@@ -110,11 +110,11 @@ impl Close {
         ensures { left_of_next (Ok result) ≡ closing session descriptor (said_of answer) }
     {
         match descriptor {
-            Some(fd) => Next::Go(Work::Close(Close {
+            Some(fd) => Next::Go(Work::Open(OpenWork::Close(Close {
                 session,
                 fd,
                 answer,
-            })),
+            }))),
             None => Next::Done(answer),
         }
     }
@@ -166,10 +166,10 @@ impl Readlink {
         ensures { BeginsAs (following (known_of knows.now) fid) knows.now knows.now result }
     {
         let link = knows.fids.named(fid)?;
-        Ok(Next::Go(Work::Readlink(Readlink {
+        Ok(Next::Go(Work::Data(DataWork::Readlink(Readlink {
             session: link.user.session,
             path: link.path.to_vec(knows.alloc)?,
-        })))
+        }))))
     }
 
     pub(crate) fn ask(&self) -> Ask<'_>

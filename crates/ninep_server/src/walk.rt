@@ -7,7 +7,7 @@ ghost use Rattle.ninep_server.specs.Walks.{enters, place, walks, walking, stops}
 ghost use Rattle.ninep_server.specs.Progress.{AsksNext, BeginsAs, Leaves, behind, left_of_next, left_of_walk};
 
 use crate::opening::check_closed;
-use crate::work::{Next, Work};
+use crate::work::{FidWork, Next, Work};
 use errno::Errno;
 use ninep::names::Names;
 use ninep::reply::Qid;
@@ -95,7 +95,7 @@ impl<'m> Walk<'m> {
             return Ok(self.stop(refused));
         }
         let path = step(knows.alloc, &self.path, name)?;
-        Ok(Next::Go(Work::Walk(Walk { path, left, ..self })))
+        Ok(Next::Go(Work::Fid(FidWork::Walk(Walk { path, left, ..self }))))
     }
 
     /// A name more is walked.
