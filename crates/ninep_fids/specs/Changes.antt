@@ -1,11 +1,11 @@
 -- Changes of attributes, as a message says them.
-use Rattle.ninep_fids.specs.Flags.{is_set, is_set}
 use Rattle.std.specs.Prelude.{ℕ, ◌%◌, List, ◌++◌, nat_lt, Option, Some, None, Result, Ok, Err, if◌then◌else◌}
 use Rattle.std.specs.Option.{option_map, option_to_list}
 use Rattle.errno.specs.declared.Errno.TheVariants.{EINVAL, EFBIG}
 use Rattle.tree.specs.declared.Attributes.{Attributes}
 use Rattle.tree.specs.declared.Call.{Call}
 use Rattle.tree.specs.declared.Call.TheVariants as call
+use Rattle.ninep_fids.specs.Flags.{is_set}
 use Rattle.ninep_fids.specs.Paths.{called}
 use Rattle.ninep_fids.specs.Knowledge.{then_of}
 use Rattle.ninep_fids.specs.Plans.{at}

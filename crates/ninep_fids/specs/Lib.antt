@@ -11,5 +11,6 @@ pub mod Plans
 pub mod Nodes
 pub mod Flags
 pub mod Changes
+pub mod Checks
 pub mod Told
 pub mod Entries

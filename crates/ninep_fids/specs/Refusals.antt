@@ -1,10 +1,12 @@
 -- What other errors become.
 use Rattle.std.specs.Prelude.{◌≡◌}
-use Rattle.errno.specs.declared.Errno.{Errno}
-use Rattle.errno.specs.declared.Errno.TheVariants.{EIO, ENFILE, ENOMEM}
 use Rattle.std.specs.declared.alloc.AllocError.{AllocError}
+use Rattle.errno.specs.declared.Errno.{Errno}
+use Rattle.errno.specs.declared.Errno.TheVariants.{EIO, ENFILE, ENOMEM, EINVAL}
+use Rattle.ninep.specs.declared.fault.Fault.{Fault}
+use Rattle.ninep.specs.declared.fault.Fault.TheVariants as fault
 use Rattle.ninep_fids.specs.declared.refused.Refused.{Refused}
-use Rattle.ninep_fids.specs.declared.refused.Refused.TheVariants.{By}
+use Rattle.ninep_fids.specs.declared.refused.Refused.TheVariants.{By, Unsupported}
 use Rattle.ninep_fids.specs.declared.sessions.EnterRefusal.{EnterRefusal}
 use Rattle.ninep_fids.specs.declared.sessions.EnterRefusal.TheVariants.{TooMany, Stopped, OutOfMemory}
 
@@ -21,3 +23,8 @@ entering OutOfMemory = ENOMEM
 
 abbrev pub by_entering : EnterRefusal → Refused → Type 0
 by_entering refusal r = r ≡ By (entering refusal)
+
+-- why a message isn't answered that can't be read
+abbrev pub refusal_for : Fault → Refused
+refusal_for fault.Unknown = Unsupported
+refusal_for f = By EINVAL

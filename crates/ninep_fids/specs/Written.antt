@@ -2,10 +2,10 @@
 use Rattle.std.specs.Prelude.{◌≡◌, ◌≤◌, ◌<◌, ◌⊎◌, ℕ, ◌+◌, ◌-◌, Bool, List, [], ◌∷◌, ◌++◌, length, take, slice_index, codes, if◌then◌else◌}
 use Rattle.std.specs.List.{flat_map}
 use Rattle.std.specs.Int.{w16, from_le_bytes}
+use Rattle.errno.specs.declared.Errno.TheVariants.{EIO}
 use Rattle.ninep.specs.Fields.{One, Two, Four, Eight, Field, Number, Text, Data, fields_bytes}
 use Rattle.ninep.specs.Requests.{Tagged, spelling}
 use Rattle.ninep.specs.Replies.{qid_fields, room_fields, attribute_fields}
-use Rattle.errno.specs.declared.Errno.TheVariants.{EIO}
 use Rattle.ninep.specs.declared.reply.Qid.{Qid}
 use Rattle.ninep_fids.specs.Numbers.{number_of}
 use Rattle.ninep_fids.specs.declared.refused.Refused.TheVariants.{By}

@@ -4,6 +4,7 @@
 pub mod answer;
 pub mod ask;
 pub mod changes;
+pub mod checks;
 pub mod end;
 pub mod entries;
 pub mod fid;

@@ -2,10 +2,11 @@
 
 ghost use Rattle.std.specs.Prelude.{◌≡◌};
 ghost use Rattle.ninep_fids.specs.Numbers.{number_of};
-ghost use Rattle.ninep_fids.specs.Refusals.{by_errno, by_memory, by_entering};
+ghost use Rattle.ninep_fids.specs.Refusals.{by_errno, by_memory, by_entering, refusal_for};
 
 use crate::sessions::EnterRefusal;
 use errno::Errno;
+use ninep::fault::Fault;
 use std::alloc::AllocError;
 
 /// Why a request is refused.
@@ -56,6 +57,18 @@ impl From<EnterRefusal> for Refused {
             EnterRefusal::TooMany => Refused::By(Errno::ENFILE),
             EnterRefusal::Stopped => Refused::By(Errno::EIO),
             EnterRefusal::OutOfMemory => Refused::By(Errno::ENOMEM),
+        }
+    }
+}
+
+/// Why a message isn't taken that has a tag.
+pub fn refusal_of(fault: Fault) -> Refused
+    ensures { result ≡ refusal_for fault }
+{
+    match fault {
+        Fault::Unknown => Refused::Unsupported,
+        Fault::Short | Fault::Size | Fault::ManyNames | Fault::Trailing => {
+            Refused::By(Errno::EINVAL)
         }
     }
 }

@@ -3,8 +3,11 @@
 ghost use Rattle.std.specs.Prelude.{ℕ, Result};
 ghost use Rattle.tree.specs.declared.Call.{Call};
 ghost use Rattle.tree.specs.declared.Outcome.{Outcome};
+ghost use Rattle.ninep_fids.specs.Talks.{MayHear};
 ghost use Rattle.ninep_fids.specs.declared.sessions.EnterRefusal.{EnterRefusal};
 
+use crate::ask::Ask;
+use crate::heard::Heard;
 use tree::{Call, Outcome};
 
 /// Why there is no session for a user.
@@ -41,4 +44,18 @@ pub trait Sessions {
     /// Ends all sessions: their descriptors are closed.
     fn leave(&mut self)
         ensures { left self.old self.new };
+}
+
+/// What the sessions answer.
+pub fn heard<S: Sessions>(sessions: &mut S, now: u32, ask: &Ask<'_>) -> Heard
+    ensures { MayHear S.called S.entered S.left now sessions.old ask.now result sessions.new }
+{
+    match ask {
+        Ask::Enter { uid, gid } => Heard::Entered(sessions.enter(*uid, *gid)),
+        Ask::Leave => {
+            sessions.leave();
+            Heard::Left
+        }
+        Ask::Call { session, call } => Heard::Outcome(sessions.call(*session, now, call)),
+    }
 }

@@ -1,11 +1,11 @@
 //! Attributes of nodes, and the room of a volume, as answers have them.
 
 ghost use Rattle.std.specs.Prelude.{◌≡◌};
-ghost use Rattle.ninep_fids.specs.Told.{room_told, attributes_told};
+ghost use Rattle.ninep_fids.specs.Told.{room_told, attributes_told, target_of};
 
 use crate::fid::Node;
 use ninep::reply;
-use tree::{Attributes, MAX_NAME, Room};
+use tree::{Attributes, LinkTarget, MAX_NAME, MAX_TARGET, Room};
 
 /// Linux's number of a file system over 9P.
 const KIND: u32 = 0x0102_1997;
@@ -55,5 +55,16 @@ pub fn told(attributes: &Attributes) -> reply::Attributes
         made: (0, 0),
         generation: 0,
         data_version: 0,
+    }
+}
+
+/// Its bytes.
+pub fn bytes_of(target: &LinkTarget) -> &[u8]
+    ensures { result.now ≡ target_of target.now }
+{
+    if target.length <= MAX_TARGET {
+        &target.bytes[..target.length]
+    } else {
+        &target.bytes
     }
 }

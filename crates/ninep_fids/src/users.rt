@@ -2,7 +2,10 @@
 
 ghost use Rattle.std.specs.Prelude.{◌≡◌, ◌++◌, ◌∷◌, [], OnOk, OnErr};
 ghost use Rattle.ninep_fids.specs.Knowledge.{user_of};
+ghost use Rattle.ninep_fids.specs.Checks.{user_number};
 
+use crate::refused::Refused;
+use errno::Errno;
 use std::alloc::{AllocError, Global};
 
 /// A user who is attached, and its session.
@@ -63,5 +66,21 @@ impl Users {
         ensures { self.new.users.items ≡ [] }
     {
         self.users.clear();
+    }
+}
+
+/// The number for no user, which Linux sends where all users of the client share one: it is user 0 here.
+const NO_USER: u32 = 0xffff_ffff;
+
+/// The number of a user on a volume; EINVAL where it has none.
+pub fn number_of(uid: u32) -> Result<u16, Refused>
+    ensures { result ≡ user_number uid }
+{
+    if uid == NO_USER {
+        return Ok(0);
+    }
+    match u16::try_from(uid) {
+        Ok(uid) => Ok(uid),
+        Err(_) => Err(Refused::By(Errno::EINVAL)),
     }
 }

@@ -6,32 +6,38 @@ use Rattle.std.specs.Option.{option_map, option_to_list}
 use Rattle.ninep.specs.Requests.{Body, names_in}
 use Rattle.ninep.specs.declared.reply.Qid.{Qid}
 use Rattle.ninep.proofs.TextLaws.{count_is}
-use Rattle.tree.specs.declared.OpenFlags.{OpenFlags}
-use Rattle.tree.specs.declared.Reply.{Reply}
 use Rattle.ninep.specs.declared.request.Request.{Request}
 use Rattle.ninep.specs.declared.request.Request.TheVariants as request
+use Rattle.tree.specs.declared.OpenFlags.{OpenFlags}
+use Rattle.tree.specs.declared.Reply.{Reply}
 use Rattle.ninep_fids.specs.Paths.{below, checked, stepped}
 use Rattle.ninep_fids.specs.Knowledge.{Known, File, found, named, opened, new_fid, user_of, closed}
 use Rattle.ninep_fids.specs.Hearing.{done_in, attributes_in, position_in, bytes_in, count_in, room_in, target_in, descriptor_in, session_in, names_heard}
 use Rattle.ninep_fids.specs.Plans.{Plan, closing, with_it, at}
 use Rattle.ninep_fids.specs.Nodes.{node_of, qid_of}
-use Rattle.ninep_server.specs.Attaching.{begins, entering, looking_at_root, attaching_as, user_number}
-use Rattle.ninep_server.specs.Walks.{with_name, enters, walking, place}
-use Rattle.ninep_server.specs.Opens.{opening, opens, not_link, or_closes, looking_at_file, made_file, making_file, creates}
+use Rattle.ninep_fids.specs.Checks.{user_number, enters, place, not_link, changeable}
 use Rattle.ninep_fids.specs.Flags.{open_bits, flags_by, group_of, is_set, flag_for}
-use Rattle.ninep_server.specs.Opens.{was_made, making}
-use Rattle.ninep_server.specs.Naming.{linking, renaming, unlinking, removed, removing_file}
-use Rattle.ninep_server.specs.Settings.{changing, looking_first, changeable}
 use Rattle.ninep_fids.specs.Changes.{in_order, changes_wanted}
 use Rattle.ninep_fids.specs.Entries.{any_long, entries_of}
+use Rattle.ninep_fids.specs.declared.refused.Refused.{Refused}
+use Rattle.ninep_fids.specs.declared.users.User.{User}
+use Rattle.ninep_fids.specs.declared.fid.Node.{Node}
+use Rattle.ninep_fids.specs.declared.changes.Wanted.{Wanted}
+use Rattle.ninep_fids.specs.declared.changes.Change.{Change}
+use Rattle.ninep_fids.specs.declared.changes.Change.TheVariants as change
+use Rattle.ninep_fids.specs.declared.changes.Changes.{Changes}
+use Rattle.ninep_fids.specs.declared.answer.Answer.{Answer}
+use Rattle.ninep_fids.specs.declared.answer.Answer.TheVariants as answer
+use Rattle.ninep_server.specs.Attaching.{begins, entering, looking_at_root, attaching_as}
+use Rattle.ninep_server.specs.Walks.{with_name, walking}
+use Rattle.ninep_server.specs.Opens.{opening, opens, or_closes, looking_at_file, made_file, making_file, creates, was_made, making}
+use Rattle.ninep_server.specs.Naming.{linking, renaming, unlinking, removed, removing_file}
+use Rattle.ninep_server.specs.Settings.{changing, looking_first}
 use Rattle.ninep_server.specs.Listings.{listing, listing_names}
 use Rattle.ninep_server.specs.Messages.{moving, transferring, looking, attributes_of, of_file, of_name, of_node, of_fid, plan_of}
 use Rattle.ninep_server.specs.Progress.{Within, left_of, left_of_turn, left_at_stage, left_at_change}
-use Rattle.ninep_fids.specs.declared.refused.Refused.{Refused}
 use Rattle.ninep_server.specs.declared.transfer.Moved.{Moved}
 use Rattle.ninep_server.specs.declared.transfer.Moved.TheVariants as moved
-use Rattle.ninep_fids.specs.declared.users.User.{User}
-use Rattle.ninep_fids.specs.declared.fid.Node.{Node}
 use Rattle.ninep_server.specs.declared.attach.Attach.TheVariants as attach
 use Rattle.ninep_server.specs.declared.creation.Creation.TheVariants as creation
 use Rattle.ninep_server.specs.declared.making.Made.{Made}
@@ -41,12 +47,6 @@ use Rattle.ninep_server.specs.declared.making.Stage.{Stage}
 use Rattle.ninep_server.specs.declared.making.Stage.TheVariants as stage
 use Rattle.ninep_server.specs.declared.listing.Listing.{Listing}
 use Rattle.ninep_server.specs.declared.attributes.Setattr.{Setattr}
-use Rattle.ninep_fids.specs.declared.changes.Wanted.{Wanted}
-use Rattle.ninep_fids.specs.declared.changes.Change.{Change}
-use Rattle.ninep_fids.specs.declared.changes.Change.TheVariants as change
-use Rattle.ninep_fids.specs.declared.changes.Changes.{Changes}
-use Rattle.ninep_fids.specs.declared.answer.Answer.{Answer}
-use Rattle.ninep_fids.specs.declared.answer.Answer.TheVariants as answer
 use Rattle.ninep_server.specs.declared.work.Work.{Work}
 use Rattle.ninep_server.specs.declared.work.Work.TheVariants as work
 use Rattle.ninep_server.specs.declared.work.FidWork.TheVariants as fid_work

@@ -1,9 +1,9 @@
 -- The names of a directory are told.
-use Rattle.ninep_fids.specs.Entries.{entries_of, bytes_each, fitting, any_long}
 use Rattle.std.specs.Prelude.{ℕ, ◌-◌, min, nat_lt, List, [], ◌∷◌, drop, take, Option, Some, None, if◌then◌else◌}
 use Rattle.errno.specs.declared.Errno.TheVariants.{EINVAL}
 use Rattle.ninep.specs.Fields.{Data}
 use Rattle.tree.specs.declared.Call.TheVariants as call
+use Rattle.ninep_fids.specs.Entries.{entries_of, bytes_each, fitting, any_long}
 use Rattle.ninep_fids.specs.Paths.{called, parent}
 use Rattle.ninep_fids.specs.Knowledge.{Known, named, opened}
 use Rattle.ninep_fids.specs.Hearing.{attributes_in, eio, names_heard}

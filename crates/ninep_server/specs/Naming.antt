@@ -11,10 +11,10 @@ use Rattle.ninep_fids.specs.Plans.{Plan, Changes, OrNoMemory, Drops, Renames, Un
 use Rattle.ninep_fids.specs.Nodes.{says, said_of}
 use Rattle.ninep_fids.specs.declared.refused.Refused.{Refused}
 use Rattle.ninep_fids.specs.declared.refused.Refused.TheVariants.{Stale}
-use Rattle.ninep_fids.specs.declared.fid.Kind.{Kind}
 use Rattle.ninep_fids.specs.declared.fid.Kind.TheVariants as kind
 use Rattle.ninep_fids.specs.declared.answer.Answer.{Answer}
 use Rattle.ninep_fids.specs.declared.answer.Answer.TheVariants as answer
+use Rattle.ninep_fids.specs.Checks.{is_directory}
 
 -- Tlink: the file of a fid gets a further name in a directory
 abbrev pub linking : ℕ → List ℕ → List ℕ → Plan
@@ -55,10 +55,6 @@ unlinking session path directory = calls session (unlink_call path directory)
 abbrev pub unlinks : Known → ℕ → List ℕ → ℕ → Plan
 unlinks k directory name flags = with_it (named k.fids directory) (λ parent. with_it (checked name)
     (λ _. OrNoMemory (unlinking parent.user.session (below parent.path name) (is_set flags 0x200))))
-
-abbrev pub is_directory : Kind → Bool
-is_directory kind.Directory = true
-is_directory k = false
 
 -- what a remove says behind the call, and a descriptor is closed
 abbrev pub removed : ℕ → List ℕ → Option ℕ → Result Reply Refused → Plan

@@ -1,31 +1,24 @@
 -- Opening, making files, directories and symbolic links.
-use Rattle.ninep_fids.specs.Flags.{flag_for, open_bits, flags_by, group_of}
-use Rattle.std.specs.Prelude.{⊤, ◌+◌, ◌%◌, ℕ, List, Option, Some, None, Result, Ok, Err}
-use Rattle.errno.specs.declared.Errno.TheVariants.{ELOOP}
+use Rattle.std.specs.Prelude.{◌+◌, ◌%◌, ℕ, List, Option, Some, None, Result, Ok, Err}
 use Rattle.ninep.specs.declared.reply.Qid.{Qid}
 use Rattle.tree.specs.declared.OpenFlags.{OpenFlags}
 use Rattle.tree.specs.declared.Call.{Call}
 use Rattle.tree.specs.declared.Call.TheVariants as call
+use Rattle.ninep_fids.specs.Flags.{flag_for, open_bits, flags_by, group_of}
 use Rattle.ninep_fids.specs.Paths.{called, below, checked}
 use Rattle.ninep_fids.specs.Knowledge.{Known, named, closed, file_open}
 use Rattle.ninep_fids.specs.Hearing.{done_in, attributes_in, descriptor_in}
 use Rattle.ninep_fids.specs.Plans.{Plan, Changes, OrNoMemory, Becomes, error, closing, with_it, calls, at}
 use Rattle.ninep_fids.specs.Nodes.{says, node_of, qid_of}
 use Rattle.ninep_fids.specs.declared.refused.Refused.{Refused}
-use Rattle.ninep_fids.specs.declared.refused.Refused.TheVariants.{By}
 use Rattle.ninep_fids.specs.declared.users.User.{User}
-use Rattle.ninep_fids.specs.declared.fid.Kind.{Kind}
 use Rattle.ninep_fids.specs.declared.fid.Kind.TheVariants as kind
 use Rattle.ninep_fids.specs.declared.fid.Node.{Node}
-use Rattle.ninep_server.specs.declared.making.Made.{Made}
-use Rattle.ninep_server.specs.declared.making.Made.TheVariants as made
 use Rattle.ninep_fids.specs.declared.answer.Answer.{Answer}
 use Rattle.ninep_fids.specs.declared.answer.Answer.TheVariants as answer
-
--- a symbolic link isn't opened
-abbrev pub not_link : Kind → Result ⊤ Refused
-not_link kind.Symlink = Err (By ELOOP)
-not_link k = Ok tt
+use Rattle.ninep_fids.specs.Checks.{not_link}
+use Rattle.ninep_server.specs.declared.making.Made.{Made}
+use Rattle.ninep_server.specs.declared.making.Made.TheVariants as made
 
 abbrev pub opening : ℕ → User → List ℕ → Node → OpenFlags → Plan
 opening fid user path node flags = calls user.session (call.Open (at (called path)) flags 0) (λ h. with_it (descriptor_in h)

@@ -1,25 +1,26 @@
 -- How far an answer is: what it still has to ask and to say.
 use Rattle.std.specs.Prelude.{⊤, ◌≡◌, ◌⊎◌, ℕ, zero, suc, ◌∷◌, Option, Some, None, Result, Ok, Err}
-use Rattle.ninep.specs.Requests.{Body, names_in}
 use Rattle.errno.specs.declared.Errno.TheVariants.{ENOMEM}
+use Rattle.ninep.specs.Requests.{Body, names_in}
 use Rattle.tree.specs.declared.Call.TheVariants as call
 use Rattle.ninep_fids.specs.Knowledge.{Known, known_of}
 use Rattle.ninep_fids.specs.Plans.{Plan, Says, Asks, Changes, OrNoMemory, IsChanged, Follows, body_said, error, refuses, calls, plain}
 use Rattle.ninep_fids.specs.Nodes.{says}
-use Rattle.ninep_server.specs.Attaching.{beginning, entering, looking_at_root}
-use Rattle.ninep_server.specs.Walks.{looking_at, walking}
-use Rattle.ninep_server.specs.Opens.{opening, making_file, giving_group, looking_at_file, making, giving_made_group, looking_at_made}
-use Rattle.ninep_server.specs.Naming.{linking, renaming, unlinking, removing}
-use Rattle.ninep_server.specs.Settings.{looking_first, changing}
 use Rattle.ninep_fids.specs.Changes.{in_order}
-use Rattle.ninep_server.specs.Listings.{listing}
-use Rattle.ninep_server.specs.Messages.{transferring, looking, measuring, reading_link, syncing}
 use Rattle.ninep_fids.specs.declared.refused.Refused.{Refused}
 use Rattle.ninep_fids.specs.declared.refused.Refused.TheVariants.{By}
 use Rattle.ninep_fids.specs.declared.ask.Ask.{Ask}
 use Rattle.ninep_fids.specs.declared.heard.Heard.{Heard}
 use Rattle.ninep_fids.specs.declared.answer.Said.{Said}
 use Rattle.ninep_fids.specs.declared.knows.Knows.{Knows}
+use Rattle.ninep_fids.specs.declared.changes.Change.{Change}
+use Rattle.ninep_server.specs.Attaching.{beginning, entering, looking_at_root}
+use Rattle.ninep_server.specs.Walks.{looking_at, walking}
+use Rattle.ninep_server.specs.Opens.{opening, making_file, giving_group, looking_at_file, making, giving_made_group, looking_at_made}
+use Rattle.ninep_server.specs.Naming.{linking, renaming, unlinking, removing}
+use Rattle.ninep_server.specs.Settings.{looking_first, changing}
+use Rattle.ninep_server.specs.Listings.{listing}
+use Rattle.ninep_server.specs.Messages.{transferring, looking, measuring, reading_link, syncing}
 use Rattle.ninep_server.specs.declared.turn.Turn.{Turn}
 use Rattle.ninep_server.specs.declared.turn.Turn.TheVariants as turn
 use Rattle.ninep_server.specs.declared.attach.Version.{Version}
@@ -38,7 +39,6 @@ use Rattle.ninep_server.specs.declared.naming.Unlink.{Unlink}
 use Rattle.ninep_server.specs.declared.naming.Remove.{Remove}
 use Rattle.ninep_server.specs.declared.listing.Listing.{Listing}
 use Rattle.ninep_server.specs.declared.attributes.Setattr.{Setattr}
-use Rattle.ninep_fids.specs.declared.changes.Change.{Change}
 use Rattle.ninep_server.specs.declared.transfer.Transfer.{Transfer}
 use Rattle.ninep_server.specs.declared.attributes.Getattr.{Getattr}
 use Rattle.ninep_server.specs.declared.opening.Readlink.{Readlink}

@@ -1,19 +1,17 @@
 -- Attributes that are changed.
-use Rattle.ninep_fids.specs.Changes.{changes_wanted, in_order, change_call}
-use Rattle.std.specs.Prelude.{⊤, ℕ, List, [], ◌∷◌, Result, Ok, Err}
+use Rattle.std.specs.Prelude.{ℕ, List, [], ◌∷◌}
 use Rattle.tree.specs.declared.Call.TheVariants as call
+use Rattle.ninep_fids.specs.Changes.{changes_wanted, in_order, change_call}
 use Rattle.ninep_fids.specs.Paths.{called}
 use Rattle.ninep_fids.specs.Knowledge.{Known, named}
 use Rattle.ninep_fids.specs.Hearing.{done_in, attributes_in}
 use Rattle.ninep_fids.specs.Plans.{Plan, OrNoMemory, with_it, calls, at}
 use Rattle.ninep_fids.specs.Nodes.{says}
-use Rattle.ninep_fids.specs.declared.refused.Refused.{Refused}
-use Rattle.ninep_fids.specs.declared.refused.Refused.TheVariants.{Unsupported}
-use Rattle.ninep_fids.specs.declared.fid.Kind.{Kind}
 use Rattle.ninep_fids.specs.declared.fid.Kind.TheVariants as kind
 use Rattle.ninep_fids.specs.declared.changes.Wanted.{Wanted}
 use Rattle.ninep_fids.specs.declared.changes.Change.{Change}
 use Rattle.ninep_fids.specs.declared.answer.Answer.TheVariants as answer
+use Rattle.ninep_fids.specs.Checks.{changeable}
 
 -- one change is made after the other
 abbrev pub changing : ℕ → List ℕ → List Change → Plan
@@ -24,11 +22,6 @@ changing session path (c ∷ changes) =
 abbrev pub looking_first : ℕ → List ℕ → Wanted → Plan
 looking_first session path wanted = calls session (call.Lstat (at (called path))) (λ h. with_it (attributes_in h)
     (λ a. with_it (changes_wanted wanted a) (λ c. changing session path (in_order c))))
-
--- what a symbolic link has isn't changed
-abbrev pub changeable : Kind → Result ⊤ Refused
-changeable kind.Symlink = Err Unsupported
-changeable k = Ok tt
 
 -- Tsetattr
 abbrev pub sets : Known → ℕ → Wanted → Plan

@@ -1,6 +1,6 @@
 -- What turns of an answer lie behind, of what was asked.
-use Rattle.ninep_fids.specs.Talks.{Exchange, Leads, EndsInSync}
 use Rattle.std.specs.Prelude.{⊤, ◌≡◌, List}
+use Rattle.ninep_fids.specs.Talks.{Exchange, Leads, EndsInSync}
 use Rattle.ninep_fids.specs.declared.ask.Ask.{Ask}
 use Rattle.ninep_fids.specs.declared.heard.Heard.{Heard}
 use Rattle.ninep_fids.specs.declared.answer.Said.{Said}

@@ -1,7 +1,6 @@
 //! How a connection begins, and how users attach.
 
-ghost use Rattle.std.specs.Prelude.{◌≡◌, ◌≤◌, Ok};
-ghost use Rattle.ninep_server.specs.Attaching.{user_number};
+ghost use Rattle.std.specs.Prelude.{◌≤◌, Ok};
 
 use crate::work::{FidWork, Next, Work};
 use errno::Errno;
@@ -11,11 +10,8 @@ use ninep_fids::fid::{Fid, Node};
 use ninep_fids::heard::Heard;
 use ninep_fids::knows::{Knows, MAX_MESSAGE, MIN_MESSAGE};
 use ninep_fids::refused::Refused;
-use ninep_fids::users::User;
+use ninep_fids::users::{User, number_of};
 use tree::Call;
-
-/// The number for no user, which Linux sends where all users of the client share one: it is user 0 here.
-const NO_USER: u32 = 0xffff_ffff;
 
 /// A connection begins, once all sessions of the one before have ended.
 #[derive(Drop)]
@@ -54,19 +50,6 @@ impl Version {
             message_size: self.message_size,
             known: self.known,
         })
-    }
-}
-
-/// The number of a user on a volume; EINVAL where it has none.
-fn number_of(uid: u32) -> Result<u16, Refused>
-    ensures { result ≡ user_number uid }
-{
-    if uid == NO_USER {
-        return Ok(0);
-    }
-    match u16::try_from(uid) {
-        Ok(uid) => Ok(uid),
-        Err(_) => Err(Refused::By(Errno::EINVAL)),
     }
 }
 

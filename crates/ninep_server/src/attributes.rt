@@ -1,17 +1,17 @@
 //! Attributes: told, and changed.
 
-ghost use Rattle.std.specs.Prelude.{◌≡◌, [], Ok};
+ghost use Rattle.std.specs.Prelude.{[], Ok};
 ghost use Rattle.ninep_fids.specs.Knowledge.{Known, known_of};
-ghost use Rattle.ninep_server.specs.Messages.{telling};
 ghost use Rattle.ninep_fids.specs.Changes.{in_order};
-ghost use Rattle.ninep_server.specs.Settings.{changing, changeable, sets};
+ghost use Rattle.ninep_server.specs.Messages.{telling};
+ghost use Rattle.ninep_server.specs.Settings.{changing, sets};
 ghost use Rattle.ninep_server.specs.Progress.{AsksNext, BeginsAs, GoesOnAs, Leaves, left_of_getattr, left_of_next, left_of_setattr};
 
 use crate::work::{AttributeWork, Next, Work};
 use ninep_fids::answer::Answer;
 use ninep_fids::ask::Ask;
 use ninep_fids::changes::{Change, Changes, Wanted};
-use ninep_fids::fid::Kind;
+use ninep_fids::checks::check_changeable;
 use ninep_fids::heard::Heard;
 use ninep_fids::knows::Knows;
 use ninep_fids::paths::called;
@@ -75,16 +75,6 @@ pub(crate) struct Setattr {
     change: Option<Change>,
     /// What is left to change behind it.
     left: Changes,
-}
-
-/// Refuses to change what a symbolic link has.
-fn check_changeable(kind: Kind) -> Result<(), Refused>
-    ensures { result ≡ changeable kind }
-{
-    match kind {
-        Kind::Symlink => Err(Refused::Unsupported),
-        Kind::File | Kind::Directory => Ok(()),
-    }
 }
 
 impl Setattr {

@@ -1,7 +1,7 @@
 //! How the answer to a message begins.
 
-ghost use Rattle.ninep_server.specs.Turns.{IsPlain};
 ghost use Rattle.ninep_fids.specs.Knowledge.{known_of};
+ghost use Rattle.ninep_server.specs.Turns.{IsPlain};
 ghost use Rattle.ninep_server.specs.Messages.{of_fid, of_node, of_name, of_file, plan_of};
 ghost use Rattle.ninep_server.specs.Progress.{BeginsAs, Leaves, left_of_turn};
 

@@ -3,15 +3,16 @@
 ghost use Rattle.std.specs.Prelude.{◌≡◌, Ok, Some};
 ghost use Rattle.ninep_fids.specs.Knowledge.{Known, known_of};
 ghost use Rattle.ninep_fids.specs.Plans.{closing, error};
-ghost use Rattle.ninep_server.specs.Opens.{creates, made_file};
 ghost use Rattle.ninep_fids.specs.Flags.{group_of};
+ghost use Rattle.ninep_server.specs.Opens.{creates, made_file};
 ghost use Rattle.ninep_server.specs.Progress.{AsksNext, BeginsAs, Leaves, behind, left_of_creation, left_of_next};
 
-use crate::opening::{Close, check_closed};
+use crate::opening::Close;
 use crate::work::{Next, OpenWork, Work};
 use bitflags::Flags;
 use ninep_fids::answer::Answer;
 use ninep_fids::ask::Ask;
+use ninep_fids::checks::check_closed;
 use ninep_fids::fid::{Fid, Node};
 use ninep_fids::flags::{EXCLUSIVE, bits_of, flag_for, group_of, mode_of};
 use ninep_fids::heard::Heard;

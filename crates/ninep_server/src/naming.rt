@@ -2,8 +2,9 @@
 
 ghost use Rattle.std.specs.Prelude.{◌≡◌};
 ghost use Rattle.ninep_fids.specs.Knowledge.{known_of};
-ghost use Rattle.ninep_server.specs.Naming.{links, renames, renames_at, unlinks, unlink_call, removes, is_directory};
+ghost use Rattle.ninep_fids.specs.Checks.{is_directory};
 ghost use Rattle.ninep_fids.specs.Plans.{plain_call};
+ghost use Rattle.ninep_server.specs.Naming.{links, renames, renames_at, unlinks, unlink_call, removes};
 ghost use Rattle.ninep_server.specs.Progress.{AsksNext, BeginsAs, GoesOnAs, Leaves, behind, left_of_link, left_of_next, left_of_rename};
 ghost use Rattle.ninep_server.specs.Progress.{left_of_unlink, left_of_remove};
 
@@ -11,7 +12,7 @@ use crate::opening::Close;
 use crate::work::{NameWork, Next, Work};
 use ninep_fids::answer::Answer;
 use ninep_fids::ask::Ask;
-use ninep_fids::fid::Kind;
+use ninep_fids::checks::is_directory;
 use ninep_fids::flags::has;
 use ninep_fids::heard::Heard;
 use ninep_fids::knows::Knows;
@@ -194,16 +195,6 @@ impl Unlink {
         heard.done()?;
         knows.fids.unlink(&self.path);
         Ok(Next::Done(Answer::Unlinkat))
-    }
-}
-
-/// Whether a node is a directory.
-fn is_directory(kind: Kind) -> bool
-    ensures { result ≡ is_directory kind }
-{
-    match kind {
-        Kind::Directory => true,
-        Kind::File | Kind::Symlink => false,
     }
 }
 

@@ -1,47 +1,28 @@
 //! Opening, letting go, and reading a link.
 
 ghost use Rattle.std.specs.Prelude.{◌≡◌, Ok, take};
-ghost use Rattle.ninep_fids.specs.Knowledge.{known_of, closed};
+ghost use Rattle.ninep_fids.specs.Knowledge.{known_of};
 ghost use Rattle.ninep_fids.specs.Nodes.{said_of};
 ghost use Rattle.ninep_fids.specs.Plans.{closing};
-ghost use Rattle.ninep_server.specs.Opens.{not_link, opens};
-ghost use Rattle.ninep_server.specs.Messages.{clunking, following, target_of};
+ghost use Rattle.ninep_server.specs.Opens.{opens};
+ghost use Rattle.ninep_server.specs.Messages.{clunking, following};
 ghost use Rattle.ninep_server.specs.Progress.{AsksNext, BeginsAs, GoesOnAs, Leaves, behind, left_of_close, left_of_opening};
 ghost use Rattle.ninep_server.specs.Progress.{left_of_readlink, left_of_next};
 
 use crate::work::{DataWork, Next, OpenWork, Work};
 use bitflags::Flags;
-use errno::Errno;
 use ninep_fids::answer::Answer;
 use ninep_fids::ask::Ask;
-use ninep_fids::fid::{Fid, Kind, Node};
+use ninep_fids::checks::{check_closed, check_kind};
+use ninep_fids::fid::{Fid, Node};
 use ninep_fids::flags::bits_of;
 use ninep_fids::heard::Heard;
 use ninep_fids::knows::Knows;
 use ninep_fids::paths::called;
 use ninep_fids::refused::Refused;
+use ninep_fids::told::bytes_of;
 use ninep_fids::users::User;
-use tree::{Call, LinkTarget, MAX_TARGET, OpenFlags};
-
-/// Refuses a fid that is open.
-pub(crate) fn check_closed(descriptor: Option<u32>) -> Result<(), Refused>
-    ensures { result ≡ closed descriptor }
-{
-    match descriptor {
-        None => Ok(()),
-        Some(_) => Err(Refused::By(Errno::EINVAL)),
-    }
-}
-
-/// Refuses to open a symbolic link.
-fn check_kind(kind: Kind) -> Result<(), Refused>
-    ensures { result ≡ not_link kind }
-{
-    match kind {
-        Kind::Symlink => Err(Refused::By(Errno::ELOOP)),
-        Kind::File | Kind::Directory => Ok(()),
-    }
-}
+use tree::{Call, OpenFlags};
 
 /// A fid is opened.
 #[derive(Drop)]
@@ -148,17 +129,6 @@ impl Close {
 pub(crate) struct Readlink {
     session: u8,
     path: Vec<u8>,
-}
-
-/// Its bytes.
-fn bytes_of(target: &LinkTarget) -> &[u8]
-    ensures { result.now ≡ target_of target.now }
-{
-    if target.length <= MAX_TARGET {
-        &target.bytes[..target.length]
-    } else {
-        &target.bytes
-    }
 }
 
 impl Readlink {

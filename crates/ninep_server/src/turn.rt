@@ -1,9 +1,9 @@
 //! How the answer to a message goes on.
 
 ghost use Rattle.std.specs.Prelude.{◌≡◌, ◌⊎◌};
-ghost use Rattle.ninep_server.specs.Turns.{IsPlain};
 ghost use Rattle.ninep_fids.specs.Talks.{IsDone};
 ghost use Rattle.ninep_fids.specs.Knowledge.{Known};
+ghost use Rattle.ninep_server.specs.Turns.{IsPlain};
 ghost use Rattle.ninep_server.specs.Messages.{synced};
 ghost use Rattle.ninep_server.specs.Progress.{Leaves, left_of_next, left_of_turn};
 
