@@ -1,12 +1,20 @@
 -- What is refused before anything is asked.
 use Rattle.std.specs.Prelude.{⊤, ℕ, List, Option, Result, Ok, Err, Bool, true, false, if◌then◌else◌, ◌==◌, nat_lt}
 use Rattle.errno.specs.declared.Errno.TheVariants.{ELOOP, ENOTDIR, EINVAL}
-use Rattle.ninep_fids.specs.Knowledge.{Known, closed, new_fid}
+use Rattle.ninep_fids.specs.Knowledge.{Known, File, named, then_of, closed, new_fid}
 use Rattle.ninep_fids.specs.declared.refused.Refused.{Refused}
 use Rattle.ninep_fids.specs.declared.refused.Refused.TheVariants.{By, Unsupported}
 use Rattle.ninep_fids.specs.declared.fid.Kind.{Kind}
 use Rattle.ninep_fids.specs.declared.fid.Kind.TheVariants as kind
-use Rattle.ninep_fids.specs.Paths.{leads}
+use Rattle.ninep_fids.specs.Paths.{leads, checked}
+
+-- a file by its name, and a name that may be given
+abbrev pub named_for : List (ℕ × File) → ℕ → List ℕ → Result File Refused
+named_for fids fid name = then_of (named fids fid) (λ file. then_of (checked name) (λ _. Ok file))
+
+-- a file by its name, which mustn't be open
+abbrev pub unopened : List (ℕ × File) → ℕ → Result File Refused
+unopened fids fid = then_of (named fids fid) (λ file. then_of (closed file.descriptor) (λ _. Ok file))
 
 -- a symbolic link isn't opened
 abbrev pub not_link : Kind → Result ⊤ Refused

@@ -6,7 +6,9 @@ ghost use Rattle.std.specs.Map.{remove_entry, set_value};
 ghost use Rattle.std.specs.BTreeMap.{is_at, insert_entry};
 ghost use Rattle.std.specs.Ordering.{nat_cmp};
 
+use crate::checks::check_closed;
 use crate::fid::Fid;
+use crate::paths::check_name;
 use crate::refused::Refused;
 use errno::Errno;
 use std::alloc::{AllocError, Global};
@@ -23,6 +25,7 @@ pub struct Fids {
 
 impl Fids {
     ghost use Rattle.ninep_fids.specs.Knowledge.{table_of, found, named, opened, seen, file_of, new_fid};
+    ghost use Rattle.ninep_fids.specs.Checks.{named_for, unopened};
     ghost use Rattle.ninep_fids.specs.Fids.{EachBecomes, IsRenamed, IsUnlinked};
 
     /// None.
@@ -52,6 +55,24 @@ impl Fids {
         if found.gone {
             return Err(Refused::Stale);
         }
+        Ok(found)
+    }
+
+    /// What a fid stands for whose node has its name, where this name may be given besides.
+    pub fn named_for(&self, fid: u32, name: &[u8]) -> Result<&Fid, Refused>
+        ensures { seen result ≡ named_for (table_of self.now) fid name.now }
+    {
+        let found = self.named(fid)?;
+        check_name(name)?;
+        Ok(found)
+    }
+
+    /// What a fid stands for that isn't open, and whose node has its name; EINVAL where it is open.
+    pub fn unopened(&self, fid: u32) -> Result<&Fid, Refused>
+        ensures { seen result ≡ unopened (table_of self.now) fid }
+    {
+        let found = self.named(fid)?;
+        check_closed(found.descriptor)?;
         Ok(found)
     }
 

@@ -15,7 +15,7 @@ use Rattle.ninep_fids.specs.Knowledge.{Known, File, found, named, opened, new_fi
 use Rattle.ninep_fids.specs.Hearing.{done_in, attributes_in, position_in, bytes_in, count_in, room_in, target_in, descriptor_in, session_in, names_heard}
 use Rattle.ninep_fids.specs.Plans.{Plan, closing, with_it, at}
 use Rattle.ninep_fids.specs.Nodes.{node_of, qid_of}
-use Rattle.ninep_fids.specs.Checks.{user_number, enters, place, not_link, changeable}
+use Rattle.ninep_fids.specs.Checks.{user_number, enters, place, not_link, changeable, named_for, unopened}
 use Rattle.ninep_fids.specs.Flags.{open_bits, flags_by, group_of, is_set, flag_for}
 use Rattle.ninep_fids.specs.Changes.{in_order, changes_wanted}
 use Rattle.ninep_fids.specs.Entries.{any_long, entries_of}
@@ -205,14 +205,13 @@ listing_within n session path fd own offset limit None =
 listing_within n session path fd own offset limit (Some above) = names_within (suc n) session fd own offset limit above
 
 opens_within : (k : Known) (fid flags : ℕ) → Within (opens k fid flags) 16
-opens_within k fid flags = it_within 16 (named k.fids fid) _ (λ file. it_within 16 (closed file.descriptor) _
-    (λ _. it_within 16 (not_link file.node.kind) _ (λ _. it_within 16 (open_bits flags) _
-    (λ bits. opening_within 15 fid file.user file.path file.node (flags_by bits)))))
+opens_within k fid flags = it_within 16 (unopened k.fids fid) _ (λ file. it_within 16 (not_link file.node.kind) _
+    (λ _. it_within 16 (open_bits flags) _ (λ bits. opening_within 15 fid file.user file.path file.node (flags_by bits))))
 
 creates_within : (k : Known) (fid : ℕ) (name : List ℕ) (flags mode gid : ℕ) → Within (creates k fid name flags mode gid) 16
-creates_within k fid name flags mode gid = it_within 16 (named k.fids fid) _ (λ directory. it_within 16 (closed directory.descriptor) _
-    (λ _. it_within 16 (checked name) _ (λ _. it_within 16 (open_bits flags) _ (λ bits. making_file_within 12 fid directory.user
-    (below directory.path name) (flags_by (bits + (8 + flag_for flags 0x80 16))) (mode % 4096) (group_of directory.user gid)))))
+creates_within k fid name flags mode gid = it_within 16 (unopened k.fids fid) _ (λ directory. it_within 16 (checked name) _
+    (λ _. it_within 16 (open_bits flags) _ (λ bits. making_file_within 12 fid directory.user (below directory.path name)
+    (flags_by (bits + (8 + flag_for flags 0x80 16))) (mode % 4096) (group_of directory.user gid))))
 
 file_within : (k : Known) (r : Request) → Within (of_file k r) 16
 file_within k (request.Open fid flags) = opens_within k fid flags
@@ -231,25 +230,23 @@ file_within k (request.Getlock fid kind start length process client) = it_within
 file_within k r = tt
 
 name_within : (k : Known) (r : Request) → Within (of_name k r) 16
-name_within k (request.Symlink directory name target gid) = it_within 16 (named k.fids directory) _
-    (λ parent. it_within 16 (checked name.now) _ (λ _. making_within 13 parent.user.session (below parent.path name.now)
-    (made.Symlink (at target.now)) None))
-name_within k (request.Mkdir directory name mode gid) = it_within 16 (named k.fids directory) _
-    (λ parent. it_within 16 (checked name.now) _ (λ _. making_within 13 parent.user.session (below parent.path name.now)
-    (made.Directory (mode % 4096)) (group_of parent.user gid)))
+name_within k (request.Symlink directory name target gid) = it_within 16 (named_for k.fids directory name.now) _
+    (λ parent. making_within 13 parent.user.session (below parent.path name.now) (made.Symlink (at target.now)) None)
+name_within k (request.Mkdir directory name mode gid) = it_within 16 (named_for k.fids directory name.now) _
+    (λ parent. making_within 13 parent.user.session (below parent.path name.now) (made.Directory (mode % 4096))
+    (group_of parent.user gid))
 name_within k (request.Link directory fid name) = it_within 16 (named k.fids directory) _
     (λ parent. it_within 16 (named k.fids fid) _ (λ file. it_within 16 (checked name.now) _
     (λ _. linking_within 15 parent.user.session file.path (below parent.path name.now))))
 name_within k (request.Rename fid directory name) = it_within 16 (named k.fids fid) _
-    (λ file. it_within 16 (named k.fids directory) _ (λ parent. it_within 16 (checked name.now) _
-    (λ _. renaming_within 15 parent.user.session file.path (below parent.path name.now) answer.Rename)))
+    (λ file. it_within 16 (named_for k.fids directory name.now) _
+    (λ parent. renaming_within 15 parent.user.session file.path (below parent.path name.now) answer.Rename))
 name_within k (request.Renameat old_directory old_name new_directory new_name) = it_within 16 (named k.fids old_directory) _
     (λ from. it_within 16 (named k.fids new_directory) _ (λ to. it_within 16 (checked old_name.now) _ (λ _. it_within 16
     (checked new_name.now) _ (λ _. renaming_within 15 from.user.session (below from.path old_name.now)
     (below to.path new_name.now) answer.Renameat))))
-name_within k (request.Unlinkat directory name flags) = it_within 16 (named k.fids directory) _
-    (λ parent. it_within 16 (checked name.now) _ (λ _. unlinking_within 15 parent.user.session (below parent.path name.now)
-    (is_set flags 0x200)))
+name_within k (request.Unlinkat directory name flags) = it_within 16 (named_for k.fids directory name.now) _
+    (λ parent. unlinking_within 15 parent.user.session (below parent.path name.now) (is_set flags 0x200))
 name_within k r = file_within k r
 
 node_within : (k : Known) (now : ℕ) (r : Request) → Within (of_node k now r) 16

@@ -6,7 +6,7 @@ use Rattle.tree.specs.declared.Call.{Call}
 use Rattle.tree.specs.declared.Call.TheVariants as call
 use Rattle.ninep_fids.specs.Flags.{flag_for, open_bits, flags_by, group_of}
 use Rattle.ninep_fids.specs.Paths.{called, below, checked}
-use Rattle.ninep_fids.specs.Knowledge.{Known, named, closed, file_open}
+use Rattle.ninep_fids.specs.Knowledge.{Known, file_open}
 use Rattle.ninep_fids.specs.Hearing.{done_in, attributes_in, descriptor_in}
 use Rattle.ninep_fids.specs.Plans.{Plan, Changes, OrNoMemory, Becomes, error, closing, with_it, calls, at}
 use Rattle.ninep_fids.specs.Nodes.{says, node_of, qid_of}
@@ -16,7 +16,7 @@ use Rattle.ninep_fids.specs.declared.fid.Kind.TheVariants as kind
 use Rattle.ninep_fids.specs.declared.fid.Node.{Node}
 use Rattle.ninep_fids.specs.declared.answer.Answer.{Answer}
 use Rattle.ninep_fids.specs.declared.answer.Answer.TheVariants as answer
-use Rattle.ninep_fids.specs.Checks.{not_link}
+use Rattle.ninep_fids.specs.Checks.{not_link, named_for, unopened}
 use Rattle.ninep_server.specs.declared.making.Made.{Made}
 use Rattle.ninep_server.specs.declared.making.Made.TheVariants as made
 
@@ -26,8 +26,8 @@ opening fid user path node flags = calls user.session (call.Open (at (called pat
 
 -- Tlopen
 abbrev pub opens : Known → ℕ → ℕ → Plan
-opens k fid flags = with_it (named k.fids fid) (λ file. with_it (closed file.descriptor) (λ _. with_it (not_link file.node.kind)
-    (λ _. with_it (open_bits flags) (λ bits. OrNoMemory (opening fid file.user file.path file.node (flags_by bits))))))
+opens k fid flags = with_it (unopened k.fids fid) (λ file. with_it (not_link file.node.kind)
+    (λ _. with_it (open_bits flags) (λ bits. OrNoMemory (opening fid file.user file.path file.node (flags_by bits)))))
 
 -- a file that was made is closed where it goes on no further
 abbrev pub or_closes : {A : Type 0} → ℕ → ℕ → Result A Refused → (A → Plan) → Plan
@@ -57,9 +57,9 @@ making_file fid user path flags mode group = calls user.session (call.Open (at (
 
 -- Tlcreate: the flags of an open that makes a file, at a new name alone where that is asked for
 abbrev pub creates : Known → ℕ → List ℕ → ℕ → ℕ → ℕ → Plan
-creates k fid name flags mode gid = with_it (named k.fids fid) (λ directory. with_it (closed directory.descriptor)
-    (λ _. with_it (checked name) (λ _. with_it (open_bits flags) (λ bits. OrNoMemory (making_file fid directory.user
-    (below directory.path name) (flags_by (bits + (8 + flag_for flags 0x80 16))) (mode % 4096) (group_of directory.user gid))))))
+creates k fid name flags mode gid = with_it (unopened k.fids fid) (λ directory. with_it (checked name)
+    (λ _. with_it (open_bits flags) (λ bits. OrNoMemory (making_file fid directory.user (below directory.path name)
+    (flags_by (bits + (8 + flag_for flags 0x80 16))) (mode % 4096) (group_of directory.user gid)))))
 
 -- the call that makes a directory or a symbolic link
 abbrev pub making_call : List ℕ → Made → Call
@@ -88,10 +88,10 @@ making session path what group =
 
 -- Tmkdir
 abbrev pub makes_directory : Known → ℕ → List ℕ → ℕ → ℕ → Plan
-makes_directory k directory name mode gid = with_it (named k.fids directory) (λ parent. with_it (checked name)
-    (λ _. OrNoMemory (making parent.user.session (below parent.path name) (made.Directory (mode % 4096)) (group_of parent.user gid))))
+makes_directory k directory name mode gid = with_it (named_for k.fids directory name)
+    (λ parent. OrNoMemory (making parent.user.session (below parent.path name) (made.Directory (mode % 4096)) (group_of parent.user gid)))
 
 -- Tsymlink: it is given no group
 abbrev pub makes_link : Known → ℕ → List ℕ → List ℕ → Plan
-makes_link k directory name target = with_it (named k.fids directory) (λ parent. with_it (checked name)
-    (λ _. OrNoMemory (making parent.user.session (below parent.path name) (made.Symlink (at target)) None)))
+makes_link k directory name target = with_it (named_for k.fids directory name)
+    (λ parent. OrNoMemory (making parent.user.session (below parent.path name) (made.Symlink (at target)) None))

@@ -12,7 +12,6 @@ use crate::work::{Next, OpenWork, Work};
 use bitflags::Flags;
 use ninep_fids::answer::Answer;
 use ninep_fids::ask::Ask;
-use ninep_fids::checks::check_closed;
 use ninep_fids::fid::{Fid, Node};
 use ninep_fids::flags::{EXCLUSIVE, bits_of, flag_for, group_of, mode_of};
 use ninep_fids::heard::Heard;
@@ -69,8 +68,7 @@ impl Creation {
     ) -> Result<Next<'m>, Refused>
         ensures { BeginsAs (creates (known_of knows.now) fid name.now flags mode gid) knows.now knows.now result }
     {
-        let directory = knows.fids.named(fid)?;
-        check_closed(directory.descriptor)?;
+        let directory = knows.fids.unopened(fid)?;
         check_name(name)?;
         let bits = bits_of(flags)? + (CREATE + flag_for(flags, EXCLUSIVE, ONLY_NEW));
         let user = directory.user;

@@ -11,7 +11,7 @@ use ninep_fids::fid::Node;
 use ninep_fids::flags::{group_of, mode_of};
 use ninep_fids::heard::Heard;
 use ninep_fids::knows::Knows;
-use ninep_fids::paths::{below, called, check_name};
+use ninep_fids::paths::{below, called};
 use ninep_fids::refused::Refused;
 use tree::Call;
 
@@ -55,8 +55,7 @@ impl<'m> Making<'m> {
     ) -> Result<Next<'m>, Refused>
         ensures { BeginsAs (makes_directory (known_of knows.now) directory name.now mode gid) knows.now knows.now result }
     {
-        let parent = knows.fids.named(directory)?;
-        check_name(name)?;
+        let parent = knows.fids.named_for(directory, name)?;
         Ok(Next::Go(Work::Open(OpenWork::Make(Making {
             session: parent.user.session,
             path: below(knows.alloc, &parent.path, name)?,
@@ -77,8 +76,7 @@ impl<'m> Making<'m> {
     ) -> Result<Next<'m>, Refused>
         ensures { BeginsAs (makes_link (known_of knows.now) directory name.now target.now) knows.now knows.now result }
     {
-        let parent = knows.fids.named(directory)?;
-        check_name(name)?;
+        let parent = knows.fids.named_for(directory, name)?;
         Ok(Next::Go(Work::Open(OpenWork::Make(Making {
             session: parent.user.session,
             path: below(knows.alloc, &parent.path, name)?,

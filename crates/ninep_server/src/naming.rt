@@ -87,8 +87,7 @@ impl Rename {
         ensures { BeginsAs (renames (known_of knows.now) fid directory name.now) knows.now knows.now result }
     {
         let file = knows.fids.named(fid)?;
-        let parent = knows.fids.named(directory)?;
-        check_name(name)?;
+        let parent = knows.fids.named_for(directory, name)?;
         Ok(Next::Go(Work::Name(NameWork::Rename(Rename {
             session: parent.user.session,
             old: file.path.to_vec(knows.alloc)?,
@@ -171,8 +170,7 @@ impl Unlink {
     ) -> Result<Next<'m>, Refused>
         ensures { BeginsAs (unlinks (known_of knows.now) directory name.now flags) knows.now knows.now result }
     {
-        let parent = knows.fids.named(directory)?;
-        check_name(name)?;
+        let parent = knows.fids.named_for(directory, name)?;
         Ok(Next::Go(Work::Name(NameWork::Unlink(Unlink {
             session: parent.user.session,
             path: below(knows.alloc, &parent.path, name)?,

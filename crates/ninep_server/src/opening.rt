@@ -13,7 +13,7 @@ use crate::work::{DataWork, Next, OpenWork, Work};
 use bitflags::Flags;
 use ninep_fids::answer::Answer;
 use ninep_fids::ask::Ask;
-use ninep_fids::checks::{check_closed, check_kind};
+use ninep_fids::checks::check_kind;
 use ninep_fids::fid::{Fid, Node};
 use ninep_fids::flags::bits_of;
 use ninep_fids::heard::Heard;
@@ -39,8 +39,7 @@ impl Opening {
     pub(crate) fn begin<'m>(knows: &Knows, fid: u32, flags: u32) -> Result<Next<'m>, Refused>
         ensures { BeginsAs (opens (known_of knows.now) fid flags) knows.now knows.now result }
     {
-        let file = knows.fids.named(fid)?;
-        check_closed(file.descriptor)?;
+        let file = knows.fids.unopened(fid)?;
         check_kind(file.node.kind)?;
         let bits = bits_of(flags)?;
         Ok(Next::Go(Work::Open(OpenWork::Open(Opening {

@@ -2,8 +2,8 @@
 
 ghost use Rattle.ninep_fids.specs.Knowledge.{known_of};
 ghost use Rattle.ninep_server.specs.Messages.{measuring};
-ghost use Rattle.ninep_server.specs.Progress.{AsksNext, Leaves, GoesOnAs, behind, left_of, left_of_next, left_of_fid_work, left_of_open_work};
-ghost use Rattle.ninep_server.specs.Progress.{left_of_data_work, left_of_attribute_work, left_of_name_work};
+ghost use Rattle.ninep_server.specs.Progress.{AsksNext, Leaves, GoesOnAs, behind, left_of, left_of_next, left_of_fid_work};
+ghost use Rattle.ninep_server.specs.Progress.{left_of_open_work, left_of_data_work, left_of_attribute_work, left_of_name_work};
 
 use crate::attach::{Attach, Version};
 use crate::attributes::{Getattr, Setattr};
