@@ -3,15 +3,15 @@ use Rattle.std.proofs.Common.{◌≡◌, ℕ, Bool, true, false, List, [], ◌�
 use Rattle.std.specs.Prelude.{Option, Result, Ok, Err, OnOk}
 use Rattle.layout.specs.declared.Geometry.{Geometry}
 use Rattle.records.specs.Opening.{Opening}
-use Rattle.ninep_server.specs.Talks.{Exchange, Leads, MayHear}
-use Rattle.ninep_server.specs.declared.ask.Ask.{Ask}
-use Rattle.ninep_server.specs.declared.ask.Ask.TheVariants as ask
-use Rattle.ninep_server.specs.declared.heard.Heard.{Heard}
-use Rattle.ninep_server.specs.declared.heard.Heard.TheVariants as heard
+use Rattle.ninep_fids.specs.Talks.{Exchange, Leads, MayHear}
+use Rattle.ninep_fids.specs.declared.ask.Ask.{Ask}
+use Rattle.ninep_fids.specs.declared.ask.Ask.TheVariants as ask
+use Rattle.ninep_fids.specs.declared.heard.Heard.{Heard}
+use Rattle.ninep_fids.specs.declared.heard.Heard.TheVariants as heard
 use Rattle.ninep_server.specs.Answering.{IsAnswered, plan_for}
-use Rattle.ninep_server.specs.Knowledge.{Known}
-use Rattle.ninep_server.specs.Plans.{Plan, Says, Asks, Changes, OrNoMemory, Follows}
-use Rattle.ninep_server.specs.declared.answer.Said.{Said}
+use Rattle.ninep_fids.specs.Knowledge.{Known}
+use Rattle.ninep_fids.specs.Plans.{Plan, Says, Asks, Changes, OrNoMemory, Follows}
+use Rattle.ninep_fids.specs.declared.answer.Said.{Said}
 use Rattle.ninep_stream.specs.Answered.{IsAnsweredAll, Lead}
 use Rattle.ninep_stream.specs.Exchanges.{answers, nobody}
 use Rattle.mount_service.specs.Spoken.{Puts, IsSpoken, MayAnswer}

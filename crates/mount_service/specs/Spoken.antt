@@ -13,7 +13,7 @@ use Rattle.records.specs.Session.{SessionState, SessionCallKeeps, caller_of}
 use Rattle.file_server.specs.Over.{outcome_of}
 use Rattle.shared_server.specs.Held.{HoldsIfTrue}
 use Rattle.driver_threads.specs.Confined.{IsImageOutside}
-use Rattle.ninep_server.specs.Knowledge.{Known}
+use Rattle.ninep_fids.specs.Knowledge.{Known}
 use Rattle.ninep_stream.specs.Answered.{IsAnsweredAll}
 use Rattle.ninep_stream.specs.Exchanges.{answers, nobody}
 

@@ -8,7 +8,7 @@ use board::counting::recorder::Recorder;
 use board::counting::room::Room;
 use errno::Errno;
 use file_server::FileServer;
-use ninep_server::sessions::{EnterRefusal, Sessions};
+use ninep_fids::sessions::{EnterRefusal, Sessions};
 use serve::service::{Service, Shared};
 use serve::session::Session;
 use shared_server::refusal::SessionRefusal;

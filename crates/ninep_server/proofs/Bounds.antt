@@ -6,29 +6,38 @@ use Rattle.std.specs.Option.{option_map, option_to_list}
 use Rattle.ninep.specs.Requests.{Body, names_in}
 use Rattle.ninep.specs.declared.reply.Qid.{Qid}
 use Rattle.ninep.proofs.TextLaws.{count_is}
-use Rattle.tree.specs.declared.OpenFlags.{OpenFlags}
-use Rattle.tree.specs.declared.Reply.{Reply}
 use Rattle.ninep.specs.declared.request.Request.{Request}
 use Rattle.ninep.specs.declared.request.Request.TheVariants as request
-use Rattle.ninep_server.specs.Paths.{below, checked, stepped}
-use Rattle.ninep_server.specs.Knowledge.{Known, File, found, named, opened, new_fid, user_of, closed}
-use Rattle.ninep_server.specs.Hearing.{done_in, attributes_in, position_in, bytes_in, count_in, room_in, target_in, descriptor_in, session_in, names_heard}
-use Rattle.ninep_server.specs.Plans.{Plan, closing, with_it, at}
-use Rattle.ninep_server.specs.Nodes.{node_of, qid_of}
-use Rattle.ninep_server.specs.Attaching.{begins, entering, looking_at_root, attaching_as, user_number}
-use Rattle.ninep_server.specs.Walks.{with_name, enters, walking, place}
-use Rattle.ninep_server.specs.Opens.{opening, opens, open_bits, flags_by, not_link, or_closes, looking_at_file, made_file, making_file, creates}
-use Rattle.ninep_server.specs.Opens.{was_made, making, group_of, is_set, flag_for}
+use Rattle.tree.specs.declared.OpenFlags.{OpenFlags}
+use Rattle.tree.specs.declared.Reply.{Reply}
+use Rattle.ninep_fids.specs.Paths.{below, checked, stepped}
+use Rattle.ninep_fids.specs.Knowledge.{Known, File, found, named, opened, new_fid, user_of, closed}
+use Rattle.ninep_fids.specs.Hearing.{done_in, attributes_in, position_in, bytes_in, count_in, room_in, target_in, descriptor_in, session_in, names_heard}
+use Rattle.ninep_fids.specs.Plans.{Plan, closing, with_it, at}
+use Rattle.ninep_fids.specs.Nodes.{node_of, qid_of}
+use Rattle.ninep_fids.specs.Checks.{user_number, enters, place, not_link, changeable, named_for, unopened}
+use Rattle.ninep_fids.specs.Flags.{open_bits, flags_by, group_of, is_set, flag_for}
+use Rattle.ninep_fids.specs.Changes.{in_order, changes_wanted}
+use Rattle.ninep_fids.specs.Entries.{any_long, entries_of}
+use Rattle.ninep_fids.specs.declared.refused.Refused.{Refused}
+use Rattle.ninep_fids.specs.declared.users.User.{User}
+use Rattle.ninep_fids.specs.declared.fid.Node.{Node}
+use Rattle.ninep_fids.specs.declared.changes.Wanted.{Wanted}
+use Rattle.ninep_fids.specs.declared.changes.Change.{Change}
+use Rattle.ninep_fids.specs.declared.changes.Change.TheVariants as change
+use Rattle.ninep_fids.specs.declared.changes.Changes.{Changes}
+use Rattle.ninep_fids.specs.declared.answer.Answer.{Answer}
+use Rattle.ninep_fids.specs.declared.answer.Answer.TheVariants as answer
+use Rattle.ninep_server.specs.Attaching.{begins, entering, looking_at_root, attaching_as}
+use Rattle.ninep_server.specs.Walks.{with_name, walking}
+use Rattle.ninep_server.specs.Opens.{opening, opens, or_closes, looking_at_file, made_file, making_file, creates, was_made, making}
 use Rattle.ninep_server.specs.Naming.{linking, renaming, unlinking, removed, removing_file}
-use Rattle.ninep_server.specs.Settings.{changing, in_order, looking_first, changes_wanted, changeable}
-use Rattle.ninep_server.specs.Listings.{any_long, entries_of, listing, listing_names}
+use Rattle.ninep_server.specs.Settings.{changing, looking_first}
+use Rattle.ninep_server.specs.Listings.{listing, listing_names}
 use Rattle.ninep_server.specs.Messages.{moving, transferring, looking, attributes_of, of_file, of_name, of_node, of_fid, plan_of}
 use Rattle.ninep_server.specs.Progress.{Within, left_of, left_of_turn, left_at_stage, left_at_change}
-use Rattle.ninep_server.specs.declared.refused.Refused.{Refused}
 use Rattle.ninep_server.specs.declared.transfer.Moved.{Moved}
 use Rattle.ninep_server.specs.declared.transfer.Moved.TheVariants as moved
-use Rattle.ninep_server.specs.declared.users.User.{User}
-use Rattle.ninep_server.specs.declared.fid.Node.{Node}
 use Rattle.ninep_server.specs.declared.attach.Attach.TheVariants as attach
 use Rattle.ninep_server.specs.declared.creation.Creation.TheVariants as creation
 use Rattle.ninep_server.specs.declared.making.Made.{Made}
@@ -38,14 +47,13 @@ use Rattle.ninep_server.specs.declared.making.Stage.{Stage}
 use Rattle.ninep_server.specs.declared.making.Stage.TheVariants as stage
 use Rattle.ninep_server.specs.declared.listing.Listing.{Listing}
 use Rattle.ninep_server.specs.declared.attributes.Setattr.{Setattr}
-use Rattle.ninep_server.specs.declared.attributes.Wanted.{Wanted}
-use Rattle.ninep_server.specs.declared.attributes.Change.{Change}
-use Rattle.ninep_server.specs.declared.attributes.Change.TheVariants as change
-use Rattle.ninep_server.specs.declared.attributes.Changes.{Changes}
-use Rattle.ninep_server.specs.declared.answer.Answer.{Answer}
-use Rattle.ninep_server.specs.declared.answer.Answer.TheVariants as answer
 use Rattle.ninep_server.specs.declared.work.Work.{Work}
 use Rattle.ninep_server.specs.declared.work.Work.TheVariants as work
+use Rattle.ninep_server.specs.declared.work.FidWork.TheVariants as fid_work
+use Rattle.ninep_server.specs.declared.work.OpenWork.TheVariants as open_work
+use Rattle.ninep_server.specs.declared.work.DataWork.TheVariants as data_work
+use Rattle.ninep_server.specs.declared.work.AttributeWork.TheVariants as attribute_work
+use Rattle.ninep_server.specs.declared.work.NameWork.TheVariants as name_work
 use Rattle.ninep_server.specs.declared.turn.Turn.{Turn}
 use Rattle.ninep_server.specs.declared.turn.Turn.TheVariants as turn
 
@@ -197,14 +205,13 @@ listing_within n session path fd own offset limit None =
 listing_within n session path fd own offset limit (Some above) = names_within (suc n) session fd own offset limit above
 
 opens_within : (k : Known) (fid flags : ℕ) → Within (opens k fid flags) 16
-opens_within k fid flags = it_within 16 (named k.fids fid) _ (λ file. it_within 16 (closed file.descriptor) _
-    (λ _. it_within 16 (not_link file.node.kind) _ (λ _. it_within 16 (open_bits flags) _
-    (λ bits. opening_within 15 fid file.user file.path file.node (flags_by bits)))))
+opens_within k fid flags = it_within 16 (unopened k.fids fid) _ (λ file. it_within 16 (not_link file.node.kind) _
+    (λ _. it_within 16 (open_bits flags) _ (λ bits. opening_within 15 fid file.user file.path file.node (flags_by bits))))
 
 creates_within : (k : Known) (fid : ℕ) (name : List ℕ) (flags mode gid : ℕ) → Within (creates k fid name flags mode gid) 16
-creates_within k fid name flags mode gid = it_within 16 (named k.fids fid) _ (λ directory. it_within 16 (closed directory.descriptor) _
-    (λ _. it_within 16 (checked name) _ (λ _. it_within 16 (open_bits flags) _ (λ bits. making_file_within 12 fid directory.user
-    (below directory.path name) (flags_by (bits + (8 + flag_for flags 0x80 16))) (mode % 4096) (group_of directory.user gid)))))
+creates_within k fid name flags mode gid = it_within 16 (unopened k.fids fid) _ (λ directory. it_within 16 (checked name) _
+    (λ _. it_within 16 (open_bits flags) _ (λ bits. making_file_within 12 fid directory.user (below directory.path name)
+    (flags_by (bits + (8 + flag_for flags 0x80 16))) (mode % 4096) (group_of directory.user gid))))
 
 file_within : (k : Known) (r : Request) → Within (of_file k r) 16
 file_within k (request.Open fid flags) = opens_within k fid flags
@@ -223,25 +230,23 @@ file_within k (request.Getlock fid kind start length process client) = it_within
 file_within k r = tt
 
 name_within : (k : Known) (r : Request) → Within (of_name k r) 16
-name_within k (request.Symlink directory name target gid) = it_within 16 (named k.fids directory) _
-    (λ parent. it_within 16 (checked name.now) _ (λ _. making_within 13 parent.user.session (below parent.path name.now)
-    (made.Symlink (at target.now)) None))
-name_within k (request.Mkdir directory name mode gid) = it_within 16 (named k.fids directory) _
-    (λ parent. it_within 16 (checked name.now) _ (λ _. making_within 13 parent.user.session (below parent.path name.now)
-    (made.Directory (mode % 4096)) (group_of parent.user gid)))
+name_within k (request.Symlink directory name target gid) = it_within 16 (named_for k.fids directory name.now) _
+    (λ parent. making_within 13 parent.user.session (below parent.path name.now) (made.Symlink (at target.now)) None)
+name_within k (request.Mkdir directory name mode gid) = it_within 16 (named_for k.fids directory name.now) _
+    (λ parent. making_within 13 parent.user.session (below parent.path name.now) (made.Directory (mode % 4096))
+    (group_of parent.user gid))
 name_within k (request.Link directory fid name) = it_within 16 (named k.fids directory) _
     (λ parent. it_within 16 (named k.fids fid) _ (λ file. it_within 16 (checked name.now) _
     (λ _. linking_within 15 parent.user.session file.path (below parent.path name.now))))
 name_within k (request.Rename fid directory name) = it_within 16 (named k.fids fid) _
-    (λ file. it_within 16 (named k.fids directory) _ (λ parent. it_within 16 (checked name.now) _
-    (λ _. renaming_within 15 parent.user.session file.path (below parent.path name.now) answer.Rename)))
+    (λ file. it_within 16 (named_for k.fids directory name.now) _
+    (λ parent. renaming_within 15 parent.user.session file.path (below parent.path name.now) answer.Rename))
 name_within k (request.Renameat old_directory old_name new_directory new_name) = it_within 16 (named k.fids old_directory) _
     (λ from. it_within 16 (named k.fids new_directory) _ (λ to. it_within 16 (checked old_name.now) _ (λ _. it_within 16
     (checked new_name.now) _ (λ _. renaming_within 15 from.user.session (below from.path old_name.now)
     (below to.path new_name.now) answer.Renameat))))
-name_within k (request.Unlinkat directory name flags) = it_within 16 (named k.fids directory) _
-    (λ parent. it_within 16 (checked name.now) _ (λ _. unlinking_within 15 parent.user.session (below parent.path name.now)
-    (is_set flags 0x200)))
+name_within k (request.Unlinkat directory name flags) = it_within 16 (named_for k.fids directory name.now) _
+    (λ parent. unlinking_within 15 parent.user.session (below parent.path name.now) (is_set flags 0x200))
 name_within k r = file_within k r
 
 node_within : (k : Known) (now : ℕ) (r : Request) → Within (of_node k now r) 16
@@ -308,26 +313,26 @@ asks_listing l (Some above) few = few
 
 -- what may ask nothing more waits for nothing
 none_left : (w : Work) → Within (left_of w) 0 → ⊥
-none_left (work.Transfer t) few = asks_transferring t.session t.fd t.seek t.moved few
-none_left (work.Getattr g) few = asks_looking g.session g.path.items g.descriptor few
-none_left (work.Readlink r) few = few
-none_left (work.Close c) few = few
-none_left (work.Statfs session) few = few
-none_left (work.Version v) few = few
-none_left (work.Attach (attach.Enter fid uid)) few = few
-none_left (work.Attach (attach.Root fid user)) few = few
-none_left (work.Walk w) few = few
-none_left (work.Open o) few = few
-none_left (work.Create (creation.Open file flags mode group)) few = few
-none_left (work.Create (creation.Chown file fd gid)) few = few
-none_left (work.Create (creation.Look file fd)) few = few
-none_left (work.Make m) few = asks_making m m.stage few
-none_left (work.Link l) few = few
-none_left (work.Rename r) few = few
-none_left (work.Unlink u) few = few
-none_left (work.Remove r) few = few
-none_left (work.Setattr x) few = asks_setting x x.change few
-none_left (work.List l) few = asks_listing l l.above few
+none_left (work.Data (data_work.Transfer t)) few = asks_transferring t.session t.fd t.seek t.moved few
+none_left (work.Attribute (attribute_work.Getattr g)) few = asks_looking g.session g.path.items g.descriptor few
+none_left (work.Data (data_work.Readlink r)) few = few
+none_left (work.Open (open_work.Close c)) few = few
+none_left (work.Attribute (attribute_work.Statfs session)) few = few
+none_left (work.Fid (fid_work.Version v)) few = few
+none_left (work.Fid (fid_work.Attach (attach.Enter fid uid))) few = few
+none_left (work.Fid (fid_work.Attach (attach.Root fid user))) few = few
+none_left (work.Fid (fid_work.Walk w)) few = few
+none_left (work.Open (open_work.Open o)) few = few
+none_left (work.Open (open_work.Create (creation.Open file flags mode group))) few = few
+none_left (work.Open (open_work.Create (creation.Chown file fd gid))) few = few
+none_left (work.Open (open_work.Create (creation.Look file fd))) few = few
+none_left (work.Open (open_work.Make m)) few = asks_making m m.stage few
+none_left (work.Name (name_work.Link l)) few = few
+none_left (work.Name (name_work.Rename r)) few = few
+none_left (work.Name (name_work.Unlink u)) few = few
+none_left (work.Name (name_work.Remove r)) few = few
+none_left (work.Attribute (attribute_work.Setattr x)) few = asks_setting x x.change few
+none_left (work.Data (data_work.List l)) few = asks_listing l l.above few
 
 -- a turn that still waits when sixteen things were asked would ask more than any plan does
 pub runs_out : (here : Turn) (asked : ℕ) → 16 ≤ asked → asked ≤ 16

@@ -3,22 +3,22 @@ use Rattle.std.proofs.Common.{◌≡◌, ◌∙◌, ◌+◌, ℕ, suc, List, Opt
 use Rattle.errno.specs.declared.Errno.TheVariants.{ENOMEM}
 use Rattle.ninep.specs.Requests.{Body}
 use Rattle.tree.specs.declared.Reply.{Reply}
-use Rattle.ninep_server.specs.Fids.{EachBecomes, IsUnlinked}
-use Rattle.ninep_server.specs.Knowledge.{Known, File}
-use Rattle.ninep_server.specs.Plans.{Plan, Says, Asks, Changes, OrNoMemory, IsSaid, Follows, closing, error}
-use Rattle.ninep_server.specs.Nodes.{said_of}
+use Rattle.tree.specs.declared.Call.TheVariants as call
+use Rattle.ninep_fids.specs.Fids.{EachBecomes, IsUnlinked}
+use Rattle.ninep_fids.specs.Knowledge.{Known, File}
+use Rattle.ninep_fids.specs.Plans.{Plan, Says, Asks, Changes, OrNoMemory, IsSaid, Follows, closing, error}
+use Rattle.ninep_fids.specs.Nodes.{said_of}
+use Rattle.ninep_fids.specs.declared.refused.Refused.{Refused}
+use Rattle.ninep_fids.specs.declared.refused.Refused.TheVariants.{By}
+use Rattle.ninep_fids.specs.declared.answer.Answer.TheVariants as answer
+use Rattle.ninep_fids.specs.declared.ask.Ask.{Ask}
+use Rattle.ninep_fids.specs.declared.ask.Ask.TheVariants as ask
+use Rattle.ninep_fids.specs.declared.heard.Heard.{Heard}
+use Rattle.ninep_fids.specs.declared.answer.Said.{Said}
 use Rattle.ninep_server.specs.Naming.{removed}
 use Rattle.ninep_server.specs.Progress.{left_of, left_of_turn, AsksNext, behind, SaysSame, Leaves, IsCarriedOn, Within}
 use Rattle.ninep_server.specs.Messages.{syncing, synced}
-use Rattle.tree.specs.declared.Call.TheVariants as call
-use Rattle.ninep_server.specs.declared.refused.Refused.{Refused}
-use Rattle.ninep_server.specs.declared.refused.Refused.TheVariants.{By}
-use Rattle.ninep_server.specs.declared.answer.Answer.TheVariants as answer
 use Rattle.ninep_server.specs.declared.work.Work.{Work}
-use Rattle.ninep_server.specs.declared.ask.Ask.{Ask}
-use Rattle.ninep_server.specs.declared.ask.Ask.TheVariants as ask
-use Rattle.ninep_server.specs.declared.heard.Heard.{Heard}
-use Rattle.ninep_server.specs.declared.answer.Said.{Said}
 use Rattle.ninep_server.specs.declared.turn.Turn.{Turn}
 use Rattle.ninep_server.specs.declared.turn.Turn.TheVariants as turn
 

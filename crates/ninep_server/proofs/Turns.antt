@@ -1,29 +1,30 @@
 -- Turns and what was asked before them.
 use Rattle.std.proofs.Common.{◌≡◌, ◌∙◌, ◌<◌, ◌+◌, ℕ, Bool, true, false, sym, List, [], ◌∷◌, Result, Ok, Err, OnOk, OnErr, is_ok, refl}
 use Rattle.std.proofs.Common.{subst, inl, inr, ◌⊎◌, ◌≤◌, arith}
-use Rattle.ninep_server.specs.declared.heard.Heard.{Heard}
-use Rattle.ninep_server.specs.declared.answer.Said.{Said}
-use Rattle.ninep_server.specs.declared.answer.Said.TheVariants as said
-use Rattle.ninep_server.specs.declared.turn.Turn.{Turn}
-use Rattle.ninep_server.specs.declared.turn.Turn.TheVariants as turn
-use Rattle.tree.specs.declared.Call.TheVariants as call
-use Rattle.ninep_server.specs.declared.answer.Answer.{Answer}
-use Rattle.ninep_server.specs.declared.ask.Ask.{Ask}
-use Rattle.ninep_server.specs.declared.ask.Ask.TheVariants as ask
-use Rattle.ninep_server.specs.Written.{IsWritten, IsSaidIn, too_long, tag_in}
-use Rattle.ninep_server.specs.Connections.{Answers, Says}
 use Rattle.errno.specs.declared.Errno.TheVariants.{ENOMEM}
 use Rattle.ninep.specs.Parts.{Gives}
 use Rattle.ninep.specs.Reading.{request_at}
 use Rattle.ninep.specs.Requests.{view}
 use Rattle.ninep.specs.declared.fault.Fault.{Fault}
 use Rattle.ninep.specs.declared.request.Message.{Message}
-use Rattle.ninep_server.specs.Knowledge.{Known}
-use Rattle.ninep_server.specs.Plans.{Follows}
+use Rattle.tree.specs.declared.Call.TheVariants as call
+use Rattle.ninep_fids.specs.declared.heard.Heard.{Heard}
+use Rattle.ninep_fids.specs.declared.answer.Said.{Said}
+use Rattle.ninep_fids.specs.declared.answer.Said.TheVariants as said
+use Rattle.ninep_fids.specs.declared.answer.Answer.{Answer}
+use Rattle.ninep_fids.specs.declared.ask.Ask.{Ask}
+use Rattle.ninep_fids.specs.declared.ask.Ask.TheVariants as ask
+use Rattle.ninep_fids.specs.Written.{IsWritten, IsSaidIn, too_long, tag_in}
+use Rattle.ninep_fids.specs.Knowledge.{Known}
+use Rattle.ninep_fids.specs.Plans.{Follows}
+use Rattle.ninep_fids.specs.declared.refused.Refused.TheVariants.{By}
+use Rattle.ninep_fids.specs.declared.answer.Answer.TheVariants as answer
+use Rattle.ninep_fids.specs.Talks.{Exchange, IsDone, HasAsked}
+use Rattle.ninep_server.specs.declared.turn.Turn.{Turn}
+use Rattle.ninep_server.specs.declared.turn.Turn.TheVariants as turn
+use Rattle.ninep_server.specs.Connections.{Answers, Says}
 use Rattle.ninep_server.specs.Answering.{IsAnswered, plan_for}
-use Rattle.ninep_server.specs.declared.refused.Refused.TheVariants.{By}
-use Rattle.ninep_server.specs.declared.answer.Answer.TheVariants as answer
-use Rattle.ninep_server.specs.Talks.{Exchange, IsPlain, IsBehindSync, IsDone, Reaches, HasAsked}
+use Rattle.ninep_server.specs.Turns.{IsPlain, IsBehindSync, Reaches}
 
 -- what doesn't say that a sync was done may be said behind anything
 pub plain_behind : (t : Turn) (log : List Exchange) → IsPlain t → IsBehindSync t log

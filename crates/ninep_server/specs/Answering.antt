@@ -6,13 +6,14 @@ use Rattle.ninep.specs.Reading.{request_at}
 use Rattle.ninep.specs.Requests.{view}
 use Rattle.ninep.specs.declared.fault.Fault.{Fault}
 use Rattle.ninep.specs.declared.request.Message.{Message}
-use Rattle.ninep_server.specs.Knowledge.{Known}
-use Rattle.ninep_server.specs.Plans.{Plan, Follows, refuses}
-use Rattle.ninep_server.specs.Messages.{plan_of, refusal_for}
-use Rattle.ninep_server.specs.declared.refused.Refused.TheVariants.{By}
-use Rattle.ninep_server.specs.declared.ask.Ask.{Ask}
-use Rattle.ninep_server.specs.declared.heard.Heard.{Heard}
-use Rattle.ninep_server.specs.declared.answer.Said.{Said}
+use Rattle.ninep_fids.specs.Knowledge.{Known}
+use Rattle.ninep_fids.specs.Plans.{Plan, Follows, refuses}
+use Rattle.ninep_fids.specs.Refusals.{refusal_for}
+use Rattle.ninep_fids.specs.declared.refused.Refused.TheVariants.{By}
+use Rattle.ninep_fids.specs.declared.ask.Ask.{Ask}
+use Rattle.ninep_fids.specs.declared.heard.Heard.{Heard}
+use Rattle.ninep_fids.specs.declared.answer.Said.{Said}
+use Rattle.ninep_server.specs.Messages.{plan_of}
 
 abbrev pub plan_for : Known → ℕ → Result Message Fault → Plan
 plan_for k now (Ok m) = plan_of k now m.request

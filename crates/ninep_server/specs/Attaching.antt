@@ -1,17 +1,17 @@
 -- How a connection begins, and how users attach.
-use Rattle.std.specs.Prelude.{ℕ, Bool, List, [], ◌∷◌, min, nat_lt, codes, Option, Some, None, Result, Ok, Err, if◌then◌else◌, ◌==◌}
+use Rattle.std.specs.Prelude.{ℕ, Bool, List, [], ◌∷◌, min, nat_lt, codes, Option, Some, None, if◌then◌else◌}
 use Rattle.std.specs.Str.{bytes_eq}
 use Rattle.errno.specs.declared.Errno.TheVariants.{EINVAL}
 use Rattle.tree.specs.declared.Call.TheVariants as call
-use Rattle.ninep_server.specs.Knowledge.{Known, new_fid, user_of, file_at}
-use Rattle.ninep_server.specs.Hearing.{attributes_in, session_in}
-use Rattle.ninep_server.specs.Plans.{Plan, Asks, Changes, OrNoMemory, Begins, Attaches, Puts, refuses, with_it, calls, at}
-use Rattle.ninep_server.specs.Nodes.{says, node_of, qid_of}
-use Rattle.ninep_server.specs.declared.refused.Refused.{Refused}
-use Rattle.ninep_server.specs.declared.refused.Refused.TheVariants.{By}
-use Rattle.ninep_server.specs.declared.users.User.{User}
-use Rattle.ninep_server.specs.declared.ask.Ask.TheVariants as ask
-use Rattle.ninep_server.specs.declared.answer.Answer.TheVariants as answer
+use Rattle.ninep_fids.specs.Knowledge.{Known, new_fid, user_of, file_at}
+use Rattle.ninep_fids.specs.Hearing.{attributes_in, session_in}
+use Rattle.ninep_fids.specs.Plans.{Plan, Asks, Changes, OrNoMemory, Begins, Attaches, Puts, refuses, with_it, calls, at}
+use Rattle.ninep_fids.specs.Nodes.{says, node_of, qid_of}
+use Rattle.ninep_fids.specs.declared.refused.Refused.TheVariants.{By}
+use Rattle.ninep_fids.specs.declared.users.User.{User}
+use Rattle.ninep_fids.specs.declared.ask.Ask.TheVariants as ask
+use Rattle.ninep_fids.specs.declared.answer.Answer.TheVariants as answer
+use Rattle.ninep_fids.specs.Checks.{user_number}
 
 -- Tversion: all sessions end, and a connection begins whose messages have at most so many bytes. EINVAL below the least.
 abbrev pub beginning : ℕ → Bool → Plan
@@ -20,10 +20,6 @@ beginning most known = Asks ask.Leave (λ h. Changes (Begins most) (says (answer
 abbrev pub begins : ℕ → List ℕ → Plan
 begins most version =
     if nat_lt most 4096 then refuses (By EINVAL) else beginning (min most 65560) (bytes_eq version (codes "9P2000.L"))
-
--- The number of a user who attaches: none, as Linux sends where all users of the client share one, is user 0.
-abbrev pub user_number : ℕ → Result ℕ Refused
-user_number uid = if uid == 0xffffffff then Ok 0 else if nat_lt uid 65536 then Ok uid else Err (By EINVAL)
 
 -- the root is looked at, and the fid stands for it
 abbrev pub looking_at_root : ℕ → User → Plan

@@ -1,15 +1,5 @@
-pub mod Numbers
-pub mod Refusals
-pub mod Paths
-pub mod Talks
-pub mod Written
-pub mod Sending
+pub mod Turns
 pub mod Connections
-pub mod Fids
-pub mod Knowledge
-pub mod Hearing
-pub mod Plans
-pub mod Nodes
 pub mod Attaching
 pub mod Walks
 pub mod Opens

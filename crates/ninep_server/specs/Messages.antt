@@ -1,74 +1,30 @@
 -- What each message asks, and what is answered.
-use Rattle.std.specs.Prelude.{ℕ, ◌-◌, min, pos, ℤ, Bool, true, false, List, [], ◌∷◌, take, nat_lt, Option, Some, None}
-use Rattle.std.specs.Prelude.{if◌then◌else◌}
-use Rattle.std.specs.Int.{div_ceil}
-use Rattle.errno.specs.declared.Errno.TheVariants.{EFBIG, EINVAL}
+use Rattle.std.specs.Prelude.{ℕ, ◌-◌, min, pos, ℤ, Bool, true, false, List, [], ◌∷◌, take, nat_lt, Option, Some, None, if◌then◌else◌}
+use Rattle.errno.specs.declared.Errno.TheVariants.{EFBIG}
 use Rattle.ninep.specs.Fields.{Text, Data}
 use Rattle.ninep.specs.Requests.{names_in}
-use Rattle.ninep.specs.declared.fault.Fault.{Fault}
-use Rattle.ninep.specs.declared.fault.Fault.TheVariants as fault
-use Rattle.ninep.specs.declared.reply.Room.{Room as RoomTold}
-use Rattle.ninep.specs.declared.reply.Attributes.{Attributes as AttributesTold}
 use Rattle.ninep.specs.declared.request.Request.{Request}
 use Rattle.ninep.specs.declared.request.Request.TheVariants as request
-use Rattle.tree.specs.declared.Attributes.{Attributes}
-use Rattle.tree.specs.declared.LinkTarget.{LinkTarget}
-use Rattle.tree.specs.declared.Room.{Room}
 use Rattle.tree.specs.declared.Call.TheVariants as call
 use Rattle.tree.specs.declared.Whence.TheVariants.{Set}
-use Rattle.ninep_server.specs.Paths.{called}
-use Rattle.ninep_server.specs.Knowledge.{Known, File, found, named, opened}
-use Rattle.ninep_server.specs.Hearing.{done_in, attributes_in, position_in, bytes_in, count_in, room_in, target_in}
-use Rattle.ninep_server.specs.Plans.{Plan, Says, Changes, OrNoMemory, Drops, reply, body_said, refuses, closing, with_it, calls, at}
-use Rattle.ninep_server.specs.Nodes.{says, said_of, node_of, qid_of}
+use Rattle.ninep_fids.specs.Told.{room_told, attributes_told, target_of}
+use Rattle.ninep_fids.specs.Paths.{called}
+use Rattle.ninep_fids.specs.Knowledge.{Known, File, found, named, opened}
+use Rattle.ninep_fids.specs.Hearing.{done_in, attributes_in, position_in, bytes_in, count_in, room_in, target_in}
+use Rattle.ninep_fids.specs.Plans.{Plan, Says, Changes, OrNoMemory, Drops, reply, body_said, refuses, closing, with_it, calls, at}
+use Rattle.ninep_fids.specs.Nodes.{says, said_of}
+use Rattle.ninep_fids.specs.declared.refused.Refused.TheVariants.{By, Stale, Unsupported}
+use Rattle.ninep_fids.specs.declared.heard.Heard.{Heard}
+use Rattle.ninep_fids.specs.declared.answer.Answer.TheVariants as answer
+use Rattle.ninep_fids.specs.declared.answer.Said.TheVariants as said
 use Rattle.ninep_server.specs.Attaching.{begins, attaching}
 use Rattle.ninep_server.specs.Walks.{walks}
 use Rattle.ninep_server.specs.Opens.{opens, creates, makes_directory, makes_link}
 use Rattle.ninep_server.specs.Naming.{links, renames, renames_at, unlinks, removes}
 use Rattle.ninep_server.specs.Settings.{sets}
 use Rattle.ninep_server.specs.Listings.{lists}
-use Rattle.ninep_server.specs.declared.refused.Refused.{Refused}
-use Rattle.ninep_server.specs.declared.refused.Refused.TheVariants.{By, Stale, Unsupported}
 use Rattle.ninep_server.specs.declared.transfer.Moved.{Moved}
 use Rattle.ninep_server.specs.declared.transfer.Moved.TheVariants as moved
-use Rattle.ninep_server.specs.declared.heard.Heard.{Heard}
-use Rattle.ninep_server.specs.declared.answer.Answer.TheVariants as answer
-use Rattle.ninep_server.specs.declared.answer.Said.TheVariants as said
-
--- the attributes of a node: blocks are counted by its size, times are whole seconds
-abbrev pub attributes_told : Attributes → AttributesTold
-attributes_told a = record {
-  valid = 0x7ff;
-  qid = qid_of (node_of a);
-  mode = a.mode;
-  uid = a.uid;
-  gid = a.gid;
-  links = a.links;
-  device = 0;
-  size = a.size;
-  block_size = 4096;
-  blocks = div_ceil a.size 512;
-  atime = (a.atime, 0);
-  mtime = (a.mtime, 0);
-  ctime = (a.ctime, 0);
-  made = (0, 0);
-  generation = 0;
-  data_version = 0;
-}
-
--- the room of the volume, by zones
-abbrev pub room_told : Room → RoomTold
-room_told room = record {
-  kind = 0x01021997;
-  block_size = room.block_size;
-  blocks = room.zones;
-  free = room.free_zones;
-  available = room.free_zones;
-  files = room.inodes;
-  free_files = room.free_inodes;
-  id = 0;
-  name_length = 60;
-}
 
 -- Rread
 abbrev pub says_bytes : List ℕ → Plan
@@ -130,21 +86,12 @@ clunking k fid = with_it (found k.fids fid)
 abbrev pub measuring : ℕ → Plan
 measuring session = calls session call.Statfs (λ h. with_it (room_in h) (λ room. says (answer.Statfs (room_told room))))
 
--- Treadlink
-abbrev pub target_of : LinkTarget → List ℕ
-target_of target = take target.length target.bytes
-
 abbrev pub reading_link : ℕ → List ℕ → Plan
 reading_link session path = calls session (call.Readlink (at (called path))) (λ h. with_it (target_in h)
     (λ target. OrNoMemory (Says (λ most. reply 23 (Text (take 1023 (target_of target)) ∷ []) most))))
 
 abbrev pub following : Known → ℕ → Plan
 following k fid = with_it (named k.fids fid) (λ file. OrNoMemory (reading_link file.user.session file.path))
-
--- why a message isn't answered that can't be read
-abbrev pub refusal_for : Fault → Refused
-refusal_for fault.Unknown = Unsupported
-refusal_for f = By EINVAL
 
 -- Of an open file, or one that is opened. Tlock is granted, and Tgetlock finds none.
 abbrev pub of_file : Known → Request → Plan

@@ -3,18 +3,18 @@ use Rattle.std.specs.Prelude.{ℕ, Bool, true, false, List, Option, Result, Ok, 
 use Rattle.tree.specs.declared.Call.{Call}
 use Rattle.tree.specs.declared.Call.TheVariants as call
 use Rattle.tree.specs.declared.Reply.{Reply}
-use Rattle.ninep_server.specs.Paths.{called, below, checked}
-use Rattle.ninep_server.specs.Knowledge.{Known, File, found, named}
-use Rattle.ninep_server.specs.Hearing.{done_in}
-use Rattle.ninep_server.specs.Opens.{is_set}
-use Rattle.ninep_server.specs.Plans.{Plan, Changes, OrNoMemory, Drops, Renames, Unlinks, error, closing, with_it, calls, at}
-use Rattle.ninep_server.specs.Nodes.{says, said_of}
-use Rattle.ninep_server.specs.declared.refused.Refused.{Refused}
-use Rattle.ninep_server.specs.declared.refused.Refused.TheVariants.{Stale}
-use Rattle.ninep_server.specs.declared.fid.Kind.{Kind}
-use Rattle.ninep_server.specs.declared.fid.Kind.TheVariants as kind
-use Rattle.ninep_server.specs.declared.answer.Answer.{Answer}
-use Rattle.ninep_server.specs.declared.answer.Answer.TheVariants as answer
+use Rattle.ninep_fids.specs.Paths.{called, below, checked}
+use Rattle.ninep_fids.specs.Knowledge.{Known, File, found, named}
+use Rattle.ninep_fids.specs.Hearing.{done_in}
+use Rattle.ninep_fids.specs.Flags.{is_set}
+use Rattle.ninep_fids.specs.Plans.{Plan, Changes, OrNoMemory, Drops, Renames, Unlinks, error, closing, with_it, calls, at}
+use Rattle.ninep_fids.specs.Nodes.{says, said_of}
+use Rattle.ninep_fids.specs.declared.refused.Refused.{Refused}
+use Rattle.ninep_fids.specs.declared.refused.Refused.TheVariants.{Stale}
+use Rattle.ninep_fids.specs.declared.fid.Kind.TheVariants as kind
+use Rattle.ninep_fids.specs.declared.answer.Answer.{Answer}
+use Rattle.ninep_fids.specs.declared.answer.Answer.TheVariants as answer
+use Rattle.ninep_fids.specs.Checks.{is_directory, named_for}
 
 -- Tlink: the file of a fid gets a further name in a directory
 abbrev pub linking : ℕ → List ℕ → List ℕ → Plan
@@ -32,8 +32,8 @@ renaming session old new a = calls session (call.Rename (at (called old)) (at (c
 
 -- Trename: that of a fid's file
 abbrev pub renames : Known → ℕ → ℕ → List ℕ → Plan
-renames k fid directory name = with_it (named k.fids fid) (λ file. with_it (named k.fids directory) (λ parent. with_it (checked name)
-    (λ _. OrNoMemory (renaming parent.user.session file.path (below parent.path name) answer.Rename))))
+renames k fid directory name = with_it (named k.fids fid) (λ file. with_it (named_for k.fids directory name)
+    (λ parent. OrNoMemory (renaming parent.user.session file.path (below parent.path name) answer.Rename)))
 
 -- Trenameat: one in a directory
 abbrev pub renames_at : Known → ℕ → List ℕ → ℕ → List ℕ → Plan
@@ -53,12 +53,8 @@ unlinking session path directory = calls session (unlink_call path directory)
     (λ h. with_it (done_in h) (λ _. Changes (Unlinks path) (says answer.Unlinkat)))
 
 abbrev pub unlinks : Known → ℕ → List ℕ → ℕ → Plan
-unlinks k directory name flags = with_it (named k.fids directory) (λ parent. with_it (checked name)
-    (λ _. OrNoMemory (unlinking parent.user.session (below parent.path name) (is_set flags 0x200))))
-
-abbrev pub is_directory : Kind → Bool
-is_directory kind.Directory = true
-is_directory k = false
+unlinks k directory name flags = with_it (named_for k.fids directory name)
+    (λ parent. OrNoMemory (unlinking parent.user.session (below parent.path name) (is_set flags 0x200)))
 
 -- what a remove says behind the call, and a descriptor is closed
 abbrev pub removed : ℕ → List ℕ → Option ℕ → Result Reply Refused → Plan

@@ -1,50 +1,24 @@
 -- Opening, making files, directories and symbolic links.
-use Rattle.std.specs.Prelude.{⊤, ◌+◌, ◌%◌, ℕ, Bool, not, List, nat_lt, Option, Some, None, Result, Ok, Err, if◌then◌else◌, ◌==◌, ◌&&◌}
-use Rattle.std.specs.Int.RustNames.{bit_and}
-use Rattle.errno.specs.declared.Errno.TheVariants.{EINVAL, ELOOP}
+use Rattle.std.specs.Prelude.{◌+◌, ◌%◌, ℕ, List, Option, Some, None, Result, Ok, Err}
 use Rattle.ninep.specs.declared.reply.Qid.{Qid}
 use Rattle.tree.specs.declared.OpenFlags.{OpenFlags}
 use Rattle.tree.specs.declared.Call.{Call}
 use Rattle.tree.specs.declared.Call.TheVariants as call
-use Rattle.ninep_server.specs.Paths.{called, below, checked}
-use Rattle.ninep_server.specs.Knowledge.{Known, named, closed, file_open}
-use Rattle.ninep_server.specs.Hearing.{done_in, attributes_in, descriptor_in}
-use Rattle.ninep_server.specs.Plans.{Plan, Changes, OrNoMemory, Becomes, error, closing, with_it, calls, at}
-use Rattle.ninep_server.specs.Nodes.{says, node_of, qid_of}
-use Rattle.ninep_server.specs.declared.refused.Refused.{Refused}
-use Rattle.ninep_server.specs.declared.refused.Refused.TheVariants.{By}
-use Rattle.ninep_server.specs.declared.users.User.{User}
-use Rattle.ninep_server.specs.declared.fid.Kind.{Kind}
-use Rattle.ninep_server.specs.declared.fid.Kind.TheVariants as kind
-use Rattle.ninep_server.specs.declared.fid.Node.{Node}
+use Rattle.ninep_fids.specs.Flags.{flag_for, open_bits, flags_by, group_of}
+use Rattle.ninep_fids.specs.Paths.{called, below, checked}
+use Rattle.ninep_fids.specs.Knowledge.{Known, file_open}
+use Rattle.ninep_fids.specs.Hearing.{done_in, attributes_in, descriptor_in}
+use Rattle.ninep_fids.specs.Plans.{Plan, Changes, OrNoMemory, Becomes, error, closing, with_it, calls, at}
+use Rattle.ninep_fids.specs.Nodes.{says, node_of, qid_of}
+use Rattle.ninep_fids.specs.declared.refused.Refused.{Refused}
+use Rattle.ninep_fids.specs.declared.users.User.{User}
+use Rattle.ninep_fids.specs.declared.fid.Kind.TheVariants as kind
+use Rattle.ninep_fids.specs.declared.fid.Node.{Node}
+use Rattle.ninep_fids.specs.declared.answer.Answer.{Answer}
+use Rattle.ninep_fids.specs.declared.answer.Answer.TheVariants as answer
+use Rattle.ninep_fids.specs.Checks.{not_link, named_for, unopened}
 use Rattle.ninep_server.specs.declared.making.Made.{Made}
 use Rattle.ninep_server.specs.declared.making.Made.TheVariants as made
-use Rattle.ninep_server.specs.declared.answer.Answer.{Answer}
-use Rattle.ninep_server.specs.declared.answer.Answer.TheVariants as answer
-
--- a bit is set
-abbrev pub is_set : ℕ → ℕ → Bool
-is_set flags bit = not (bit_and flags bit == 0)
-
--- a flag of the server's open, where a bit is set
-abbrev pub flag_for : ℕ → ℕ → ℕ → ℕ
-flag_for flags bit flag = if is_set flags bit then flag else 0
-
--- Flags of the server's open (1 reads, 2 writes, 4 appends, 32 truncates) by Linux's: 0 reads, 1 writes, 2 does both, and 3 is EINVAL.
--- Without writing nothing is truncated or appended. Other bits mean nothing.
-abbrev pub open_bits : ℕ → Result ℕ Refused
-open_bits flags =
-    if flags % 4 == 0 then Ok 1
-    else if flags % 4 == 3 then Err (By EINVAL)
-    else Ok ((if flags % 4 == 1 then 2 else 3) + (flag_for flags 0x200 32 + flag_for flags 0x400 4))
-
-abbrev pub flags_by : ℕ → OpenFlags
-flags_by bits = record { 0 = bits }
-
--- a symbolic link isn't opened
-abbrev pub not_link : Kind → Result ⊤ Refused
-not_link kind.Symlink = Err (By ELOOP)
-not_link k = Ok tt
 
 abbrev pub opening : ℕ → User → List ℕ → Node → OpenFlags → Plan
 opening fid user path node flags = calls user.session (call.Open (at (called path)) flags 0) (λ h. with_it (descriptor_in h)
@@ -52,12 +26,8 @@ opening fid user path node flags = calls user.session (call.Open (at (called pat
 
 -- Tlopen
 abbrev pub opens : Known → ℕ → ℕ → Plan
-opens k fid flags = with_it (named k.fids fid) (λ file. with_it (closed file.descriptor) (λ _. with_it (not_link file.node.kind)
-    (λ _. with_it (open_bits flags) (λ bits. OrNoMemory (opening fid file.user file.path file.node (flags_by bits))))))
-
--- the group that a new node is given: the one that is asked for, where user 0 asks and it isn't its own
-abbrev pub group_of : User → ℕ → Option ℕ
-group_of user gid = if (user.uid == 0) && (not (gid == 0) && nat_lt gid 65536) then Some gid else None
+opens k fid flags = with_it (unopened k.fids fid) (λ file. with_it (not_link file.node.kind)
+    (λ _. with_it (open_bits flags) (λ bits. OrNoMemory (opening fid file.user file.path file.node (flags_by bits)))))
 
 -- a file that was made is closed where it goes on no further
 abbrev pub or_closes : {A : Type 0} → ℕ → ℕ → Result A Refused → (A → Plan) → Plan
@@ -87,9 +57,9 @@ making_file fid user path flags mode group = calls user.session (call.Open (at (
 
 -- Tlcreate: the flags of an open that makes a file, at a new name alone where that is asked for
 abbrev pub creates : Known → ℕ → List ℕ → ℕ → ℕ → ℕ → Plan
-creates k fid name flags mode gid = with_it (named k.fids fid) (λ directory. with_it (closed directory.descriptor)
-    (λ _. with_it (checked name) (λ _. with_it (open_bits flags) (λ bits. OrNoMemory (making_file fid directory.user
-    (below directory.path name) (flags_by (bits + (8 + flag_for flags 0x80 16))) (mode % 4096) (group_of directory.user gid))))))
+creates k fid name flags mode gid = with_it (unopened k.fids fid) (λ directory. with_it (checked name)
+    (λ _. with_it (open_bits flags) (λ bits. OrNoMemory (making_file fid directory.user (below directory.path name)
+    (flags_by (bits + (8 + flag_for flags 0x80 16))) (mode % 4096) (group_of directory.user gid)))))
 
 -- the call that makes a directory or a symbolic link
 abbrev pub making_call : List ℕ → Made → Call
@@ -118,10 +88,10 @@ making session path what group =
 
 -- Tmkdir
 abbrev pub makes_directory : Known → ℕ → List ℕ → ℕ → ℕ → Plan
-makes_directory k directory name mode gid = with_it (named k.fids directory) (λ parent. with_it (checked name)
-    (λ _. OrNoMemory (making parent.user.session (below parent.path name) (made.Directory (mode % 4096)) (group_of parent.user gid))))
+makes_directory k directory name mode gid = with_it (named_for k.fids directory name)
+    (λ parent. OrNoMemory (making parent.user.session (below parent.path name) (made.Directory (mode % 4096)) (group_of parent.user gid)))
 
 -- Tsymlink: it is given no group
 abbrev pub makes_link : Known → ℕ → List ℕ → List ℕ → Plan
-makes_link k directory name target = with_it (named k.fids directory) (λ parent. with_it (checked name)
-    (λ _. OrNoMemory (making parent.user.session (below parent.path name) (made.Symlink (at target)) None)))
+makes_link k directory name target = with_it (named_for k.fids directory name)
+    (λ parent. OrNoMemory (making parent.user.session (below parent.path name) (made.Symlink (at target)) None))

@@ -1,25 +1,26 @@
 -- How far an answer is: what it still has to ask and to say.
 use Rattle.std.specs.Prelude.{⊤, ◌≡◌, ◌⊎◌, ℕ, zero, suc, ◌∷◌, Option, Some, None, Result, Ok, Err}
-use Rattle.ninep.specs.Requests.{Body, names_in}
 use Rattle.errno.specs.declared.Errno.TheVariants.{ENOMEM}
+use Rattle.ninep.specs.Requests.{Body, names_in}
 use Rattle.tree.specs.declared.Call.TheVariants as call
-use Rattle.ninep_server.specs.Knowledge.{Known, known_of}
-use Rattle.ninep_server.specs.Plans.{Plan, Says, Asks, Changes, OrNoMemory, IsChanged, Follows, body_said, error, refuses}
-use Rattle.ninep_server.specs.Plans.{calls, plain}
-use Rattle.ninep_server.specs.Nodes.{says}
+use Rattle.ninep_fids.specs.Knowledge.{Known, known_of}
+use Rattle.ninep_fids.specs.Plans.{Plan, Says, Asks, Changes, OrNoMemory, IsChanged, Follows, body_said, error, refuses, calls, plain}
+use Rattle.ninep_fids.specs.Nodes.{says}
+use Rattle.ninep_fids.specs.Changes.{in_order}
+use Rattle.ninep_fids.specs.declared.refused.Refused.{Refused}
+use Rattle.ninep_fids.specs.declared.refused.Refused.TheVariants.{By}
+use Rattle.ninep_fids.specs.declared.ask.Ask.{Ask}
+use Rattle.ninep_fids.specs.declared.heard.Heard.{Heard}
+use Rattle.ninep_fids.specs.declared.answer.Said.{Said}
+use Rattle.ninep_fids.specs.declared.knows.Knows.{Knows}
+use Rattle.ninep_fids.specs.declared.changes.Change.{Change}
 use Rattle.ninep_server.specs.Attaching.{beginning, entering, looking_at_root}
 use Rattle.ninep_server.specs.Walks.{looking_at, walking}
 use Rattle.ninep_server.specs.Opens.{opening, making_file, giving_group, looking_at_file, making, giving_made_group, looking_at_made}
 use Rattle.ninep_server.specs.Naming.{linking, renaming, unlinking, removing}
-use Rattle.ninep_server.specs.Settings.{looking_first, changing, in_order}
+use Rattle.ninep_server.specs.Settings.{looking_first, changing}
 use Rattle.ninep_server.specs.Listings.{listing}
 use Rattle.ninep_server.specs.Messages.{transferring, looking, measuring, reading_link, syncing}
-use Rattle.ninep_server.specs.declared.refused.Refused.{Refused}
-use Rattle.ninep_server.specs.declared.refused.Refused.TheVariants.{By}
-use Rattle.ninep_server.specs.declared.ask.Ask.{Ask}
-use Rattle.ninep_server.specs.declared.heard.Heard.{Heard}
-use Rattle.ninep_server.specs.declared.answer.Said.{Said}
-use Rattle.ninep_server.specs.declared.knows.Knows.{Knows}
 use Rattle.ninep_server.specs.declared.turn.Turn.{Turn}
 use Rattle.ninep_server.specs.declared.turn.Turn.TheVariants as turn
 use Rattle.ninep_server.specs.declared.attach.Version.{Version}
@@ -38,13 +39,22 @@ use Rattle.ninep_server.specs.declared.naming.Unlink.{Unlink}
 use Rattle.ninep_server.specs.declared.naming.Remove.{Remove}
 use Rattle.ninep_server.specs.declared.listing.Listing.{Listing}
 use Rattle.ninep_server.specs.declared.attributes.Setattr.{Setattr}
-use Rattle.ninep_server.specs.declared.attributes.Change.{Change}
 use Rattle.ninep_server.specs.declared.transfer.Transfer.{Transfer}
 use Rattle.ninep_server.specs.declared.attributes.Getattr.{Getattr}
 use Rattle.ninep_server.specs.declared.opening.Readlink.{Readlink}
 use Rattle.ninep_server.specs.declared.opening.Close.{Close}
 use Rattle.ninep_server.specs.declared.work.Work.{Work}
 use Rattle.ninep_server.specs.declared.work.Work.TheVariants as work
+use Rattle.ninep_server.specs.declared.work.FidWork.{FidWork}
+use Rattle.ninep_server.specs.declared.work.FidWork.TheVariants as fid_work
+use Rattle.ninep_server.specs.declared.work.OpenWork.{OpenWork}
+use Rattle.ninep_server.specs.declared.work.OpenWork.TheVariants as open_work
+use Rattle.ninep_server.specs.declared.work.DataWork.{DataWork}
+use Rattle.ninep_server.specs.declared.work.DataWork.TheVariants as data_work
+use Rattle.ninep_server.specs.declared.work.AttributeWork.{AttributeWork}
+use Rattle.ninep_server.specs.declared.work.AttributeWork.TheVariants as attribute_work
+use Rattle.ninep_server.specs.declared.work.NameWork.{NameWork}
+use Rattle.ninep_server.specs.declared.work.NameWork.TheVariants as name_work
 use Rattle.ninep_server.specs.declared.work.Next.{Next}
 use Rattle.ninep_server.specs.declared.work.Next.TheVariants as next
 
@@ -109,25 +119,40 @@ left_of_setattr s = left_at_change s s.change
 abbrev pub left_of_listing : Listing → Plan
 left_of_listing l = listing l.session l.path.items l.fd l.inode l.offset l.limit l.above
 
+abbrev pub left_of_fid_work : FidWork → Plan
+left_of_fid_work (fid_work.Version v) = left_of_version v
+left_of_fid_work (fid_work.Attach a) = left_of_attach a
+left_of_fid_work (fid_work.Walk w) = left_of_walk w
+
+abbrev pub left_of_open_work : OpenWork → Plan
+left_of_open_work (open_work.Open o) = left_of_opening o
+left_of_open_work (open_work.Create c) = left_of_creation c
+left_of_open_work (open_work.Make m) = left_of_making m
+left_of_open_work (open_work.Close c) = left_of_close c
+
+abbrev pub left_of_data_work : DataWork → Plan
+left_of_data_work (data_work.Transfer t) = left_of_transfer t
+left_of_data_work (data_work.List l) = left_of_listing l
+left_of_data_work (data_work.Readlink r) = left_of_readlink r
+
+abbrev pub left_of_attribute_work : AttributeWork → Plan
+left_of_attribute_work (attribute_work.Getattr g) = left_of_getattr g
+left_of_attribute_work (attribute_work.Setattr s) = left_of_setattr s
+left_of_attribute_work (attribute_work.Statfs session) = measuring session
+
+abbrev pub left_of_name_work : NameWork → Plan
+left_of_name_work (name_work.Link l) = left_of_link l
+left_of_name_work (name_work.Rename r) = left_of_rename r
+left_of_name_work (name_work.Unlink u) = left_of_unlink u
+left_of_name_work (name_work.Remove r) = left_of_remove r
+
 -- what is left of a work
 abbrev pub left_of : Work → Plan
-left_of (work.Transfer t) = left_of_transfer t
-left_of (work.Getattr g) = left_of_getattr g
-left_of (work.Readlink r) = left_of_readlink r
-left_of (work.Close c) = left_of_close c
-left_of (work.Statfs session) = measuring session
-left_of (work.Version v) = left_of_version v
-left_of (work.Attach a) = left_of_attach a
-left_of (work.Walk w) = left_of_walk w
-left_of (work.Open o) = left_of_opening o
-left_of (work.Create c) = left_of_creation c
-left_of (work.Make m) = left_of_making m
-left_of (work.Link l) = left_of_link l
-left_of (work.Rename r) = left_of_rename r
-left_of (work.Unlink u) = left_of_unlink u
-left_of (work.Remove r) = left_of_remove r
-left_of (work.Setattr s) = left_of_setattr s
-left_of (work.List l) = left_of_listing l
+left_of (work.Fid w) = left_of_fid_work w
+left_of (work.Open w) = left_of_open_work w
+left_of (work.Data w) = left_of_data_work w
+left_of (work.Attribute w) = left_of_attribute_work w
+left_of (work.Name w) = left_of_name_work w
 
 abbrev pub left_of_next : Result Next Refused → Plan
 left_of_next (Ok (next.Go w)) = left_of w

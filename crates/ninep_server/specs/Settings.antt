@@ -1,69 +1,17 @@
 -- Attributes that are changed.
-use Rattle.std.specs.Prelude.{⊤, ℕ, ◌%◌, List, [], ◌∷◌, ◌++◌, nat_lt, Option, Some, None, Result, Ok, Err, if◌then◌else◌}
-use Rattle.std.specs.Option.{option_map, option_to_list}
-use Rattle.errno.specs.declared.Errno.TheVariants.{EINVAL, EFBIG}
-use Rattle.tree.specs.declared.Attributes.{Attributes}
-use Rattle.tree.specs.declared.Call.{Call}
+use Rattle.std.specs.Prelude.{ℕ, List, [], ◌∷◌}
 use Rattle.tree.specs.declared.Call.TheVariants as call
-use Rattle.ninep_server.specs.Paths.{called}
-use Rattle.ninep_server.specs.Knowledge.{Known, named, then_of}
-use Rattle.ninep_server.specs.Hearing.{done_in, attributes_in}
-use Rattle.ninep_server.specs.Opens.{is_set}
-use Rattle.ninep_server.specs.Plans.{Plan, OrNoMemory, with_it, calls, at}
-use Rattle.ninep_server.specs.Nodes.{says}
-use Rattle.ninep_server.specs.declared.refused.Refused.{Refused}
-use Rattle.ninep_server.specs.declared.refused.Refused.TheVariants.{By, Unsupported}
-use Rattle.ninep_server.specs.declared.fid.Kind.{Kind}
-use Rattle.ninep_server.specs.declared.fid.Kind.TheVariants as kind
-use Rattle.ninep_server.specs.declared.attributes.Wanted.{Wanted}
-use Rattle.ninep_server.specs.declared.attributes.Change.{Change}
-use Rattle.ninep_server.specs.declared.attributes.Change.TheVariants as change
-use Rattle.ninep_server.specs.declared.attributes.Changes.{Changes}
-use Rattle.ninep_server.specs.declared.answer.Answer.TheVariants as answer
-
--- A message says by the bits of `valid` what is changed: 1 the mode, 2 the owner, 4 the group, 8 the size, 16 and 32 the times, which are
--- those of the message where 128 and 256 are set, and now else. What it doesn't name stays.
-abbrev pub size_wanted : ℕ → ℕ → Result (Option ℕ) Refused
-size_wanted valid given =
-    if is_set valid 8 then (if nat_lt given 0x100000000 then Ok (Some given) else Err (By EFBIG)) else Ok None
-
-abbrev pub owner_wanted : ℕ → ℕ → ℕ → ℕ → Result ℕ Refused
-owner_wanted valid bit given was =
-    if is_set valid bit then (if nat_lt given 65536 then Ok given else Err (By EINVAL)) else Ok was
-
-abbrev pub time_wanted : ℕ → ℕ × ℕ → ℕ → ℕ → ℕ → Result ℕ Refused
-time_wanted valid bits given now was =
-    if is_set valid bits.0 then (if is_set valid bits.1 then (if nat_lt given 0x100000000 then Ok given else Err (By EINVAL)) else Ok now)
-    else Ok was
-
--- the changes that a message wants of a node with these attributes
-abbrev pub changes_wanted : Wanted → Attributes → Result Changes Refused
-changes_wanted w was =
-    then_of (size_wanted w.valid w.size) (λ size.
-    then_of (owner_wanted w.valid 2 w.uid was.uid) (λ uid.
-    then_of (owner_wanted w.valid 4 w.gid was.gid) (λ gid.
-    then_of (time_wanted w.valid (16, 128) w.atime w.now was.atime) (λ atime.
-    then_of (time_wanted w.valid (32, 256) w.mtime w.now was.mtime) (λ mtime.
-    Ok (record {
-      size = size;
-      owners = if is_set w.valid 6 then Some (uid, gid) else None;
-      mode = if is_set w.valid 1 then Some (w.mode % 4096) else None;
-      times = if is_set w.valid 48 then Some (atime, mtime) else None;
-    }))))))
-
--- in this order
-abbrev pub in_order : Changes → List Change
-in_order c =
-    option_to_list (option_map (λ size. change.Size size) c.size)
-    ++ (option_to_list (option_map (λ (owners : ℕ × ℕ). change.Owners owners.0 owners.1) c.owners)
-    ++ (option_to_list (option_map (λ mode. change.Mode mode) c.mode)
-    ++ option_to_list (option_map (λ (times : ℕ × ℕ). change.Times times.0 times.1) c.times)))
-
-abbrev pub change_call : List ℕ → Change → Call
-change_call path (change.Size size) = call.Truncate (at (called path)) size
-change_call path (change.Owners uid gid) = call.Chown (at (called path)) uid gid
-change_call path (change.Mode mode) = call.Chmod (at (called path)) mode
-change_call path (change.Times atime mtime) = call.Utime (at (called path)) atime mtime
+use Rattle.ninep_fids.specs.Changes.{changes_wanted, in_order, change_call}
+use Rattle.ninep_fids.specs.Paths.{called}
+use Rattle.ninep_fids.specs.Knowledge.{Known, named}
+use Rattle.ninep_fids.specs.Hearing.{done_in, attributes_in}
+use Rattle.ninep_fids.specs.Plans.{Plan, OrNoMemory, with_it, calls, at}
+use Rattle.ninep_fids.specs.Nodes.{says}
+use Rattle.ninep_fids.specs.declared.fid.Kind.TheVariants as kind
+use Rattle.ninep_fids.specs.declared.changes.Wanted.{Wanted}
+use Rattle.ninep_fids.specs.declared.changes.Change.{Change}
+use Rattle.ninep_fids.specs.declared.answer.Answer.TheVariants as answer
+use Rattle.ninep_fids.specs.Checks.{changeable}
 
 -- one change is made after the other
 abbrev pub changing : ℕ → List ℕ → List Change → Plan
@@ -74,11 +22,6 @@ changing session path (c ∷ changes) =
 abbrev pub looking_first : ℕ → List ℕ → Wanted → Plan
 looking_first session path wanted = calls session (call.Lstat (at (called path))) (λ h. with_it (attributes_in h)
     (λ a. with_it (changes_wanted wanted a) (λ c. changing session path (in_order c))))
-
--- what a symbolic link has isn't changed
-abbrev pub changeable : Kind → Result ⊤ Refused
-changeable kind.Symlink = Err Unsupported
-changeable k = Ok tt
 
 -- Tsetattr
 abbrev pub sets : Known → ℕ → Wanted → Plan

@@ -1,23 +1,21 @@
 -- Walks: a new fid for what names lead to, one after the other.
-use Rattle.std.specs.Prelude.{⊤, ℕ, List, [], ◌∷◌, ◌++◌, length, Option, Result, Ok, Err, if◌then◌else◌, ◌==◌}
+use Rattle.std.specs.Prelude.{ℕ, List, [], ◌∷◌, ◌++◌, length, Result, Ok, Err}
 use Rattle.std.specs.List.{flat_map}
-use Rattle.errno.specs.declared.Errno.TheVariants.{ENOTDIR}
 use Rattle.ninep.specs.Fields.{Two, Number}
 use Rattle.ninep.specs.Replies.{qid_fields}
 use Rattle.ninep.specs.declared.reply.Qid.{Qid}
 use Rattle.tree.specs.declared.Call.TheVariants as call
-use Rattle.ninep_server.specs.Paths.{called, leads, stepped}
-use Rattle.ninep_server.specs.Knowledge.{Known, named, new_fid, closed, file_at}
-use Rattle.ninep_server.specs.Hearing.{attributes_in}
-use Rattle.ninep_server.specs.Plans.{Plan, Says, Changes, OrNoMemory, Puts, reply, refuses, with_it, calls, at}
-use Rattle.ninep_server.specs.Nodes.{node_of, qid_of}
-use Rattle.ninep_server.specs.Written.{walked}
-use Rattle.ninep_server.specs.declared.refused.Refused.{Refused}
-use Rattle.ninep_server.specs.declared.refused.Refused.TheVariants.{By}
-use Rattle.ninep_server.specs.declared.users.User.{User}
-use Rattle.ninep_server.specs.declared.fid.Kind.{Kind}
-use Rattle.ninep_server.specs.declared.fid.Kind.TheVariants as kind
-use Rattle.ninep_server.specs.declared.fid.Node.{Node}
+use Rattle.ninep_fids.specs.Paths.{called, stepped}
+use Rattle.ninep_fids.specs.Knowledge.{Known, named, file_at}
+use Rattle.ninep_fids.specs.Hearing.{attributes_in}
+use Rattle.ninep_fids.specs.Plans.{Plan, Says, Changes, OrNoMemory, Puts, reply, refuses, with_it, calls, at}
+use Rattle.ninep_fids.specs.Nodes.{node_of, qid_of}
+use Rattle.ninep_fids.specs.Written.{walked}
+use Rattle.ninep_fids.specs.declared.refused.Refused.{Refused}
+use Rattle.ninep_fids.specs.declared.users.User.{User}
+use Rattle.ninep_fids.specs.declared.fid.Kind.TheVariants as kind
+use Rattle.ninep_fids.specs.declared.fid.Node.{Node}
+use Rattle.ninep_fids.specs.Checks.{enters, place}
 
 -- Rwalk: what the names lead to, at most sixteen
 abbrev pub says_walked : List Qid → Plan
@@ -32,11 +30,6 @@ abbrev pub with_name : {A : Type 0} → List Qid → Result A Refused → (A →
 with_name qids (Ok a) next = next a
 with_name qids (Err refused) next = stops qids refused
 
--- only a directory has names
-abbrev pub enters : Kind → List ℕ → Result ⊤ Refused
-enters kind.Directory name = leads name
-enters k name = Err (By ENOTDIR)
-
 -- what stands at a path is looked at, and it goes on from there
 abbrev pub looking_at : User → List ℕ → List Qid → (Node → List Qid → Plan) → Plan
 looking_at user path qids next = calls user.session (call.Lstat (at (called path))) (λ h. with_name qids (attributes_in h)
@@ -47,10 +40,6 @@ abbrev pub walking : ℕ → User → List (List ℕ) → List ℕ → Node → 
 walking fid user [] path node qids = OrNoMemory (Changes (Puts fid (file_at user path node)) (says_walked qids))
 walking fid user (name ∷ names) path node qids = with_name qids (enters node.kind name)
     (λ _. OrNoMemory (looking_at user (stepped path name) qids (walking fid user names (stepped path name))))
-
--- a fid may be walked to itself, where it isn't open
-abbrev pub place : Known → ℕ → ℕ → Option ℕ → Result ⊤ Refused
-place k fid new descriptor = if new == fid then closed descriptor else new_fid k.fids new
 
 -- Twalk
 abbrev pub walks : Known → ℕ → ℕ → List (List ℕ) → Plan

@@ -1,21 +1,17 @@
 //! How a connection begins, and how users attach.
 
-ghost use Rattle.std.specs.Prelude.{◌≡◌, ◌≤◌, Ok};
-ghost use Rattle.ninep_server.specs.Attaching.{user_number};
+ghost use Rattle.std.specs.Prelude.{◌≤◌, Ok};
 
-use crate::answer::Answer;
-use crate::ask::Ask;
-use crate::fid::{Fid, Node};
-use crate::heard::Heard;
-use crate::knows::{Knows, MAX_MESSAGE, MIN_MESSAGE};
-use crate::refused::Refused;
-use crate::users::User;
-use crate::work::{Next, Work};
+use crate::work::{FidWork, Next, Work};
 use errno::Errno;
+use ninep_fids::answer::Answer;
+use ninep_fids::ask::Ask;
+use ninep_fids::fid::{Fid, Node};
+use ninep_fids::heard::Heard;
+use ninep_fids::knows::{Knows, MAX_MESSAGE, MIN_MESSAGE};
+use ninep_fids::refused::Refused;
+use ninep_fids::users::{User, number_of};
 use tree::Call;
-
-/// The number for no user, which Linux sends where all users of the client share one: it is user 0 here.
-const NO_USER: u32 = 0xffff_ffff;
 
 /// A connection begins, once all sessions of the one before have ended.
 #[derive(Drop)]
@@ -26,7 +22,7 @@ pub(crate) struct Version {
 }
 
 impl Version {
-    ghost use Rattle.ninep_server.specs.Knowledge.{Known, known_of};
+    ghost use Rattle.ninep_fids.specs.Knowledge.{Known, known_of};
     ghost use Rattle.ninep_server.specs.Attaching.{begins};
     ghost use Rattle.ninep_server.specs.Progress.{Leaves, behind, left_of_next, left_of_version};
 
@@ -37,10 +33,10 @@ impl Version {
         if message_size < MIN_MESSAGE {
             return Err(Refused::By(Errno::EINVAL));
         }
-        Ok(Next::Go(Work::Version(Version {
+        Ok(Next::Go(Work::Fid(FidWork::Version(Version {
             message_size: message_size.min(MAX_MESSAGE),
             known: version == b"9P2000.L".as_slice(),
-        })))
+        }))))
     }
 
     /// The sessions have ended.
@@ -57,19 +53,6 @@ impl Version {
     }
 }
 
-/// The number of a user on a volume; EINVAL where it has none.
-fn number_of(uid: u32) -> Result<u16, Refused>
-    ensures { result ≡ user_number uid }
-{
-    if uid == NO_USER {
-        return Ok(0);
-    }
-    match u16::try_from(uid) {
-        Ok(uid) => Ok(uid),
-        Err(_) => Err(Refused::By(Errno::EINVAL)),
-    }
-}
-
 /// A user attaches.
 #[derive(Clone, Copy)]
 pub(crate) enum Attach {
@@ -80,7 +63,7 @@ pub(crate) enum Attach {
 }
 
 impl Attach {
-    ghost use Rattle.ninep_server.specs.Knowledge.{known_of};
+    ghost use Rattle.ninep_fids.specs.Knowledge.{known_of};
     ghost use Rattle.ninep_server.specs.Attaching.{attaching};
     ghost use Rattle.ninep_server.specs.Progress.{AsksNext, BeginsAs, Leaves, behind, left_of_attach, left_of_next};
 
@@ -94,7 +77,7 @@ impl Attach {
             Some(user) => Attach::Root { fid, user },
             None => Attach::Enter { fid, uid },
         };
-        Ok(Next::Go(Work::Attach(work)))
+        Ok(Next::Go(Work::Fid(FidWork::Attach(work))))
     }
 
     pub(crate) fn ask(&self) -> Ask<'_>
@@ -120,7 +103,7 @@ impl Attach {
                 let session = heard.session()?;
                 let user = User { uid, session };
                 knows.users.put(user)?;
-                Ok(Next::Go(Work::Attach(Attach::Root { fid, user })))
+                Ok(Next::Go(Work::Fid(FidWork::Attach(Attach::Root { fid, user }))))
             }
             Attach::Root { fid, user } => {
                 let root = Node::of(&heard.attributes()?);

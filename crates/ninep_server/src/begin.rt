@@ -1,25 +1,26 @@
 //! How the answer to a message begins.
 
-ghost use Rattle.ninep_server.specs.Talks.{IsPlain};
-ghost use Rattle.ninep_server.specs.Knowledge.{known_of};
+ghost use Rattle.ninep_fids.specs.Knowledge.{known_of};
+ghost use Rattle.ninep_server.specs.Turns.{IsPlain};
 ghost use Rattle.ninep_server.specs.Messages.{of_fid, of_node, of_name, of_file, plan_of};
 ghost use Rattle.ninep_server.specs.Progress.{BeginsAs, Leaves, left_of_turn};
 
-use crate::answer::{Answer, Said};
 use crate::attach::{Attach, Version};
-use crate::attributes::{Getattr, Setattr, Wanted};
+use crate::attributes::{Getattr, Setattr};
 use crate::creation::Creation;
-use crate::knows::Knows;
 use crate::listing::Listing;
 use crate::making::Making;
 use crate::naming::{Link, Remove, Rename, Unlink};
 use crate::opening::{Close, Opening, Readlink};
-use crate::refused::Refused;
 use crate::transfer::Transfer;
 use crate::turn::Turn;
 use crate::walk::Walk;
-use crate::work::{Next, Work};
+use crate::work::{AttributeWork, Next, Work};
 use ninep::request::Request;
+use ninep_fids::answer::{Answer, Said};
+use ninep_fids::changes::Wanted;
+use ninep_fids::knows::Knows;
+use ninep_fids::refused::Refused;
 
 /// How the answer to a message begins, at this time.
 pub(crate) fn begin<'m>(knows: &mut Knows, now: u32, request: &Request<'m>) -> Turn<'m>
@@ -88,7 +89,7 @@ fn on_node<'m>(knows: &Knows, now: u32, request: &Request<'m>) -> Result<Next<'m
         Request::Readlink { fid } => Readlink::begin(knows, fid),
         Request::Statfs { fid } => {
             let session = knows.fids.get(fid)?.user.session;
-            Ok(Next::Go(Work::Statfs(session)))
+            Ok(Next::Go(Work::Attribute(AttributeWork::Statfs(session))))
         }
         _ => on_name(knows, request),
     }

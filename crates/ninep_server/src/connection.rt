@@ -1,28 +1,27 @@
 //! A connection, which answers messages.
 
-ghost use Rattle.std.specs.Prelude.{◌≡◌, ◌<◌, ◌+◌, ℕ, suc, [], length, vec_len, vec_capacity, IfOk, IfErr, IsErr, OnOk, OnErr, ◌↔◌, Err};
-ghost use Rattle.ninep_server.specs.Talks.{MayHear, Reaches, HasAsked};
-ghost use Rattle.ninep_server.specs.Written.{tag_in};
-ghost use Rattle.ninep_server.specs.Knowledge.{known_of};
-ghost use Rattle.ninep_server.specs.Plans.{Follows};
+ghost use Rattle.std.specs.Prelude.{◌≡◌, ◌<◌, ◌+◌, ℕ, suc, [], length, vec_len, vec_capacity, OnOk, OnErr, ◌↔◌, Err};
+ghost use Rattle.ninep_fids.specs.Talks.{MayHear, HasAsked};
+ghost use Rattle.ninep_fids.specs.Written.{tag_in};
+ghost use Rattle.ninep_fids.specs.Knowledge.{known_of};
+ghost use Rattle.ninep_fids.specs.Plans.{Follows};
+ghost use Rattle.ninep_server.specs.Turns.{Reaches};
 ghost use Rattle.ninep_server.specs.Answering.{IsAnswered};
-ghost use Rattle.ninep_server.specs.Messages.{plan_of, refusal_for};
+ghost use Rattle.ninep_server.specs.Messages.{plan_of};
 ghost use Rattle.ninep_server.specs.Progress.{IsCarriedOn, Within, left_of_turn};
 
-use crate::answer::{Answer, Said};
-use crate::ask::Ask;
 use crate::begin::begin;
-use crate::end::End;
-use crate::heard::Heard;
-use crate::knows::{Knows, MAX_MESSAGE};
-use crate::refused::Refused;
-use crate::send::send;
-use crate::sessions::Sessions;
 use crate::turn::Turn;
 use errno::Errno;
-use ninep::fault::Fault;
 use ninep::reading::read;
 use ninep::request::Request;
+use ninep_fids::answer::{Answer, Said};
+use ninep_fids::ask::Ask;
+use ninep_fids::end::{End, tag_of};
+use ninep_fids::knows::{Knows, MAX_MESSAGE};
+use ninep_fids::refused::{Refused, refusal_of};
+use ninep_fids::send::send;
+use ninep_fids::sessions::{Sessions, heard};
 use std::alloc::Global;
 use tree::Call;
 
@@ -33,44 +32,6 @@ const MOST_ASKED: usize = 16;
 #[derive(Drop)]
 pub struct Connection {
     knows: Knows,
-}
-
-/// What the sessions answer.
-fn heard<S: Sessions>(sessions: &mut S, now: u32, ask: &Ask<'_>) -> Heard
-    ensures { MayHear S.called S.entered S.left now sessions.old ask.now result sessions.new }
-{
-    match ask {
-        Ask::Enter { uid, gid } => Heard::Entered(sessions.enter(*uid, *gid)),
-        Ask::Leave => {
-            sessions.leave();
-            Heard::Left
-        }
-        Ask::Call { session, call } => Heard::Outcome(sessions.call(*session, now, call)),
-    }
-}
-
-/// Why a message isn't taken that has a tag.
-fn refusal_of(fault: Fault) -> Refused
-    ensures { result ≡ refusal_for fault }
-{
-    match fault {
-        Fault::Unknown => Refused::Unsupported,
-        Fault::Short | Fault::Size | Fault::ManyNames | Fault::Trailing => {
-            Refused::By(Errno::EINVAL)
-        }
-    }
-}
-
-/// The tag of a message.
-fn tag_of(bytes: &[u8]) -> Result<u16, End>
-    ensures tag { IfOk result (λ tag. tag ≡ tag_in bytes.now) }
-    ensures none { IfErr result (λ e. e ≡ End.NoMessage) }
-    ensures short { IsErr result ↔ (length bytes.now < 7) }
-{
-    if bytes.len() < 7 {
-        return Err(End::NoMessage);
-    }
-    Ok(u16::from_le_bytes([bytes[5], bytes[6]]))
 }
 
 /// Asks what a turn waits for, and goes on from what is answered.

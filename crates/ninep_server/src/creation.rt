@@ -1,46 +1,30 @@
 //! Making a file, which its directory's fid stands for from then on, open.
 
-ghost use Rattle.std.specs.Prelude.{◌≡◌, ◌%◌, Ok, Some};
-ghost use Rattle.ninep_server.specs.Knowledge.{Known, known_of};
-ghost use Rattle.ninep_server.specs.Plans.{closing, error};
-ghost use Rattle.ninep_server.specs.Opens.{creates, group_of, made_file};
+ghost use Rattle.std.specs.Prelude.{◌≡◌, Ok, Some};
+ghost use Rattle.ninep_fids.specs.Knowledge.{Known, known_of};
+ghost use Rattle.ninep_fids.specs.Plans.{closing, error};
+ghost use Rattle.ninep_fids.specs.Flags.{group_of};
+ghost use Rattle.ninep_server.specs.Opens.{creates, made_file};
 ghost use Rattle.ninep_server.specs.Progress.{AsksNext, BeginsAs, Leaves, behind, left_of_creation, left_of_next};
 
-use crate::answer::Answer;
-use crate::ask::Ask;
-use crate::fid::{Fid, Node};
-use crate::heard::Heard;
-use crate::knows::Knows;
-use crate::opening::{Close, EXCLUSIVE, bits_of, check_closed, flag_for};
-use crate::paths::{below, called, check_name};
-use crate::refused::Refused;
-use crate::users::User;
-use crate::work::{Next, Work};
+use crate::opening::Close;
+use crate::work::{Next, OpenWork, Work};
 use bitflags::Flags;
+use ninep_fids::answer::Answer;
+use ninep_fids::ask::Ask;
+use ninep_fids::fid::{Fid, Node};
+use ninep_fids::flags::{EXCLUSIVE, bits_of, flag_for, group_of, mode_of};
+use ninep_fids::heard::Heard;
+use ninep_fids::knows::Knows;
+use ninep_fids::paths::{below, called, check_name};
+use ninep_fids::refused::Refused;
+use ninep_fids::users::User;
 use tree::{Call, OpenFlags};
 
 /// The flag of the server's open that makes a file, and the one by which it refuses one that is there.
 const CREATE: u8 = 8;
 
 const ONLY_NEW: u8 = 16;
-
-/// The permission bits of a mode of Linux, with those that the server refuses.
-pub(crate) fn mode_of(mode: u32) -> u16
-    ensures { result ≡ mode % 4096 }
-{
-    (mode % 0o10000) as u16
-}
-
-/// The group that a new node is given: the one that is asked for, where user 0 asks and it isn't its own.
-pub(crate) fn group_of(user: User, gid: u32) -> Option<u16>
-    ensures { result ≡ group_of user gid }
-{
-    if user.uid == 0 && gid != 0 && gid <= 0xffff {
-        Some(gid as u16)
-    } else {
-        None
-    }
-}
 
 /// The new file.
 #[derive(Drop)]
@@ -84,18 +68,17 @@ impl Creation {
     ) -> Result<Next<'m>, Refused>
         ensures { BeginsAs (creates (known_of knows.now) fid name.now flags mode gid) knows.now knows.now result }
     {
-        let directory = knows.fids.named(fid)?;
-        check_closed(directory.descriptor)?;
+        let directory = knows.fids.unopened(fid)?;
         check_name(name)?;
         let bits = bits_of(flags)? + (CREATE + flag_for(flags, EXCLUSIVE, ONLY_NEW));
         let user = directory.user;
         let path = below(knows.alloc, &directory.path, name)?;
-        Ok(Next::Go(Work::Create(Creation::Open {
+        Ok(Next::Go(Work::Open(OpenWork::Create(Creation::Open {
             file: NewFile { fid, user, path },
             flags: OpenFlags::from_bits_retain(bits),
             mode: mode_of(mode),
             group: group_of(user, gid),
-        })))
+        }))))
     }
 
     pub(crate) fn ask(&self) -> Ask<'_>
@@ -139,7 +122,7 @@ impl Creation {
                 Ok(file.opened(fd, group))
             }
             Creation::Chown { file, fd, .. } => match heard.done() {
-                Ok(()) => Ok(Next::Go(Work::Create(Creation::Look { file, fd }))),
+                Ok(()) => Ok(Next::Go(Work::Open(OpenWork::Create(Creation::Look { file, fd })))),
                 Err(refused) => Ok(file.give_up(fd, refused)),
             },
             Creation::Look { file, fd } => match heard.attributes() {
@@ -151,21 +134,20 @@ impl Creation {
 }
 
 impl NewFile {
-    ghost use Rattle.ninep_server.specs.Nodes.{says, qid_of};
     ghost use Rattle.ninep_server.specs.Opens.{became};
 
     /// It was made and opened: it is given its group, where it is given one, or looked at.
     fn opened<'m>(self, fd: u32, group: Option<u16>) -> Next<'m>
         ensures { left_of_next (Ok result) ≡ made_file self.fid self.user self.path.items group fd }
     {
-        Next::Go(Work::Create(match group {
+        Next::Go(Work::Open(OpenWork::Create(match group {
             Some(gid) => Creation::Chown {
                 file: self,
                 fd,
                 gid,
             },
             None => Creation::Look { file: self, fd },
-        }))
+        })))
     }
 
     /// The fid stands for the file from now on.

@@ -1,19 +1,18 @@
 //! Making a directory or a symbolic link.
 
-ghost use Rattle.std.specs.Prelude.{◌≡◌};
-ghost use Rattle.ninep_server.specs.Knowledge.{known_of};
+ghost use Rattle.ninep_fids.specs.Knowledge.{known_of};
 ghost use Rattle.ninep_server.specs.Opens.{makes_directory, makes_link};
 ghost use Rattle.ninep_server.specs.Progress.{AsksNext, BeginsAs, GoesOnAs, left_of_making};
 
-use crate::answer::Answer;
-use crate::ask::Ask;
-use crate::creation::{group_of, mode_of};
-use crate::fid::Node;
-use crate::heard::Heard;
-use crate::knows::Knows;
-use crate::paths::{below, called, check_name};
-use crate::refused::Refused;
-use crate::work::{Next, Work};
+use crate::work::{Next, OpenWork, Work};
+use ninep_fids::answer::Answer;
+use ninep_fids::ask::Ask;
+use ninep_fids::fid::Node;
+use ninep_fids::flags::{group_of, mode_of};
+use ninep_fids::heard::Heard;
+use ninep_fids::knows::Knows;
+use ninep_fids::paths::{below, called};
+use ninep_fids::refused::Refused;
 use tree::Call;
 
 /// What is made.
@@ -56,9 +55,8 @@ impl<'m> Making<'m> {
     ) -> Result<Next<'m>, Refused>
         ensures { BeginsAs (makes_directory (known_of knows.now) directory name.now mode gid) knows.now knows.now result }
     {
-        let parent = knows.fids.named(directory)?;
-        check_name(name)?;
-        Ok(Next::Go(Work::Make(Making {
+        let parent = knows.fids.named_for(directory, name)?;
+        Ok(Next::Go(Work::Open(OpenWork::Make(Making {
             session: parent.user.session,
             path: below(knows.alloc, &parent.path, name)?,
             made: Made::Directory {
@@ -66,7 +64,7 @@ impl<'m> Making<'m> {
             },
             group: group_of(parent.user, gid),
             stage: Stage::Make,
-        })))
+        }))))
     }
 
     /// Makes a symbolic link.
@@ -78,15 +76,14 @@ impl<'m> Making<'m> {
     ) -> Result<Next<'m>, Refused>
         ensures { BeginsAs (makes_link (known_of knows.now) directory name.now target.now) knows.now knows.now result }
     {
-        let parent = knows.fids.named(directory)?;
-        check_name(name)?;
-        Ok(Next::Go(Work::Make(Making {
+        let parent = knows.fids.named_for(directory, name)?;
+        Ok(Next::Go(Work::Open(OpenWork::Make(Making {
             session: parent.user.session,
             path: below(knows.alloc, &parent.path, name)?,
             made: Made::Symlink { target },
             group: None,
             stage: Stage::Make,
-        })))
+        }))))
     }
 
     /// The call of its stage.
@@ -123,12 +120,12 @@ impl<'m> Making<'m> {
                     Some(gid) => Stage::Chown { gid },
                     None => Stage::Look,
                 };
-                Ok(Next::Go(Work::Make(self)))
+                Ok(Next::Go(Work::Open(OpenWork::Make(self))))
             }
             Stage::Chown { .. } => {
                 heard.done()?;
                 self.stage = Stage::Look;
-                Ok(Next::Go(Work::Make(self)))
+                Ok(Next::Go(Work::Open(OpenWork::Make(self))))
             }
             Stage::Look => {
                 let qid = Node::of(&heard.attributes()?).qid();

@@ -1,21 +1,23 @@
 //! Names: further ones, changed ones, and ones that are taken away.
 
 ghost use Rattle.std.specs.Prelude.{◌≡◌};
-ghost use Rattle.ninep_server.specs.Knowledge.{known_of};
-ghost use Rattle.ninep_server.specs.Naming.{links, renames, renames_at, unlinks, unlink_call, removes, is_directory};
-ghost use Rattle.ninep_server.specs.Plans.{plain_call};
+ghost use Rattle.ninep_fids.specs.Knowledge.{known_of};
+ghost use Rattle.ninep_fids.specs.Checks.{is_directory};
+ghost use Rattle.ninep_fids.specs.Plans.{plain_call};
+ghost use Rattle.ninep_server.specs.Naming.{links, renames, renames_at, unlinks, unlink_call, removes};
 ghost use Rattle.ninep_server.specs.Progress.{AsksNext, BeginsAs, GoesOnAs, Leaves, behind, left_of_link, left_of_next, left_of_rename};
 ghost use Rattle.ninep_server.specs.Progress.{left_of_unlink, left_of_remove};
 
-use crate::answer::Answer;
-use crate::ask::Ask;
-use crate::fid::Kind;
-use crate::heard::Heard;
-use crate::knows::Knows;
-use crate::opening::{Close, has};
-use crate::paths::{below, called, check_name};
-use crate::refused::Refused;
-use crate::work::{Next, Work};
+use crate::opening::Close;
+use crate::work::{NameWork, Next, Work};
+use ninep_fids::answer::Answer;
+use ninep_fids::ask::Ask;
+use ninep_fids::checks::is_directory;
+use ninep_fids::flags::has;
+use ninep_fids::heard::Heard;
+use ninep_fids::knows::Knows;
+use ninep_fids::paths::{below, called, check_name};
+use ninep_fids::refused::Refused;
 use tree::Call;
 
 /// A file is given a further name.
@@ -38,11 +40,11 @@ impl Link {
         let parent = knows.fids.named(directory)?;
         let file = knows.fids.named(fid)?;
         check_name(name)?;
-        Ok(Next::Go(Work::Link(Link {
+        Ok(Next::Go(Work::Name(NameWork::Link(Link {
             session: parent.user.session,
             old: file.path.to_vec(knows.alloc)?,
             new: below(knows.alloc, &parent.path, name)?,
-        })))
+        }))))
     }
 
     pub(crate) fn ask(&self) -> Ask<'_>
@@ -85,14 +87,13 @@ impl Rename {
         ensures { BeginsAs (renames (known_of knows.now) fid directory name.now) knows.now knows.now result }
     {
         let file = knows.fids.named(fid)?;
-        let parent = knows.fids.named(directory)?;
-        check_name(name)?;
-        Ok(Next::Go(Work::Rename(Rename {
+        let parent = knows.fids.named_for(directory, name)?;
+        Ok(Next::Go(Work::Name(NameWork::Rename(Rename {
             session: parent.user.session,
             old: file.path.to_vec(knows.alloc)?,
             new: below(knows.alloc, &parent.path, name)?,
             then: Answer::Rename,
-        })))
+        }))))
     }
 
     /// What has a name in a directory gets another one.
@@ -107,12 +108,12 @@ impl Rename {
         let to = knows.fids.named(new.0)?;
         check_name(old.1)?;
         check_name(new.1)?;
-        Ok(Next::Go(Work::Rename(Rename {
+        Ok(Next::Go(Work::Name(NameWork::Rename(Rename {
             session: from.user.session,
             old: below(knows.alloc, &from.path, old.1)?,
             new: below(knows.alloc, &to.path, new.1)?,
             then: Answer::Renameat,
-        })))
+        }))))
     }
 
     pub(crate) fn ask(&self) -> Ask<'_>
@@ -169,13 +170,12 @@ impl Unlink {
     ) -> Result<Next<'m>, Refused>
         ensures { BeginsAs (unlinks (known_of knows.now) directory name.now flags) knows.now knows.now result }
     {
-        let parent = knows.fids.named(directory)?;
-        check_name(name)?;
-        Ok(Next::Go(Work::Unlink(Unlink {
+        let parent = knows.fids.named_for(directory, name)?;
+        Ok(Next::Go(Work::Name(NameWork::Unlink(Unlink {
             session: parent.user.session,
             path: below(knows.alloc, &parent.path, name)?,
             directory: has(flags, REMOVE_DIRECTORY),
-        })))
+        }))))
     }
 
     pub(crate) fn ask(&self) -> Ask<'_>
@@ -193,16 +193,6 @@ impl Unlink {
         heard.done()?;
         knows.fids.unlink(&self.path);
         Ok(Next::Done(Answer::Unlinkat))
-    }
-}
-
-/// Whether a node is a directory.
-fn is_directory(kind: Kind) -> bool
-    ensures { result ≡ is_directory kind }
-{
-    match kind {
-        Kind::Directory => true,
-        Kind::File | Kind::Symlink => false,
     }
 }
 
@@ -225,12 +215,12 @@ impl Remove {
             let stale = Answer::Refused(Refused::Stale);
             return Ok(Close::begin(session, taken.descriptor, stale));
         }
-        Ok(Next::Go(Work::Remove(Remove {
+        Ok(Next::Go(Work::Name(NameWork::Remove(Remove {
             session,
             directory: is_directory(taken.node.kind),
             path: taken.path,
             descriptor: taken.descriptor,
-        })))
+        }))))
     }
 
     pub(crate) fn ask(&self) -> Ask<'_>

@@ -1,83 +1,28 @@
 //! Opening, letting go, and reading a link.
 
-ghost use Rattle.std.specs.Prelude.{◌≡◌, ◌≤◌, Ok, IfOk, take};
-ghost use Rattle.ninep_server.specs.Knowledge.{known_of};
-ghost use Rattle.ninep_server.specs.Knowledge.{closed};
-ghost use Rattle.ninep_server.specs.Nodes.{said_of};
-ghost use Rattle.ninep_server.specs.Plans.{closing};
-ghost use Rattle.ninep_server.specs.Opens.{is_set, flag_for, open_bits, not_link, opens};
-ghost use Rattle.ninep_server.specs.Messages.{clunking, following, target_of};
+ghost use Rattle.std.specs.Prelude.{◌≡◌, Ok, take};
+ghost use Rattle.ninep_fids.specs.Knowledge.{known_of};
+ghost use Rattle.ninep_fids.specs.Nodes.{said_of};
+ghost use Rattle.ninep_fids.specs.Plans.{closing};
+ghost use Rattle.ninep_server.specs.Opens.{opens};
+ghost use Rattle.ninep_server.specs.Messages.{clunking, following};
 ghost use Rattle.ninep_server.specs.Progress.{AsksNext, BeginsAs, GoesOnAs, Leaves, behind, left_of_close, left_of_opening};
 ghost use Rattle.ninep_server.specs.Progress.{left_of_readlink, left_of_next};
 
-use crate::answer::Answer;
-use crate::ask::Ask;
-use crate::fid::{Fid, Kind, Node};
-use crate::heard::Heard;
-use crate::knows::Knows;
-use crate::paths::called;
-use crate::refused::Refused;
-use crate::users::User;
-use crate::work::{Next, Work};
+use crate::work::{DataWork, Next, OpenWork, Work};
 use bitflags::Flags;
-use errno::Errno;
-use tree::{Call, LinkTarget, MAX_TARGET, OpenFlags};
-
-/// The bits of Linux's flags of open that mean something here, beside the access; the others are passed over.
-pub(crate) const EXCLUSIVE: u32 = 0o200;
-
-const TRUNCATE: u32 = 0o1000;
-
-const APPEND: u32 = 0o2000;
-
-/// Whether a bit is set.
-pub(crate) fn has(flags: u32, bit: u32) -> bool
-    ensures { result ≡ is_set flags bit }
-{
-    flags & bit != 0
-}
-
-/// A flag of the server's open, where a bit is set.
-pub(crate) fn flag_for(flags: u32, bit: u32, flag: u8) -> u8
-    ensures flag { result ≡ flag_for flags bit flag }
-    ensures most { result ≤ flag }
-{
-    if has(flags, bit) { flag } else { 0 }
-}
-
-/// The flags of the server's open; EINVAL where they name no access. Without writing nothing is truncated or appended.
-pub(crate) fn bits_of(flags: u32) -> Result<u8, Refused>
-    ensures bits { result ≡ open_bits flags }
-    ensures few { IfOk result (λ bits. bits ≤ 39) }
-{
-    let access = match flags % 4 {
-        0 => return Ok(1),
-        1 => 2,
-        2 => 3,
-        _ => return Err(Refused::By(Errno::EINVAL)),
-    };
-    Ok(access + (flag_for(flags, TRUNCATE, 32) + flag_for(flags, APPEND, 4)))
-}
-
-/// Refuses a fid that is open.
-pub(crate) fn check_closed(descriptor: Option<u32>) -> Result<(), Refused>
-    ensures { result ≡ closed descriptor }
-{
-    match descriptor {
-        None => Ok(()),
-        Some(_) => Err(Refused::By(Errno::EINVAL)),
-    }
-}
-
-/// Refuses to open a symbolic link.
-fn check_kind(kind: Kind) -> Result<(), Refused>
-    ensures { result ≡ not_link kind }
-{
-    match kind {
-        Kind::Symlink => Err(Refused::By(Errno::ELOOP)),
-        Kind::File | Kind::Directory => Ok(()),
-    }
-}
+use ninep_fids::answer::Answer;
+use ninep_fids::ask::Ask;
+use ninep_fids::checks::check_kind;
+use ninep_fids::fid::{Fid, Node};
+use ninep_fids::flags::bits_of;
+use ninep_fids::heard::Heard;
+use ninep_fids::knows::Knows;
+use ninep_fids::paths::called;
+use ninep_fids::refused::Refused;
+use ninep_fids::told::bytes_of;
+use ninep_fids::users::User;
+use tree::{Call, OpenFlags};
 
 /// A fid is opened.
 #[derive(Drop)]
@@ -94,17 +39,16 @@ impl Opening {
     pub(crate) fn begin<'m>(knows: &Knows, fid: u32, flags: u32) -> Result<Next<'m>, Refused>
         ensures { BeginsAs (opens (known_of knows.now) fid flags) knows.now knows.now result }
     {
-        let file = knows.fids.named(fid)?;
-        check_closed(file.descriptor)?;
+        let file = knows.fids.unopened(fid)?;
         check_kind(file.node.kind)?;
         let bits = bits_of(flags)?;
-        Ok(Next::Go(Work::Open(Opening {
+        Ok(Next::Go(Work::Open(OpenWork::Open(Opening {
             fid,
             user: file.user,
             path: file.path.to_vec(knows.alloc)?,
             node: file.node,
             flags: OpenFlags::from_bits_retain(bits),
-        })))
+        }))))
     }
 
     pub(crate) fn ask(&self) -> Ask<'_>
@@ -146,11 +90,11 @@ impl Close {
         ensures { left_of_next (Ok result) ≡ closing session descriptor (said_of answer) }
     {
         match descriptor {
-            Some(fd) => Next::Go(Work::Close(Close {
+            Some(fd) => Next::Go(Work::Open(OpenWork::Close(Close {
                 session,
                 fd,
                 answer,
-            })),
+            }))),
             None => Next::Done(answer),
         }
     }
@@ -186,26 +130,15 @@ pub(crate) struct Readlink {
     path: Vec<u8>,
 }
 
-/// Its bytes.
-fn bytes_of(target: &LinkTarget) -> &[u8]
-    ensures { result.now ≡ target_of target.now }
-{
-    if target.length <= MAX_TARGET {
-        &target.bytes[..target.length]
-    } else {
-        &target.bytes
-    }
-}
-
 impl Readlink {
     pub(crate) fn begin<'m>(knows: &Knows, fid: u32) -> Result<Next<'m>, Refused>
         ensures { BeginsAs (following (known_of knows.now) fid) knows.now knows.now result }
     {
         let link = knows.fids.named(fid)?;
-        Ok(Next::Go(Work::Readlink(Readlink {
+        Ok(Next::Go(Work::Data(DataWork::Readlink(Readlink {
             session: link.user.session,
             path: link.path.to_vec(knows.alloc)?,
-        })))
+        }))))
     }
 
     pub(crate) fn ask(&self) -> Ask<'_>

@@ -1,18 +1,18 @@
 //! Reads and writes: a seek to the offset, and then the call.
 
 ghost use Rattle.std.specs.Prelude.{◌≡◌, min};
-ghost use Rattle.ninep_server.specs.Knowledge.{known_of};
+ghost use Rattle.ninep_fids.specs.Knowledge.{known_of};
 ghost use Rattle.ninep_server.specs.Messages.{reading, writing};
 ghost use Rattle.ninep_server.specs.Progress.{AsksNext, BeginsAs, GoesOnAs, left_of_transfer};
 
-use crate::answer::Answer;
-use crate::ask::Ask;
-use crate::heard::Heard;
-use crate::knows::Knows;
-use crate::refused::Refused;
-use crate::send::within;
-use crate::work::{Next, Work};
+use crate::work::{DataWork, Next, Work};
 use errno::Errno;
+use ninep_fids::answer::Answer;
+use ninep_fids::ask::Ask;
+use ninep_fids::heard::Heard;
+use ninep_fids::knows::Knows;
+use ninep_fids::refused::Refused;
+use ninep_fids::send::within;
 use tree::{Call, MAX_SIZE, MAX_TRANSFER, Whence};
 
 /// What is moved.
@@ -56,12 +56,12 @@ impl<'m> Transfer<'m> {
             return Ok(Next::Done(Answer::Read(Vec::new(knows.alloc))));
         }
         let count = least(least(count, knows.most()), MAX_TRANSFER);
-        Ok(Next::Go(Work::Transfer(Transfer {
+        Ok(Next::Go(Work::Data(DataWork::Transfer(Transfer {
             session,
             fd,
             seek: Some(offset as i64),
             moved: Moved::Read { count },
-        })))
+        }))))
     }
 
     /// Writes bytes, at most as many as a write of the server takes. EFBIG past the largest offset.
@@ -77,14 +77,14 @@ impl<'m> Transfer<'m> {
         if offset > u64::from(MAX_SIZE) {
             return Err(Refused::By(Errno::EFBIG));
         }
-        Ok(Next::Go(Work::Transfer(Transfer {
+        Ok(Next::Go(Work::Data(DataWork::Transfer(Transfer {
             session,
             fd,
             seek: Some(offset as i64),
             moved: Moved::Write {
                 bytes: within(bytes, MAX_TRANSFER),
             },
-        })))
+        }))))
     }
 
     /// The call of its stage.
@@ -118,7 +118,7 @@ impl<'m> Transfer<'m> {
         match (self.seek, self.moved) {
             (Some(_), _) => {
                 heard.at()?;
-                Ok(Next::Go(Work::Transfer(Transfer { seek: None, ..self })))
+                Ok(Next::Go(Work::Data(DataWork::Transfer(Transfer { seek: None, ..self }))))
             }
             (None, Moved::Read { .. }) => Ok(Next::Done(Answer::Read(heard.bytes()?))),
             (None, Moved::Write { .. }) => Ok(Next::Done(Answer::Write(heard.wrote()?))),

@@ -1,15 +1,16 @@
 //! How the answer to a message goes on.
 
 ghost use Rattle.std.specs.Prelude.{◌≡◌, ◌⊎◌};
-ghost use Rattle.ninep_server.specs.Talks.{IsPlain, IsDone};
-ghost use Rattle.ninep_server.specs.Knowledge.{Known};
+ghost use Rattle.ninep_fids.specs.Talks.{IsDone};
+ghost use Rattle.ninep_fids.specs.Knowledge.{Known};
+ghost use Rattle.ninep_server.specs.Turns.{IsPlain};
 ghost use Rattle.ninep_server.specs.Messages.{synced};
 ghost use Rattle.ninep_server.specs.Progress.{Leaves, left_of_next, left_of_turn};
 
-use crate::answer::{Answer, Said};
-use crate::heard::Heard;
-use crate::refused::Refused;
 use crate::work::{Next, Work};
+use ninep_fids::answer::{Answer, Said};
+use ninep_fids::heard::Heard;
+use ninep_fids::refused::Refused;
 
 /// How the answer to a message goes on.
 #[derive(Drop)]

@@ -2,23 +2,23 @@
 
 ghost use Rattle.std.specs.Prelude.{◌≡◌, ◌++◌, ◌∷◌, [], Ok, OnOk};
 ghost use Rattle.ninep.specs.Requests.{names_in};
-ghost use Rattle.ninep_server.specs.Knowledge.{Known, known_of};
-ghost use Rattle.ninep_server.specs.Walks.{enters, place, walks, walking, stops};
+ghost use Rattle.ninep_fids.specs.Knowledge.{Known, known_of};
+ghost use Rattle.ninep_fids.specs.Checks.{enters};
+ghost use Rattle.ninep_server.specs.Walks.{walks, walking, stops};
 ghost use Rattle.ninep_server.specs.Progress.{AsksNext, BeginsAs, Leaves, behind, left_of_next, left_of_walk};
 
-use crate::answer::Answer;
-use crate::ask::Ask;
-use crate::fid::{Fid, Kind, Node};
-use crate::heard::Heard;
-use crate::knows::Knows;
-use crate::opening::check_closed;
-use crate::paths::{called, check_step, step};
-use crate::refused::Refused;
-use crate::users::User;
-use crate::work::{Next, Work};
-use errno::Errno;
+use crate::work::{FidWork, Next, Work};
 use ninep::names::Names;
 use ninep::reply::Qid;
+use ninep_fids::answer::Answer;
+use ninep_fids::ask::Ask;
+use ninep_fids::checks::{check_place, enters};
+use ninep_fids::fid::{Fid, Node};
+use ninep_fids::heard::Heard;
+use ninep_fids::knows::Knows;
+use ninep_fids::paths::{called, step};
+use ninep_fids::refused::Refused;
+use ninep_fids::users::User;
 use std::alloc::AllocError;
 use tree::Call;
 
@@ -33,32 +33,6 @@ pub(crate) struct Walk<'m> {
     left: Names<'m>,
     /// What the names before it lead to.
     qids: Vec<Qid>,
-}
-
-/// Refuses a name behind a node: ENOTDIR where that is no directory.
-fn enters(kind: Kind, name: &[u8]) -> Result<(), Refused>
-    ensures { result ≡ enters kind name.now }
-{
-    match kind {
-        Kind::Directory => check_step(name),
-        Kind::File | Kind::Symlink => Err(Refused::By(Errno::ENOTDIR)),
-    }
-}
-
-/// Refuses a place for what is walked to: the fid itself where it is open, else a number that is used.
-fn check_place(
-    knows: &Knows,
-    fid: u32,
-    new_fid: u32,
-    descriptor: Option<u32>,
-) -> Result<(), Refused>
-    ensures { result ≡ place (known_of knows.now) fid new_fid descriptor }
-{
-    if new_fid == fid {
-        check_closed(descriptor)
-    } else {
-        knows.fids.check_new(new_fid)
-    }
 }
 
 impl<'m> Walk<'m> {
@@ -95,7 +69,7 @@ impl<'m> Walk<'m> {
             return Ok(self.stop(refused));
         }
         let path = step(knows.alloc, &self.path, name)?;
-        Ok(Next::Go(Work::Walk(Walk { path, left, ..self })))
+        Ok(Next::Go(Work::Fid(FidWork::Walk(Walk { path, left, ..self }))))
     }
 
     /// A name more is walked.

@@ -1,46 +1,78 @@
 //! What the answer to a message waits for.
 
-ghost use Rattle.ninep_server.specs.Knowledge.{known_of};
+ghost use Rattle.ninep_fids.specs.Knowledge.{known_of};
 ghost use Rattle.ninep_server.specs.Messages.{measuring};
-ghost use Rattle.ninep_server.specs.Progress.{AsksNext, Leaves, GoesOnAs, behind, left_of, left_of_next};
+ghost use Rattle.ninep_server.specs.Progress.{AsksNext, Leaves, GoesOnAs, behind, left_of, left_of_next, left_of_fid_work};
+ghost use Rattle.ninep_server.specs.Progress.{left_of_open_work, left_of_data_work, left_of_attribute_work, left_of_name_work};
 
-use crate::answer::Answer;
-use crate::ask::Ask;
 use crate::attach::{Attach, Version};
 use crate::attributes::{Getattr, Setattr};
 use crate::creation::Creation;
-use crate::heard::Heard;
-use crate::knows::Knows;
 use crate::listing::Listing;
 use crate::making::Making;
 use crate::naming::{Link, Remove, Rename, Unlink};
 use crate::opening::{Close, Opening, Readlink};
-use crate::refused::Refused;
 use crate::transfer::Transfer;
 use crate::walk::Walk;
+use ninep_fids::answer::Answer;
+use ninep_fids::ask::Ask;
+use ninep_fids::heard::Heard;
+use ninep_fids::knows::Knows;
+use ninep_fids::refused::Refused;
+use ninep_fids::told::room_of;
 use tree::Call;
 
 /// What the answer to a message waits for: what it asks next of the sessions, and how it goes on.
 #[derive(Drop)]
 pub(crate) enum Work<'m> {
+    Fid(FidWork<'m>),
+    Open(OpenWork<'m>),
+    Data(DataWork<'m>),
+    Attribute(AttributeWork),
+    Name(NameWork),
+}
+
+/// Of a message that makes fids, or lets all of them go.
+#[derive(Drop)]
+pub(crate) enum FidWork<'m> {
     Version(Version),
     Attach(Attach),
     Walk(Walk<'m>),
+}
+
+/// Of one that opens, makes or closes.
+#[derive(Drop)]
+pub(crate) enum OpenWork<'m> {
     Open(Opening),
     Create(Creation),
     Make(Making<'m>),
+    Close(Close),
+}
+
+/// Of one that moves bytes.
+#[derive(Drop)]
+pub(crate) enum DataWork<'m> {
     Transfer(Transfer<'m>),
     List(Listing),
+    Readlink(Readlink),
+}
+
+/// Of one about attributes.
+#[derive(Drop)]
+pub(crate) enum AttributeWork {
     Getattr(Getattr),
     Setattr(Setattr),
-    Readlink(Readlink),
+    /// The room of the volume, as this session is told it.
+    Statfs(u8),
+}
+
+/// Of one that changes names.
+#[derive(Drop)]
+pub(crate) enum NameWork {
     Link(Link),
     Rename(Rename),
     Unlink(Unlink),
     Remove(Remove),
-    Close(Close),
-    /// The room of the volume, as this session is told it.
-    Statfs(u8),
 }
 
 /// How the answer to a message goes on, where that isn't a sync done.
@@ -58,26 +90,11 @@ impl<'m> Work<'m> {
         ensures { AsksNext (left_of self.now) result }
     {
         match self {
-            Work::Version(_) => Ask::Leave,
-            Work::Attach(work) => work.ask(),
-            Work::Walk(work) => work.ask(),
+            Work::Fid(work) => work.ask(),
             Work::Open(work) => work.ask(),
-            Work::Create(work) => work.ask(),
-            Work::Make(work) => work.ask(),
-            Work::Transfer(work) => work.ask(),
-            Work::List(work) => work.ask(),
-            Work::Getattr(work) => work.ask(),
-            Work::Setattr(work) => work.ask(),
-            Work::Readlink(work) => work.ask(),
-            Work::Link(work) => work.ask(),
-            Work::Rename(work) => work.ask(),
-            Work::Unlink(work) => work.ask(),
-            Work::Remove(work) => work.ask(),
-            Work::Close(work) => work.ask(),
-            Work::Statfs(session) => Ask::Call {
-                session: *session,
-                call: Call::Statfs,
-            },
+            Work::Data(work) => work.ask(),
+            Work::Attribute(work) => work.ask(),
+            Work::Name(work) => work.ask(),
         }
     }
 
@@ -86,23 +103,128 @@ impl<'m> Work<'m> {
         ensures { Leaves (behind (left_of self.entry) heard) (known_of knows.old) (left_of_next result) (known_of knows.new) }
     {
         match self {
-            Work::Version(work) => Ok(work.hear(knows, &heard)),
-            Work::Attach(work) => work.hear(knows, heard),
-            Work::Walk(work) => work.hear(knows, heard),
+            Work::Fid(work) => work.hear(knows, heard),
             Work::Open(work) => work.hear(knows, heard),
-            Work::Create(work) => work.hear(knows, heard),
-            Work::Make(work) => work.hear(heard),
-            Work::Transfer(work) => work.hear(heard),
-            Work::List(work) => work.hear(knows, heard),
-            Work::Getattr(work) => work.hear(heard),
-            Work::Setattr(work) => work.hear(heard),
-            Work::Readlink(work) => work.hear(knows, heard),
-            Work::Link(work) => work.hear(heard),
-            Work::Rename(work) => work.hear(knows, heard),
-            Work::Unlink(work) => work.hear(knows, heard),
-            Work::Remove(work) => work.hear(knows, heard),
-            Work::Close(work) => Ok(work.hear()),
-            Work::Statfs(session) => room_told(session, heard),
+            Work::Data(work) => work.hear(knows, heard),
+            Work::Attribute(work) => work.hear(heard),
+            Work::Name(work) => work.hear(knows, heard),
+        }
+    }
+}
+
+impl<'m> FidWork<'m> {
+    fn ask(&self) -> Ask<'_>
+        ensures { AsksNext (left_of_fid_work self.now) result }
+    {
+        match self {
+            FidWork::Version(_) => Ask::Leave,
+            FidWork::Attach(work) => work.ask(),
+            FidWork::Walk(work) => work.ask(),
+        }
+    }
+
+    fn hear(self, knows: &mut Knows, heard: Heard) -> Result<Next<'m>, Refused>
+        ensures { Leaves (behind (left_of_fid_work self.entry) heard) (known_of knows.old) (left_of_next result) (known_of knows.new) }
+    {
+        match self {
+            FidWork::Version(work) => Ok(work.hear(knows, &heard)),
+            FidWork::Attach(work) => work.hear(knows, heard),
+            FidWork::Walk(work) => work.hear(knows, heard),
+        }
+    }
+}
+
+impl<'m> OpenWork<'m> {
+    fn ask(&self) -> Ask<'_>
+        ensures { AsksNext (left_of_open_work self.now) result }
+    {
+        match self {
+            OpenWork::Open(work) => work.ask(),
+            OpenWork::Create(work) => work.ask(),
+            OpenWork::Make(work) => work.ask(),
+            OpenWork::Close(work) => work.ask(),
+        }
+    }
+
+    fn hear(self, knows: &mut Knows, heard: Heard) -> Result<Next<'m>, Refused>
+        ensures { Leaves (behind (left_of_open_work self.entry) heard) (known_of knows.old) (left_of_next result) (known_of knows.new) }
+    {
+        match self {
+            OpenWork::Open(work) => work.hear(knows, heard),
+            OpenWork::Create(work) => work.hear(knows, heard),
+            OpenWork::Make(work) => work.hear(heard),
+            OpenWork::Close(work) => Ok(work.hear()),
+        }
+    }
+}
+
+impl<'m> DataWork<'m> {
+    fn ask(&self) -> Ask<'_>
+        ensures { AsksNext (left_of_data_work self.now) result }
+    {
+        match self {
+            DataWork::Transfer(work) => work.ask(),
+            DataWork::List(work) => work.ask(),
+            DataWork::Readlink(work) => work.ask(),
+        }
+    }
+
+    fn hear(self, knows: &mut Knows, heard: Heard) -> Result<Next<'m>, Refused>
+        ensures { Leaves (behind (left_of_data_work self.entry) heard) (known_of knows.old) (left_of_next result) (known_of knows.new) }
+    {
+        match self {
+            DataWork::Transfer(work) => work.hear(heard),
+            DataWork::List(work) => work.hear(knows, heard),
+            DataWork::Readlink(work) => work.hear(knows, heard),
+        }
+    }
+}
+
+impl AttributeWork {
+    fn ask(&self) -> Ask<'_>
+        ensures { AsksNext (left_of_attribute_work self.now) result }
+    {
+        match self {
+            AttributeWork::Getattr(work) => work.ask(),
+            AttributeWork::Setattr(work) => work.ask(),
+            AttributeWork::Statfs(session) => Ask::Call {
+                session: *session,
+                call: Call::Statfs,
+            },
+        }
+    }
+
+    fn hear<'m>(self, heard: Heard) -> Result<Next<'m>, Refused>
+        ensures { GoesOnAs (left_of_attribute_work self) heard result }
+    {
+        match self {
+            AttributeWork::Getattr(work) => work.hear(heard),
+            AttributeWork::Setattr(work) => work.hear(heard),
+            AttributeWork::Statfs(session) => room_told(session, heard),
+        }
+    }
+}
+
+impl NameWork {
+    fn ask(&self) -> Ask<'_>
+        ensures { AsksNext (left_of_name_work self.now) result }
+    {
+        match self {
+            NameWork::Link(work) => work.ask(),
+            NameWork::Rename(work) => work.ask(),
+            NameWork::Unlink(work) => work.ask(),
+            NameWork::Remove(work) => work.ask(),
+        }
+    }
+
+    fn hear<'m>(self, knows: &mut Knows, heard: Heard) -> Result<Next<'m>, Refused>
+        ensures { Leaves (behind (left_of_name_work self) heard) (known_of knows.old) (left_of_next result) (known_of knows.new) }
+    {
+        match self {
+            NameWork::Link(work) => work.hear(heard),
+            NameWork::Rename(work) => work.hear(knows, heard),
+            NameWork::Unlink(work) => work.hear(knows, heard),
+            NameWork::Remove(work) => work.hear(knows, heard),
         }
     }
 }
@@ -112,5 +234,5 @@ fn room_told<'m>(session: u8, heard: Heard) -> Result<Next<'m>, Refused>
     ensures { GoesOnAs (measuring session) heard result }
 {
     let room = heard.space()?;
-    Ok(Next::Done(Answer::Statfs(crate::attributes::room_of(&room))))
+    Ok(Next::Done(Answer::Statfs(room_of(&room))))
 }

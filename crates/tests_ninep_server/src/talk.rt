@@ -3,8 +3,8 @@ ghost use Rattle.std.specs.Prelude.{⊤};
 
 use bitflags::Flags;
 use errno::Errno;
+use ninep_fids::sessions::{EnterRefusal, Sessions};
 use ninep_server::connection::Connection;
-use ninep_server::sessions::{EnterRefusal, Sessions};
 use std::alloc::{AllocError, Global};
 use std::collections::VecDeque;
 use std::fmt::Write;

@@ -1,5 +1,5 @@
-use Rattle.ninep_server.specs.Talks.{MayHear}
-use Rattle.ninep_server.specs.Knowledge.{known_of}
+use Rattle.ninep_fids.specs.Talks.{MayHear}
+use Rattle.ninep_fids.specs.Knowledge.{known_of}
 use Rattle.ninep_server.specs.Messages.{plan_of}
 use Rattle.ninep_server.specs.Progress.{left_of_turn}
 use Rattle.ninep_server.proofs.Turns.{begins}

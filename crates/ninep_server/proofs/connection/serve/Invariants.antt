@@ -1,6 +1,7 @@
 use Rattle.std.proofs.Common.{◌≡◌, ◌+◌, ℕ}
-use Rattle.ninep_server.specs.Talks.{MayHear, Reaches}
-use Rattle.ninep_server.specs.Knowledge.{known_of}
+use Rattle.ninep_fids.specs.Talks.{MayHear}
+use Rattle.ninep_fids.specs.Knowledge.{known_of}
+use Rattle.ninep_server.specs.Turns.{Reaches}
 use Rattle.ninep_server.specs.Messages.{plan_of}
 use Rattle.ninep_server.specs.Progress.{IsCarriedOn, Within, left_of_turn}
 use Rattle.ninep_server.proofs.connection.serve.Given as goal

@@ -1,5 +1,5 @@
-use Rattle.ninep_server.specs.Talks.{MayHear}
-use Rattle.ninep_server.specs.Knowledge.{known_of}
+use Rattle.ninep_fids.specs.Talks.{MayHear}
+use Rattle.ninep_fids.specs.Knowledge.{known_of}
 use Rattle.ninep_server.specs.Progress.{left_of_next, left_of_turn}
 use Rattle.ninep_server.proofs.Turns.{goes_on, syncs}
 use Rattle.ninep_server.proofs.Following.{work_carried, work_few, sync_carried, sync_few}

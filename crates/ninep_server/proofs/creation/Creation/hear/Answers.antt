@@ -1,4 +1,4 @@
-use Rattle.ninep_server.specs.Knowledge.{known_of}
+use Rattle.ninep_fids.specs.Knowledge.{known_of}
 use Rattle.ninep_server.proofs.creation.Creation.hear.Goals as goal
 
 pub returns-in-Err : goal.returns-in-Err

@@ -1,6 +1,6 @@
 use Rattle.std.proofs.Common.{subst, List, ℕ}
-use Rattle.ninep_server.specs.Fids.{EachBecomes, IsUnlinked}
-use Rattle.ninep_server.specs.Knowledge.{known_of, table_of}
+use Rattle.ninep_fids.specs.Fids.{EachBecomes, IsUnlinked}
+use Rattle.ninep_fids.specs.Knowledge.{known_of, table_of}
 use Rattle.ninep_server.proofs.Following.{removed_leaves}
 use Rattle.ninep_server.proofs.naming.Remove.hear.Goals as goal
 

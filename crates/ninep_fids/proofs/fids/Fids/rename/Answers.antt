@@ -1,0 +1,7 @@
+use Rattle.std.proofs.Common.{rules}
+use Rattle.ninep_fids.specs.Fids.{IsRenamed}
+use Rattle.ninep_fids.proofs.Tables.{each_becomes}
+use Rattle.ninep_fids.proofs.fids.Fids.rename.Goals as goal
+
+pub returns : goal.returns
+returns c = each_becomes _ (IsRenamed c.args.old.now c.args.new.now) _ (λ k v b w f t. search rules) _ _ c.retain.ensures.filtered

@@ -1,0 +1,54 @@
+-- The entries of a directory, as they are told.
+use Rattle.std.specs.Prelude.{ℕ, ◌+◌, ◌-◌, nat_lt, Bool, List, [], ◌∷◌, ◌++◌, length, map, take, codes}
+use Rattle.std.specs.Prelude.{if◌then◌else◌, ◌||◌, false, true, ◌≡◌, ◌⊎◌, ◌<◌, ◌≤◌, Result, MatchResult}
+use Rattle.std.specs.Global.{Vec}
+use Rattle.std.specs.List.{concat}
+use Rattle.errno.specs.declared.Errno.TheVariants.{ENOMEM}
+use Rattle.ninep.specs.Fields.{One, Eight, Number, Text, fields_bytes}
+use Rattle.ninep.specs.Replies.{qid_fields}
+use Rattle.tree.specs.declared.Entry.{Entry}
+use Rattle.ninep_fids.specs.Hearing.{eio}
+use Rattle.ninep_fids.specs.declared.refused.Refused.{Refused}
+use Rattle.ninep_fids.specs.declared.refused.Refused.TheVariants.{By}
+use Rattle.ninep_fids.specs.declared.entries.Entries.{Entries}
+
+-- The entries of a directory, each by its inode and its name: itself, the one above, and its names, in their order. An offset counts them.
+abbrev pub entries_of : ℕ → ℕ → List Entry → List (ℕ × List ℕ)
+entries_of own above names = (own, codes ".") ∷ (above, codes "..") ∷ map (λ (e : Entry). (e.inode, e.name.items)) names
+
+-- The bytes of an entry: a qid that has the number of its inode alone, the offset of the next entry, no type (the client asks for
+-- attributes), and its name.
+abbrev pub entry_bytes : ℕ → ℕ → List ℕ → List ℕ
+entry_bytes inode next name = fields_bytes (qid_fields (record { kind = 0; version = 0; path = inode })
+    ++ Number Eight next ∷ Number One 0 ∷ Text name ∷ [])
+
+-- those of each entry, where the first of them stands at this offset
+abbrev pub bytes_each : ℕ → List (ℕ × List ℕ) → List (List ℕ)
+bytes_each offset [] = []
+bytes_each offset (e ∷ es) = entry_bytes e.0 (offset + 1) e.1 ∷ bytes_each (offset + 1) es
+
+-- the longest beginning of these, each of them whole, that has at most so many bytes
+abbrev pub fitting : ℕ → List (List ℕ) → List ℕ
+fitting room [] = []
+fitting room (e ∷ es) = if nat_lt room (length e) then [] else e ++ fitting (room - length e) es
+
+-- What fits is the first so many of these, whole, and no answer with room for so many bytes cuts them: either these are all, or with one
+-- more there are too many bytes.
+abbrev pub EntriesStandWhole : Type 0
+EntriesStandWhole = (limit most : ℕ) (es : List (List ℕ)) → limit ≤ most → (n : ℕ) × (take most (fitting limit es) ≡ concat (take n es))
+    × (length (fitting limit es) ≤ limit) × ((n ≡ length es) ⊎ (limit < length (concat (take (n + 1) es))))
+
+-- whether one has a longer name than names of the server are
+abbrev pub any_long : List (ℕ × List ℕ) → Bool
+any_long [] = false
+any_long (e ∷ es) = nat_lt 60 (length e.1) || any_long es
+
+-- what stands at the end, where these entries come behind those that a row has
+abbrev pub stands : Entries → List (List ℕ) → List ℕ
+stands row es = row.bytes.items ++ (if row.full then [] else fitting (row.limit - length row.bytes.items) es)
+
+-- the bytes that tell these entries, or why they aren't told
+abbrev pub AreTold : ℕ → ℕ → List (ℕ × List ℕ) → Result (Vec ℕ) Refused → Type 0
+AreTold offset limit es r = MatchResult r
+    (λ bytes. (any_long es ≡ false) × (bytes.items ≡ fitting limit (bytes_each offset es)))
+    (λ e. ((e ≡ eio) × (any_long es ≡ true)) ⊎ (e ≡ By ENOMEM))

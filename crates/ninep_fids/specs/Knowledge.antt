@@ -1,0 +1,96 @@
+-- What a connection knows: its users, and what its fids stand for.
+use Rattle.std.specs.Prelude.{⊤, ℕ, Bool, true, false, List, map, length, nat_lt, Option, Some, None, Result, Ok, Err, if◌then◌else◌, ◌==◌}
+use Rattle.std.specs.Borrow.{Bor}
+use Rattle.std.specs.Option.{ok_or, is_some}
+use Rattle.std.specs.List.{find}
+use Rattle.std.specs.Ordering.{nat_cmp}
+use Rattle.std.specs.BTreeMap.{is_at}
+use Rattle.std.specs.Map.{lookup}
+use Rattle.errno.specs.declared.Errno.TheVariants.{EBADF, EINVAL, ENFILE}
+use Rattle.ninep_fids.specs.declared.refused.Refused.{Refused}
+use Rattle.ninep_fids.specs.declared.refused.Refused.TheVariants.{By, Stale}
+use Rattle.ninep_fids.specs.declared.users.User.{User}
+use Rattle.ninep_fids.specs.declared.fid.Node.{Node}
+use Rattle.ninep_fids.specs.declared.fid.Fid.{Fid}
+use Rattle.ninep_fids.specs.declared.fids.Fids.{Fids}
+use Rattle.ninep_fids.specs.declared.knows.Knows.{Knows}
+
+-- What a fid stands for: the user whose session uses it, where its node's name is, the node, its descriptor if it is open, and whether the
+-- node has lost that name.
+pub record File : Type 0 where
+  pub user : User
+  pub path : List ℕ
+  pub node : Node
+  pub descriptor : Option ℕ
+  pub gone : Bool
+
+-- the most bytes of a message, the users who are attached, and the fids by their numbers, in order
+pub record Known : Type 0 where
+  pub message_size : ℕ
+  pub users : List User
+  pub fids : List (ℕ × File)
+
+abbrev pub file_of : Fid → File
+file_of f = record { user = f.user; path = f.path.items; node = f.node; descriptor = f.descriptor; gone = f.gone }
+
+abbrev pub entry_of : ℕ × Fid → ℕ × File
+entry_of e = (e.0, file_of e.1)
+
+abbrev pub table_of : Fids → List (ℕ × File)
+table_of fids = map entry_of fids.fids.entries
+
+abbrev pub known_of : Knows → Known
+known_of k = record { message_size = k.message_size; users = k.users.users.items; fids = table_of k.fids }
+
+-- what comes next, where something was found
+abbrev pub then_of : {A B : Type 0} → Result A Refused → (A → Result B Refused) → Result B Refused
+then_of (Ok a) next = next a
+then_of (Err refused) next = Err refused
+
+-- what a fid stands for
+abbrev pub found : List (ℕ × File) → ℕ → Result File Refused
+found fids fid = ok_or (lookup (is_at (nat_cmp fid)) fids) (By EBADF)
+
+-- a file by its name, which it mustn't have lost
+abbrev pub by_name : File → Bool → Result File Refused
+by_name file true = Err Stale
+by_name file false = Ok file
+
+abbrev pub named : List (ℕ × File) → ℕ → Result File Refused
+named fids fid = then_of (found fids fid) (λ file. by_name file file.gone)
+
+-- the session and the descriptor of a file, which must be open
+abbrev pub by_descriptor : File → Option ℕ → Result (ℕ × ℕ) Refused
+by_descriptor file None = Err (By EBADF)
+by_descriptor file (Some fd) = Ok (file.user.session, fd)
+
+abbrev pub opened : List (ℕ × File) → ℕ → Result (ℕ × ℕ) Refused
+opened fids fid = then_of (found fids fid) (λ file. by_descriptor file file.descriptor)
+
+-- what was found, as it is seen
+abbrev pub seen : Result (Bor Fid) Refused → Result File Refused
+seen (Ok fid) = Ok (file_of fid.now)
+seen (Err refused) = Err refused
+
+-- a number for a new fid: EINVAL where it is used, ENFILE where there are as many fids as may be
+abbrev pub new_fid : List (ℕ × File) → ℕ → Result ⊤ Refused
+new_fid fids fid =
+    if is_some (lookup (is_at (nat_cmp fid)) fids) then Err (By EINVAL)
+    else if nat_lt (length fids) 4096 then Ok tt else Err (By ENFILE)
+
+-- a fid that isn't open
+abbrev pub closed : Option ℕ → Result ⊤ Refused
+closed None = Ok tt
+closed (Some fd) = Err (By EINVAL)
+
+-- a file that isn't open
+abbrev pub file_at : User → List ℕ → Node → File
+file_at user path node = record { user = user; path = path; node = node; descriptor = None; gone = false }
+
+-- one that is
+abbrev pub file_open : User → List ℕ → Node → ℕ → File
+file_open user path node fd = record { user = user; path = path; node = node; descriptor = Some fd; gone = false }
+
+-- the user with this number, if it is attached
+abbrev pub user_of : List User → ℕ → Option User
+user_of users uid = find (λ (user : User). user.uid == uid) users

@@ -1,0 +1,16 @@
+pub mod Numbers
+pub mod Refusals
+pub mod Paths
+pub mod Talks
+pub mod Written
+pub mod Sending
+pub mod Fids
+pub mod Knowledge
+pub mod Hearing
+pub mod Plans
+pub mod Nodes
+pub mod Flags
+pub mod Changes
+pub mod Checks
+pub mod Told
+pub mod Entries

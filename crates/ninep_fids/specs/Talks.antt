@@ -1,0 +1,56 @@
+-- What is asked of sessions for the answer to a message, and what they answer.
+use Rattle.std.specs.Prelude.{◌≡◌, ℕ, List, [], ◌∷◌, Result}
+use Rattle.tree.specs.declared.Call.{Call}
+use Rattle.tree.specs.declared.Call.TheVariants as call
+use Rattle.tree.specs.declared.Outcome.{Outcome as TreeOutcome}
+use Rattle.tree.specs.declared.Outcome.TheVariants as outcome
+use Rattle.tree.specs.declared.Reply.{Reply}
+use Rattle.tree.specs.declared.Reply.TheVariants as reply
+use Rattle.ninep_fids.specs.declared.sessions.EnterRefusal.{EnterRefusal}
+use Rattle.ninep_fids.specs.declared.ask.Ask.{Ask}
+use Rattle.ninep_fids.specs.declared.ask.Ask.TheVariants as ask
+use Rattle.ninep_fids.specs.declared.heard.Heard.{Heard}
+use Rattle.ninep_fids.specs.declared.heard.Heard.TheVariants as heard
+use Rattle.ninep_fids.specs.declared.answer.Said.{Said}
+use Rattle.ninep_fids.specs.declared.answer.Said.TheVariants as said
+
+-- a call was answered this reply
+abbrev pub Replies : Heard → Reply → Type 0
+Replies h r = h ≡ heard.Outcome (outcome.Reply r)
+
+-- a call was done
+abbrev pub IsDone : Heard → Type 0
+IsDone h = Replies h reply.Done
+
+-- something that was asked, and what was answered
+pub record Exchange : Type 0 where
+  pub ask : Ask
+  pub heard : Heard
+
+-- What sessions may answer at a time, by their relations: of calls, of users that enter, of the end of all sessions.
+abbrev pub MayHear : {S : Type 0} → (S → ℕ → ℕ → Call → TreeOutcome → S → Type 0) → (S → ℕ → ℕ → Result ℕ EnterRefusal → S → Type 0)
+    → (S → S → Type 0) → ℕ → S → Ask → Heard → S → Type 0
+MayHear called entered left now s (ask.Enter uid gid) (heard.Entered r) t = entered s uid gid r t
+MayHear called entered left now s (ask.Enter uid gid) heard.Left t = ⊥
+MayHear called entered left now s (ask.Enter uid gid) (heard.Outcome o) t = ⊥
+MayHear called entered left now s ask.Leave (heard.Entered r) t = ⊥
+MayHear called entered left now s ask.Leave heard.Left t = left s t
+MayHear called entered left now s ask.Leave (heard.Outcome o) t = ⊥
+MayHear called entered left now s (ask.Call session c) (heard.Entered r) t = ⊥
+MayHear called entered left now s (ask.Call session c) heard.Left t = ⊥
+MayHear called entered left now s (ask.Call session c) (heard.Outcome o) t = called s session now c o t
+
+-- By these exchanges, the last one first, and by nothing else, sessions come from one state to another. The first argument says what they
+-- may answer.
+abbrev pub Leads : {S : Type 0} → (S → Ask → Heard → S → Type 0) → S → List Exchange → S → Type 0
+Leads may s [] t = s ≡ t
+Leads {S} may s (e ∷ es) t = (u : S) × Leads may s es u × may u e.ask e.heard t
+
+-- the last exchange is a sync that was done
+abbrev pub EndsInSync : List Exchange → Type 0
+EndsInSync [] = ⊥
+EndsInSync (e ∷ es) = (session : ℕ) × (e.ask ≡ ask.Call session call.Sync) × IsDone e.heard
+
+-- What was said, behind exchanges that led the sessions from one state to another: that a sync was done, behind one alone.
+abbrev pub HasAsked : {S : Type 0} → (S → Ask → Heard → S → Type 0) → S → Said → S → Type 0
+HasAsked may s it t = (log : List Exchange) × Leads may s log t × (it ≡ said.Synced → EndsInSync log)

@@ -1,0 +1,185 @@
+//! Changes of attributes: which ones a message wants, in the order in which they are made.
+
+ghost use Rattle.std.specs.Prelude.{◌≡◌, [], ◌∷◌, MatchOption, Ok};
+ghost use Rattle.ninep_fids.specs.Plans.{plain_call};
+ghost use Rattle.ninep_fids.specs.Changes.{size_wanted, owner_wanted, time_wanted, changes_wanted, in_order, change_call};
+
+use crate::flags::{has, mode_of};
+use crate::paths::called;
+use crate::refused::Refused;
+use errno::Errno;
+use tree::{Attributes, Call};
+
+/// The bits that say which attributes are changed, and whether times are given or are now.
+const MODE: u32 = 0x1;
+
+const UID: u32 = 0x2;
+
+const GID: u32 = 0x4;
+
+const SIZE: u32 = 0x8;
+
+const ATIME: u32 = 0x10;
+
+const MTIME: u32 = 0x20;
+
+const ATIME_SET: u32 = 0x80;
+
+const MTIME_SET: u32 = 0x100;
+
+/// The attributes that a client wants changed: those of the bits of `valid`.
+#[derive(Clone, Copy)]
+pub struct Wanted {
+    pub valid: u32,
+    pub mode: u32,
+    pub uid: u32,
+    pub gid: u32,
+    pub size: u64,
+    /// Seconds since 1970, as the other times.
+    pub atime: u64,
+    pub mtime: u64,
+    /// The time that "now" means.
+    pub now: u32,
+}
+
+/// What a size becomes, if it changes. EFBIG where it doesn't fit the volume.
+fn size(valid: u32, given: u64) -> Result<Option<u32>, Refused>
+    ensures { result ≡ size_wanted valid given }
+{
+    if !has(valid, SIZE) {
+        return Ok(None);
+    }
+    match u32::try_from(given) {
+        Ok(size) => Ok(Some(size)),
+        Err(_) => Err(Refused::By(Errno::EFBIG)),
+    }
+}
+
+/// What a time becomes: the given one, now, or what it was. EINVAL where it doesn't fit the volume.
+fn time(valid: u32, bits: (u32, u32), given: u64, now: u32, was: u32) -> Result<u32, Refused>
+    ensures { result ≡ time_wanted valid bits given now was }
+{
+    if !has(valid, bits.0) {
+        return Ok(was);
+    }
+    if !has(valid, bits.1) {
+        return Ok(now);
+    }
+    match u32::try_from(given) {
+        Ok(seconds) => Ok(seconds),
+        Err(_) => Err(Refused::By(Errno::EINVAL)),
+    }
+}
+
+/// What an owner becomes: the given one, or what it was. EINVAL where it doesn't fit the volume.
+fn owner(valid: u32, bit: u32, given: u32, was: u16) -> Result<u16, Refused>
+    ensures { result ≡ owner_wanted valid bit given was }
+{
+    if !has(valid, bit) {
+        return Ok(was);
+    }
+    match u16::try_from(given) {
+        Ok(number) => Ok(number),
+        Err(_) => Err(Refused::By(Errno::EINVAL)),
+    }
+}
+
+/// A change of a node.
+#[derive(Clone, Copy)]
+pub enum Change {
+    Size(u32),
+    Owners(u16, u16),
+    Mode(u16),
+    Times(u32, u32),
+}
+
+impl Change {
+    /// The call that makes it.
+    pub fn call<'a>(&self, path: &'a [u8]) -> Call<'a>
+        ensures { plain_call result ≡ change_call path.now self.now }
+    {
+        let path = called(path);
+        match *self {
+            Change::Size(size) => Call::Truncate { path, size },
+            Change::Owners(uid, gid) => Call::Chown { path, uid, gid },
+            Change::Mode(mode) => Call::Chmod { path, mode },
+            Change::Times(atime, mtime) => Call::Utime { path, atime, mtime },
+        }
+    }
+}
+
+/// What is left to change, in this order.
+#[derive(Clone, Copy)]
+pub struct Changes {
+    size: Option<u32>,
+    owners: Option<(u16, u16)>,
+    mode: Option<u16>,
+    times: Option<(u32, u32)>,
+}
+
+impl Wanted {
+    /// The changes, where the node is so.
+    pub fn changes(&self, was: &Attributes) -> Result<Changes, Refused>
+        ensures { result ≡ changes_wanted self.entry.now was.now }
+    {
+        let valid = self.valid;
+        let size = size(valid, self.size)?;
+        let uid = owner(valid, UID, self.uid, was.uid)?;
+        let gid = owner(valid, GID, self.gid, was.gid)?;
+        let atime = time(valid, (ATIME, ATIME_SET), self.atime, self.now, was.atime)?;
+        let mtime = time(valid, (MTIME, MTIME_SET), self.mtime, self.now, was.mtime)?;
+        Ok(Changes {
+            size,
+            owners: if has(valid, UID | GID) {
+                Some((uid, gid))
+            } else {
+                None
+            },
+            mode: if has(valid, MODE) {
+                Some(mode_of(self.mode))
+            } else {
+                None
+            },
+            times: if has(valid, ATIME | MTIME) {
+                Some((atime, mtime))
+            } else {
+                None
+            },
+        })
+    }
+}
+
+impl Changes {
+    /// None.
+    pub fn none() -> Changes
+        ensures { in_order result ≡ [] }
+    {
+        Changes {
+            size: None,
+            owners: None,
+            mode: None,
+            times: None,
+        }
+    }
+
+    /// The first of them, and those behind it.
+    pub fn split_first(self) -> Option<(Change, Changes)>
+        ensures { MatchOption result (in_order self ≡ []) (λ parts. in_order self ≡ parts.0 ∷ in_order parts.1) }
+    {
+        if let Some(size) = self.size {
+            Some((Change::Size(size), Changes { size: None, ..self }))
+        } else if let Some((uid, gid)) = self.owners {
+            let rest = Changes {
+                owners: None,
+                ..self
+            };
+            Some((Change::Owners(uid, gid), rest))
+        } else if let Some(mode) = self.mode {
+            Some((Change::Mode(mode), Changes { mode: None, ..self }))
+        } else if let Some((atime, mtime)) = self.times {
+            Some((Change::Times(atime, mtime), Changes::none()))
+        } else {
+            None
+        }
+    }
+}

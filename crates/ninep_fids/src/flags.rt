@@ -1,0 +1,62 @@
+//! Linux's flags of open, modes and groups, as the server's calls have them.
+
+ghost use Rattle.std.specs.Prelude.{◌≡◌, ◌≤◌, ◌%◌, IfOk};
+ghost use Rattle.ninep_fids.specs.Flags.{is_set, flag_for, open_bits, group_of};
+
+use crate::refused::Refused;
+use crate::users::User;
+use errno::Errno;
+
+/// The bits of Linux's flags of open that mean something here, beside the access; the others are passed over.
+pub const EXCLUSIVE: u32 = 0o200;
+
+const TRUNCATE: u32 = 0o1000;
+
+const APPEND: u32 = 0o2000;
+
+/// Whether a bit is set.
+pub fn has(flags: u32, bit: u32) -> bool
+    ensures { result ≡ is_set flags bit }
+{
+    flags & bit != 0
+}
+
+/// A flag of the server's open, where a bit is set.
+pub fn flag_for(flags: u32, bit: u32, flag: u8) -> u8
+    ensures flag { result ≡ flag_for flags bit flag }
+    ensures most { result ≤ flag }
+{
+    if has(flags, bit) { flag } else { 0 }
+}
+
+/// The flags of the server's open; EINVAL where they name no access. Without writing nothing is truncated or appended.
+pub fn bits_of(flags: u32) -> Result<u8, Refused>
+    ensures bits { result ≡ open_bits flags }
+    ensures few { IfOk result (λ bits. bits ≤ 39) }
+{
+    let access = match flags % 4 {
+        0 => return Ok(1),
+        1 => 2,
+        2 => 3,
+        _ => return Err(Refused::By(Errno::EINVAL)),
+    };
+    Ok(access + (flag_for(flags, TRUNCATE, 32) + flag_for(flags, APPEND, 4)))
+}
+
+/// The permission bits of a mode of Linux, with those that the server refuses.
+pub fn mode_of(mode: u32) -> u16
+    ensures { result ≡ mode % 4096 }
+{
+    (mode % 0o10000) as u16
+}
+
+/// The group that a new node is given: the one that is asked for, where user 0 asks and it isn't its own.
+pub fn group_of(user: User, gid: u32) -> Option<u16>
+    ensures { result ≡ group_of user gid }
+{
+    if user.uid == 0 && gid != 0 && gid <= 0xffff {
+        Some(gid as u16)
+    } else {
+        None
+    }
+}

@@ -1,0 +1,8 @@
+//! Laws of the definitions, each a function whose contract is the law.
+
+ghost use Rattle.ninep_fids.specs.Entries.{EntriesStandWhole};
+
+/// Entries of a directory stand whole in an answer: as many as have room, from the first on, and no answer cuts one.
+pub fn entries_stand_whole()
+    ensures { EntriesStandWhole }
+{}

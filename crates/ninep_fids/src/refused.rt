@@ -1,0 +1,74 @@
+//! Why a request is refused.
+
+ghost use Rattle.std.specs.Prelude.{◌≡◌};
+ghost use Rattle.ninep_fids.specs.Numbers.{number_of};
+ghost use Rattle.ninep_fids.specs.Refusals.{by_errno, by_memory, by_entering, refusal_for};
+
+use crate::sessions::EnterRefusal;
+use errno::Errno;
+use ninep::fault::Fault;
+use std::alloc::AllocError;
+
+/// Why a request is refused.
+#[derive(Clone, Copy, Debug, PartialEq, Eq)]
+pub enum Refused {
+    /// The file server refuses it, or would.
+    By(Errno),
+    /// The fid's file has lost its name, and the fid isn't open.
+    Stale,
+    /// There is no such thing on a MINIX volume, or the server has no call for it.
+    Unsupported,
+}
+
+impl Refused {
+    /// The number of the error, as Linux has it.
+    pub fn number(&self) -> u32
+        ensures { result ≡ number_of self.now }
+    {
+        match self {
+            Refused::By(errno) => errno.number(),
+            Refused::Stale => 116,
+            Refused::Unsupported => 95,
+        }
+    }
+}
+
+impl From<Errno> for Refused {
+    ghost from_gives = { by_errno };
+
+    fn from(errno: Errno) -> Refused {
+        Refused::By(errno)
+    }
+}
+
+impl From<AllocError> for Refused {
+    ghost from_gives = { by_memory };
+
+    fn from(_error: AllocError) -> Refused {
+        Refused::By(Errno::ENOMEM)
+    }
+}
+
+impl From<EnterRefusal> for Refused {
+    ghost from_gives = { by_entering };
+
+    fn from(refusal: EnterRefusal) -> Refused {
+        match refusal {
+            EnterRefusal::TooMany => Refused::By(Errno::ENFILE),
+            EnterRefusal::Stopped => Refused::By(Errno::EIO),
+            EnterRefusal::OutOfMemory => Refused::By(Errno::ENOMEM),
+        }
+    }
+}
+
+/// Why a message isn't taken that has a tag.
+pub fn refusal_of(fault: Fault) -> Refused
+    ensures { result ≡ refusal_for fault }
+{
+    match fault {
+        Fault::Unknown => Refused::Unsupported,
+        Fault::Short | Fault::Size | Fault::ManyNames | Fault::Trailing => {
+            Refused::By(Errno::EINVAL)
+        }
+    }
+}

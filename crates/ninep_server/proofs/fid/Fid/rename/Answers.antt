@@ -1,7 +1,0 @@
-use Rattle.std.proofs.Common.{refl, sym, ◌∙◌}
-use Rattle.ninep_server.proofs.FidLaws.{goes_along}
-use Rattle.ninep_server.proofs.fid.Fid.rename.Goals as goal
-
-pub returns-in-Ok : goal.returns-in-Ok
-returns-in-Ok c = goes_along _ _ c.in-Some.rest.now _ _ (sym c.deref.ensures.value ∙ c.in-Some.ensures.some.0) c.in-Some.ensures.some.1
-    c.in-Ok.ensures refl refl refl refl
