@@ -2,3 +2,8 @@ pub mod Showing
 pub mod RunShowing
 pub mod Begun
 pub mod Opened
+pub mod Standing
+pub mod Stepping
+pub mod Turning
+pub mod Ending
+pub mod Starting

@@ -12,7 +12,7 @@ use Rattle.run_link.specs.Scene.{Scene}
 use Rattle.run_link.specs.StateView.{RunState, IsOpened, left_of, unless_told, work_left}
 use Rattle.reincarnate.specs.declared.SupplyRefusal.{SupplyRefusal}
 use Rattle.reincarnate.specs.Supply.{ReincarnationState, NewAnswers}
-use Rattle.run_loop.specs.Starts.{IsBeforeFirst}
+use Rattle.world.specs.Starts.{IsBeforeFirst}
 use Rattle.world.specs.ServerRuns.{IsFresh}
 
 -- a link that was just made is one that waits for its first event

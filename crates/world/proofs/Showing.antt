@@ -29,9 +29,9 @@ use Rattle.justified.specs.Steady.{drivers_of}
 use Rattle.justified.specs.Whole.{IsUnused, IsAtEnd, IsWhole as IsWholeRun}
 use Rattle.justified.proofs.WholeLaws.{runs_are_whole}
 use Rattle.file_server.specs.Over.{Hears}
-use Rattle.run_loop.specs.Ends.{RunHolds, RunStands, EndsIn}
-use Rattle.run_loop.specs.Starts.{at_first}
-use Rattle.run_loop.specs.Runs.{moment}
+use Rattle.world.specs.Ends.{RunHolds, RunStands, EndsIn}
+use Rattle.world.specs.Starts.{at_first}
+use Rattle.world.specs.Runs.{moment}
 use Rattle.world.specs.Shows.{Shows}
 use Rattle.world.proofs.RunShowing.{runs_are_shown}
 use Rattle.stored.specs.declared.Stored.{Stored}

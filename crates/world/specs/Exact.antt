@@ -12,8 +12,8 @@ use Rattle.schedule.specs.Noted.{marks_in}
 use Rattle.run_link.specs.StateView.{RunState, IsOpened, IsSpent}
 use Rattle.run_link.specs.Waiting.{arrival_of}
 use Rattle.run_link.specs.Moments.{Moment, Resting, Runs, Needs}
-use Rattle.run_loop.specs.Runs.{out_in}
-use Rattle.run_loop.specs.Starts.{at_first}
+use Rattle.world.specs.Runs.{out_in}
+use Rattle.world.specs.Starts.{at_first}
 use Rattle.justified.specs.Steady.{drivers_of}
 
 -- the media that hold an image, on which no driver was started

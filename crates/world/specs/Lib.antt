@@ -4,3 +4,6 @@ pub mod Shows
 pub mod Reasons
 pub mod Beginning
 pub mod ServerRuns
+pub mod Runs
+pub mod Ends
+pub mod Starts

@@ -5,7 +5,7 @@ use Rattle.records.specs.Mount.{OpenKeeps}
 use Rattle.reissue.specs.declared.link.Link.{Ghosts as LinkWords}
 use Rattle.schedule.specs.declared.Event.{Event}
 use Rattle.run_link.specs.StateView.{RunState}
-use Rattle.run_loop.specs.Starts.{IsBeforeFirst, RunsAll}
+use Rattle.world.specs.Starts.{IsBeforeFirst, RunsAll}
 use Rattle.stored.specs.declared.Stored.{Stored}
 use Rattle.mounting.specs.vfs.declared.server.Server.{Server}
 use Rattle.mounting.specs.vfs.OverLink.{line_of, serving_over}

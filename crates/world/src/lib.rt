@@ -4,6 +4,7 @@
 
 pub mod link;
 pub mod preparing;
+pub mod run_loop;
 pub mod run_refusal;
 pub mod run_shown;
 pub mod server;

@@ -4,14 +4,14 @@ ghost use Rattle.std.specs.Prelude.{◌≡◌, ◌≤◌, ◌<◌, ◌+◌, ◌^
 ghost use Rattle.layout.specs.Places.{IsGeometry};
 ghost use Rattle.records.specs.Told.{took_end};
 ghost use Rattle.run_link.specs.StateView.{work_left};
-ghost use Rattle.run_loop.specs.Starts.{IsBeforeFirst};
+ghost use Rattle.world.specs.Starts.{IsBeforeFirst};
 ghost use Rattle.world.specs.ServerRuns.{RunsFrom};
 
+use crate::run_loop::WorldLink;
+use crate::run_loop::run::run_all;
 use fsck::Clean;
 use mounting::Server;
 use mounting::mounted::open;
-use run_loop::WorldLink;
-use run_loop::run::run_all;
 use std::alloc::{AllocError, Global};
 use stored::Stored;
 

@@ -1,5 +1,5 @@
 use Rattle.std.proofs.Common.{◌≤◌, subst, sym}
-use Rattle.run_loop.specs.Starts.{IsBeforeFirst, RunsAll}
+use Rattle.world.specs.Starts.{IsBeforeFirst, RunsAll}
 use Rattle.mounting.specs.vfs.OverLink.{line_of, serving_over}
 use Rattle.world.proofs.Opened.{few_here}
 use Rattle.world.proofs.server.run_over.Goals as goal

@@ -1,5 +1,0 @@
-pub mod Standing
-pub mod Stepping
-pub mod Turning
-pub mod Ending
-pub mod Starting

@@ -1,3 +1,0 @@
-pub mod Runs
-pub mod Ends
-pub mod Starts

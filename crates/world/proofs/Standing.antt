@@ -1,0 +1,375 @@
+-- A server over its link leads on through what is done at the link, through messages and through calls.
+use Rattle.std.proofs.Common.{◌≡◌, ◌⊎◌, ◌<◌, List, [], ◌∷◌, ◌++◌, Bool, true, false, refl, sym, ◌∙◌, ap, subst, arith}
+use Rattle.std.specs.Prelude.{◌||◌, Option, Some, None, Result, Ok, Err, IfOk, OnOk, OnErr}
+use Rattle.std.specs.declared.alloc.AllocError.{AllocError}
+use Rattle.lemmas.proofs.Bools.{is_false, true_not_false}
+use Rattle.message.specs.declared.Incoming.{Incoming}
+use Rattle.tree.specs.Tree.{Tree}
+use Rattle.tree.specs.declared.Reply.{Reply}
+use Rattle.tree.specs.Answers.{Answer, answer_of}
+use Rattle.records.specs.Marks.{Mark, Took}
+use Rattle.records.specs.Opening.{Opening, contents_at}
+use Rattle.records.specs.Told.{received, took_end}
+use Rattle.records.specs.Acts.{Absorbed, told_of, marks_after, owed_after_message, IsAtRest}
+use Rattle.records.specs.ServerCall.{Serving, Serves, Outcome, Replied, Cut as WasCutOff}
+use Rattle.reissue.specs.Calls.{Truth}
+use Rattle.run_link.specs.Kept.{with_next}
+use Rattle.schedule.specs.declared.arrived.Arrived.{Arrived}
+use Rattle.run_link.specs.StateView.{RunState, RunTruth, GoesOn, Asides, HandsEvent, HandsNone, HandsOwed, HandsNothing, Answers, HandsOut, work_left}
+use Rattle.run_link.specs.Laws.{LeadsOn, IsToldOfEnd}
+use Rattle.run_link.specs.Waiting.{arrival_of, HasCalls}
+use Rattle.run_link.specs.Moments.{Doing, Resting, Hearing, Answering, record_of, Step, Runs, Starts, Then}
+use Rattle.run_link.proofs.Leading.{leads_stays, leads_joins, servers_lead_on, asides_lead_on, calls_lead_on, answers_lead_on}
+use Rattle.run_link.proofs.Waits.{servers_hand_none, asides_hand_none, one_is_handed_out, it_is_answered}
+use Rattle.run_link.proofs.Running.{history_of, goes_told_of_end, quiet_next, runs_join, runs_at, servers_end_rightly}
+use Rattle.file_server.specs.Over.{SameServing, Hears, AbsorbsOver, CallsOver}
+use Rattle.file_server.proofs.Standing.{serves_same}
+use Rattle.world.specs.declared.run_loop.course.Course.TheVariants.{More, Cut}
+use Rattle.world.specs.Runs.{moment, RunsOn, StandsAfter, Awaits, Notes, IsLive, IsIdle, IsNext, RunsOne, AnswersTo, doing_of}
+use Rattle.world.proofs.Stepping.{no_end, told_absorbed, over_is_ended, asides_over, asides_told, asides_record, aside_step, quiet_step, asides_next, owing, owing_first, absorbed_history, absorb_runs, CallRuns, call_history, call_runs, replied, same_left, hands_run}
+
+-- the guarantee of a link is that of its run
+abbrev pub IsGuarantee : Truth → RunState → Type 0
+IsGuarantee was p = (v : Opening) (marks : List Mark) → was v marks → RunTruth v p.scene marks
+
+pub runs_stays : (s : Serving) (was : Truth) (b : RunState) (x : Doing) → RunsOn s s was was b b x x
+runs_stays s was b x = record {
+  geometry = refl;
+  minor = refl;
+  frame_count = refl;
+  leads = leads_stays b;
+  stands = λ v tree marks stood. record { marks = marks; stands = stood; runs = Starts };
+}
+
+pub runs_joins : (s t u : Serving) (was then is : Truth) (b m a : RunState) (x y z : Doing) → RunsOn s t was then b m x y → RunsOn t u then is m a y z
+    → RunsOn s u was is b a x z
+runs_joins s t u was then is b m a x y z first next = record {
+  geometry = next.geometry ∙ first.geometry;
+  minor = next.minor ∙ first.minor;
+  frame_count = next.frame_count ∙ first.frame_count;
+  leads = leads_joins b m a first.leads next.leads;
+  stands = λ v tree marks stood.
+      let between : StandsAfter s.minor t then v tree (moment s b x) (moment t m y) = first.stands v tree marks stood in
+      let after : StandsAfter t.minor u is v tree (moment t m y) (moment u a z) = next.stands v tree between.marks between.stands in
+      record {
+        marks = after.marks;
+        stands = after.stands;
+        runs = runs_join s.minor (moment s b x) (moment t m y) (moment u a z) between.runs
+            (runs_at t.minor s.minor (moment t m y) (moment u a z) first.minor after.runs);
+      };
+}
+
+-- something was done at the link that was lent, and the link was put back
+awaits_there : (s t : Serving) (was is : Truth) (b a : RunState) (r : Result (Option Incoming) AllocError) → SameServing s t → Asides b r a
+    → ((v : Opening) (marks : List Mark) → was v marks → IfOk r (λ m. is v (with_next m marks))) → IfOk r (λ m. Awaits s t was is b a m)
+awaits_there s t was is b a (Ok message) same asides truth = record { same = same; asides = asides; truth = truth }
+awaits_there s t was is b a (Err error) same asides truth = tt
+
+pub advanced : {Line : Type 0} (truth : Line → Truth) (run : Line → RunState) (s t : Serving) (before lent after there : Line)
+    (r : Result (Option Incoming) AllocError) → lent ≡ before → there ≡ after → SameServing s t → Asides (run lent) r (run after)
+    → ((v : Opening) (marks : List Mark) → truth lent v marks → IfOk r (λ m. truth after v (with_next m marks)))
+    → IfOk r (λ m. Awaits s t (truth before) (truth there) (run before) (run there) m)
+advanced {Line} truth run s t before lent after there r value put same asides keeps =
+    subst (λ (l : Line). IfOk r (λ m. Awaits s t (truth before) (truth l) (run before) (run l) m)) (sym put)
+    (subst (λ (l : Line). IfOk r (λ m. Awaits s t (truth l) (truth after) (run l) (run after) m)) value
+    (awaits_there s t (truth lent) (truth after) (run lent) (run after) r same asides keeps))
+
+-- the server and what it owes, after something was done at its link
+still_serves : (s t : Serving) (was is : Truth) (v : Opening) (tree : Tree) (marks noted : List Mark) → SameServing s t → Hears s was v tree marks marks
+    → is v noted → Hears t is v tree marks noted
+still_serves s t was is v tree marks noted same stood truth = record {
+  minor = stood.minor ∙ sym same.minor;
+  serves = serves_same s t (contents_at v) tree marks same stood.serves;
+  truth = truth;
+}
+
+rests : (s : Serving) (was : Truth) (b : RunState) (v : Opening) (tree : Tree) (marks : List Mark) → IsGuarantee was b → Hears s was v tree marks marks
+    → IsAtRest (record_of b) s.outbox
+rests s was b v tree marks guarantees stood = subst (λ (l : List Mark). IsAtRest l s.outbox) (sym (guarantees v marks stood.truth).is) stood.serves.at_rest
+
+-- no message came
+pub none_came : (s t : Serving) (was is : Truth) (b a : RunState) (r : Option Incoming) → r ≡ None → Awaits s t was is b a r → IsIdle s b
+    → (b.owed ≡ true) ⊎ IsNext b → IsGuarantee was b → RunsOn s t was is b a Resting Resting
+none_came s t was is b a r none w idle left guarantees = by (subst (λ (o : Option Incoming). Awaits s t was is b a o) none w) where
+  by : Awaits s t was is b a None → RunsOn s t was is b a Resting Resting
+  by x = record {
+    geometry = x.same.geometry;
+    minor = x.same.minor;
+    frame_count = x.same.frame_count;
+    leads = (asides_lead_on b a (Ok None) x.asides).leads;
+    stands = λ v tree marks stood. record {
+      marks = marks;
+      stands = still_serves s t was is v tree marks marks x.same stood (x.truth v marks stood.truth);
+      runs = owing s.minor (moment s b Resting) a s.outbox t.outbox Resting (sym x.same.outbox)
+          (Then (moment s b Resting) (record { run = a; outbox = s.outbox; doing = Resting }) Starts
+          (quiet_step s.minor b a s.outbox x.asides idle.live (rests s was b v tree marks guarantees stood) left));
+    };
+  }
+
+pub none_came_idle : (s t : Serving) (was is : Truth) (b a : RunState) (r : Option Incoming) → Awaits s t was is b a r → IsIdle s b → IsIdle t a
+none_came_idle s t was is b a r w idle = record {
+  ended = w.same.ended ∙ idle.ended;
+  live = asides_over b a r w.asides ∙ idle.live;
+  told_of_end = asides_told b a r w.asides idle.told_of_end;
+  calls = asides_hand_none [] b a (Ok r) w.asides idle.calls;
+}
+
+pub none_came_one : (s t : Serving) (was is : Truth) (b a : RunState) (r : Option Incoming) → Awaits s t was is b a r → RunsOne b a
+none_came_one s t was is b a r w = record { next = asides_next b a r w.asides; less = (asides_lead_on b a (Ok r) w.asides).less }
+
+-- the message is handed over
+pub handed : (s t u : Serving) (was noted is : Truth) (b m a : RunState) (r : Option Incoming) (message : Incoming) → r ≡ Some message
+    → AbsorbsOver t u noted is message → GoesOn m a → Awaits s t was noted b m r → IsIdle s b → (b.owed ≡ true) ⊎ IsNext b → IsGuarantee was b
+    → t.told ≡ history_of m → u.told ≡ history_of a → RunsOn s u was is b a Resting Resting
+handed s t u was noted is b m a r message came absorbs on w idle left guarantees first last =
+    by (subst (λ (o : Option Incoming). Awaits s t was noted b m o) came w) where
+      by : Awaits s t was noted b m (Some message) → RunsOn s u was is b a Resting Resting
+      by x = record {
+        geometry = absorbs.keeps.leads.geometry ∙ x.same.geometry;
+        minor = absorbs.keeps.leads.minor ∙ x.same.minor;
+        frame_count = absorbs.keeps.leads.frame_count ∙ x.same.frame_count;
+        leads = leads_joins b m a (asides_lead_on b m (Ok (Some message)) x.asides).leads (servers_lead_on m a on);
+        stands = λ v tree marks stood.
+            let h : Hears t noted v tree marks (received message marks) = still_serves s t was noted v tree marks (received message marks) x.same stood (x.truth v marks stood.truth) in
+            let is_record : record_of b ≡ marks = (guarantees v marks stood.truth).is in
+            record {
+              marks = marks_after (absorbs.keeps.later ++ Absorbed message ∷ []) marks;
+              stands = record {
+                minor = h.minor ∙ sym absorbs.keeps.leads.minor;
+                serves = absorbs.keeps.serves (contents_at v) tree marks h.serves;
+                truth = absorbs.truth v tree marks h.minor h.serves.agrees h.truth;
+              };
+              runs = runs_join s.minor (moment s b Resting) (record { run = m; outbox = owed_after_message message marks s.outbox; doing = Hearing message })
+                  (moment u a Resting)
+                  (Then (moment s b Resting) (record { run = m; outbox = owed_after_message message marks s.outbox; doing = Hearing message }) Starts
+                  (subst (λ (l : List Mark). Step s.minor (moment s b Resting)
+                  (record { run = m; outbox = owed_after_message message l s.outbox; doing = Hearing message })) is_record
+                  (aside_step s.minor b m s.outbox message x.asides idle.live (rests s was b v tree marks guarantees stood) left)))
+                  (runs_at t.minor s.minor _ _ x.same.minor
+                  (owing_first t.minor m (owed_after_message message marks t.outbox) (owed_after_message message marks s.outbox) (Hearing message)
+                  (moment u a Resting) (ap (owed_after_message message marks) x.same.outbox)
+                  (absorb_runs t u noted is m a message v tree marks absorbs on (asides_told b m (Some message) x.asides idle.told_of_end) first last
+                  (asides_record b m message x.asides ∙ ap (received message) is_record) h.serves)));
+            };
+      }
+
+-- nothing was taken in it
+absorbed_ended : (s t : Serving) (was is : Truth) (message : Incoming) → AbsorbsOver s t was is message → t.ended ≡ s.ended
+absorbed_ended s t was is message absorbs =
+    absorbs.keeps.leads.ended
+    ∙ ap (λ (b : Bool). b || s.ended) (ap took_end (told_absorbed absorbs.keeps.later message) ∙ no_end (told_of absorbs.keeps.later) absorbs.keeps.none_taken)
+
+-- and so the link still hasn't ended
+pub absorbed_live : (s t : Serving) (was is : Truth) (b a : RunState) (message : Incoming) → AbsorbsOver s t was is message → GoesOn b a → IsToldOfEnd b
+    → s.ended ≡ false → b.over ≡ false → HasCalls [] b → s.told ≡ history_of b → t.told ≡ history_of a → IsIdle t a
+absorbed_live s t was is b a message absorbs on told ended live calls first last =
+    let over : t.ended ≡ false = absorbed_ended s t was is message absorbs ∙ ended in
+    let after : IsToldOfEnd a = goes_told_of_end b a on told in
+    record {
+      ended = over;
+      live = over_is_ended s t b a (told_of absorbs.keeps.later) told after (absorbed_history s t was is b a message absorbs first last)
+          (absorbs.keeps.leads.ended ∙ ap (λ (b : Bool). b || s.ended) (ap took_end (told_absorbed absorbs.keeps.later message))) (ended ∙ sym live) ∙ over;
+      told_of_end = after;
+      calls = servers_hand_none [] b a on calls;
+    }
+
+pub handed_idle : (s t u : Serving) (was noted is : Truth) (b m a : RunState) (r : Option Incoming) (message : Incoming)
+    → AbsorbsOver t u noted is message → GoesOn m a → Awaits s t was noted b m r → IsIdle s b → t.told ≡ history_of m → u.told ≡ history_of a → IsIdle u a
+handed_idle s t u was noted is b m a r message absorbs on w idle first last =
+    absorbed_live t u noted is m a message absorbs on (asides_told b m r w.asides idle.told_of_end) (w.same.ended ∙ idle.ended)
+    (asides_over b m r w.asides ∙ idle.live) (asides_hand_none [] b m (Ok r) w.asides idle.calls) first last
+
+pub handed_one : (s t u : Serving) (was noted is : Truth) (b m a : RunState) (r : Option Incoming) (message : Incoming)
+    → AbsorbsOver t u noted is message → GoesOn m a → Awaits s t was noted b m r → IsIdle s b → t.told ≡ history_of m → u.told ≡ history_of a → RunsOne b a
+handed_one s t u was noted is b m a r message absorbs on w idle first last =
+    let on_leads : LeadsOn m a = servers_lead_on m a on in
+    let less : work_left m < work_left b = (asides_lead_on b m (Ok r) w.asides).less in
+    record {
+      next = quiet_next m a (told_of absorbs.keeps.later) on (asides_told b m r w.asides idle.told_of_end)
+          (absorbed_history t u noted is m a message absorbs first last) absorbs.keeps.none_taken ∙ asides_next b m r w.asides;
+      less = omega (arith, on_leads.work, less);
+    }
+
+-- a call is the one that arrived
+pub of_call : (s t : Serving) (was is : Truth) (asked arrived : Arrived) (outcome : Outcome) → asked ≡ arrived
+    → CallsOver s t was is asked.who asked.now asked.call outcome → CallsOver s t was is arrived.who arrived.now arrived.call outcome
+of_call s t was is asked arrived outcome same calls = subst (λ (x : Arrived). CallsOver s t was is x.who x.now x.call outcome) same calls
+
+-- an answer is noted at the link that was lent
+noted_there : (s t : Serving) (was is : Truth) (b a : RunState) (arrived : Arrived) (reply : Reply) (r : Result (Unit {0}) AllocError) → SameServing s t
+    → Answers b arrived reply r a
+    → ((v : Opening) (marks : List Mark) → was v marks → OnOk r (is v (Took arrived.who arrived.now arrived.call (answer_of reply) ∷ marks)))
+    → OnOk r (Notes s t was is b a arrived reply)
+noted_there s t was is b a arrived reply (Ok done) same answers truth = record { same = same; answers = answers; truth = truth }
+noted_there s t was is b a arrived reply (Err error) same answers truth = tt
+
+pub noted : {Line : Type 0} (truth : Line → Truth) (run : Line → RunState) (s t : Serving) (before lent after there : Line) (arrived : Arrived) (reply : Reply)
+    (r : Result (Unit {0}) AllocError) → lent ≡ before → there ≡ after → SameServing s t → Answers (run lent) arrived reply r (run after)
+    → ((v : Opening) (marks : List Mark) → truth lent v marks
+    → OnOk r (truth after v (Took arrived.who arrived.now arrived.call (answer_of reply) ∷ marks)))
+    → OnOk r (Notes s t (truth before) (truth there) (run before) (run there) arrived reply)
+noted {Line} truth run s t before lent after there arrived reply r value put same answers keeps =
+    subst (λ (l : Line). OnOk r (Notes s t (truth before) (truth l) (run before) (run l) arrived reply)) (sym put)
+    (subst (λ (l : Line). OnOk r (Notes s t (truth l) (truth after) (run l) (run after) arrived reply)) value
+    (noted_there s t (truth lent) (truth after) (run lent) (run after) arrived reply r same answers keeps))
+
+not_cut : (answer : Answer) → ◌≡◌ (Replied answer) WasCutOff → ⊥
+not_cut answer h = cc
+
+answered_ended : (s t : Serving) (was is : Truth) (arrived : Arrived) (reply : Reply)
+    → CallsOver s t was is arrived.who arrived.now arrived.call (Replied (answer_of reply)) → t.ended ≡ false
+answered_ended s t was is arrived reply calls = is_false t.ended (λ over. not_cut (answer_of reply) (calls.keeps.cut.1 over))
+
+pub answered_over : (s t : Serving) (was is : Truth) (b a : RunState) (arrived : Arrived) (reply : Reply)
+    → CallsOver s t was is arrived.who arrived.now arrived.call (Replied (answer_of reply)) → GoesOn b a → IsLive (Answering arrived) s b
+    → s.told ≡ history_of b → t.told ≡ history_of a → a.over ≡ false
+answered_over s t was is b a arrived reply calls on handed first last =
+    over_is_ended s t b a (told_of calls.keeps.acts) handed.told_of_end (goes_told_of_end b a on handed.told_of_end)
+    (call_history s t was is b a arrived (Replied (answer_of reply)) calls first last) calls.keeps.leads.ended (handed.ended ∙ sym handed.live)
+    ∙ answered_ended s t was is arrived reply calls
+
+-- a call was answered, and its answer noted
+pub answered : (s t u : Serving) (was is after : Truth) (b m a : RunState) (arrived : Arrived) (reply : Reply)
+    → CallsOver s t was is arrived.who arrived.now arrived.call (Replied (answer_of reply)) → GoesOn b m → Notes t u is after m a arrived reply
+    → IsLive (Answering arrived) s b → IsGuarantee was b → s.told ≡ history_of b → t.told ≡ history_of m → RunsOn s u was after b a (Answering arrived) Resting
+answered s t u was is after b m a arrived reply calls on n live guarantees first last = record {
+  geometry = n.same.geometry ∙ calls.keeps.leads.geometry;
+  minor = n.same.minor ∙ calls.keeps.leads.minor;
+  frame_count = n.same.frame_count ∙ calls.keeps.leads.frame_count;
+  leads = leads_joins b m a (servers_lead_on b m on) (answers_lead_on m a arrived reply (Ok tt) n.answers);
+  stands = λ v tree marks stood.
+      let done : Serves t (contents_at v) tree (Took arrived.who arrived.now arrived.call (answer_of reply) ∷ marks_after calls.keeps.acts marks) =
+      calls.keeps.serves (contents_at v) tree marks stood.serves in
+      let runs : CallRuns s t b m arrived (marks_after calls.keeps.acts marks) =
+      call_runs s t was is b m arrived (Replied (answer_of reply)) v tree marks calls on live.told_of_end first last
+      (guarantees v marks stood.truth).is stood.serves in
+      record {
+        marks = Took arrived.who arrived.now arrived.call (answer_of reply) ∷ marks_after calls.keeps.acts marks;
+        stands = record {
+          minor = stood.minor ∙ sym calls.keeps.leads.minor ∙ sym n.same.minor;
+          serves = serves_same t u (contents_at v) tree (Took arrived.who arrived.now arrived.call (answer_of reply) ∷ marks_after calls.keeps.acts marks)
+              n.same done;
+          truth = n.truth v (marks_after calls.keeps.acts marks) (calls.truth v tree marks stood.minor stood.serves.agrees stood.truth);
+        };
+        runs = owing s.minor (moment s b (Answering arrived)) a t.outbox u.outbox Resting (sym n.same.outbox)
+            (subst (λ (p : RunState). Runs s.minor (moment s b (Answering arrived)) (record { run = p; outbox = t.outbox; doing = Resting })) (sym n.answers)
+            (replied s.minor (moment s b (Answering arrived)) m t.outbox arrived reply (marks_after calls.keeps.acts marks) runs.runs
+            (answered_over s t was is b m arrived reply calls on live first last) runs.record_is done.at_rest));
+      };
+}
+
+pub answered_to : (s t u : Serving) (was is after : Truth) (b m a : RunState) (arrived : Arrived) (reply : Reply)
+    → CallsOver s t was is arrived.who arrived.now arrived.call (Replied (answer_of reply)) → GoesOn b m → Notes t u is after m a arrived reply
+    → IsLive (Answering arrived) s b → s.told ≡ history_of b → t.told ≡ history_of m → u.told ≡ history_of a → AnswersTo More arrived u a
+answered_to s t u was is after b m a arrived reply calls on n live first last then =
+    let over : m.over ≡ false = answered_over s t was is b m arrived reply calls on live first last in
+    let same : a.over ≡ m.over = ap (λ (p : RunState). p.over) n.answers in
+    let told : IsToldOfEnd m = goes_told_of_end b m on live.told_of_end in
+    record {
+      ended = n.same.ended ∙ answered_ended s t was is arrived reply calls;
+      live = same ∙ over;
+      told_of_end = record { is = ap took_end (sym then ∙ n.same.told ∙ last) ∙ told.is ∙ sym same };
+      calls = it_is_answered m a arrived reply n.answers (servers_hand_none (arrival_of arrived ∷ []) b m on live.calls);
+    }
+
+-- a call was cut
+pub cut_off : (s t : Serving) (was is : Truth) (b a : RunState) (arrived : Arrived) → CallsOver s t was is arrived.who arrived.now arrived.call WasCutOff
+    → GoesOn b a → IsLive (Answering arrived) s b → IsGuarantee was b → s.told ≡ history_of b → t.told ≡ history_of a
+    → RunsOn s t was is b a (Answering arrived) (Answering arrived)
+cut_off s t was is b a arrived calls on live guarantees first last = record {
+  geometry = calls.keeps.leads.geometry;
+  minor = calls.keeps.leads.minor;
+  frame_count = calls.keeps.leads.frame_count;
+  leads = servers_lead_on b a on;
+  stands = λ v tree marks stood. record {
+    marks = marks_after calls.keeps.acts marks;
+    stands = record {
+      minor = stood.minor ∙ sym calls.keeps.leads.minor;
+      serves = calls.keeps.serves (contents_at v) tree marks stood.serves;
+      truth = calls.truth v tree marks stood.minor stood.serves.agrees stood.truth;
+    };
+    runs = (call_runs s t was is b a arrived WasCutOff v tree marks calls on live.told_of_end first last (guarantees v marks stood.truth).is stood.serves).runs;
+  };
+}
+
+pub cut_to : (s t : Serving) (was is : Truth) (b a : RunState) (arrived : Arrived) → CallsOver s t was is arrived.who arrived.now arrived.call WasCutOff
+    → GoesOn b a → IsLive (Answering arrived) s b → s.told ≡ history_of b → t.told ≡ history_of a → AnswersTo Cut arrived t a
+cut_to s t was is b a arrived calls on live first last =
+    let ended : t.ended ≡ true = calls.keeps.cut.0 refl in
+    record {
+      ended = ended;
+      over = over_is_ended s t b a (told_of calls.keeps.acts) live.told_of_end (goes_told_of_end b a on live.told_of_end)
+          (call_history s t was is b a arrived WasCutOff calls first last) calls.keeps.leads.ended (live.ended ∙ sym live.live) ∙ ended;
+      why = (servers_end_rightly b a on (record { why = λ over. absurd (true_not_false (sym over ∙ live.live)) })).why
+          (over_is_ended s t b a (told_of calls.keeps.acts) live.told_of_end (goes_told_of_end b a on live.told_of_end)
+          (call_history s t was is b a arrived WasCutOff calls first last) calls.keeps.leads.ended (live.ended ∙ sym live.live) ∙ ended);
+      calls = servers_hand_none (arrival_of arrived ∷ []) b a on live.calls;
+    }
+
+-- a call is handed out by the link that was lent
+hands_there : (s t : Serving) (was is : Truth) (b a : RunState) (first : Option Arrived) → SameServing s t → HandsOut b first a → b.over ≡ false → b.owed ≡ false
+    → IsGuarantee was b → ((v : Opening) (marks : List Mark) → was v marks → is v marks) → RunsOn s t was is b a Resting (doing_of first)
+hands_there s t was is b a first same hands live paid guarantees truth = record {
+  geometry = same.geometry;
+  minor = same.minor;
+  frame_count = same.frame_count;
+  leads = (calls_lead_on b a first hands).leads;
+  stands = λ v tree marks stood. record {
+    marks = marks;
+    stands = still_serves s t was is v tree marks marks same stood (truth v marks stood.truth);
+    runs = owing s.minor (moment s b Resting) a s.outbox t.outbox (doing_of first) (sym same.outbox)
+        (hands_run s.minor b a s.outbox first hands live paid (rests s was b v tree marks guarantees stood));
+  };
+}
+
+pub handed_out : {Line : Type 0} (truth : Line → Truth) (run : Line → RunState) (s t : Serving) (before lent after there : Line) (first : Option Arrived)
+    → lent ≡ before → there ≡ after → SameServing s t → HandsOut (run lent) first (run after) → (run before).over ≡ false → (run before).owed ≡ false
+    → ((l : Line) → IsGuarantee (truth l) (run l)) → ((v : Opening) (marks : List Mark) → truth lent v marks → truth after v marks)
+    → RunsOn s t (truth before) (truth there) (run before) (run there) Resting (doing_of first)
+handed_out {Line} truth run s t before lent after there first value put same hands live paid guarantees keeps =
+    subst (λ (l : Line). RunsOn s t (truth before) (truth l) (run before) (run l) Resting (doing_of first)) (sym put)
+    (subst (λ (l : Line). RunsOn s t (truth l) (truth after) (run l) (run after) Resting (doing_of first)) value
+    (hands_there s t (truth lent) (truth after) (run lent) (run after) first same hands (ap (λ (l : Line). (run l).over) value ∙ live)
+    (ap (λ (l : Line). (run l).owed) value ∙ paid) (guarantees lent) keeps))
+
+pub hands : {Line : Type 0} (run : Line → RunState) (before lent after there : Line) (first : Option Arrived) → lent ≡ before → there ≡ after
+    → HandsOut (run lent) first (run after) → HandsOut (run before) first (run there)
+hands {Line} run before lent after there first value put h =
+    subst (λ (l : Line). HandsOut (run before) first (run l)) (sym put) (subst (λ (l : Line). HandsOut (run l) first (run after)) value h)
+
+-- the server answers the call that was handed out, if one was
+pub out_live : (s t : Serving) (b a : RunState) (first : Option Arrived) → SameServing s t → HandsOut b first a → IsIdle s b → IsLive (doing_of first) t a
+out_live s t b a None same hands idle =
+    subst (λ (p : RunState). IsIdle t p) (sym (same_left b a hands)) (record {
+      ended = same.ended ∙ idle.ended;
+      live = idle.live;
+      told_of_end = idle.told_of_end;
+      calls = idle.calls;
+    })
+out_live s t b a (Some call) same hands idle = record {
+  ended = same.ended ∙ idle.ended;
+  live = ap (λ (p : RunState). p.over) hands.after ∙ idle.live;
+  told_of_end = subst (λ (p : RunState). IsToldOfEnd p) (sym hands.after) (record { is = idle.told_of_end.is });
+  calls = one_is_handed_out b a call hands idle.calls;
+}
+
+-- nothing was done for want of memory
+asides_starved : (b a : RunState) (r : Result (Option Incoming) AllocError) → Asides b r a → OnErr r (a.starved ≡ true)
+asides_starved b _ _ (HandsEvent message a next) = tt
+asides_starved b _ _ (HandsNone a next) = tt
+asides_starved b _ _ (HandsOwed live owed first) = tt
+asides_starved b _ _ (HandsNothing error) = refl
+
+pub starved_aside : {Line : Type 0} (run : Line → RunState) (lent after there : Line) (r : Result (Option Incoming) AllocError) → there ≡ after
+    → Asides (run lent) r (run after) → OnErr r ((run there).starved ≡ true)
+starved_aside {Line} run lent after there r put asides =
+    subst (λ (l : Line). OnErr r ((run l).starved ≡ true)) (sym put) (asides_starved (run lent) (run after) r asides)
+
+answers_starved : (b a : RunState) (arrived : Arrived) (reply : Reply) (r : Result (Unit {0}) AllocError) → Answers b arrived reply r a → OnErr r (a.starved ≡ true)
+answers_starved b a arrived reply (Ok done) answers = tt
+answers_starved b a arrived reply (Err error) answers = ap (λ (p : RunState). p.starved) answers
+
+pub starved_took : {Line : Type 0} (run : Line → RunState) (lent after there : Line) (arrived : Arrived) (reply : Reply) (r : Result (Unit {0}) AllocError)
+    → there ≡ after → Answers (run lent) arrived reply r (run after) → OnErr r ((run there).starved ≡ true)
+starved_took {Line} run lent after there arrived reply r put answers =
+    subst (λ (l : Line). OnErr r ((run l).starved ≡ true)) (sym put) (answers_starved (run lent) (run after) arrived reply r answers)
