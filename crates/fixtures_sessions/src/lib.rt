@@ -1,6 +1,10 @@
-//! What is done with services and their sessions, whichever server and link they have, and a link that has ended: for tests of sessions.
+//! What tests of services run on, and what is done with services and their sessions, whichever server and link they have: an image, a gate,
+//! drivers that note what they write, sessions that call, and a link that has ended.
 #![tactic(auto)]
 
 pub mod callers;
+pub mod noting;
 pub mod services;
 pub mod silent;
+pub mod stage;
+pub mod watch;

@@ -1,7 +1,7 @@
 //! Calls that make something: they make it, or say that no memory was found, and that only where a request was refused. (Where room for
 //! many is refused, a list may still find room for one after the other. Where the link had no memory, a mount says that it ended.)
 
-use crate::orders::{Trial, each_refused};
+use crate::trials::{Trial, each_refused};
 use cache::{Cache, CacheRefusal};
 use fixtures::frames::VOLUME;
 use fixtures::lists::{driver, started};

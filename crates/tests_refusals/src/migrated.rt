@@ -1,7 +1,7 @@
 //! The migration of a version 2 volume: the same image, or the refusal that says that no memory was found, and that only where a request
 //! was refused.
 
-use crate::orders::{Trial, each_refused};
+use crate::trials::{Trial, each_refused};
 use migrate::{MigrateRefusal, migrate};
 use std::alloc::{AllocError, Global};
 use std::test::Fail;

@@ -1,9 +1,10 @@
 //! Plays, runs of schedules, makings and checks, from the bytes of files to texts.
 
-use crate::orders::{MOST, Trial, each_refused, is_last, refuse, was_refused};
 use crate::told::Said;
+use crate::trials::{Trial, each_refused};
 use call_text::scripts::script_files;
 use fixtures::gates::Ticking;
+use fixtures::orders::{MOST, is_last, refuse, was_refused};
 use fixtures::{new_volume, patient, whole};
 use modeldisk::supply::{drivers_for, table_in};
 use new_volume::NewVolume;

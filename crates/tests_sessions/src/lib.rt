@@ -1,11 +1,17 @@
-//! Tests of a service's sessions: in turn, given up and refused, of a service that is stopped, of one whose link has ended, and of the board
-//! that its seats share. Each expected value is worked out by hand.
+//! Tests of a service's sessions: in turn, given up and refused; of how services end: stopped, with a session left, while a driver hangs, let
+//! go, or over a link that has ended; and of the board that its seats share. Each expected value is worked out by hand.
 #![tactic(auto)]
 
 #[cfg(test)]
 mod ended;
 #[cfg(test)]
+mod endings;
+#[cfg(test)]
+mod left;
+#[cfg(test)]
 mod programs;
+#[cfg(test)]
+mod read_back;
 #[cfg(test)]
 mod seats;
 #[cfg(test)]

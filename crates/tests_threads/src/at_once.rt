@@ -11,19 +11,18 @@ ghost use Rattle.mounting.specs.Starting.{opening_of, IsPrepared};
 ghost use Rattle.true_replies.specs.Events.{opening_media};
 ghost use Rattle.board.specs.View.{IsKeeper, opener};
 
-use crate::drivers::Noting;
-use crate::endings::{Ending, end};
 use crate::many::{has_all, write_all};
 use crate::no_wait::{Looked, look_meanwhile};
-use crate::setting::{Stage, patient};
-use crate::watch::Watch;
 use bdev::BlockDriver;
 use board::counting::recorder::Recorder;
 use board::counting::room::Room;
 use board::{Board, Seat};
 use driver_threads::running::Running;
 use file_server::FileServer;
+use fixtures_sessions::noting::Noting;
 use fixtures_sessions::services::two_in_threads;
+use fixtures_sessions::stage::{LATE, Stage, patient};
+use fixtures_sessions::watch::Watch;
 use launch::opened::mounted;
 use launch::start::counted_drivers;
 use modeldisk::Fault;
@@ -31,7 +30,6 @@ use mounting::{Prepared, prepare};
 use reincarnate::policy::Setup;
 use serve::service::Service;
 use std::marker::Brand;
-use std::process::Abort;
 use std::sync::{Arc, Wait};
 use std::test::Fail;
 use std::thread::Threads;
@@ -48,8 +46,6 @@ pub(crate) enum What {
     Write,
     /// One reads all these files.
     Read,
-    /// One changes the root, and the service ends so.
-    End(Ending),
 }
 
 /// What came of it.
@@ -61,14 +57,12 @@ pub(crate) enum Came {
     Looked(String, Option<Looked>),
     /// Whether all was answered as it should be.
     Files(bool),
-    /// The lines of the one.
-    Ended(String),
 }
 
-/// It is done in sessions of a service: what came of it. None where it is how the service ends, or where a session or memory was wanting.
+/// It is done in sessions of a service: what came of it. None where a session or memory was wanting.
 fn came_of<
     N: Room + Send + Sync,
-    R: Threads + Wait + Abort + Clock + Copy + Send + Sync + 'static,
+    R: Threads + Wait + Clock + Copy + Send + Sync + 'static,
     L: Recorder<N> + Send,
     S: FileServer<L> + Send,
 >(stage: &Stage<R>, what: What, service: &Service<N, R, L, S>) -> Option<Came> {
@@ -83,22 +77,16 @@ fn came_of<
         }
         What::Write => Some(Came::Files(write_all(stage.alloc, &stage.rt, service)?)),
         What::Read => Some(Came::Files(has_all(service)?)),
-        What::End(_) => None,
     }
 }
 
-/// It is done, and the service ends: what came of it, and the image, or no bytes where the service was let go. None where a session, memory
-/// or an image was wanting.
+/// It is done, and the service is stopped: what came of it, and the image. None where a session, memory or an image was wanting.
 fn done<
     N: Room + Send + Sync,
-    R: Threads + Wait + Abort + Clock + Copy + Send + Sync + 'static,
+    R: Threads + Wait + Clock + Copy + Send + Sync + 'static,
     L: Recorder<N> + Send,
     S: FileServer<L> + Send,
 >(stage: &Stage<R>, what: What, service: Service<N, R, L, S>) -> Option<(Came, Vec<u8>)> {
-    if let What::End(ending) = what {
-        let (lines, left) = end(stage, ending, service)?;
-        return Some((Came::Ended(lines), left));
-    }
     let came = came_of(stage, what, &service)?;
     let left = service.stop(stage.alloc).ok()?;
     Some((came, left))
@@ -107,7 +95,7 @@ fn done<
 /// Mounts the volume over this link, does it on the service of it, and stops the service: what came of it, and the image that is left.
 fn mount_and_do<
     N: Room + Send + Sync + 'static,
-    R: Threads + Wait + Abort + Clock + Copy + Send + Sync + 'static,
+    R: Threads + Wait + Clock + Copy + Send + Sync + 'static,
     L: Recorder<N> + Send + 'static,
 >(
     stage: &Stage<R>,
@@ -142,7 +130,7 @@ fn mount_and_do<
 // The caller picks `N` from what it hands over.
 fn start_and_do<
     N: Room + Send + Sync + 'static,
-    R: Threads + Wait + Abort + Clock + Copy + Send + Sync + 'static,
+    R: Threads + Wait + Clock + Copy + Send + Sync + 'static,
 >(
     stage: &Stage<R>,
     board: Board,
@@ -175,20 +163,22 @@ fn start_and_do<
     mount_and_do(stage, board, link, setup, running, what)
 }
 
-impl<R: Threads + Wait + Abort + Clock + Copy + Send + Sync + 'static> Stage<R> {
-    /// What comes of it with drivers of these faults, and the image that is left.
-    pub(crate) fn at_once(&self, faults: &[Fault], what: What) -> Result<(Came, Vec<u8>), Fail> {
-        let setup = patient();
-        let supply = self.supply(faults)?;
-        let image = Vec::from_slice(self.alloc, &self.image)?;
-        let Ok(prepared) = prepare(image, &setup, &supply) else {
-            return Err(Fail::from("not prepared"));
-        };
-        let (board, seat) = Board::new(self.alloc)?;
-        let came = start_and_do::<Brand, R>(self, board, seat, prepared, &setup, supply, what)?;
-        if self.gate.is_in_time() {
-            return Ok(came);
-        }
-        Err(Fail::from("a thread was held for too long"))
+/// What comes of it on a stage, with drivers of these faults, and the image that is left.
+pub(crate) fn at_once<R: Threads + Wait + Clock + Copy + Send + Sync + 'static>(
+    stage: &Stage<R>,
+    faults: &[Fault],
+    what: What,
+) -> Result<(Came, Vec<u8>), Fail> {
+    let setup = patient();
+    let supply = stage.supply(faults)?;
+    let image = Vec::from_slice(stage.alloc, &stage.image)?;
+    let Ok(prepared) = prepare(image, &setup, &supply) else {
+        return Err(Fail::from("not prepared"));
+    };
+    let (board, seat) = Board::new(stage.alloc)?;
+    let came = start_and_do::<Brand, R>(stage, board, seat, prepared, &setup, supply, what)?;
+    if stage.gate.is_in_time() {
+        return Ok(came);
     }
+    Err(Fail::from(LATE))
 }

@@ -1,12 +1,12 @@
 //! Drivers and a flusher that are held run beside the server: it goes on without them.
 
-use crate::setting::Stage;
-use crate::watch::{Holds, Watch};
 use board::counting::recorder::Recorder;
 use board::counting::room::Room;
 use file_server::FileServer;
 use fixtures::{ROOT, new_volume};
 use fixtures_sessions::callers::{Caller, told};
+use fixtures_sessions::stage::Stage;
+use fixtures_sessions::watch::{Holds, Watch};
 use launch::program::Program;
 use serve::service::Service;
 use std::alloc::Global;
@@ -41,7 +41,7 @@ impl What {
 
 /// A service whose first driver or flusher is held while a session calls.
 #[derive(Drop)]
-struct Held<R: Abort + Clock + Copy> {
+struct Held<R: Clock + Copy> {
     alloc: Global,
     what: What,
     gate: Arc<Watch<R>>,
@@ -69,7 +69,7 @@ fn changes<C: Caller>(session: &mut C, lines: &mut String) {
 }
 
 /// Calls while one of the service's threads is held, which then goes on. Whether it had passed before, and whether it passed then.
-fn calls<R: Abort + Clock + Copy, C: Caller>(
+fn calls<R: Clock + Copy, C: Caller>(
     what: What,
     gate: &Watch<R>,
     session: &mut C,
@@ -100,7 +100,7 @@ fn calls<R: Abort + Clock + Copy, C: Caller>(
     (is_early, has_passed)
 }
 
-impl<R: Threads + Wait + Abort + Clock + Copy + Send + Sync + 'static> Program<R> for Held<R> {
+impl<R: Threads + Wait + Clock + Copy + Send + Sync + 'static> Program<R> for Held<R> {
     type Output = Option<Came>;
 
     ghost gives = { λ program geometry opening output. Unit {0} };
@@ -123,7 +123,7 @@ impl<R: Threads + Wait + Abort + Clock + Copy + Send + Sync + 'static> Program<R
     }
 }
 
-impl<R: Abort + Clock + Copy> Held<R> {
+impl<R: Clock + Copy> Held<R> {
     /// Calls in a session of a service, which then ends. Whether who was held had passed before, and whether it passed then.
     fn calls_in<N: Room, L: Recorder<N>, S: FileServer<L>>(
         &self,
@@ -141,7 +141,7 @@ impl<R: Abort + Clock + Copy> Held<R> {
 }
 
 /// What comes of a session that calls while what is held is held.
-fn came_of<R: Threads + Wait + Abort + Clock + Copy + Send + Sync + 'static>(
+fn came_of<R: Threads + Wait + Clock + Copy + Send + Sync + 'static>(
     stage: &Stage<R>,
     what: What,
 ) -> Result<Came, Fail> {

@@ -1,18 +1,17 @@
 //! Sixty-four sessions write files of their own, in threads of their own, while drivers die.
 
-use crate::at_once::{Came, What};
-use crate::setting::Stage;
-use crate::watch::Holds;
+use crate::at_once::{Came, What, at_once};
 use board::counting::recorder::Recorder;
 use board::counting::room::Room;
 use file_server::FileServer;
 use fixtures_sessions::callers::Caller;
+use fixtures_sessions::stage::Stage;
+use fixtures_sessions::watch::Holds;
 use modeldisk::{Fault, FaultKind};
 use new_volume::mkfs;
 use serve::service::{Service, Shared};
 use serve::session::Session;
 use std::alloc::Global;
-use std::process::Abort;
 use std::sync::Wait;
 use std::test::*;
 use std::thread;
@@ -156,14 +155,14 @@ pub(crate) fn has_all<N: Room, R: Threads + Wait + Copy, L: Recorder<N>, S: File
 }
 
 /// It is done over the volume in an image, while drivers die. The image that is left.
-fn done<R: Threads + Wait + Abort + Clock + Copy + Send + Sync + 'static>(
+fn done<R: Threads + Wait + Clock + Copy + Send + Sync + 'static>(
     alloc: Global,
     rt: R,
     image: Vec<u8>,
     what: What,
 ) -> Result<Vec<u8>, Fail> {
     let stage = Stage::new(alloc, rt, image, Holds::Flusher)?;
-    let (came, left) = stage.at_once(&[FAULT; DRIVERS], what)?;
+    let (came, left) = at_once(&stage, &[FAULT; DRIVERS], what)?;
     if !matches!(came, Came::Files(true)) || stage.gate.later() == 0 {
         return Err(Fail::from("not all was answered, or no driver died"));
     }

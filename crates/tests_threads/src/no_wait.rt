@@ -2,19 +2,18 @@
 
 ghost use Rattle.std.specs.Prelude.{◌≡◌};
 
-use crate::at_once::{Came, What};
-use crate::setting::Stage;
-use crate::watch::{Holds, Watch};
+use crate::at_once::{Came, What, at_once};
 use board::counting::recorder::Recorder;
 use board::counting::room::Room;
 use board::{Board, Device, Seat};
 use file_server::FileServer;
 use fixtures::{MOUNT_READS, ROOT, new_volume};
 use fixtures_sessions::callers::told;
+use fixtures_sessions::stage::Stage;
+use fixtures_sessions::watch::{Holds, Watch};
 use serve::service::{Service, Shared};
 use serve::session::Session;
 use std::alloc::Global;
-use std::process::Abort;
 use std::sync::{Arc, Wait};
 use std::test::*;
 use std::thread::{Threads, join};
@@ -51,7 +50,7 @@ fn calls<N: Room, R: Threads + Wait + Copy, L: Recorder<N>, S: FileServer<L>>(
 }
 
 /// Two sessions look while a driver is held, which is then let go, and end.
-fn look<N: Room, R: Threads + Wait + Abort + Clock + Copy, L: Recorder<N>, S: FileServer<L>>(
+fn look<N: Room, R: Threads + Wait + Clock + Copy, L: Recorder<N>, S: FileServer<L>>(
     gate: &Watch<R>,
     mut one: Session<N, Shared<N, R, L, S>>,
     mut two: Session<N, Shared<N, R, L, S>>,
@@ -87,7 +86,7 @@ fn two_sessions<N: Room, R: Threads + Wait + Copy, L: Recorder<N>, S: FileServer
 /// saw, if the call was held then.
 pub(crate) fn look_meanwhile<
     N: Room + Send + Sync,
-    R: Threads + Wait + Abort + Clock + Copy + Send + Sync,
+    R: Threads + Wait + Clock + Copy + Send + Sync,
     L: Recorder<N> + Send,
     S: FileServer<L> + Send,
 >(
@@ -108,10 +107,10 @@ pub(crate) fn look_meanwhile<
 }
 
 /// What comes of it over the small volume: the lines of the one, and what the others saw.
-fn looked<R: Threads + Wait + Abort + Clock + Copy + Send + Sync + 'static>(
+fn looked<R: Threads + Wait + Clock + Copy + Send + Sync + 'static>(
     stage: &Stage<R>,
 ) -> Result<(String, Looked), Fail> {
-    let (came, _) = stage.at_once(&[], What::Look)?;
+    let (came, _) = at_once(stage, &[], What::Look)?;
     match came {
         Came::Looked(lines, seen) => Ok((lines, seen.ok_or("no driver was held")?)),
         _other => Err(Fail::from("not looked")),

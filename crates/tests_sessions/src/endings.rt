@@ -1,18 +1,17 @@
 //! The ends of services: the threads behind one end, whatever their drivers do, and what was written is left.
 
-use crate::at_once::{Came, What};
-use crate::setting::Stage;
-use crate::watch::{Holds, is_alone, is_reached};
 use board::counting::recorder::Recorder;
 use board::counting::room::Room;
 use file_server::FileServer;
 use fixtures::{ROOT, new_volume};
 use fixtures_sessions::callers::{Caller, told};
+use fixtures_sessions::stage::Stage;
+use fixtures_sessions::watch::{Holds, is_alone, is_reached};
 use fsck::{Verdict, check};
+use launch::program::Program;
 use modeldisk::{Fault, FaultKind};
 use serve::service::Service;
 use std::alloc::Global;
-use std::process::Abort;
 use std::sync::{Arc, Wait};
 use std::test::*;
 use std::thread;
@@ -23,7 +22,7 @@ use tree::Call;
 
 /// How a service ends.
 #[derive(Clone, Copy, PartialEq, Eq)]
-pub(crate) enum Ending {
+enum Ending {
     /// It is stopped.
     Stopped,
     /// It is stopped while its first driver hangs, which goes on once drivers are dropped.
@@ -43,7 +42,7 @@ fn change<C: Caller>(session: &mut C, lines: &mut String) {
 }
 
 /// Lets the held driver go once some driver is dropped, in a thread of its own. Whether there is one.
-fn lets_go_later<R: Threads + Wait + Abort + Clock + Copy + Send + Sync + 'static>(
+fn lets_go_later<R: Threads + Wait + Clock + Copy + Send + Sync + 'static>(
     stage: &Stage<R>,
 ) -> Option<()> {
     let gate = Arc::try_clone(&stage.gate).ok()?;
@@ -57,7 +56,7 @@ fn lets_go_later<R: Threads + Wait + Abort + Clock + Copy + Send + Sync + 'stati
 }
 
 /// Holds the first driver where the service ends while it hangs.
-fn holds<R: Threads + Wait + Abort + Clock + Copy + Send + Sync + 'static>(
+fn holds<R: Threads + Wait + Clock + Copy + Send + Sync + 'static>(
     stage: &Stage<R>,
     ending: Ending,
 ) -> Option<()> {
@@ -73,7 +72,7 @@ fn holds<R: Threads + Wait + Abort + Clock + Copy + Send + Sync + 'static>(
 /// A session changes the root, and ends, after the first driver was held. A line for each answer.
 fn changed_by<
     N: Room,
-    R: Threads + Wait + Abort + Clock + Copy + Send + Sync + 'static,
+    R: Threads + Wait + Clock + Copy + Send + Sync + 'static,
     L: Recorder<N>,
     S: FileServer<L>,
 >(stage: &Stage<R>, ending: Ending, service: &Service<N, R, L, S>) -> Option<String> {
@@ -86,9 +85,9 @@ fn changed_by<
 }
 
 /// A session changes the root, and the service ends so. A line for each answer, and the image, or no bytes where the service was let go.
-pub(crate) fn end<
+fn end<
     N: Room,
-    R: Threads + Wait + Abort + Clock + Copy + Send + Sync + 'static,
+    R: Threads + Wait + Clock + Copy + Send + Sync + 'static,
     L: Recorder<N>,
     S: FileServer<L>,
 >(stage: &Stage<R>, ending: Ending, service: Service<N, R, L, S>) -> Option<(String, Vec<u8>)> {
@@ -103,12 +102,31 @@ pub(crate) fn end<
     Some((lines, image))
 }
 
+/// A session changes the root, and the service ends so.
+#[derive(Drop)]
+struct Ends<'s, R: Wait + Clock + Copy> {
+    stage: &'s Stage<R>,
+    ending: Ending,
+}
+
+impl<R: Threads + Wait + Clock + Copy + Send + Sync + 'static> Program<R> for Ends<'_, R> {
+    /// A line for each answer, and the image, or no bytes where the service was let go.
+    type Output = Option<(String, Vec<u8>)>;
+
+    ghost gives = { λ program geometry opening output. Unit {0} };
+
+    fn run<N: Room, L: Recorder<N>, S: FileServer<L>>(
+        self,
+        service: Service<N, R, L, S>,
+    ) -> Option<(String, Vec<u8>)>
+        ensures { Unit {0} }
+    {
+        end(self.stage, self.ending, service)
+    }
+}
+
 /// Where a service's first driver may hang: a new volume with blocks of this size.
-fn stage_of<R: Wait + Abort + Clock + Copy>(
-    alloc: Global,
-    rt: R,
-    block: usize,
-) -> Result<Stage<R>, Fail> {
+fn stage_of<R: Wait + Clock + Copy>(alloc: Global, rt: R, block: usize) -> Result<Stage<R>, Fail> {
     let image = new_volume(alloc, block)?;
     Ok(Stage::new(alloc, rt, image, Holds::FirstDriver)?)
 }
@@ -122,16 +140,13 @@ fn is_changed(alloc: Global, lines: &str) -> Result<(), Fail> {
 
 /// The image that a service leaves which ends so, over these drivers' faults. By then all its threads have ended, and all its drivers are
 /// dropped.
-fn ended<R: Threads + Wait + Abort + Clock + Copy + Send + Sync + 'static>(
+fn ended<R: Threads + Wait + Clock + Copy + Send + Sync + 'static>(
     stage: &Stage<R>,
     faults: &[Fault],
     ending: Ending,
 ) -> Result<Vec<u8>, Fail> {
-    let (came, left) = stage.at_once(faults, What::End(ending))?;
-    let lines = match came {
-        Came::Ended(lines) => lines,
-        _other => return Err(Fail::from("not ended")),
-    };
+    let came = stage.served(faults, Ends { stage, ending })?;
+    let (lines, left) = came.ok_or("not ended")?;
     is_changed(stage.alloc, lines.as_str())?;
     if is_alone(&stage.gate) && is_reached(stage.notes.gone(), 33) {
         return Ok(left);
@@ -141,7 +156,7 @@ fn ended<R: Threads + Wait + Abort + Clock + Copy + Send + Sync + 'static>(
 
 /// The image that is left is a sound volume, and the one that was handed in, changed by the drivers' writes, of which there are so many at
 /// least.
-fn is_left<R: Wait + Abort + Clock + Copy>(
+fn is_left<R: Wait + Clock + Copy>(
     stage: &Stage<R>,
     left: &[u8],
     least: usize,

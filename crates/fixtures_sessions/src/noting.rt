@@ -14,17 +14,17 @@ const DRIVERS: usize = 33;
 
 /// A sector that a driver wrote.
 #[derive(Clone, Copy)]
-pub(crate) struct Written {
+pub struct Written {
     /// The driver's generation.
-    pub(crate) generation: u32,
+    pub generation: u32,
     /// The number of the sector on the media.
-    pub(crate) sector: u32,
+    pub sector: u32,
     /// Its bytes, as the request has them.
-    pub(crate) bytes: [u8; 512],
+    pub bytes: [u8; 512],
 }
 
 /// What all drivers of a test did.
-pub(crate) struct Notes<R: Wait + Copy> {
+pub struct Notes<R: Wait + Copy> {
     rt: R,
     writes: Mutex<Vec<Written>>,
     // Whether there was no memory for a note.
@@ -45,7 +45,7 @@ impl<R: Wait + Copy> Drop for Notes<R> {
 
 impl<R: Wait + Copy> Notes<R> {
     /// Nothing was done.
-    pub(crate) fn new(alloc: Global, rt: R) -> Notes<R> {
+    pub fn new(alloc: Global, rt: R) -> Notes<R> {
         Notes {
             rt,
             writes: Mutex::new(Vec::new(alloc)),
@@ -63,12 +63,12 @@ impl<R: Wait + Copy> Notes<R> {
     }
 
     /// How many drivers were dropped.
-    pub(crate) fn gone(&self) -> &AtomicU64 {
+    pub fn gone(&self) -> &AtomicU64 {
         &self.gone
     }
 
     /// Whether the driver of this generation wrote a sector.
-    pub(crate) fn has_written(&self, generation: u32) -> bool {
+    pub fn has_written(&self, generation: u32) -> bool {
         let writes = self.writes.lock(&self.rt);
         writes
             .iter()
@@ -76,16 +76,12 @@ impl<R: Wait + Copy> Notes<R> {
     }
 
     /// How many sectors were written.
-    pub(crate) fn count(&self) -> usize {
+    pub fn count(&self) -> usize {
         self.writes.lock(&self.rt).len()
     }
 
     /// An image, changed by the writes in their order. None where there was no memory for a note.
-    pub(crate) fn changed(
-        &self,
-        alloc: Global,
-        image: &[u8],
-    ) -> Result<Option<Vec<u8>>, AllocError> {
+    pub fn changed(&self, alloc: Global, image: &[u8]) -> Result<Option<Vec<u8>>, AllocError> {
         if self.is_short.load(Ordering::SeqCst) {
             return Ok(None);
         }
@@ -104,7 +100,7 @@ impl<R: Wait + Copy> Notes<R> {
 }
 
 /// A driver that notes each sector that it writes.
-pub(crate) struct Noting<R: Wait + Copy> {
+pub struct Noting<R: Wait + Copy> {
     driver: ScriptedDriver,
     request: Option<BlockRequest>,
     notes: Arc<Notes<R>>,
@@ -112,7 +108,7 @@ pub(crate) struct Noting<R: Wait + Copy> {
 
 impl<R: Wait + Copy> Noting<R> {
     /// A driver of so many sectors, with these faults.
-    pub(crate) fn new(sectors: u32, faults: Vec<Fault>, notes: Arc<Notes<R>>) -> Noting<R> {
+    pub fn new(sectors: u32, faults: Vec<Fault>, notes: Arc<Notes<R>>) -> Noting<R> {
         let inner = Inner::Ram(RamDriver::new(Table::whole(sectors)));
         Noting {
             driver: ScriptedDriver::new(inner, faults),
@@ -190,7 +186,7 @@ impl<R: Wait + Copy + Send + Sync> BlockDriver for Noting<R> {
 }
 
 /// Drivers of so many sectors, the first ones each with its fault in this list, 33 in all or as many as there are faults.
-pub(crate) fn drivers<R: Wait + Copy>(
+pub fn drivers<R: Wait + Copy>(
     alloc: Global,
     sectors: u32,
     faults: &[Fault],

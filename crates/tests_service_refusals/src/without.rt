@@ -1,6 +1,5 @@
 //! Calls of a service after its opening, while there is no memory: none but read and readdir takes any.
 
-use crate::orders::{refuse, was_refused};
 use board::counting::recorder::Recorder;
 use board::counting::room::Room;
 use call_text::scripts::reading::read_script;
@@ -8,6 +7,7 @@ use call_text::scripts::timed::TimedCall;
 use errno::Errno;
 use file_server::FileServer;
 use fixtures::gates::Ticking;
+use fixtures::orders::{refuse, was_refused};
 use fixtures::{new_volume, patient};
 use launch::program::Program;
 use launch::start::serve;

@@ -1,18 +1,17 @@
 //! A service that is stopped while a session is left.
 
-use crate::setting::Stage;
-use crate::watch::Holds;
 use board::counting::recorder::Recorder;
 use board::counting::room::Room;
 use file_server::FileServer;
 use fixtures::new_volume;
 use fixtures_sessions::callers::told;
+use fixtures_sessions::stage::Stage;
+use fixtures_sessions::watch::Holds;
 use fsck::{Verdict, check};
 use launch::program::Program;
 use serve::service::Service;
 use serve::stopping::StopRefusal;
 use std::alloc::Global;
-use std::process::Abort;
 use std::sync::Wait;
 use std::test::*;
 use std::thread::Threads;
@@ -26,7 +25,7 @@ struct StopsTwice {
     alloc: Global,
 }
 
-impl<R: Threads + Wait + Abort + Clock + Copy + Send + Sync + 'static> Program<R> for StopsTwice {
+impl<R: Threads + Wait + Clock + Copy + Send + Sync + 'static> Program<R> for StopsTwice {
     /// A line for the answer, and the image. None where the first stop isn't refused since a session is left, or the second one is.
     type Output = Option<(String, Vec<u8>)>;
 

@@ -1,18 +1,17 @@
 //! What one session writes while its driver dies, another one reads, and a further service.
 
-use crate::setting::Stage;
-use crate::watch::{Holds, Watch};
 use board::counting::recorder::Recorder;
 use board::counting::room::Room;
 use file_server::FileServer;
 use fixtures::{MOUNT_READS, new_volume};
 use fixtures_sessions::callers::{Caller, told};
+use fixtures_sessions::stage::Stage;
+use fixtures_sessions::watch::{Holds, Watch};
 use fsck::{Verdict, check};
 use launch::program::Program;
 use modeldisk::{Fault, FaultKind};
 use serve::service::Service;
 use std::alloc::Global;
-use std::process::Abort;
 use std::sync::{Arc, Wait};
 use std::test::*;
 use std::thread::Threads;
@@ -40,7 +39,7 @@ fn opening(flags: OpenFlags) -> Call<'static> {
 
 /// Two sessions: one writes, the other reads.
 #[derive(Drop)]
-struct WritesAndReads<R: Abort + Clock + Copy> {
+struct WritesAndReads<R: Clock + Copy> {
     alloc: Global,
     gate: Arc<Watch<R>>,
 }
@@ -57,7 +56,7 @@ struct Came {
 
 /// The first session writes, they meet, and the second one reads. Whether both then gave the same number of marks, and whether the driver
 /// had died by then.
-fn write_and_read<R: Abort + Clock + Copy, C: Caller>(
+fn write_and_read<R: Clock + Copy, C: Caller>(
     gate: &Watch<R>,
     one: &mut C,
     two: &mut C,
@@ -74,8 +73,7 @@ fn write_and_read<R: Abort + Clock + Copy, C: Caller>(
     (is_equal, has_died)
 }
 
-impl<R: Threads + Wait + Abort + Clock + Copy + Send + Sync + 'static> Program<R>
-    for WritesAndReads<R> {
+impl<R: Threads + Wait + Clock + Copy + Send + Sync + 'static> Program<R> for WritesAndReads<R> {
     type Output = Option<Came>;
 
     ghost gives = { λ program geometry opening output. Unit {0} };
@@ -99,7 +97,7 @@ impl<R: Threads + Wait + Abort + Clock + Copy + Send + Sync + 'static> Program<R
     }
 }
 
-impl<R: Abort + Clock + Copy> WritesAndReads<R> {
+impl<R: Clock + Copy> WritesAndReads<R> {
     /// Calls in two sessions of a service, which then end. Whether both gave the same number of marks, and whether the driver had died.
     fn calls_in<N: Room, L: Recorder<N>, S: FileServer<L>>(
         &self,
@@ -124,7 +122,7 @@ struct Reads {
     alloc: Global,
 }
 
-impl<R: Threads + Wait + Abort + Clock + Copy + Send + Sync + 'static> Program<R> for Reads {
+impl<R: Threads + Wait + Clock + Copy + Send + Sync + 'static> Program<R> for Reads {
     type Output = Option<String>;
 
     ghost gives = { λ program geometry opening output. Unit {0} };
@@ -151,7 +149,7 @@ impl<R: Threads + Wait + Abort + Clock + Copy + Send + Sync + 'static> Program<R
 }
 
 /// What a further service over an image reads from the file.
-fn is_read<R: Threads + Wait + Abort + Clock + Copy + Send + Sync + 'static>(
+fn is_read<R: Threads + Wait + Clock + Copy + Send + Sync + 'static>(
     alloc: Global,
     rt: R,
     image: Vec<u8>,
@@ -169,7 +167,7 @@ const DEATH: Fault = Fault {
 };
 
 /// What comes of two sessions of which one writes while the first driver dies, and the other reads.
-fn came_of<R: Threads + Wait + Abort + Clock + Copy + Send + Sync + 'static>(
+fn came_of<R: Threads + Wait + Clock + Copy + Send + Sync + 'static>(
     stage: &Stage<R>,
 ) -> Result<Came, Fail> {
     stage.gate.hold();

@@ -1,7 +1,6 @@
-//! A gate that holds threads back, sets the pace of ticks, and ends a test that takes too many.
+//! A gate that holds threads back and sets the pace of ticks, and tells whether it was in time.
 
 use gate::{Gate, Point};
-use std::process::Abort;
 use std::sync::Arc;
 use std::sync::atomic::{AtomicBool, AtomicU64, Ordering};
 use std::thread;
@@ -16,12 +15,12 @@ const YIELDS: u64 = 1000;
 /// For how many milliseconds they rest then.
 const REST: u64 = 20;
 
-/// The most ticks of a test.
+/// The most ticks of a service that is in time.
 const TICKS: u64 = 1000;
 
 /// Which threads a gate can hold.
 #[derive(Clone, Copy, Debug, PartialEq, Eq)]
-pub(crate) enum Holds {
+pub enum Holds {
     /// The flusher.
     Flusher,
     /// The first driver.
@@ -42,8 +41,8 @@ impl Holds {
     }
 }
 
-/// A gate that holds some threads from `hold` on until `let_go`. At its 1001st tick it ends the test.
-pub(crate) struct Watch<R: Abort + Clock + Copy> {
+/// A gate that holds some threads from `hold` on until `let_go`.
+pub struct Watch<R: Clock + Copy> {
     rt: R,
     holds: Holds,
     holding: AtomicBool,
@@ -56,11 +55,11 @@ pub(crate) struct Watch<R: Abort + Clock + Copy> {
     // Steps of drivers but the first.
     later: AtomicU64,
     ticks: AtomicU64,
-    // Whether a thread that was held asked too often.
+    // Whether a thread that was held asked too often, or there were too many ticks.
     is_late: AtomicBool,
 }
 
-impl<R: Abort + Clock + Copy> Drop for Watch<R> {
+impl<R: Clock + Copy> Drop for Watch<R> {
     fn drop(self) {
         let Self {
             rt: _,
@@ -77,9 +76,9 @@ impl<R: Abort + Clock + Copy> Drop for Watch<R> {
     }
 }
 
-impl<R: Abort + Clock + Copy> Watch<R> {
+impl<R: Clock + Copy> Watch<R> {
     /// A gate that can hold these, and holds nobody yet.
-    pub(crate) fn new(rt: R, holds: Holds) -> Watch<R> {
+    pub fn new(rt: R, holds: Holds) -> Watch<R> {
         Watch {
             rt,
             holds,
@@ -95,52 +94,52 @@ impl<R: Abort + Clock + Copy> Watch<R> {
     }
 
     /// Who comes from now on is held.
-    pub(crate) fn hold(&self) {
+    pub fn hold(&self) {
         self.holding.store(true, Ordering::SeqCst);
     }
 
     /// All go on.
-    pub(crate) fn let_go(&self) {
+    pub fn let_go(&self) {
         self.holding.store(false, Ordering::SeqCst);
     }
 
     /// How many held steps of drivers have passed.
-    pub(crate) fn passed(&self) -> u64 {
+    pub fn passed(&self) -> u64 {
         self.passed.load(Ordering::SeqCst)
     }
 
     /// How many turns of the flusher have passed.
-    pub(crate) fn flusher_passed(&self) -> u64 {
+    pub fn flusher_passed(&self) -> u64 {
         self.flusher_passed.load(Ordering::SeqCst)
     }
 
     /// How many steps drivers but the first have taken.
-    pub(crate) fn later(&self) -> u64 {
+    pub fn later(&self) -> u64 {
         self.later.load(Ordering::SeqCst)
     }
 
     /// Waits until a driver is held, and says whether one is.
-    pub(crate) fn awaits_held(&self) -> bool {
+    pub fn awaits_held(&self) -> bool {
         is_reached(&self.came, 1)
     }
 
     /// Waits until a held step of a driver has passed, and says whether one has.
-    pub(crate) fn awaits_passed(&self) -> bool {
+    pub fn awaits_passed(&self) -> bool {
         is_reached(&self.passed, 1)
     }
 
     /// Waits until the flusher has come for its turn, and says whether it has.
-    pub(crate) fn awaits_flusher(&self) -> bool {
+    pub fn awaits_flusher(&self) -> bool {
         is_reached(&self.flusher_came, 1)
     }
 
     /// Waits until the flusher has passed, and says whether it has.
-    pub(crate) fn awaits_flush(&self) -> bool {
+    pub fn awaits_flush(&self) -> bool {
         is_reached(&self.flusher_passed, 1)
     }
 
-    /// Whether no thread was held for too long.
-    pub(crate) fn is_in_time(&self) -> bool {
+    /// Whether no thread was held for too long, and there were at most a thousand ticks.
+    pub fn is_in_time(&self) -> bool {
         !self.is_late.load(Ordering::SeqCst)
     }
 
@@ -195,13 +194,14 @@ impl<R: Abort + Clock + Copy> Watch<R> {
     // A tick.
     fn tick(&self) {
         self.wait();
-        let earlier = self.ticks.fetch_add(1, Ordering::SeqCst);
-        assert!(self.rt; earlier < TICKS, "more than a thousand ticks");
+        if self.ticks.fetch_add(1, Ordering::SeqCst) >= TICKS {
+            self.is_late.store(true, Ordering::SeqCst);
+        }
     }
 }
 
 /// Waits until a count is reached, or for ten million turns, and says whether it is.
-pub(crate) fn is_reached(count: &AtomicU64, least: u64) -> bool {
+pub fn is_reached(count: &AtomicU64, least: u64) -> bool {
     for _ in 0..ASKS {
         if count.load(Ordering::SeqCst) >= least {
             return true;
@@ -212,7 +212,7 @@ pub(crate) fn is_reached(count: &AtomicU64, least: u64) -> bool {
 }
 
 /// Waits until nobody else has a gate, or for ten million turns, and says whether nobody has: all threads that ask it have ended then.
-pub(crate) fn is_alone<R: Abort + Clock + Copy>(gate: &Arc<Watch<R>>) -> bool {
+pub fn is_alone<R: Clock + Copy>(gate: &Arc<Watch<R>>) -> bool {
     for _ in 0..ASKS {
         if Arc::strong_count(gate) == 1 {
             return true;
@@ -222,7 +222,7 @@ pub(crate) fn is_alone<R: Abort + Clock + Copy>(gate: &Arc<Watch<R>>) -> bool {
     false
 }
 
-impl<R: Abort + Clock + Copy + Send + Sync> Gate for Watch<R> {
+impl<R: Clock + Copy + Send + Sync> Gate for Watch<R> {
     fn pass(&self, at: Point) {
         match at {
             Point::DriverStep(_) => self.step(at),

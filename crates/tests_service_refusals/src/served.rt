@@ -1,10 +1,10 @@
 //! Sessions that are asked for where memory is refused, and a service that is stopped where none is granted.
 
-use crate::orders::{refuse, was_refused};
 use board::counting::recorder::Recorder;
 use board::counting::room::Room;
 use file_server::FileServer;
 use fixtures::gates::Ticking;
+use fixtures::orders::{refuse, was_refused};
 use fixtures::{new_volume, patient};
 use launch::program::Program;
 use launch::start::serve;

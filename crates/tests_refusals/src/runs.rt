@@ -1,37 +1,22 @@
-//! Runs of schedules and starts of services of which each request for memory is refused in turn. What they are handed is made before, and
-//! what comes is looked at behind, with memory.
+//! Runs of schedules of which each request for memory is refused in turn. What they are handed is made before, and what comes is looked at
+//! behind, with memory.
 
 ghost use Rattle.std.specs.Prelude.{◌<◌, ◌^◌, length};
 
-use crate::orders::{MOST, is_last, refuse, was_refused};
-use crate::plays::{SCHEDULES, SCRIPTS};
+use crate::plays::SCHEDULES;
 use crate::told::Said;
-use crate::without::make;
 use bdev::BlockDriver;
-use board::counting::recorder::Recorder;
-use board::counting::room::Room;
-use call_text::scripts::reading::read_script;
-use call_text::scripts::timed::TimedCall;
-use file_server::FileServer;
-use fixtures::gates::Ticking;
-use fixtures::{new_volume, patient, whole};
-use launch::StartRefusal;
-use launch::program::Program;
-use launch::start::serve;
+use fixtures::orders::{MOST, is_last, refuse, was_refused};
+use fixtures::{new_volume, whole};
 use modeldisk::supply::{drivers_for, table_in};
 use reply_text::mark::MarkRef;
 use schedule::Event;
 use schedule_text::reading::read_schedule;
-use serve::service::Service;
 use simulation::show::show;
 use simulation::transcript::Transcript;
 use simulation::world::{RunRefusal, World};
 use std::alloc::{AllocError, Global};
-use std::sync::{Arc, Wait};
 use std::test::Fail;
-use std::thread::Threads;
-use std::time::Clock;
-use tree::Outcome;
 
 /// What is shown of a run: its transcript, or the refusal's name; and the bytes that its media have then.
 type Shown = (Said, Option<Vec<u8>>);
@@ -181,141 +166,4 @@ fn runs_of_schedules(rt: HostRuntime) -> Result<(), Fail> {
         number = number.saturating_add(1);
     }
     Ok(())
-}
-
-/// Makes calls in a session of a service, with memory: from here on no request is refused.
-#[derive(Drop)]
-struct Calls<'c> {
-    alloc: Global,
-    calls: &'c [TimedCall<'c>],
-}
-
-impl<R: Threads + Wait + Copy + Send + Sync + 'static> Program<R> for Calls<'_> {
-    /// What each call came to, in their order; nothing where there was no session or no room for that.
-    type Output = Option<Vec<Outcome>>;
-
-    ghost gives = { λ program geometry opening output. Unit {0} };
-
-    fn run<N: Room, L: Recorder<N>, S: FileServer<L>>(
-        self,
-        service: Service<N, R, L, S>,
-    ) -> Option<Vec<Outcome>>
-        ensures { Unit {0} }
-    {
-        was_refused(self.alloc);
-        let mut outcomes = Vec::with_capacity(self.alloc, self.calls.len()).ok()?;
-        make_in(&service, self.calls, &mut outcomes)?;
-        Some(outcomes)
-    }
-}
-
-/// Makes calls in a session of a service, and adds what each comes to; nothing where there is no session or no room for it.
-fn make_in<N: Room, R: Threads + Wait + Copy, L: Recorder<N>, S: FileServer<L>>(
-    service: &Service<N, R, L, S>,
-    calls: &[TimedCall<'_>],
-    outcomes: &mut Vec<Outcome>,
-) -> Option<()> {
-    let mut session = service.session(0, 0).ok()?;
-    make(&mut session, calls, outcomes)
-}
-
-/// What a start came to: what calls came to in the service, or its refusal.
-type Started = Result<Option<Vec<Outcome>>, StartRefusal>;
-
-/// How long a tick is, in milliseconds.
-const PACE: u64 = 5;
-
-/// Starts a service on an image, of which there is a copy, over six drivers and a gate that were made before the order: which of its
-/// requests is refused, or 0 for none.
-fn started<R: Threads + Wait + Clock + Copy + Send + Sync + 'static>(
-    alloc: Global,
-    rt: R,
-    image: &[u8],
-    calls: &[TimedCall<'_>],
-    number: u16,
-    request: u32,
-) -> Result<(Started, bool), AllocError> {
-    let supply = drivers_for(alloc, 5, false, table_in(image))?;
-    let gate = Arc::new(alloc, Ticking::new(rt, PACE))?;
-    let image = Vec::from_slice(alloc, image)?;
-    let setup = patient();
-    if request > 0 {
-        refuse(alloc, number, request);
-    }
-    let came = serve(
-        alloc,
-        rt,
-        image,
-        &setup,
-        supply,
-        gate,
-        Calls { alloc, calls },
-    );
-    Ok((came, was_refused(alloc)))
-}
-
-/// Whether a start is right of which a request was refused, or none was: it is refused for want of memory; or the calls in the service come
-/// to what they come to in the undisturbed one.
-fn is_started(came: &Started, undisturbed: &Started, refused: bool) -> bool {
-    match came {
-        Ok(_) => came == undisturbed,
-        Err(refusal) => refused && *refusal == StartRefusal::OutOfMemory,
-    }
-}
-
-/// Whether this was the last request of a start, which is refused and comes out right beside the undisturbed one.
-fn is_last_start<R: Threads + Wait + Clock + Copy + Send + Sync + 'static>(
-    alloc: Global,
-    rt: R,
-    image: &[u8],
-    calls: &[TimedCall<'_>],
-    number: u16,
-    request: u32,
-    undisturbed: &Started,
-) -> Result<bool, Fail> {
-    let (came, refused) = started(alloc, rt, image, calls, number, request)?;
-    is_last(
-        number,
-        request,
-        refused,
-        is_started(&came, undisturbed, refused),
-    )
-}
-
-/// Starts a service on an image with the start's first request refused, then with its second, until none is. It comes out right each time.
-fn starts_each_refused<R: Threads + Wait + Clock + Copy + Send + Sync + 'static>(
-    alloc: Global,
-    rt: R,
-    image: &[u8],
-    calls: &[TimedCall<'_>],
-    number: u16,
-) -> Result<(), Fail> {
-    let (undisturbed, _) = started(alloc, rt, image, calls, number, 0)?;
-    if !matches!(&undisturbed, Ok(Some(_))) {
-        return Err(Fail::from("not started"));
-    }
-    for request in 1..=MOST {
-        if is_last_start(alloc, rt, image, calls, number, request, &undisturbed)? {
-            return Ok(());
-        }
-    }
-    Err(Fail::from("no end"))
-}
-
-/// The same of a new volume, and the calls of a script.
-fn start_each_refused<R: Threads + Wait + Clock + Copy + Send + Sync + 'static>(
-    alloc: Global,
-    rt: R,
-    number: u16,
-    script: &str,
-) -> Result<(), Fail> {
-    let image = new_volume(alloc, 1024)?;
-    let script = read_script(alloc, script.as_bytes())?;
-    let calls = script.calls(alloc)?;
-    starts_each_refused(alloc, rt, &image, calls.as_slice(), number)
-}
-
-#[test]
-fn starts_of_a_service(rt: HostRuntime) -> Result<(), Fail> {
-    start_each_refused(rt.alloc(), rt, 24, SCRIPTS[5])
 }

@@ -1,6 +1,6 @@
-//! What each test runs on: an image, a gate, drivers that note what they write, and a service over them.
+//! What a test of a service's threads runs on: an image, a gate, drivers that note what they write, and a service over them.
 
-use crate::drivers::{Notes, Noting, drivers};
+use crate::noting::{Notes, Noting, drivers};
 use crate::watch::{Holds, Watch};
 use fixtures::whole;
 use launch::program::Program;
@@ -8,7 +8,6 @@ use launch::start::serve;
 use modeldisk::Fault;
 use reincarnate::policy::{Policy, Setup};
 use std::alloc::{AllocError, Global};
-use std::process::Abort;
 use std::sync::{Arc, Wait};
 use std::test::Fail;
 use std::thread::Threads;
@@ -16,7 +15,7 @@ use std::time::Clock;
 
 /// The whole image is the volume. A driver that isn't scheduled for a while on a loaded machine is no fault under it, and no number of
 /// faults gives the device up while there are drivers.
-pub(crate) fn patient() -> Setup {
+pub fn patient() -> Setup {
     Setup {
         policy: Policy {
             max_faults: 32,
@@ -28,27 +27,25 @@ pub(crate) fn patient() -> Setup {
     }
 }
 
+/// What a test says that isn't in time.
+pub const LATE: &str = "a thread was held for too long, or there were more than a thousand ticks";
+
 /// What a test runs on.
 #[derive(Drop)]
-pub(crate) struct Stage<R: Wait + Abort + Clock + Copy> {
-    pub(crate) alloc: Global,
-    pub(crate) rt: R,
+pub struct Stage<R: Wait + Clock + Copy> {
+    pub alloc: Global,
+    pub rt: R,
     /// The image that is handed in.
-    pub(crate) image: Vec<u8>,
+    pub image: Vec<u8>,
     /// The gate of the service.
-    pub(crate) gate: Arc<Watch<R>>,
+    pub gate: Arc<Watch<R>>,
     /// What the drivers did.
-    pub(crate) notes: Arc<Notes<R>>,
+    pub notes: Arc<Notes<R>>,
 }
 
-impl<R: Wait + Abort + Clock + Copy> Stage<R> {
+impl<R: Wait + Clock + Copy> Stage<R> {
     /// On the volume in an image, with a gate that can hold these threads.
-    pub(crate) fn new(
-        alloc: Global,
-        rt: R,
-        image: Vec<u8>,
-        holds: Holds,
-    ) -> Result<Stage<R>, AllocError> {
+    pub fn new(alloc: Global, rt: R, image: Vec<u8>, holds: Holds) -> Result<Stage<R>, AllocError> {
         let gate = Arc::new(alloc, Watch::new(rt, holds))?;
         let notes = Arc::new(alloc, Notes::new(alloc, rt))?;
         Ok(Stage {
@@ -61,17 +58,13 @@ impl<R: Wait + Abort + Clock + Copy> Stage<R> {
     }
 
     /// Drivers of the image's sectors, the first ones each with its fault in this list.
-    pub(crate) fn supply(&self, faults: &[Fault]) -> Result<Vec<Noting<R>>, AllocError> {
+    pub fn supply(&self, faults: &[Fault]) -> Result<Vec<Noting<R>>, AllocError> {
         let sectors = u32::try_from(self.image.len() / 512).unwrap_or(0);
         drivers(self.alloc, sectors, faults, &self.notes)
     }
 
     /// What comes of a program over a service on the volume, with drivers of these faults.
-    pub(crate) fn served<P: Program<R>>(
-        &self,
-        faults: &[Fault],
-        program: P,
-    ) -> Result<P::Output, Fail>
+    pub fn served<P: Program<R>>(&self, faults: &[Fault], program: P) -> Result<P::Output, Fail>
     where
         R: Threads + Send + Sync + 'static,
     {
@@ -88,13 +81,13 @@ impl<R: Wait + Abort + Clock + Copy> Stage<R> {
             program,
         ) {
             Ok(came) if self.gate.is_in_time() => Ok(came),
-            Ok(_) => Err(Fail::from("a thread was held for too long")),
+            Ok(_) => Err(Fail::from(LATE)),
             Err(refusal) => Err(Fail::new(format_args!("{refusal}"))),
         }
     }
 
     /// An image that is left is the one that was handed in, changed by the drivers' writes in their order.
-    pub(crate) fn check_left(&self, left: &[u8]) -> Result<(), Fail> {
+    pub fn check_left(&self, left: &[u8]) -> Result<(), Fail> {
         let changed = self
             .notes
             .changed(self.alloc, &self.image)?

@@ -3,7 +3,7 @@ use Rattle.std.specs.List.{concat}
 use Rattle.records.specs.Opening.{contents_at}
 use Rattle.mounting.specs.Laws.{sizes_in}
 use Rattle.mounting.specs.Starting.{opening_of}
-use Rattle.tests_threads.proofs.setting.Stage.at_once.Given as goal
+use Rattle.tests_threads.proofs.at_once.at_once.Given as goal
 
 -- the board, the volume, its sizes and the policy, from what is handed over; nothing is asked of drivers
 abbrev pub ghosts-start_and_do : goal.ghosts-start_and_do
