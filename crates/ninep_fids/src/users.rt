@@ -1,6 +1,6 @@
 //! Users and their sessions.
 
-ghost use Rattle.std.specs.Prelude.{◌≡◌, ◌++◌, ◌∷◌, [], OnOk, OnErr};
+ghost use Rattle.std.specs.Prelude.{◌≡◌, ◌≤◌, ◌<◌, ◌++◌, ◌∷◌, [], OnOk, OnErr, IsOk, length, vec_capacity};
 ghost use Rattle.ninep_fids.specs.Knowledge.{user_of};
 ghost use Rattle.ninep_fids.specs.Checks.{user_number};
 
@@ -45,17 +45,20 @@ impl Users {
         None
     }
 
-    /// Finds the memory for a user more.
+    /// Finds the memory for a user more, where there is none yet.
     pub fn reserve(&mut self) -> Result<(), AllocError>
-        ensures { self.new.users.items ≡ self.old.users.items }
+        ensures users { self.new.users.items ≡ self.old.users.items }
+        ensures room { OnOk result (length self.new.users.items < vec_capacity self.new.users) }
+        ensures full { OnErr result (vec_capacity self.old.users ≤ length self.old.users.items) }
     {
         self.users.reserve(1)
     }
 
-    /// A user more.
+    /// A user more. It fails only where `reserve` has found no room for it.
     pub fn put(&mut self, user: User) -> Result<(), AllocError>
         ensures ok { OnOk result (self.new.users.items ≡ self.old.users.items ++ user ∷ []) }
         ensures err { OnErr result (self.new.users.items ≡ self.old.users.items) }
+        ensures room { length self.old.users.items < vec_capacity self.old.users → IsOk result }
     {
         self.users.push(user)?;
         Ok(())
