@@ -4,7 +4,7 @@ use crate::old_images::{Put, change, new_volume, old_volume};
 use fsck::{Verdict, check};
 use layout::Geometry;
 use migrate::{MigrateRefusal, migrate};
-use std::alloc::Global;
+use std::alloc::{AllocError, Global};
 use std::test::Fail;
 use volume::Finding;
 
@@ -127,16 +127,19 @@ fn both_checks(rt: HostRuntime) -> Result<(), Fail> {
     Ok(())
 }
 
-/// A root of 64 entries in one old block takes four new ones: 62 names of one file. So with the file's five zones are used.
-#[test]
-fn many_names(rt: HostRuntime) -> Result<(), Fail> {
-    let alloc = rt.alloc();
+/// An old volume whose root has 64 entries in one block, of which 62 name one file; without names yet.
+fn old_names(alloc: Global) -> Result<Vec<u8>, AllocError> {
     let mut old = old_volume(alloc, &[])?;
-    let mut new = new_volume(alloc, &[])?;
     change(
         &mut old,
         &[(4104, &[0, 4]), (4162, &[62]), (6176, &[0; 32])],
     );
+    Ok(old)
+}
+
+/// The new volume that it becomes: the root's entries are in four blocks.
+fn new_names(alloc: Global) -> Result<Vec<u8>, AllocError> {
+    let mut new = new_volume(alloc, &[])?;
     change(
         &mut new,
         &[(4104, &[0, 16]), (4162, &[62]), (6272, &[0; 64])],
@@ -149,6 +152,11 @@ fn many_names(rt: HostRuntime) -> Result<(), Fail> {
         ],
     );
     change(&mut new, &[(4184, &[10]), (7168, &[0]), (10240, &[0x61])]);
+    Ok(new)
+}
+
+/// Both get the same 62 names.
+fn name_files(old: &mut [u8], new: &mut [u8]) {
     for number in 2..64usize {
         let name = number as u8 + b'0';
         for (place, byte) in old.iter_mut().skip(6144 + 16 * number).zip([2, 0, name]) {
@@ -162,6 +170,14 @@ fn many_names(rt: HostRuntime) -> Result<(), Fail> {
             *place = byte;
         }
     }
+}
+
+/// A root of 64 entries in one old block takes four new ones: 62 names of one file. So with the file's five zones are used.
+#[test]
+fn many_names(rt: HostRuntime) -> Result<(), Fail> {
+    let alloc = rt.alloc();
+    let (mut old, mut new) = (old_names(alloc)?, new_names(alloc)?);
+    name_files(&mut old, &mut new);
     let made = migrated(alloc, &old, 64)?;
     are_same(0, &made, &new)?;
     let least = migrated(alloc, &old, 11)?;

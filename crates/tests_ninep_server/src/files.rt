@@ -54,9 +54,9 @@ fn files_are_opened(rt: HostRuntime) -> Result<(), Fail> {
     )
 }
 
-/// A read and a write, each behind a seek; at an offset past all files; of a fid that isn't open.
+/// A read behind a seek; at an offset past all files; of a fid that isn't open.
 #[test]
-fn bytes_are_moved(rt: HostRuntime) -> Result<(), Fail> {
+fn bytes_are_read(rt: HostRuntime) -> Result<(), Fail> {
     let alloc = rt.alloc();
     let mut talk = with_open_file(alloc)?;
     talk.gives(Outcome::Reply(Reply::At(258)))?;
@@ -73,6 +73,22 @@ fn bytes_are_moved(rt: HostRuntime) -> Result<(), Fail> {
         "0 Seek { fd: 6, whence: Set, offset: 0 };0 Read { fd: 6, count: 8168 };",
         b"\x75\x07\0\0\0\0\0",
     )?;
+    talk.hears(
+        b"\x74\x07\0\x02\0\0\0\0\0\0\x80\0\0\0\0\0\x01\0\0",
+        "",
+        b"\x75\x07\0\0\0\0\0",
+    )?;
+    talk.hears(
+        b"\x74\x07\0\x01\0\0\0\0\0\0\0\0\0\0\0\0\x01\0\0",
+        "",
+        b"\x07\x07\0\x09\0\0\0",
+    )
+}
+
+/// A write behind a seek; one that is refused; at an offset past all files.
+#[test]
+fn bytes_are_written(rt: HostRuntime) -> Result<(), Fail> {
+    let mut talk = with_open_file(rt.alloc())?;
     talk.gives(Outcome::Reply(Reply::At(1)))?;
     talk.gives(Outcome::Reply(Reply::Wrote(3)))?;
     talk.hears(
@@ -88,19 +104,9 @@ fn bytes_are_moved(rt: HostRuntime) -> Result<(), Fail> {
         b"\x07\x08\0\x1c\0\0\0",
     )?;
     talk.hears(
-        b"\x74\x07\0\x02\0\0\0\0\0\0\x80\0\0\0\0\0\x01\0\0",
-        "",
-        b"\x75\x07\0\0\0\0\0",
-    )?;
-    talk.hears(
         b"\x76\x08\0\x02\0\0\0\0\0\0\x80\0\0\0\0\x01\0\0\0a",
         "",
         b"\x07\x08\0\x1b\0\0\0",
-    )?;
-    talk.hears(
-        b"\x74\x07\0\x01\0\0\0\0\0\0\0\0\0\0\0\0\x01\0\0",
-        "",
-        b"\x07\x07\0\x09\0\0\0",
     )
 }
 
