@@ -1,5 +1,5 @@
 -- Numbers of blocks: one that is put in, the last one, some side by side; and the zones of pages side by side.
-use Rattle.std.specs.Prelude.{◌≡◌, ◌≢◌, ℕ, ◌+◌, ◌*◌, ◌<◌, List, length, slice_index, Option, None, Some}
+use Rattle.std.specs.Prelude.{◌≡◌, ◌≢◌, ℕ, ◌+◌, ◌-◌, ◌*◌, ◌%◌, ◌<◌, if◌then◌else◌, nat_lt, List, length, slice_index, Option, None, Some}
 use Rattle.std.specs.Int.{w32, to_le_bytes}
 use Rattle.layout.specs.declared.Geometry.{Geometry}
 use Rattle.tree.specs.Space.{numbers_in_zone}
@@ -27,3 +27,7 @@ HasNumbers v block from words = (k : ℕ) → k < length words → slice_index w
 -- the first n of these are the zones of an inode's pages side by side, from a page on
 abbrev pub HasZones : Geometry → Pieces → Inode → ℕ → ℕ → List ℕ → Type 0
 HasZones g v i page n zones = (k : ℕ) → k < n → slice_index zones k ≡ page_zone g v i (page + k)
+
+-- how many pages one look-up has, from a page on: those that are left of the inode's own, or of those that the page's block names
+abbrev pub row_left : Geometry → ℕ → ℕ
+row_left g page = if nat_lt page 7 then 7 - page else numbers_in_zone g - (page - 7) % numbers_in_zone g

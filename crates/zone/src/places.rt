@@ -2,14 +2,14 @@
 //! those that name such blocks, at level 3 the triple's. The first places of a level stand in the inode itself, seven pages and one
 //! block of each level; each other place is a number of a block one level above.
 
-ghost use Rattle.std.specs.Prelude.{◌≡◌, ◌<◌, ◌≤◌, ◌+◌, ◌-◌, ◌*◌, ◌/◌, ◌%◌, IfOk, IfErr, length};
+ghost use Rattle.std.specs.Prelude.{◌≡◌, ◌<◌, ◌≤◌, ◌+◌, ◌-◌, ◌*◌, ◌/◌, ◌%◌, IfOk, IfErr, length, min};
 ghost use Rattle.volume.specs.Pieces.{pieces};
 ghost use Rattle.volume.specs.Nodes.{page_zone};
 ghost use Rattle.volume.specs.Places.{zone_at};
 ghost use Rattle.store.specs.World.{Reads};
 ghost use Rattle.store.specs.Volume.{IsOn};
 ghost use Rattle.zone.specs.ZoneSteps.{first_places, slot_of};
-ghost use Rattle.zone.specs.PlaceParts.{HasZones};
+ghost use Rattle.zone.specs.PlaceParts.{HasZones, row_left};
 
 use crate::numbers::{number, numbers, numbers_in_zone};
 use layout::Geometry;
@@ -75,10 +75,9 @@ pub fn lookup<B: Blocks>(
     find(blocks, geometry, inode, 0, page)
 }
 
-/// Fills the slice with the zones of pages that stand side by side, from this one on, and says of how many: at least of this one, at
-/// most of as many as the slice is long. A page of the direct range comes with those behind it in that range; any other one comes with
-/// those behind it that its own indirect block names, with one look-up of that block. Where the call is cut, nothing is said of what the
-/// slice holds.
+/// Fills the slice with the zones of pages that stand side by side, from this one on, and says of how many: of as many as the slice is
+/// long, or as there are. A page of the direct range comes with those behind it in that range; any other one comes with those behind it
+/// that its own indirect block names, with one look-up of that block. Where the call is cut, nothing is said of what the slice holds.
 pub fn lookup_row<B: Blocks>(
     blocks: &mut B,
     geometry: &Geometry,
@@ -91,6 +90,7 @@ pub fn lookup_row<B: Blocks>(
     ensures reads { Reads B.world blocks.old blocks.new
         (λ d. IfOk result (λ n. HasZones geometry.now (pieces geometry.now d) inode.now page n into.new)) }
     ensures some { IfOk result (λ n. (0 < n) × (n ≤ length into.old)) }
+    ensures row { IfOk result (λ n. n ≡ min (length into.old) (row_left geometry.now page)) }
     ensures cut { IfErr result (λ c. B.world.over blocks.new c) }
 {
     let first = first_places(0);
