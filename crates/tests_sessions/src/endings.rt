@@ -41,13 +41,14 @@ fn change<C: Caller>(session: &mut C, lines: &mut String) {
     told(session, 100, &chmod, lines);
 }
 
-/// Lets the held driver go once some driver is dropped, in a thread of its own. Whether there is one.
+/// Lets the held driver go once it is held and some driver is dropped, in a thread of its own. Whether there is one.
 fn lets_go_later<R: Threads + Wait + Clock + Copy + Send + Sync + 'static>(
     stage: &Stage<R>,
 ) -> Option<()> {
     let gate = Arc::try_clone(&stage.gate).ok()?;
     let notes = Arc::try_clone(&stage.notes).ok()?;
     let waits = move || {
+        let _ = gate.awaits_held();
         let _ = is_reached(notes.gone(), 1);
         gate.let_go();
     };
@@ -55,42 +56,28 @@ fn lets_go_later<R: Threads + Wait + Clock + Copy + Send + Sync + 'static>(
     Some(())
 }
 
-/// Holds the first driver where the service ends while it hangs.
-fn holds<R: Threads + Wait + Clock + Copy + Send + Sync + 'static>(
+/// A session changes the root, and ends, after the first driver was held. A line for each answer.
+fn changed_by<N: Room, R: Threads + Wait + Clock + Copy, L: Recorder<N>, S: FileServer<L>>(
     stage: &Stage<R>,
     ending: Ending,
-) -> Option<()> {
-    if ending != Ending::Stopped {
-        stage.gate.hold();
-    }
-    if ending == Ending::StoppedAtHang {
-        lets_go_later(stage)?;
-    }
-    Some(())
-}
-
-/// A session changes the root, and ends, after the first driver was held. A line for each answer.
-fn changed_by<
-    N: Room,
-    R: Threads + Wait + Clock + Copy + Send + Sync + 'static,
-    L: Recorder<N>,
-    S: FileServer<L>,
->(stage: &Stage<R>, ending: Ending, service: &Service<N, R, L, S>) -> Option<String> {
+    service: &Service<N, R, L, S>,
+) -> Option<String> {
     let mut lines = String::new(stage.alloc);
     let mut session = service.session(0, 0).ok()?;
     change(&mut session, &mut lines);
-    holds(stage, ending)?;
+    if ending != Ending::Stopped {
+        stage.gate.hold();
+    }
     session.end();
     Some(lines)
 }
 
 /// A session changes the root, and the service ends so. A line for each answer, and the image, or no bytes where the service was let go.
-fn end<
-    N: Room,
-    R: Threads + Wait + Clock + Copy + Send + Sync + 'static,
-    L: Recorder<N>,
-    S: FileServer<L>,
->(stage: &Stage<R>, ending: Ending, service: Service<N, R, L, S>) -> Option<(String, Vec<u8>)> {
+fn end<N: Room, R: Threads + Wait + Clock + Copy, L: Recorder<N>, S: FileServer<L>>(
+    stage: &Stage<R>,
+    ending: Ending,
+    service: Service<N, R, L, S>,
+) -> Option<(String, Vec<u8>)> {
     let lines = changed_by(stage, ending, &service)?;
     if ending == Ending::LetGo {
         let _ = stage.gate.awaits_held();
@@ -145,6 +132,9 @@ fn ended<R: Threads + Wait + Clock + Copy + Send + Sync + 'static>(
     faults: &[Fault],
     ending: Ending,
 ) -> Result<Vec<u8>, Fail> {
+    if ending == Ending::StoppedAtHang {
+        lets_go_later(stage).ok_or("no thread")?;
+    }
     let came = stage.served(faults, Ends { stage, ending })?;
     let (lines, left) = came.ok_or("not ended")?;
     is_changed(stage.alloc, lines.as_str())?;
