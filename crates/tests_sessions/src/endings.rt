@@ -41,6 +41,9 @@ fn change<C: Caller>(session: &mut C, lines: &mut String) {
     told(session, 100, &chmod, lines);
 }
 
+/// How often a thread that is to let a driver go waits for it to be held. It begins before the service is there.
+const WAITS: u32 = 100;
+
 /// Lets the held driver go once it is held and some driver is dropped, in a thread of its own. Whether there is one.
 fn lets_go_later<R: Threads + Wait + Clock + Copy + Send + Sync + 'static>(
     stage: &Stage<R>,
@@ -48,7 +51,11 @@ fn lets_go_later<R: Threads + Wait + Clock + Copy + Send + Sync + 'static>(
     let gate = Arc::try_clone(&stage.gate).ok()?;
     let notes = Arc::try_clone(&stage.notes).ok()?;
     let waits = move || {
-        let _ = gate.awaits_held();
+        for _ in 0..WAITS {
+            if gate.awaits_held() {
+                break;
+            }
+        }
         let _ = is_reached(notes.gone(), 1);
         gate.let_go();
     };
