@@ -14,13 +14,13 @@ const DRIVERS: usize = 33;
 
 /// A sector that a driver wrote.
 #[derive(Clone, Copy)]
-pub struct Written {
+struct Written {
     /// The driver's generation.
-    pub generation: u32,
+    generation: u32,
     /// The number of the sector on the media.
-    pub sector: u32,
+    sector: u32,
     /// Its bytes, as the request has them.
-    pub bytes: [u8; 512],
+    bytes: [u8; 512],
 }
 
 /// What all drivers of a test did.
@@ -45,7 +45,7 @@ impl<R: Wait + Copy> Drop for Notes<R> {
 
 impl<R: Wait + Copy> Notes<R> {
     /// Nothing was done.
-    pub fn new(alloc: Global, rt: R) -> Notes<R> {
+    pub(crate) fn new(alloc: Global, rt: R) -> Notes<R> {
         Notes {
             rt,
             writes: Mutex::new(Vec::new(alloc)),
@@ -108,7 +108,7 @@ pub struct Noting<R: Wait + Copy> {
 
 impl<R: Wait + Copy> Noting<R> {
     /// A driver of so many sectors, with these faults.
-    pub fn new(sectors: u32, faults: Vec<Fault>, notes: Arc<Notes<R>>) -> Noting<R> {
+    pub(crate) fn new(sectors: u32, faults: Vec<Fault>, notes: Arc<Notes<R>>) -> Noting<R> {
         let inner = Inner::Ram(RamDriver::new(Table::whole(sectors)));
         Noting {
             driver: ScriptedDriver::new(inner, faults),
@@ -186,7 +186,7 @@ impl<R: Wait + Copy + Send + Sync> BlockDriver for Noting<R> {
 }
 
 /// Drivers of so many sectors, the first ones each with its fault in this list, 33 in all or as many as there are faults.
-pub fn drivers<R: Wait + Copy>(
+pub(crate) fn drivers<R: Wait + Copy>(
     alloc: Global,
     sectors: u32,
     faults: &[Fault],

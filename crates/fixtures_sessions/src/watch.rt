@@ -78,7 +78,7 @@ impl<R: Clock + Copy> Drop for Watch<R> {
 
 impl<R: Clock + Copy> Watch<R> {
     /// A gate that can hold these, and holds nobody yet.
-    pub fn new(rt: R, holds: Holds) -> Watch<R> {
+    pub(crate) fn new(rt: R, holds: Holds) -> Watch<R> {
         Watch {
             rt,
             holds,
