@@ -11,7 +11,7 @@ use Rattle.reissue.proofs.Maps.{is_put}
 use Rattle.cache.specs.declared.slot.Slot.{Slot}
 use Rattle.cache.specs.declared.state.State.{State}
 use Rattle.cache.specs.declared.state.State.TheVariants.{Clean, Dirty, Writing, Changed}
-use Rattle.cache.specs.declared.refusals.Cut.{Cut}
+use Rattle.store.specs.declared.Cut.{Cut}
 use Rattle.cache.specs.Slots.{held, ticket_of, dirtied, is_clean, is_unclean_slot, IsDistinct}
 use Rattle.cache.specs.Edits.{IsSetAt, IsFilledAt, IsSlotAt, IsFreeAt, IsAt}
 use Rattle.cache.specs.Frames.{Tied, CacheAgrees, HasSure, view, frame_of, disk_block, with_bytes}

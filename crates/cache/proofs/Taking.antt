@@ -14,7 +14,7 @@ use Rattle.reissue.proofs.Maps.{put-other, put_cases}
 use Rattle.cache.specs.declared.slot.Slot.{Slot}
 use Rattle.cache.specs.declared.settling.Took.{Took}
 use Rattle.cache.specs.Settling.{Taking}
-use Rattle.cache.specs.declared.refusals.Cut.{Cut}
+use Rattle.store.specs.declared.Cut.{Cut}
 use Rattle.cache.specs.Slots.{held}
 use Rattle.cache.specs.Edits.{Leaves}
 use Rattle.cache.specs.Frames.{Tied, CacheAgrees, view}

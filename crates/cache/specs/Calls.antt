@@ -24,8 +24,8 @@ use Rattle.cache.specs.declared.frame.Frame.{Frame}
 use Rattle.reissue.specs.declared.transfers.Transfers.{Transfers}
 use Rattle.cache.specs.declared.shape.Shape.{Shape}
 use Rattle.cache.specs.declared.cache.Cache.{Cache}
-use Rattle.cache.specs.declared.refusals.Cut.{Cut}
-use Rattle.cache.specs.declared.refusals.Cut.TheVariants.{Eio, LinkEnded}
+use Rattle.store.specs.declared.Cut.{Cut}
+use Rattle.store.specs.declared.Cut.TheVariants.{Eio, LinkEnded}
 use Rattle.cache.specs.Slots.{held, is_clean}
 use Rattle.cache.specs.Edits.{IsAt, NoneDirty}
 use Rattle.cache.specs.Frames.{Tied, CacheAgrees, view}

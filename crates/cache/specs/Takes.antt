@@ -4,7 +4,7 @@ use Rattle.reissue.specs.Moves.{DiskState, Begun}
 use Rattle.reissue.specs.Entries.{pending_of}
 use Rattle.cache.specs.Settling.{Taking}
 use Rattle.cache.specs.Settling as took
-use Rattle.cache.specs.declared.refusals.Cut.{Cut}
+use Rattle.store.specs.declared.Cut.{Cut}
 use Rattle.cache.specs.Calls.{Caching, Serves}
 
 -- these bytes are the disk's from the place on, where it is sure

@@ -19,9 +19,10 @@ mod winners;
 
 pub use cache::Cache;
 pub use frame::Frame;
-pub use refusals::{CacheRefusal, Cut};
+pub use refusals::CacheRefusal;
 pub use settling::{Took, is_end, settle};
 pub use shape::Shape;
 pub use slot::{Slot, zeros};
 pub use state::State;
+pub use store::Cut;
 pub use table::Slots;

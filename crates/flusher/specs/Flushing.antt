@@ -3,7 +3,7 @@ use Rattle.std.specs.Prelude.{◌≡◌, ◌⊎◌, ℕ, zero, suc, ◌-◌, Lis
 use Rattle.reissue.specs.Moves.{DiskState, Begun}
 use Rattle.reissue.specs.Entries.{pending_of}
 use Rattle.cache.specs.declared.slot.Slot.{Slot}
-use Rattle.cache.specs.declared.refusals.Cut.{Cut}
+use Rattle.store.specs.declared.Cut.{Cut}
 use Rattle.cache.specs.Edits.{AllClean, IssuesLowest}
 use Rattle.cache.specs.Frames.{CacheAgrees, view}
 use Rattle.cache.specs.Calls.{Caching, IsStuck, Serves}

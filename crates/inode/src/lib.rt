@@ -14,9 +14,6 @@ use layout::{u16_at, u32_at};
 use tree::Attributes;
 use volume::Inode;
 
-/// How many bytes an inode has on the disk.
-pub const INODE_SIZE: usize = 64;
-
 /// The inode that 64 bytes say. Any bytes say one: whether the volume may have it is the check's to find.
 pub fn decode(bytes: &[u8; 64]) -> Inode
     ensures reads { result ≡ inode_in (slice_index bytes.now) 0 }

@@ -10,9 +10,6 @@ use thiserror::Error;
 /// How many slots there are; they are numbered from 0.
 pub const SLOTS: usize = 16;
 
-/// The file server's slot.
-pub const FILE_SERVER: u16 = 0;
-
 /// The disk driver's slot.
 pub const DISK_DRIVER: u16 = 1;
 

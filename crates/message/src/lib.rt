@@ -61,15 +61,6 @@ pub enum Incoming {
     End,
 }
 
-/// What the reincarnation server tells a driver's thread.
-#[derive(Clone, Copy, Debug, PartialEq, Eq)]
-pub enum Notice {
-    /// A heartbeat is asked for.
-    Ping,
-    /// The driver is to end.
-    Stop,
-}
-
 /// How many bytes an outcome of a request for `count` bytes moved: its number, where that is a multiple of 512, above 0 and at most
 /// the count. Any other outcome moved none that count.
 pub fn moved_bytes(count: u32, outcome: &Result<u32, Errno>) -> Option<u32>

@@ -1,9 +1,15 @@
 -- How a call on a volume ended.
-use Rattle.std.specs.Prelude.{Result, Ok, Err}
+use Rattle.std.specs.Prelude.{ℕ, Result, Ok, Err}
 use Rattle.store.specs.declared.Cut.{Cut}
+use Rattle.store.specs.declared.Cut.TheVariants as cut
 use Rattle.store.specs.declared.Halt.{Halt}
 use Rattle.store.specs.declared.Halt.TheVariants as halt
 use Rattle.store.specs.World.{World}
+
+-- why a call was cut
+abbrev pub cut_number : Cut → ℕ
+cut_number cut.Eio = 1
+cut_number cut.LinkEnded = 2
 
 -- a call that was cut for this
 abbrev pub cut_off : Cut → Halt

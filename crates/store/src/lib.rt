@@ -8,6 +8,7 @@ pub mod regions;
 pub mod words;
 
 ghost use Rattle.std.specs.Prelude.{◌≡◌};
+ghost use Rattle.store.specs.Halts.{cut_number};
 
 pub use blocks::Blocks;
 use thiserror::Error;
@@ -21,6 +22,18 @@ pub enum Cut {
     /// The link gives no message any more.
     #[error("LinkEnded")]
     LinkEnded,
+}
+
+impl Cut {
+    /// Its number: 1 or 2.
+    pub fn number(self) -> u32
+        ensures { result ≡ cut_number self }
+    {
+        match self {
+            Cut::Eio => 1,
+            Cut::LinkEnded => 2,
+        }
+    }
 }
 
 /// Why a call on a volume ended early.

@@ -8,7 +8,7 @@ use Rattle.reissue.specs.Moves.{DiskState, state_after}
 use Rattle.cache.specs.Calls.{Caching, Runs, Keeps, Serves, Blanks, Rewrites}
 use Rattle.cache.specs.Frames.{view, with_bytes}
 use Rattle.cache.proofs.Runs.{runs_as}
-use Rattle.cache.specs.declared.refusals.Cut.{Cut}
+use Rattle.store.specs.declared.Cut.{Cut}
 use Rattle.store.specs.World.{Turns}
 use Rattle.store.specs.Rows.{written, cleared}
 use Rattle.stored.specs.World.{world_by}

@@ -9,7 +9,7 @@ use Rattle.cache.specs.Calls.{Caching, IsReady, IsLive, IsWhyCut}
 use Rattle.flusher.specs.Flushing.{WritesLowest, BeginsAll}
 use Rattle.store.specs.declared.Cut.{Cut}
 use Rattle.store.specs.World.{World}
-use Rattle.stored.specs.World.{Leads, Sees, reason, world_by}
+use Rattle.stored.specs.World.{Leads, Sees, world_by}
 
 -- what is said of blocks is said of a cache, and this goes on through their calls
 pub record IsCached {B : Type 0} (w : World B) (f : B → Caching) (goes : B → B → Type 0) : Type 0 where
@@ -18,7 +18,7 @@ pub record IsCached {B : Type 0} (w : World B) (f : B → Caching) (goes : B →
   pub leads : (a b : B) → w.leads a b → Leads (f a) (f b)
   pub on : (a b : B) → w.leads a b → goes a b
   pub sees : (a b : B) (d e : Disk) → Sees (f a) (f b) d e → w.sees a b d e
-  pub over : (a : B) (cut : Cut) → w.over a cut → IsWhyCut (f a) (reason cut)
+  pub over : (a : B) (cut : Cut) → w.over a cut → IsWhyCut (f a) cut
   pub live : (a : B) → w.live a → IsLive (f a)
   pub synced : (a : B) → w.synced a → AllClean (f a).held
 

@@ -9,13 +9,9 @@ use Rattle.reissue.specs.Agrees.{Agrees}
 use Rattle.reissue.specs.Moves.{state_after}
 use Rattle.reissue.specs.declared.link.Link.{Ghosts as LinkWords}
 use Rattle.reissue.specs.Transfers.{link_of}
-use Rattle.cache.specs.declared.refusals.Cut as old_cut
-use Rattle.cache.specs.declared.refusals.Cut.TheVariants as cached
 use Rattle.cache.specs.Calls.{Caching, caching, frame_count, with_cache_link, Runs, IsReady, IsLive, IsWhyCut, LinkGoesOn}
 use Rattle.cache.specs.Edits.{AllClean}
 use Rattle.cache.specs.Frames.{CacheAgrees, frames_of, view}
-use Rattle.store.specs.declared.Cut.{Cut}
-use Rattle.store.specs.declared.Cut.TheVariants.{Eio, LinkEnded}
 use Rattle.store.specs.World.{World}
 use Rattle.stored.specs.declared.Stored.{Stored}
 
@@ -35,11 +31,6 @@ pub record Sees (a b : Caching) (d e : Disk) : Type 0 where
   pub before : d ≡ view a.size a.held (state_after image marks)
   pub after : e ≡ view b.size b.held (state_after image (grown told marks))
 
--- the cache's reason
-abbrev pub reason : Cut → old_cut.Cut
-reason Eio = cached.Eio
-reason LinkEnded = cached.LinkEnded
-
 -- calls lead from one to the other of things that have a cache, and this goes on
 pub record LeadsOn {B : Type 0} (f : B → Caching) (goes : B → B → Type 0) (a b : B) : Type 0 where
   pub runs : Leads (f a) (f b)
@@ -53,7 +44,7 @@ world_by f goes = record {
   leads = λ a b. LeadsOn f goes a b;
   sees = λ a b d e. Sees (f a) (f b) d e;
   frames = λ c. frames_of (f c).size (f c).held;
-  over = λ c cut. IsWhyCut (f c) (reason cut);
+  over = λ c cut. IsWhyCut (f c) cut;
   live = λ c. IsLive (f c);
   synced = λ c. AllClean (f c).held;
 }

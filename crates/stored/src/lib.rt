@@ -7,7 +7,7 @@ ghost use Rattle.std.specs.Prelude.{◌≡◌, ◌≢◌, OnOk, IfErr};
 ghost use Rattle.std.specs.Bool.{OnTrue, OnFalse};
 ghost use Rattle.std.specs.Borrow.{Lends, sem};
 ghost use Rattle.reissue.specs.Transfers.{link_of};
-ghost use Rattle.stored.specs.World.{reason, with_stored_link};
+ghost use Rattle.stored.specs.World.{with_stored_link};
 ghost use Rattle.stored.specs.contracts.Stored.{the_row};
 
 use cache::{Cache, Frame};
@@ -22,16 +22,6 @@ use store::{Blocks, Cut};
 #[derive(Drop)]
 pub struct Stored<L> {
     cache: Cache<L>,
-}
-
-/// The same reason, as blocks have it.
-fn cut_by(cut: cache::Cut) -> Cut
-    ensures { reason result ≡ cut }
-{
-    match cut {
-        cache::Cut::Eio => Cut::Eio,
-        cache::Cut::LinkEnded => Cut::LinkEnded,
-    }
 }
 
 /// Whether the message is an End.
@@ -194,7 +184,7 @@ impl<L: Link> Blocks for Stored<L> {
     fn fetch(&mut self, block: u32) -> Result<Frame, Cut> {
         match self.cache.fetch(block) {
             Ok(frame) => Ok(frame),
-            Err(cut) => Err(cut_by(cut)),
+            Err(cut) => Err(cut),
         }
     }
 
@@ -209,7 +199,7 @@ impl<L: Link> Blocks for Stored<L> {
     fn fresh(&mut self, block: u32) -> Result<Frame, Cut> {
         match self.cache.fresh(block) {
             Ok(frame) => Ok(frame),
-            Err(cut) => Err(cut_by(cut)),
+            Err(cut) => Err(cut),
         }
     }
 
@@ -220,14 +210,14 @@ impl<L: Link> Blocks for Stored<L> {
     fn sync(&mut self) -> Result<(), Cut> {
         match flusher::sync(&mut self.cache) {
             Ok(()) => Ok(()),
-            Err(cut) => Err(cut_by(cut)),
+            Err(cut) => Err(cut),
         }
     }
 
     fn live(&self) -> Result<(), Cut> {
         match self.cache.live() {
             Ok(()) => Ok(()),
-            Err(cut) => Err(cut_by(cut)),
+            Err(cut) => Err(cut),
         }
     }
 

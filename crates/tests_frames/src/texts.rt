@@ -2,7 +2,7 @@
 use cache::CacheRefusal;
 use reissue::{BeginRefusal, LinkRefusal};
 use std::test::Fail;
-use store::Halt;
+use store::{Cut, Halt};
 use tests_texts::are_told;
 
 /// Why a request isn't begun.
@@ -23,22 +23,13 @@ static CACHES: [(CacheRefusal, &str); 2] = [
     (CacheRefusal::OutOfMemory, "OutOfMemory"),
 ];
 
-/// Why a block has no frame.
-static FRAMES: [(cache::Cut, &str); 2] = [
-    (cache::Cut::Eio, "Eio"),
-    (cache::Cut::LinkEnded, "LinkEnded"),
-];
-
 /// Why a block isn't given.
-static BLOCKS: [(store::Cut, &str); 2] = [
-    (store::Cut::Eio, "Eio"),
-    (store::Cut::LinkEnded, "LinkEnded"),
-];
+static BLOCKS: [(Cut, &str); 2] = [(Cut::Eio, "Eio"), (Cut::LinkEnded, "LinkEnded")];
 
 /// Why a call on a volume ended early.
 static HALTS: [(Halt, &str); 3] = [
-    (Halt::Cut(store::Cut::Eio), "Eio"),
-    (Halt::Cut(store::Cut::LinkEnded), "LinkEnded"),
+    (Halt::Cut(Cut::Eio), "Eio"),
+    (Halt::Cut(Cut::LinkEnded), "LinkEnded"),
     (Halt::Unsound, "Unsound"),
 ];
 
@@ -47,7 +38,6 @@ fn errors_are_named(rt: HostRuntime) -> Result<(), Fail> {
     are_told(rt.alloc(), &BEGUN)?;
     are_told(rt.alloc(), &LINKS)?;
     are_told(rt.alloc(), &CACHES)?;
-    are_told(rt.alloc(), &FRAMES)?;
     are_told(rt.alloc(), &BLOCKS)?;
     are_told(rt.alloc(), &HALTS)
 }

@@ -13,7 +13,7 @@ use Rattle.cache.specs.Calls.{Caching, IsReady, IsLive, IsWhyCut}
 use Rattle.cache.proofs.Runs.{same_left, ids_kept}
 use Rattle.store.specs.declared.Cut.{Cut as Why}
 use Rattle.store.specs.declared.Cut.TheVariants.{Eio, LinkEnded}
-use Rattle.stored.specs.World.{Leads, Sees, reason}
+use Rattle.stored.specs.World.{Leads, Sees}
 use Rattle.cache.specs.Edits.{AllClean}
 use Rattle.std.specs.Prelude.{IsTrue}
 use Rattle.descriptors.specs.Files.{Files}
@@ -50,11 +50,11 @@ goes_on g a b m x = record { geometry = m.geometry; ready = x.ready; size = x.si
 
 -- a call is cut off where it began
 pub stopped_at_once : (g : Geometry) (a : Caching) (n : ℕ) (f : Files) → MayServe g a → (who : Who) (now : ℕ) (call : Call) (why : Why) (o : TreeOutcome)
-    → o ≡ stopped why → IsWhyCut a (reason why) → CallsOver (server_of g a n f) (server_of g a n f) a.truth a.truth who now call (outcome_of o)
+    → o ≡ stopped why → IsWhyCut a why → CallsOver (server_of g a n f) (server_of g a n f) a.truth a.truth who now call (outcome_of o)
 stopped_at_once g a n f may who now call why o e h =
     subst (λ (x : TreeOutcome). CallsOver (server_of g a n f) (server_of g a n f) a.truth a.truth who now call (outcome_of x)) (sym e) (by why h)
   where
-    by : (y : Why) → IsWhyCut a (reason y) → CallsOver (server_of g a n f) (server_of g a n f) a.truth a.truth who now call (outcome_of (stopped y))
+    by : (y : Why) → IsWhyCut a y → CallsOver (server_of g a n f) (server_of g a n f) a.truth a.truth who now call (outcome_of (stopped y))
     by LinkEnded h = calls_cut g a a n n refl f f may.size may.geometry.sized may.ends (none a may.ready) who now call (λ e. refl) (λ e. refl) h
     by Eio h = calls_eio g a a n n refl f f may.size may.geometry.sized may.ends (none a may.ready) who now call (λ e. refl) (λ e. refl) h.0 h.1
 
@@ -63,11 +63,11 @@ false_true b h k = cc
 
 -- a call is cut off on its way
 pub stopped_later : (g : Geometry) (a b : Caching) (n m : ℕ) → m ≡ n → (f h : Files) → MayServe g a → IsLive a → (x : Leads a b) (who : Who) (now : ℕ) (call : Call) (why : Why) (o : TreeOutcome)
-    → o ≡ stopped why → IsWhyCut b (reason why) → CallsOver (server_of g a n f) (server_of g b m h) a.truth b.truth who now call (outcome_of o)
+    → o ≡ stopped why → IsWhyCut b why → CallsOver (server_of g a n f) (server_of g b m h) a.truth b.truth who now call (outcome_of o)
 stopped_later g a b n m many f h may l x who now call why o e w =
     subst (λ (y : TreeOutcome). CallsOver (server_of g a n f) (server_of g b m h) a.truth b.truth who now call (outcome_of y)) (sym e) (by why w)
   where
-    by : (y : Why) → IsWhyCut b (reason y) → CallsOver (server_of g a n f) (server_of g b m h) a.truth b.truth who now call (outcome_of (stopped y))
+    by : (y : Why) → IsWhyCut b y → CallsOver (server_of g a n f) (server_of g b m h) a.truth b.truth who now call (outcome_of (stopped y))
     by LinkEnded w = calls_cut g a b n m many f h may.size may.geometry.sized may.ends x who now call
         (λ e. absurd (false_true a.ended e l.not_ended)) (λ e. absurd (false_true a.table.given_up e l.not_given_up)) w
     by Eio w = calls_eio g a b n m many f h may.size may.geometry.sized may.ends x who now call

@@ -13,7 +13,7 @@ use Rattle.records.specs.ServerCall.{Replied}
 use Rattle.records.specs.Unmount as legal
 use Rattle.cache.specs.Calls.{Caching, HandsOver, IsLive, IsWhyCut}
 use Rattle.cache.specs.Edits.{AllClean}
-use Rattle.stored.specs.World.{Leads, Sees, reason}
+use Rattle.stored.specs.World.{Leads, Sees}
 use Rattle.descriptors.specs.Files.{Files}
 use Rattle.client_calls.specs.Calls.{DoesCall, is_busy}
 use Rattle.file_server.specs.Over.{AbsorbsOver, CallsOver, outcome_of}
@@ -24,14 +24,14 @@ use Rattle.vfs.specs.UnmountingLaws.{UnmountsOver}
 -- a call that is cut off, or answered EIO, where it begins
 abbrev pub StoppedKeeps : (B : Type 0) → (B → Caching) → Type 0
 StoppedKeeps B caching =
-    (g : Geometry) (a : B) (n : ℕ) (f : Files) (who : Who) (now : ℕ) (call : Call) (why : Why) → MayServe g (caching a) → IsWhyCut (caching a) (reason why)
+    (g : Geometry) (a : B) (n : ℕ) (f : Files) (who : Who) (now : ℕ) (call : Call) (why : Why) → MayServe g (caching a) → IsWhyCut (caching a) why
     → CallsOver (server_of g (caching a) n f) (server_of g (caching a) n f) (caching a).truth (caching a).truth who now call (outcome_of (stopped why))
 
 -- a call that is cut off, or answered EIO, on its way: whatever open files it leaves
 abbrev pub CutKeeps : (B : Type 0) → (B → Caching) → Type 0
 CutKeeps B caching =
     (g : Geometry) (a b : B) (n : ℕ) (f h : Files) (who : Who) (now : ℕ) (call : Call) (why : Why) → MayServe g (caching a) → IsLive (caching a)
-    → Leads (caching a) (caching b) → IsWhyCut (caching b) (reason why)
+    → Leads (caching a) (caching b) → IsWhyCut (caching b) why
     → CallsOver (server_of g (caching a) n f) (server_of g (caching b) n h) (caching a).truth (caching b).truth who now call (outcome_of (stopped why))
 
 -- a call that is answered: it does to what would be read back what the tree's call does
