@@ -8,7 +8,7 @@ ghost use Rattle.store.specs.Volume.{IsOn};
 
 use crate::bench_names::scans::{NAMES, name_of};
 use crate::sizes::{large_blocks, small_blocks};
-use calls_data::stat;
+use calls_attributes::stat;
 use layout::Geometry;
 use path::NameCache;
 use std::alloc::{AllocError, Global};

@@ -24,8 +24,8 @@ use Rattle.zone.proofs.ZoneInodes.{inode_is}
 use Rattle.path.specs.declared.place.Place.{Place as Found}
 use Rattle.path.specs.Places.{place_of}
 use Rattle.path.proofs.Going.{has_entries}
-use Rattle.calls_data.proofs.Made.{node_there}
-use Rattle.calls_link.specs.Names.{IsOfInode, IsVolume, MeansPlace}
+use Rattle.calls_attributes.proofs.Made.{node_there}
+use Rattle.calls_names.specs.Names.{IsOfInode, IsVolume, MeansPlace}
 use Rattle.node_steps.specs.declared.moves.Move.{Move}
 use Rattle.calls_rename.specs.declared.asked.Asked.{Asked}
 use Rattle.calls_rename.specs.Asked.{FindsAsked, FindsBoth, IsBetween, IsNamed, Rest, on_paths, on_places}

@@ -27,8 +27,8 @@ use Rattle.volume.specs.Pieces.{pieces}
 use Rattle.volume.specs.Nodes.{node_of}
 use Rattle.volume.specs.Holds.{HoldsVolume}
 use Rattle.descriptors.specs.Files.{Files, HasFiles}
-use Rattle.calls_data.specs.Does.{Does, IsHeld, tree_in}
-use Rattle.calls_data.proofs.Made.{granted_made, looked_made, refused_made}
+use Rattle.calls_attributes.specs.Does.{Does, IsHeld, tree_in}
+use Rattle.calls_attributes.proofs.Made.{granted_made, looked_made, refused_made}
 use Rattle.node_steps.proofs.Between.{holds_at_end, nothing_is_done}
 use Rattle.node_steps.specs.declared.moves.Move.{Move}
 use Rattle.node_steps.specs.Leads.{CanLead, Leads}
@@ -38,7 +38,7 @@ use Rattle.node_steps.proofs.Whole.{moved_is_moved}
 use Rattle.calls_rename.specs.MoveAsked.{IsAsked}
 use Rattle.calls_rename.proofs.Between.{open_stay}
 use Rattle.calls_rename.proofs.Possible.{may_drop_other, may_move_in_directory, may_move_onto, may_move_where_it_fits}
-use Rattle.calls_link.specs.Names.{IsVolume}
+use Rattle.calls_names.specs.Names.{IsVolume}
 use Rattle.calls_rename.specs.declared.asked.Asked.{Asked}
 use Rattle.calls_rename.specs.Asked.{FindsAsked, IsNamed, Rest, moving_at, new_at, old_at, on_paths}
 use Rattle.calls_rename.specs.Barred.{IsFound, MayMove, SaysBarred, Then, on_move, other_at}

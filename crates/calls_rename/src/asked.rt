@@ -5,11 +5,11 @@ ghost use Rattle.tree.specs.Walk.{has_last_name};
 ghost use Rattle.store.specs.World.{Reads};
 ghost use Rattle.store.specs.Volume.{IsOn};
 ghost use Rattle.store.specs.Halts.{Ends, IsHalt};
-ghost use Rattle.calls_link.specs.Names.{IsVolume};
+ghost use Rattle.calls_names.specs.Names.{IsVolume};
 ghost use Rattle.calls_rename.specs.Asked.{FindsAsked, FindsBoth, IsBetween, IsNamed};
 
-use calls_data::found::is_directory;
-use calls_link::named::{may_write, place_of};
+use calls_attributes::found::is_directory;
+use calls_names::named::{may_write, place_of};
 use errno::Errno;
 use inode::inode_table::load;
 use layout::Geometry;

@@ -10,7 +10,7 @@ ghost use Rattle.calls_rename.specs.Barred.{IsFound, SaysBarred, SaysInside, why
 
 use crate::ancestors::is_within;
 use crate::asked::Asked;
-use calls_data::found::is_directory;
+use calls_attributes::found::is_directory;
 use descriptors::Descriptors;
 use errno::Errno;
 use inode::inode_table::load;

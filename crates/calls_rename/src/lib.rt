@@ -18,6 +18,3 @@ pub use laws::{found_is_asked, moves_that_fit};
 pub use moves::{a_move_takes_zones, moves_are_possible};
 pub use renamed::rename;
 pub use room::has_room;
-
-// passed on, for what tells calls apart
-pub use calls_link;

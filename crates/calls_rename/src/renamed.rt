@@ -8,7 +8,7 @@ ghost use Rattle.descriptors.specs.Table.{files_of};
 ghost use Rattle.store.specs.World.{Turns};
 ghost use Rattle.store.specs.Volume.{IsOn};
 ghost use Rattle.store.specs.Halts.{IsHalt};
-ghost use Rattle.calls_data.specs.Does.{Meets};
+ghost use Rattle.calls_attributes.specs.Does.{Meets};
 
 use crate::carrying::{carry, fits};
 use crate::{Asked, find_asked, why_barred};

@@ -21,9 +21,9 @@ use Rattle.store.specs.declared.Halt.{Halt}
 use Rattle.store.specs.declared.Halt.TheVariants as halt
 use Rattle.store.specs.Halts.{Ends}
 use Rattle.store.proofs.Turns.{ends_as}
-use Rattle.calls_data.specs.Does.{answer_in, tree_in, IsHeld, IsMade, IsLacking, Does, DoesOrLacks, Meets, MeetsOrLacks}
+use Rattle.calls_attributes.specs.Does.{answer_in, tree_in, IsHeld, IsMade, IsLacking, Does, DoesOrLacks, Meets, MeetsOrLacks}
 use Rattle.client_calls.specs.Calls.{IsDone, DoesCall, MeetsCall}
-use Rattle.calls_data.proofs.Made.{refused_made}
+use Rattle.calls_attributes.proofs.Made.{refused_made}
 
 -- no success is want of memory
 not_both : (w : Bool) (a : Answer) (t u : Tree) → (if (w && is_success a) && is_no_memory a then t else u) ≡ u

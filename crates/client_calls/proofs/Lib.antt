@@ -1,5 +1,1 @@
-pub mod Putting
-pub mod Gathering
-pub mod ReaddirCall
-pub mod CloseCall
 pub mod Effects

@@ -13,7 +13,7 @@ use Rattle.records.specs.Legal.{IsReplyOf, tree_after_answer}
 use Rattle.descriptors.specs.Files.{Files, HasFiles}
 use Rattle.store.specs.declared.Halt.{Halt}
 use Rattle.store.specs.Halts.{Ends}
-use Rattle.calls_data.specs.Does.{IsHeld}
+use Rattle.calls_attributes.specs.Does.{IsHeld}
 
 -- the answer is the tree's or want of memory, and the tree after it would be read back, with these open files
 pub record IsDone (g : Geometry) (t : Tree) (who : Who) (now : ℕ) (call : Call) (answer : Answer) (f : Files) (e : Disk) : Type 0 where

@@ -2,10 +2,8 @@
 #![tactic(auto)]
 
 mod calls;
-pub mod closing;
-pub mod listing;
 
 pub use calls::body;
 
 // passed on, for who hands one in
-pub use calls_open::NameCache;
+pub use path::NameCache;

@@ -1,8 +1,8 @@
 use Rattle.std.proofs.Common.{true, false, subst}
 use Rattle.store.proofs.Turns.{reads_as, reads_then}
 use Rattle.store.proofs.Ending.{ends_exit}
-use Rattle.calls_link.specs.Names.{MeansPlace}
-use Rattle.calls_link.proofs.Both.{reads_both}
+use Rattle.calls_names.specs.Names.{MeansPlace}
+use Rattle.calls_names.proofs.Both.{reads_both}
 use Rattle.calls_rename.proofs.Finding.{both_found, its_number, new_not_walked, new_not_writable, old_missing, old_not_walked, old_not_writable}
 use Rattle.calls_rename.proofs.asked.find_both.Goals as goal
 

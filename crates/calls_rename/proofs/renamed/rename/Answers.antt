@@ -6,7 +6,7 @@ use Rattle.tree.specs.NameCalls.{is_same}
 use Rattle.descriptors.specs.Table.{files_of}
 use Rattle.store.proofs.Turns.{turns_as, turns_then}
 use Rattle.store.proofs.Ending.{ends_exit}
-use Rattle.calls_link.proofs.Both.{reads_both}
+use Rattle.calls_names.proofs.Both.{reads_both}
 use Rattle.calls_rename.specs.declared.asked.Asked.{Asked}
 use Rattle.calls_rename.specs.Asked.{FindsAsked, IsNamed}
 use Rattle.calls_rename.specs.Barred.{SaysBarred}

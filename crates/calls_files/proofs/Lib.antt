@@ -1,0 +1,10 @@
+mod ReadBytes
+mod ReadCall
+mod SeekCall
+mod Stamped
+mod WriteCall
+mod TruncateCall
+mod Putting
+mod Gathering
+mod ReaddirCall
+mod CloseCall

@@ -1,0 +1,62 @@
+//! Sizes of files, set by their paths.
+
+ghost use Rattle.std.specs.Prelude.{◌≡◌, ◌≢◌, IfErr, OnOk};
+ghost use Rattle.tree.specs.NodeCalls.{truncate};
+ghost use Rattle.tree.specs.Answers.{answer_of, refused};
+ghost use Rattle.descriptors.specs.Files.{Files, HasFiles};
+ghost use Rattle.store.specs.World.{Turns};
+ghost use Rattle.store.specs.Volume.{IsOn};
+ghost use Rattle.store.specs.Halts.{IsHalt};
+ghost use Rattle.calls_attributes.specs.Does.{Meets};
+
+use crate::dated::set_size_at;
+use calls_attributes::found::is_directory;
+use calls_attributes::named::find_node;
+use errno::Errno;
+use layout::Geometry;
+use path::{NameCache, Wish, may};
+use store::{Blocks, Halt};
+use tree::{MAX_SIZE, Reply, User};
+
+/// truncate: the size of a file; what lies past it is gone, and what is new reads as zeros. EFBIG of more than 2147483647 bytes, else the
+/// refusals of the path, else EISDIR of a directory, else EACCES where the user may not write the file.
+pub fn truncate<B: Blocks>(
+    blocks: &mut B,
+    names: &mut NameCache,
+    geometry: &Geometry,
+    user: User,
+    now: u32,
+    path: &[u8],
+    size: u32,
+    reply: &mut Reply,
+) -> Result<(), Halt>
+    requires on { IsOn B.world geometry.now blocks.old }
+    ensures turns { Turns B.world blocks.old blocks.new (λ d e. (f : Files) →
+        Meets geometry.now (λ t. truncate geometry.now t user now path.now size) result reply.new (HasFiles f) (HasFiles f) d e) }
+    ensures halt { IfErr result (λ h. IsHalt B.world blocks.new h) }
+    ensures proper { OnOk result (answer_of reply.new ≢ refused Errno.EIO) }
+{
+    if size > MAX_SIZE {
+        *reply = Reply::Refused(Errno::EFBIG);
+        return Ok(());
+    }
+    match find_node(blocks, names, geometry, user, path)? {
+        Ok((number, inode)) => {
+            if is_directory(&inode) {
+                *reply = Reply::Refused(Errno::EISDIR);
+                return Ok(());
+            }
+            if !may(user, inode.mode % 512, inode.uid, inode.gid, Wish::Write) {
+                *reply = Reply::Refused(Errno::EACCES);
+                return Ok(());
+            }
+            set_size_at(blocks, geometry, number, size, now)?;
+            *reply = Reply::Done;
+            Ok(())
+        }
+        Err(errno) => {
+            *reply = Reply::Refused(errno);
+            Ok(())
+        }
+    }
+}

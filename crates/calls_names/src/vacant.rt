@@ -1,0 +1,82 @@
+//! Places for new names, and numbers for new nodes.
+
+ghost use Rattle.std.specs.Prelude.{◌≡◌, ◌≢◌, IfErr};
+ghost use Rattle.tree.specs.Tree.{Node, Tree};
+ghost use Rattle.tree.specs.Walk.{may_access, to_write};
+ghost use Rattle.volume.specs.Holds.{HoldsVolume};
+ghost use Rattle.volume.specs.Nodes.{permissions_in};
+ghost use Rattle.store.specs.Volume.{IsOn};
+ghost use Rattle.store.specs.World.{Reads};
+ghost use Rattle.path.specs.Stops.{Answers, IfRefused, IsStop};
+ghost use Rattle.calls_names.specs.Vacant.{FindsNewPlace, FindsNumber, IsVacant};
+
+use errno::Errno;
+use file::file_room::has_room_beside;
+use layout::Geometry;
+use node_steps::free_inode;
+use path::{NameCache, Path, Place, Stop, Wish, find_place, may};
+use store::{Blocks, Halt};
+use tree::{MAX_SIZE, User};
+use volume::Inode;
+
+/// Whether a user may change the names of a directory.
+pub fn may_write(user: User, inode: &Inode) -> bool
+    ensures { (node : Node) → node.permissions ≡ permissions_in inode.now.mode → node.uid ≡ inode.now.uid → node.gid ≡ inode.now.gid
+        → result ≡ may_access user node to_write }
+{
+    may(user, inode.mode % 512, inode.uid, inode.gid, Wish::Write)
+}
+
+/// The place at which a path's last name is missing. The refusals of the path and of the walk come first, then EEXIST where the name is
+/// there or the path has none, then EACCES where the user may not change the directory's names.
+pub(crate) fn vacant_place<'a, B: Blocks>(
+    blocks: &mut B,
+    names: &mut NameCache,
+    geometry: &Geometry,
+    user: User,
+    path: &'a [u8],
+) -> Result<Place<'a>, Stop>
+    requires on { IsOn B.world geometry.now blocks.old }
+    ensures reads { Reads B.world blocks.old blocks.new (λ d. (t : Tree) → HoldsVolume geometry.now d t
+        → Answers result (FindsNewPlace geometry.now d t user path.now)) }
+    ensures stop { IfErr result (λ s. IsStop B.world blocks.new s) }
+    ensures proper { IfErr result (λ s. IfRefused s (λ e. e ≢ Errno.EIO)) }
+{
+    let path = Path::parse(path)?;
+    let place = find_place(blocks, names, geometry, user, &path)?;
+    if !path.has_last_name() || place.there.is_some() {
+        return Err(Stop::Refused(Errno::EEXIST));
+    }
+    if !may_write(user, &place.inode) {
+        return Err(Stop::Refused(Errno::EACCES));
+    }
+    Ok(place)
+}
+
+/// The number of the inode of a new node at a vacant place: ENOSPC where none is free, or there aren't zones enough for the name and for
+/// `others` zones beside. Nothing is changed.
+pub fn free_number<B: Blocks>(
+    blocks: &mut B,
+    geometry: &Geometry,
+    place: &Place,
+    others: u32,
+) -> Result<u32, Stop>
+    requires on { IsOn B.world geometry.now blocks.old }
+    ensures reads { Reads B.world blocks.old blocks.new (λ d. (t : Tree) (parent : Node) → HoldsVolume geometry.now d t
+        → IsVacant geometry.now d t place.now parent
+        → Answers result (FindsNumber geometry.now t place.now.directory parent place.now.name.now others)) }
+    ensures stop { IfErr result (λ s. IsStop B.world blocks.new s) }
+    ensures proper { IfErr result (λ s. IfRefused s (λ e. e ≢ Errno.EIO)) }
+{
+    let Some(number) = free_inode(blocks, geometry)? else {
+        return Err(Stop::Refused(Errno::ENOSPC));
+    };
+    let size = place.inode.size;
+    if size > MAX_SIZE - 64 {
+        return Err(Stop::Halted(Halt::Unsound));
+    }
+    if !has_room_beside(blocks, geometry, place.directory, size, 64, others)? {
+        return Err(Stop::Refused(Errno::ENOSPC));
+    }
+    Ok(number)
+}
