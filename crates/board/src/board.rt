@@ -11,7 +11,7 @@ ghost use Rattle.board.specs.Steps.{SessionLearns, SeesMore, IsCallOf, OwnsCalls
 ghost use Rattle.board.specs.Steps.{SessionIsNew};
 ghost use Rattle.board.specs.Words.{pulse_word, is_given_up, mark_of};
 
-use crate::mark::{NewCall, NewMark, NewNumber};
+use crate::mark::{NewMark, NewNumber};
 use crate::rule::{
     Ask, Beat, Copy, Feel, Find, Give, GiveUp, Host, Law, Learn, Look, Note, Part, Spend, Start,
     Take, Tell,
@@ -233,28 +233,6 @@ impl Board {
         ensures session { SessionLearns caller.old.view caller.new.view }
     {
         self.count_as::<Brand>(keeper, caller, who, now, call, reply);
-    }
-
-    /// As `count`, of a call of which no value is at hand: the caller picks which it is.
-    pub fn count_said<C: NewCall>(
-        &self,
-        keeper: &mut Seat,
-        caller: &mut Seat,
-        who: Who,
-        now: u32,
-        reply: &Reply,
-    )
-        requires keeper { IsKeeper self.now keeper.old }
-        requires caller { (caller.old.table ≡ self.now) × (caller.old.view.number ≡ Some who.session) }
-        requires told { gave_up keeper.old.view.seen ≡ true → keeper.old.view.given_up ≡ true }
-        ensures keeper { IsKeeper self.now keeper.new }
-        ensures seen { keeper.new.view ≡ keeper_after (Took who now C.call (answer_of reply.now)) keeper.old.view caller.old.view }
-        ensures caller { (caller.new.table ≡ self.now)
-            × (caller.new.view ≡ caller_after (Took who now C.call (answer_of reply.now)) keeper.old.view caller.old.view) }
-        ensures beginning { IsBeginning caller.old.view.seen keeper.old.view.seen }
-        ensures session { SessionLearns caller.old.view caller.new.view }
-    {
-        self.count_mark::<Brand>(keeper, caller, who, now, reply);
     }
 
     /// Both have then seen the longer of what the two had seen, which begins with the other.

@@ -16,6 +16,5 @@ mod seat;
 mod told;
 
 pub use board::{Board, Device};
-pub use mark::NewCall;
 pub use seat::Seat;
 pub use told::History;

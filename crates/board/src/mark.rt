@@ -15,19 +15,6 @@ impl NewMark for Brand {
     ghost mark = { Flush };
 }
 
-/// A call of which no value is at hand. Whoever counts it picks it.
-pub trait NewCall {
-    ghost use Rattle.tree.specs.declared.Call.{Call};
-
-    ghost call: { Call };
-}
-
-impl NewCall for Brand {
-    ghost use Rattle.tree.specs.declared.Call.TheVariants.{Sync};
-
-    ghost call = { Sync };
-}
-
 /// The number that a further seat gets. `split` picks it.
 pub trait NewNumber {
     ghost use Rattle.std.specs.Prelude.{ℕ};

@@ -6,11 +6,11 @@ use Rattle.records.specs.Opening.{Opening}
 use Rattle.message.specs.declared.BlockReply.{BlockReply}
 use Rattle.bdev.specs.declared.Step.{Step}
 use Rattle.bdev.specs.declared.Step.TheVariants as step
+use Rattle.bdev.specs.declared.Stepped.{Stepped}
+use Rattle.bdev.specs.declared.Stepped.TheVariants.{Working, Idle, Done, Failed}
 use Rattle.bdev.specs.DriverState.{DriverState}
 use Rattle.true_replies.specs.State.{OutsideHolds}
 use Rattle.true_replies.specs.Events.{opening_media}
-use Rattle.driver_threads.specs.declared.confined.Progress.{Progress}
-use Rattle.driver_threads.specs.declared.confined.Progress.TheVariants.{Working, Idle, Done, Failed}
 
 -- the media have as many sectors as were handed in, and outside of the volume each sector is as it was handed in
 pub record KeepsOutside (v : Opening) (media : MediaState) : Type 0 where
@@ -33,8 +33,8 @@ abbrev pub StaysInVolume : Opening → DriverState → Type 0
 StaysInVolume v d = IfSome d.in_work (IsInVolume v)
 
 -- the step of a driver that came so far, whose answer, where it is done, stands in the reply
-abbrev pub step_of : Progress → BlockReply → Step
+abbrev pub step_of : Stepped → BlockReply → Step
 step_of Working reply = step.Working
 step_of Idle reply = step.Idle
-step_of Done reply = step.Done (record { id = reply.id; outcome = reply.outcome; bytes = reply.bytes })
+step_of (Done completion) reply = step.Done (record { id = reply.id; outcome = reply.outcome; bytes = reply.bytes })
 step_of Failed reply = step.Failed

@@ -14,19 +14,6 @@ use message::BlockReply;
 use std::alloc::{AllocError, Global};
 use std::marker::{Model, PhantomData};
 
-/// How far a step brought a driver: `Step`, but that the answer stands elsewhere.
-#[derive(Clone, Copy, Debug, PartialEq, Eq)]
-pub enum Progress {
-    /// The request stays in work.
-    Working,
-    /// There is no request in work.
-    Idle,
-    /// The request in work has ended: it has its answer.
-    Done,
-    /// The driver failed.
-    Failed,
-}
-
 /// Media on which drivers write in a volume's range alone: they have as many sectors as were handed in, and outside of the range each
 /// sector is as it was handed in. Contracts see them as the media.
 #[derive(Drop)]
@@ -83,25 +70,25 @@ impl<N: Room> Confined<N> {
         driver: &mut D,
         generation: u32,
         reply: &mut BlockReply,
-    ) -> Progress
+    ) -> Stepped
         ensures inside { StaysInVolume N.opening (D.state driver.old)
             → StepKeeps (D.state driver.old) self.old generation (step_of result reply.new) (D.state driver.new) self.new }
         ensures outside { ¬ (StaysInVolume N.opening (D.state driver.old))
-            → (result ≡ Progress.Failed) × (D.state driver.new ≡ D.state driver.old) × (self.new ≡ self.old) }
+            → (result ≡ Stepped.Failed) × (D.state driver.new ≡ D.state driver.old) × (self.new ≡ self.old) }
         ensures from { reply.new.from ≡ reply.old.from }
     {
         if !self.admits(driver) {
-            return Progress::Failed;
+            return Stepped::Failed;
         }
         match driver.step_into(&mut self.media, generation, &mut reply.bytes) {
-            Stepped::Working => Progress::Working,
-            Stepped::Idle => Progress::Idle,
+            Stepped::Working => Stepped::Working,
+            Stepped::Idle => Stepped::Idle,
             Stepped::Done(completion) => {
                 reply.id = completion.id;
                 reply.outcome = completion.outcome;
-                Progress::Done
+                Stepped::Done(completion)
             }
-            Stepped::Failed => Progress::Failed,
+            Stepped::Failed => Stepped::Failed,
         }
     }
 

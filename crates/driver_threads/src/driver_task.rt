@@ -3,9 +3,8 @@
 ghost use Rattle.std.specs.Prelude.{◌≡◌};
 ghost use Rattle.std.specs.Arc.{arc_value};
 
-use crate::confined::Progress;
 use crate::shared::Shared;
-use bdev::BlockDriver;
+use bdev::{BlockDriver, Stepped};
 use board::Seat;
 use board::counting::room::Room;
 use channel_link::channel::{Receiver, Sender};
@@ -72,7 +71,7 @@ impl<N: Room, D: BlockDriver, G: Gate> DriverTask<N, D, G> {
 
     // One step, under the lock of the media, which puts an answer into the reply; none where all is to end. It doesn't ask whether a later
     // driver was started: then the media refuse the step.
-    fn step<R: Wait>(&mut self, rt: &R, reply: &mut BlockReply) -> Option<Progress> {
+    fn step<R: Wait>(&mut self, rt: &R, reply: &mut BlockReply) -> Option<Stepped> {
         let generation = self.news.endpoint().generation;
         self.shared.gate.pass(Point::DriverStep(generation));
         if self.shared.ending.is_rung() {
@@ -96,10 +95,10 @@ impl<N: Room, D: BlockDriver, G: Gate> DriverTask<N, D, G> {
         let _ = self.driver.accept(exchange.request);
         for _ in rt.forever() {
             match self.step(rt, &mut exchange.reply) {
-                Some(Progress::Working) => self.beat(),
-                Some(Progress::Idle) => return true,
-                Some(Progress::Done) => return self.answer(rt, exchange),
-                Some(Progress::Failed) => {
+                Some(Stepped::Working) => self.beat(),
+                Some(Stepped::Idle) => return true,
+                Some(Stepped::Done(_)) => return self.answer(rt, exchange),
+                Some(Stepped::Failed) => {
                     let _ = self.reports.send(rt, Report::Exit(self.news.endpoint()));
                     return false;
                 }

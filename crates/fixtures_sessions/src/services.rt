@@ -110,18 +110,16 @@ fn cut_off<S: Drop>(stopped: Result<Vec<u8>, StopRefusal<S>>) -> Option<Vec<u8>>
 
 /// Stops a service with the end of a session, and at once, which are both refused since another session is left.
 fn refused<N: Room, R: Threads + Wait + Copy, L: Recorder<N>, S: FileServer<L>>(
-    alloc: Global,
     service: Service<N, R, L, S>,
     session: Session<N, Shared<N, R, L, S>>,
 ) -> Option<Service<N, R, L, S>> {
-    let service = still_open(service.stop_after(alloc, session))?;
-    still_open(service.stop(alloc))
+    let service = still_open(service.stop_after(session))?;
+    still_open(service.stop())
 }
 
 /// Makes a call in one of two sessions, and stops the service three times: with the end of the other session, at once, which are refused
 /// since the first session is left, and when that one has ended, or with its end. The image.
 pub fn stopped<N: Room, R: Threads + Wait + Copy, L: Recorder<N>, S: FileServer<L>>(
-    alloc: Global,
     service: Service<N, R, L, S>,
     call: &Call<'_>,
     has_ended: bool,
@@ -130,30 +128,28 @@ pub fn stopped<N: Room, R: Threads + Wait + Copy, L: Recorder<N>, S: FileServer<
     let mut one = service.session(0, 0).ok()?;
     let two = service.session(0, 0).ok()?;
     told(&mut one, 100, call, lines);
-    let service = refused(alloc, service, two)?;
-    let (synced, image) = stopped_at_last(alloc, service, one, has_ended)?;
+    let service = refused(service, two)?;
+    let (synced, image) = stopped_at_last(service, one, has_ended)?;
     let _ = writeln!(lines, "{synced}");
     Some(image)
 }
 
 /// Stops a service when its last session has ended, or with its end. Whether the last sync was made, and the image.
 fn stopped_at_last<N: Room, R: Threads + Wait + Copy, L: Recorder<N>, S: FileServer<L>>(
-    alloc: Global,
     service: Service<N, R, L, S>,
     last: Session<N, Shared<N, R, L, S>>,
     has_ended: bool,
 ) -> Option<(&'static str, Vec<u8>)> {
     if has_ended {
         last.end();
-        last_sync(service.stop(alloc))
+        last_sync(service.stop())
     } else {
-        last_sync(service.stop_after(alloc, last))
+        last_sync(service.stop_after(last))
     }
 }
 
 /// A session calls, another one is asked for, and the service is stopped, whose link has ended. The image.
 pub fn asked_and_stopped<N: Room, R: Threads + Wait + Copy, L: Recorder<N>, S: FileServer<L>>(
-    alloc: Global,
     service: Service<N, R, L, S>,
     lines: &mut String,
 ) -> Option<Vec<u8>> {
@@ -162,5 +158,5 @@ pub fn asked_and_stopped<N: Room, R: Threads + Wait + Copy, L: Recorder<N>, S: F
     let refusal = service.session(0, 0).err();
     let _ = writeln!(lines, "{refusal:?}");
     session.end();
-    cut_off(service.stop(alloc))
+    cut_off(service.stop())
 }

@@ -65,7 +65,7 @@ pub(crate) fn answer_on<
 {
     let mut streams = streams;
     let answered = answer_by(alloc, &service, &mut streams);
-    let (last_sync, image) = image_left(service.stop(alloc))?;
+    let (last_sync, image) = image_left(service.stop())?;
     Ok(Came {
         streams,
         answered,

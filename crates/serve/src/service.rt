@@ -203,7 +203,7 @@ impl<N: Room, R: Threads + Wait + Copy, L: Recorder<N>, S: FileServer<L>> Servic
     /// It is refused: 1 SessionsLeft, where some session neither ended nor was let go, which hands the service back; 3 OutOfMemory, where
     /// somebody else still has the media, which by the code nobody has; 2 GivenUp and 4 LinkEnded, where the last sync wasn't made, with
     /// the image as the media stand. The first of these that holds is answered.
-    pub fn stop(self, _alloc: Global) -> Result<Vec<u8>, StopRefusal<Service<N, R, L, S>>>
+    pub fn stop(self) -> Result<Vec<u8>, StopRefusal<Service<N, R, L, S>>>
         ensures image { IfOk result (λ image. IsLastImage L.Link N.geometry N.opening [] Went image.items) }
         ensures refused { IfErr result (WhyNotSynced L.Link N.geometry N.opening []
             (λ left. (left.board ≡ self.board) × (left.shared ≡ self.shared))) }
@@ -255,7 +255,6 @@ impl<N: Room, R: Threads + Wait + Copy, L: Recorder<N>, S: FileServer<L>> Servic
     /// says of the image and of each refusal holds then, and the last record goes on from what the session had seen at its end.
     pub fn stop_after(
         self,
-        _alloc: Global,
         mut last: Session<N, Shared<N, R, L, S>>,
     ) -> Result<Vec<u8>, StopRefusal<Service<N, R, L, S>>>
         ensures image { IfOk result (λ image. IsLastImage L.Link N.geometry N.opening last.knows.seen Went image.items) }

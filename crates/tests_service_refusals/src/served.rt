@@ -92,7 +92,7 @@ impl<R: Threads + Wait + Copy + Send + Sync + 'static> Program<R> for Stops {
         ensures { Unit {0} }
     {
         refuse(self.0, 26, 0);
-        let stopped = service.stop(self.0);
+        let stopped = service.stop();
         was_refused(self.0);
         stopped.ok()
     }

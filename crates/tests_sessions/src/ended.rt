@@ -69,7 +69,7 @@ fn ask_and_stop<N: Room + Send + Sync + 'static, R: Threads + Wait + Copy + Send
     )?;
     drop(link);
     let service = over(alloc, rt, board, noting, 0, geometry, 16, running, gate)?;
-    Ok(asked_and_stopped(alloc, service, lines))
+    Ok(asked_and_stopped(service, lines))
 }
 
 /// The same, over a service on the volume in an image.

@@ -92,7 +92,7 @@ fn end<N: Room, R: Threads + Wait + Clock + Copy, L: Recorder<N>, S: FileServer<
         stage.gate.let_go();
         return Some((lines, Vec::new(stage.alloc)));
     }
-    let image = service.stop(stage.alloc).ok()?;
+    let image = service.stop().ok()?;
     Some((lines, image))
 }
 

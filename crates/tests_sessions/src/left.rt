@@ -44,11 +44,11 @@ impl<R: Threads + Wait + Clock + Copy + Send + Sync + 'static> Program<R> for St
             mode: 0o755,
         };
         told(&mut session, 100, &mkdir, &mut lines);
-        let Err(StopRefusal::SessionsLeft(service)) = service.stop(self.alloc) else {
+        let Err(StopRefusal::SessionsLeft(service)) = service.stop() else {
             return None;
         };
         session.end();
-        let image = service.stop(self.alloc).ok()?;
+        let image = service.stop().ok()?;
         Some((lines, image))
     }
 }

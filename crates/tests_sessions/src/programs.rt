@@ -60,7 +60,7 @@ impl<R: Threads + Wait + Copy + Send + Sync + 'static> Program<R> for Does {
             What::Many => many(alloc, service, &mut lines)?,
             What::Stops(call, has_ended) => {
                 self.gate.let_go();
-                stopped(alloc, service, call, *has_ended, &mut lines)?
+                stopped(service, call, *has_ended, &mut lines)?
             }
         };
         Some(Came { lines, image })

@@ -87,7 +87,7 @@ impl<R: Threads + Wait + Clock + Copy + Send + Sync + 'static> Program<R> for Wr
         let mut lines = String::new(self.alloc);
         let (is_equal, has_died) = self.calls_in(&service, &mut lines)?;
         self.gate.let_go();
-        let image = service.stop(self.alloc).ok()?;
+        let image = service.stop().ok()?;
         Some(Came {
             lines,
             is_equal,
@@ -143,7 +143,7 @@ impl<R: Threads + Wait + Clock + Copy + Send + Sync + 'static> Program<R> for Re
             &mut lines,
         );
         session.end();
-        service.stop(self.alloc).ok()?;
+        service.stop().ok()?;
         Some(lines)
     }
 }

@@ -88,7 +88,7 @@ fn done<
     S: FileServer<L> + Send,
 >(stage: &Stage<R>, what: What, service: Service<N, R, L, S>) -> Option<(Came, Vec<u8>)> {
     let came = came_of(stage, what, &service)?;
-    let left = service.stop(stage.alloc).ok()?;
+    let left = service.stop().ok()?;
     Some((came, left))
 }
 

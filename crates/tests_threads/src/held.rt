@@ -113,7 +113,7 @@ impl<R: Threads + Wait + Clock + Copy + Send + Sync + 'static> Program<R> for He
     {
         let mut lines = String::new(self.alloc);
         let (is_early, has_passed) = self.calls_in(&service, &mut lines)?;
-        let image = service.stop(self.alloc).ok()?;
+        let image = service.stop().ok()?;
         Some(Came {
             lines,
             is_early,

@@ -76,7 +76,7 @@ pub fn play_on<
     ensures unserved { IfErr result (IsUnservedBy L.Link L.numbers N.opening) }
 {
     let (sessions, last) = play_all(alloc, rt, &service, scripts)?;
-    match stop(alloc, service, last) {
+    match stop(service, last) {
         Ok((last_sync, image)) => Ok(Came {
             sessions,
             last_sync,
@@ -115,7 +115,6 @@ fn play_all<
 
 /// Stops a service once this session has ended, if there was one. What came of its last sync, and the image as the media stand.
 fn stop<N: Room, R: Threads + Wait + Copy, L: Recorder<N>, S: FileServer<L>>(
-    alloc: Global,
     service: Service<N, R, L, S>,
     last: Option<ScriptSession<N, R, L, S>>,
 ) -> Result<(LastSync, Vec<u8>), NoImage>
@@ -123,7 +122,7 @@ fn stop<N: Room, R: Threads + Wait + Copy, L: Recorder<N>, S: FileServer<L>>(
         IsLastImage L.Link N.geometry N.opening (seen_by (option_map (λ s. s.0) last)) (sync_of came.0) came.1.items) }
 {
     let Some(session) = last else {
-        return image_left(service.stop(alloc));
+        return image_left(service.stop());
     };
-    image_left(service.stop_after(alloc, session.session()))
+    image_left(service.stop_after(session.session()))
 }
