@@ -5,15 +5,15 @@ mod work;
 
 ghost use Rattle.std.specs.Prelude.{◌≡◌, ◌≤◌, ◌<◌, ◌+◌, length};
 ghost use Rattle.layout.specs.Places.{IsGeometry};
-ghost use Rattle.store.specs.Volume.{IsOn};
+ghost use Rattle.block_store.specs.Volume.{IsOn};
 
 use crate::sizes::{large_blocks, middle_blocks, small_blocks};
 use crate::timing::{micros_since, say};
 use at_hand::{fill, frames, memory};
+use block_store::Blocks;
 use layout::Geometry;
 use std::io;
 use std::time::Instant;
-use store::Blocks;
 use work::{copy_again, read_again, write_again};
 
 /// How many such rows are measured, of which the shortest one is told.

@@ -2,15 +2,15 @@
 
 ghost use Rattle.std.specs.Prelude.{◌≡◌};
 ghost use Rattle.layout.specs.Places.{IsGeometry};
-ghost use Rattle.store.specs.Volume.{IsOn};
+ghost use Rattle.block_store.specs.Volume.{IsOn};
 
 use crate::sizes::{large_blocks, small_blocks};
 use bitmap::{Map, count_free};
+use block_store::Blocks;
+use block_store::memory::Memory;
 use layout::Geometry;
 use std::io;
 use std::time::Instant;
-use store::Blocks;
-use store::memory::Memory;
 
 /// How often the zones are counted; the least time is told.
 const ROUNDS: u32 = 1000;

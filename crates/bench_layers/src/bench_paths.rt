@@ -4,17 +4,17 @@
 mod trees;
 
 ghost use Rattle.layout.specs.Places.{IsGeometry};
-ghost use Rattle.store.specs.Volume.{IsOn};
+ghost use Rattle.block_store.specs.Volume.{IsOn};
 
 use crate::bench_names::scans::{NAMES, name_of};
 use crate::sizes::{large_blocks, small_blocks};
+use block_store::Blocks;
 use calls_attributes::stat;
 use layout::Geometry;
 use path::NameCache;
 use std::alloc::{AllocError, Global};
 use std::io;
 use std::time::Instant;
-use store::Blocks;
 use tree::{Reply, User};
 use trees::{DIRECTORIES, ROOM, Tree};
 

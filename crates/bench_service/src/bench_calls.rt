@@ -5,8 +5,8 @@ ghost use Rattle.std.specs.Prelude.{◌≡◌, ◌≤◌, ◌^◌, [], true, map
 ghost use Rattle.std.specs.Arc.{arc_value};
 ghost use Rattle.records.specs.Opening.{contents_at};
 ghost use Rattle.records.specs.Mount.{is_frame_count};
-ghost use Rattle.mounting.specs.Laws.{sizes_in};
-ghost use Rattle.mounting.specs.Starting.{opening_of, IsPrepared};
+ghost use Rattle.volume_mount.specs.Laws.{sizes_in};
+ghost use Rattle.volume_mount.specs.Starting.{opening_of, IsPrepared};
 ghost use Rattle.true_replies.specs.Events.{opening_media};
 ghost use Rattle.board.specs.View.{IsKeeper, opener};
 
@@ -15,28 +15,28 @@ mod work;
 
 use bdev::BlockDriver;
 use bench_layers::timing::say;
+use board::counting::parameters::ServiceParameters;
 use board::counting::recorder::Recorder;
-use board::counting::room::Room;
 use board::{Board, Seat};
 use driver_threads::running::Running;
 use gate::Gate;
 use gate::paced_gate::Paced;
-use launch::start::counted_drivers;
 use measures::measure_all;
 use modeldisk::supply::{drivers_for, setup_for, table_in};
-use mounting::mounted::mount;
-use mounting::{Prepared, prepare};
 use new_volume::mkfs;
 use reincarnate::policy::Setup;
 use serve::service::Service;
+use service_start::start::counted_drivers;
 use std::io;
 use std::marker::Brand;
 use std::sync::{Arc, Wait};
 use std::thread::Threads;
+use volume_mount::mounted::mount;
+use volume_mount::{Prepared, prepare};
 
 /// Mounts the volume over this link, and measures calls on the service of it.
 fn mount_and_measure<
-    N: Room + Send + Sync + 'static,
+    N: ServiceParameters + Send + Sync + 'static,
     R: Threads + Wait + Copy + Send + Sync + 'static,
     L: Recorder<N> + Send + 'static,
     G: Gate + 'static,
@@ -75,7 +75,7 @@ fn mount_and_measure<
 
 // The caller picks `N` from what it hands over.
 fn start_and_measure<
-    N: Room + Send + Sync + 'static,
+    N: ServiceParameters + Send + Sync + 'static,
     R: Threads + Wait + Copy + Send + Sync + 'static,
     D: BlockDriver + 'static,
     G: Gate + 'static,

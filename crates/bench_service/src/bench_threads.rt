@@ -2,7 +2,7 @@
 ghost use Rattle.std.specs.Prelude.{◌≡◌};
 
 use bench_layers::timing::{say, tell};
-use board::counting::room::Room;
+use board::counting::parameters::ServiceParameters;
 use board::{Board, Seat};
 use channel_link::channel::{Receiver, Sender, bounded};
 use driver_threads::running::start_drivers;
@@ -140,7 +140,10 @@ fn patient() -> Policy {
 }
 
 /// Times the ticks over an idle driver of one sector.
-fn time_ticks<N: Room + Send + Sync + 'static, R: Threads + Wait + Copy + Send + Sync + 'static>(
+fn time_ticks<
+    N: ServiceParameters + Send + Sync + 'static,
+    R: Threads + Wait + Copy + Send + Sync + 'static,
+>(
     rt: &HostRuntime,
     waits: R,
     image: &[u8],

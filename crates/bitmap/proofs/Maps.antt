@@ -11,11 +11,11 @@ use Rattle.tree.specs.Sums.{put}
 use Rattle.tree.proofs.Maps.{put-same, put-other, is_put}
 use Rattle.volume.specs.Reading.{Disk, bit_in, map_bit}
 use Rattle.volume.specs.Pieces.{pieces}
-use Rattle.store.specs.Rows.{with_bytes, written}
-use Rattle.store.specs.Volume.{Alters}
-use Rattle.store.proofs.Rows.{row_new, row_old}
-use Rattle.store.specs.Regions.{zone_map_start}
-use Rattle.store.proofs.Alone.{in_inode_map, in_zone_map}
+use Rattle.block_store.specs.Rows.{with_bytes, written}
+use Rattle.block_store.specs.Volume.{Alters}
+use Rattle.block_store.proofs.Rows.{row_new, row_old}
+use Rattle.block_store.specs.Regions.{zone_map_start}
+use Rattle.block_store.proofs.Alone.{in_inode_map, in_zone_map}
 use Rattle.bitmap.specs.declared.Map.{Map}
 use Rattle.bitmap.specs.declared.Map.TheVariants as map
 use Rattle.bitmap.specs.Maps.{numbers_in, with_number, last_number, first_block}

@@ -4,7 +4,7 @@ use Rattle.std.specs.Prelude.{ℕ, ◌+◌, ◌-◌, ◌*◌, Bool, min, max}
 use Rattle.layout.specs.declared.Geometry.{Geometry}
 use Rattle.tree.specs.Sums.{put}
 use Rattle.volume.specs.Pieces.{Pieces}
-use Rattle.store.specs.Regions.{zone_map_start}
+use Rattle.block_store.specs.Regions.{zone_map_start}
 use Rattle.bitmap.specs.declared.Map.{Map}
 use Rattle.bitmap.specs.declared.Map.TheVariants as map
 

@@ -9,16 +9,16 @@ pub mod search;
 ghost use Rattle.std.specs.Prelude.{◌≡◌, ◌≤◌, ◌<◌, ◌+◌, ◌-◌, ◌*◌, ◌/◌, ◌%◌, OnOk, IfOk, IfErr, IfSome, true, false};
 ghost use Rattle.layout.specs.Places.{IsGeometry};
 ghost use Rattle.volume.specs.Pieces.{pieces};
-ghost use Rattle.store.specs.World.{Turns, Reads};
-ghost use Rattle.store.specs.Volume.{IsOn, Alters};
+ghost use Rattle.block_store.specs.World.{Turns, Reads};
+ghost use Rattle.block_store.specs.Volume.{IsOn, Alters};
 ghost use Rattle.bitmap.specs.Numbers.{IsLowestFree, count_free_in};
 ghost use Rattle.bitmap.specs.Maps.{numbers_in, with_number, last_number, first_block};
 
 use crate::row::with_bit;
+use block_store::words::{read_byte, write_bytes};
+use block_store::{Blocks, Cut};
 use layout::Geometry;
 use step_count::Steps;
-use store::words::{read_byte, write_bytes};
-use store::{Blocks, Cut};
 
 /// A map of a volume.
 #[derive(Clone, Copy, Debug, PartialEq, Eq)]

@@ -3,16 +3,16 @@
 ghost use Rattle.std.specs.Prelude.{◌≡◌, ◌≤◌, ◌<◌, ◌+◌, ◌*◌, ◌/◌, ◌%◌, IfOk, IfErr, IfSome};
 ghost use Rattle.layout.specs.Places.{IsGeometry};
 ghost use Rattle.volume.specs.Pieces.{pieces};
-ghost use Rattle.store.specs.World.{Reads};
-ghost use Rattle.store.specs.Volume.{IsOn};
+ghost use Rattle.block_store.specs.World.{Reads};
+ghost use Rattle.block_store.specs.Volume.{IsOn};
 ghost use Rattle.bitmap.specs.Numbers.{IsLowestFree, count_free_in, words_for};
 ghost use Rattle.bitmap.specs.Maps.{numbers_in, last_number, first_block, reach};
 
 use crate::Map;
 use crate::row::{count_clear, first_clear};
+use block_store::{Blocks, Cut};
 use layout::Geometry;
 use step_count::Steps;
-use store::{Blocks, Cut};
 
 /// The part of a map that stands in one of its blocks: `first` is the number of the block's bit 0, and its bits `from` to before
 /// `end` count.

@@ -3,7 +3,7 @@ use Rattle.std.proofs.Common.{◌≡◌, ℕ, ◌<◌, List, [], ◌∷◌, ◌+
 use Rattle.records.specs.Marks.{Mark, IsBeginning}
 use Rattle.tree.specs.Tree.{most_sessions}
 use Rattle.board.specs.View.{is_used}
-use Rattle.board.specs.declared.counting.room.Room.{Ghosts}
+use Rattle.board.specs.declared.counting.parameters.ServiceParameters.{Ghosts}
 use Rattle.board.specs.declared.counting.keeper.Keeper.{Keeper}
 
 -- the whole record

@@ -2,9 +2,9 @@
 //! numbers of the sessions.
 
 pub mod keeper;
-mod noting;
+pub mod parameters;
 pub mod recorder;
-pub mod room;
+mod recording_link;
 pub mod steady;
 
-pub use noting::Noting;
+pub use recording_link::RecordingLink;

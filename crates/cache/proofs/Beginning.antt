@@ -26,7 +26,7 @@ use Rattle.cache.specs.Slots.{held, ticket_of, IsDistinct}
 use Rattle.cache.specs.Edits.{IsSetAt, AreBegun, AreDirty}
 use Rattle.cache.specs.Frames.{Tied, CacheAgrees, view}
 use Rattle.cache.specs.Runs.{AreGathered}
-use Rattle.cache.specs.Calls.{Caching, IsReady, IsLive, IsStuck, IsRefusing, Serves, Keeps}
+use Rattle.cache.specs.Calls.{AbstractCache, IsReady, IsLive, IsStuck, IsRefusing, Serves, Keeps}
 use Rattle.cache.specs.Takes.{IsReadAt}
 use Rattle.cache.proofs.Held.{held_at, held_set}
 use Rattle.cache.proofs.Tied.{tied_run, tied_read}
@@ -43,11 +43,11 @@ busy_under size items pending at b t s d is block ticket k =
     record { ticket = t; request = x.request; is = x.is }
 
 -- one more is pending
-pub longer : (ask : Ask) (old new : Caching) → Adds ask old.table new.table old.told new.told → length new.table.pending ≡ length old.table.pending + 1
+pub longer : (ask : Ask) (old new : AbstractCache) → Adds ask old.table new.table old.told new.told → length new.table.pending ≡ length old.table.pending + 1
 longer ask old new x = ap (λ (l : List Pending). length l) x.pending ∙ length-append old.table.pending (x.entry ∷ [])
 
 -- and one more id was given
-pub ids_added : (ask : Ask) (old new : Caching) → Adds ask old.table new.table old.told new.told
+pub ids_added : (ask : Ask) (old new : AbstractCache) → Adds ask old.table new.table old.told new.told
     → new.table.ids + length old.table.pending ≡ old.table.ids + length new.table.pending
 ids_added ask old new x = let l = longer ask old new x in omega (arith, l, x.ids)
 
@@ -124,7 +124,7 @@ meets_any (p ∷ ps) size b count some more h = by (meets (b * size) (count * si
         record { index = x.index; below = x.below; is = second (meets ((b + x.index) * size) size p) (list_any (meets ((b + x.index) * size) size) ps) x.is }
 
 -- where the write of dirty blocks is refused
-pub refusing : (c : Caching) (r : Result ℕ BeginRefusal) (position size b count : ℕ)
+pub refusing : (c : AbstractCache) (r : Result ℕ BeginRefusal) (position size b count : ℕ)
     → IsErr r → (IsErrOf r TableFull ↔ (length c.table.pending ≡ 16))
     → (IsErrOf r BlockPending ↔ ((length c.table.pending < 16) × IsTrue (list_any (meets position size) c.table.pending)))
     → position ≡ b * c.size → size ≡ count * c.size → 0 < c.size → 0 < count → AreDirty c.held b count → IsRefusing c
@@ -139,13 +139,13 @@ refusing c (Err BlockPending) position size b count h full same at whole some mo
     inr (b + x.index, d.0, d.1, d.2, x.is)
 
 -- and no message comes in between
-pub stuck_for : {X : Type 0} (F : X → Caching) (r : Bool) (old new : X) → OnFalse r (new ≡ old) → OnFalse r (IsRefusing (F old))
+pub stuck_for : {X : Type 0} (F : X → AbstractCache) (r : Bool) (old new : X) → OnFalse r (new ≡ old) → OnFalse r (IsRefusing (F old))
     → IsBusy (pending_of (F new).table.pending) → OnFalse r (IsLive (F new) → IsStuck (F new))
 stuck_for F true old new same h busy = tt
 stuck_for F false old new same h busy = λ live. record { why = inr (busy, subst (λ (x : _). IsRefusing (F x)) (sym same) h) }
 
 -- a cache over whose requests one more was begun is ready
-ready_begun : (ask : Ask) (old new : Caching) → Begins ask old.table new.table old.told new.told old.truth new.truth
+ready_begun : (ask : Ask) (old new : AbstractCache) → Begins ask old.table new.table old.told new.told old.truth new.truth
     → Adds ask old.table new.table old.told new.told → IsReady old → ask.minor ≡ old.minor → new.minor ≡ old.minor → new.ended ≡ old.ended
     → new.budget ≤ old.budget → HasRoom new.table new.room
     → Tied new.size new.held (pending_of new.table.pending) → IsReady new
@@ -161,7 +161,7 @@ pub busy_begun : (t : ℕ) (r : Begun) (pending pending' : ℕ → Option Begun)
 busy_begun t r pending pending' e = record { ticket = t; request = r; is = ap (λ (f : ℕ → Option Begun). f t) e ∙ put-same pending t (Some r) }
 
 -- the writes of a run of dirty slots are begun
-pub write_many : (ask : Ask) (old new : Caching) (b count n : ℕ)
+pub write_many : (ask : Ask) (old new : AbstractCache) (b count n : ℕ)
     → 0 < count → AreBegun b count n old.held new.held → AreGathered old.held b count old.size ask.bytes.now
     → Begins ask old.table new.table old.told new.told old.truth new.truth → Adds ask old.table new.table old.told new.told
     → Opens (Ok n) (begun_by ask) (pending_of old.table.pending) (pending_of new.table.pending)
@@ -189,7 +189,7 @@ write_many ask old new b count n some begun from x adds opens write minor positi
     tied' = subst (λ (k : ℕ). Tied k new.held (pending_of new.table.pending)) (sym size) tied
 
 -- the write of a dirty slot is begun
-pub write_one : (ask : Ask) (old new : Caching) (items items' : List Slot) (b n at : ℕ) (s : Slot)
+pub write_one : (ask : Ask) (old new : AbstractCache) (items items' : List Slot) (b n at : ℕ) (s : Slot)
     → IsDistinct items → slice_get items at ≡ Some s → s.block ≡ Some b → s.state ≡ Dirty
     → IsSetAt items items' at (λ t. record t { state = Writing n }) → old.held ≡ held items → new.held ≡ held items'
     → Begins ask old.table new.table old.told new.told old.truth new.truth → Adds ask old.table new.table old.told new.told
@@ -232,7 +232,7 @@ write_one ask old new items items' b n at s d is block st e here there x adds op
     }
 
 -- the read of a block is begun
-pub read_one : (ask : Ask) (old new : Caching) (b n : ℕ)
+pub read_one : (ask : Ask) (old new : AbstractCache) (b n : ℕ)
     → new.held ≡ old.held
     → Begins ask old.table new.table old.told new.told old.truth new.truth → Adds ask old.table new.table old.told new.told
     → Opens (Ok n) (begun_by ask) (pending_of old.table.pending) (pending_of new.table.pending)

@@ -6,7 +6,7 @@ use Rattle.message.specs.declared.Incoming.TheVariants as incoming
 use Rattle.records.specs.Told.{Told, Posted, Complained, Received, took_end}
 use Rattle.records.specs.Acts.{Act, Absorbed, told_of, Outbox, KeepsRules, outbox_after}
 use Rattle.records.specs.ServerCall.{Serving}
-use Rattle.cache.specs.Calls.{Caching, Runs, with_handed}
+use Rattle.cache.specs.Calls.{AbstractCache, Runs, with_handed}
 use Rattle.cache.specs.Laws.{IsOver, LeadsBy}
 use Rattle.cache.proofs.Handing.{told_both}
 
@@ -30,7 +30,7 @@ same_told : (m : Option Incoming) (acts : List Act) → told_of (with_handed m a
 same_told None acts = refl
 same_told (Some message) acts = told_both acts (Absorbed message ∷ []) ∙ no_more (told_of acts)
 
-pub leads_by : (m : Option Incoming) (old new : Caching) (s t : Serving) → IsOver s old → IsOver t new → t.geometry ≡ s.geometry → t.frame_count ≡ s.frame_count
+pub leads_by : (m : Option Incoming) (old new : AbstractCache) (s t : Serving) → IsOver s old → IsOver t new → t.geometry ≡ s.geometry → t.frame_count ≡ s.frame_count
     → old.ended ≡ took_end old.told → (x : Runs m old new (λ w v. Unit {0})) → LeadsBy (with_handed m x.acts) s old t
 leads_by m old new s t was is same count alive x = record {
   leads = record {

@@ -11,11 +11,11 @@ use Rattle.reissue.proofs.Maps.{is_put}
 use Rattle.cache.specs.declared.slot.Slot.{Slot}
 use Rattle.cache.specs.declared.state.State.{State}
 use Rattle.cache.specs.declared.state.State.TheVariants.{Clean, Dirty, Writing, Changed}
-use Rattle.store.specs.declared.Cut.{Cut}
+use Rattle.block_store.specs.declared.Cut.{Cut}
 use Rattle.cache.specs.Slots.{held, ticket_of, dirtied, is_clean, is_unclean_slot, IsDistinct}
 use Rattle.cache.specs.Edits.{IsSetAt, IsFilledAt, IsSlotAt, IsFreeAt, IsAt}
 use Rattle.cache.specs.Frames.{Tied, CacheAgrees, HasSure, view, frame_of, disk_block, with_bytes}
-use Rattle.cache.specs.Calls.{Caching, IsReady, Runs, Serves, Keeps, Rewrites, Blanks, unless_clean, forgotten}
+use Rattle.cache.specs.Calls.{AbstractCache, IsReady, Runs, Serves, Keeps, Rewrites, Blanks, unless_clean, forgotten}
 use Rattle.cache.specs.Settling.{Taking}
 use Rattle.cache.specs.Settling as took
 use Rattle.cache.specs.Takes.{Reads, AreDisk, BytesOf, Takes, ReadTells, ReadsStay, is_read_of, IsReadAt}
@@ -29,28 +29,28 @@ use Rattle.cache.proofs.Runs.{runs_none, runs_as, runs_then, same_left, ids_kept
 -- ---- calls at the link between changes of frames
 
 -- two calls that leave what would be read back
-pub serves_then : (a b c : Caching) (u v w : DiskState) → Serves a b u v → Serves b c v w → Serves a c u w
+pub serves_then : (a b c : AbstractCache) (u v w : DiskState) → Serves a b u v → Serves b c v w → Serves a c u w
 serves_then a b c u v w x y = record {
   agrees = λ k. y.agrees (x.agrees k);
   same = λ k. y.same (x.agrees k) ∙ x.same k;
 }
 
 -- one after the other
-pub keeps_then : (a b c : Caching) → Keeps a b → Keeps b c → Keeps a c
+pub keeps_then : (a b c : AbstractCache) → Keeps a b → Keeps b c → Keeps a c
 keeps_then a b c x y =
     runs_then None a b c (λ w v. Serves a b w v) (λ w v. Serves b c w v) (λ w v. Serves a c w v) (λ u v w p q. serves_then a b c u v w p q) x y
 
 -- nothing was done
-pub keeps_none : (c : Caching) → IsReady c → Keeps c c
+pub keeps_none : (c : AbstractCache) → IsReady c → Keeps c c
 keeps_none c ready = runs_none c (λ w v. Serves c c w v) ready (λ w. record { agrees = λ a. a; same = λ a. refl })
 
 -- after a call, a message taken
-pub keeps_took : (r : Result Taking Cut) (a b c : Caching) → Keeps a b → Runs None b c (λ w v. Takes r b c w v) → Keeps a c
+pub keeps_took : (r : Result Taking Cut) (a b c : AbstractCache) → Keeps a b → Runs None b c (λ w v. Takes r b c w v) → Keeps a c
 keeps_took r a b c x y =
     runs_then None a b c (λ w v. Serves a b w v) (λ w v. Takes r b c w v) (λ w v. Serves a c w v) (λ u v w p q. serves_then a b c u v w p q.serves) x y
 
 -- a read that was cut
-pub reads_cut : (r : Result (List ℕ) Cut) (start size : ℕ) (a b : Caching) → IsErr r → Keeps a b → Runs None a b (λ w v. Reads r start size a b w v)
+pub reads_cut : (r : Result (List ℕ) Cut) (start size : ℕ) (a b : AbstractCache) → IsErr r → Keeps a b → Runs None a b (λ w v. Reads r start size a b w v)
 reads_cut r start size a b cut x =
     runs_as None a b (λ w v. Serves a b w v) (λ w v. Reads r start size a b w v) (λ w v p. record { serves = p; bytes = none r cut v }) x
   where
@@ -59,7 +59,7 @@ reads_cut r start size a b cut x =
     none (Ok bytes) h v = cc
 
 -- a read leaves what would be read back
-pub keeps_read : (r : Result (List ℕ) Cut) (start size : ℕ) (a b : Caching) → Runs None a b (λ w v. Reads r start size a b w v) → Keeps a b
+pub keeps_read : (r : Result (List ℕ) Cut) (start size : ℕ) (a b : AbstractCache) → Runs None a b (λ w v. Reads r start size a b w v) → Keeps a b
 keeps_read r start size a b x = runs_as None a b (λ w v. Reads r start size a b w v) (λ w v. Serves a b w v) (λ w v p. p.serves) x
 
 -- a read is pending still
@@ -74,7 +74,7 @@ still_reading r pending pending' ticket start size stay other x = record {
 }
 
 -- the read is settled
-pub reads_done : (r : Result Taking Cut) (a b c : Caching) (settled ticket start size : ℕ) (bytes : List ℕ) → r ≡ Ok (took.Read settled bytes) → settled ≡ ticket
+pub reads_done : (r : Result Taking Cut) (a b c : AbstractCache) (settled ticket start size : ℕ) (bytes : List ℕ) → r ≡ Ok (took.Read settled bytes) → settled ≡ ticket
     → IsReadAt (pending_of b.table.pending) ticket start size → Keeps a b → Runs None b c (λ w v. Takes r b c w v)
     → Runs None a c (λ w v. Reads (Ok bytes) start size a c w v)
 reads_done r a b c settled ticket start size bytes e same at x y =
@@ -89,7 +89,7 @@ reads_done r a b c settled ticket start size bytes e same at x y =
         subst (λ (n : ℕ). AreDisk n size bytes w) at.start_is (subst (λ (n : ℕ). AreDisk at.request.start n bytes w) at.size_is all)
 
 -- a read after a call
-pub reads_after : (r : Result (List ℕ) Cut) (a b c : Caching) (block its : ℕ) → its ≡ block → Keeps a b
+pub reads_after : (r : Result (List ℕ) Cut) (a b c : AbstractCache) (block its : ℕ) → its ≡ block → Keeps a b
     → Runs None b c (λ w v. Reads r (its * b.size) b.size b c w v) → Runs None a c (λ w v. Reads r (block * a.size) a.size a c w v)
 reads_after r a b c block its same x y =
     runs_then None a b c (λ w v. Serves a b w v) (λ w v. Reads r (its * b.size) b.size b c w v) (λ w v. Reads r (block * a.size) a.size a c w v)
@@ -99,13 +99,13 @@ reads_after r a b c block its same x y =
     }) x y
 
 -- a change of the slots alone, as a call
-pub runs_slots : (old new : Caching) (R : DiskState → DiskState → Type 0) → new.minor ≡ old.minor → new.size ≡ old.size → new.table ≡ old.table
+pub runs_slots : (old new : AbstractCache) (R : DiskState → DiskState → Type 0) → new.minor ≡ old.minor → new.size ≡ old.size → new.table ≡ old.table
     → new.told ≡ old.told → new.truth ≡ old.truth → new.room ≡ old.room → new.budget ≡ old.budget → new.ended ≡ old.ended
     → IsReady old → Tied old.size new.held (pending_of old.table.pending) → ((w : DiskState) → R w w) → Runs None old new R
 runs_slots old new R minor size table told truth room budget ended ready tied h =
-    subst (λ (c : Caching). Runs None old c R) same (moved (made old new.held) refl)
+    subst (λ (c : AbstractCache). Runs None old c R) same (moved (made old new.held) refl)
   where
-    made : Caching → (ℕ → Option Slot) → Caching
+    made : AbstractCache → (ℕ → Option Slot) → AbstractCache
     made c h = record c { held = h }
 
     same : made old new.held ≡ new
@@ -121,8 +121,8 @@ runs_slots old new R minor size table told truth room budget ended ready tied h 
       ended = sym ended i;
     }
 
-    moved : (c : Caching) → c ≡ made old new.held → Runs None old c R
-    moved c e = subst (λ (d : Caching). Runs None old d R) (sym e) (record {
+    moved : (c : AbstractCache) → c ≡ made old new.held → Runs None old c R
+    moved c e = subst (λ (d : AbstractCache). Runs None old d R) (sym e) (record {
       ready = record { minors = ready.minors; tied = tied; room = ready.room; ids = ready.ids };
       told = [];
       history = refl;
@@ -155,14 +155,14 @@ not_unclean s h = by s.block s.state refl refl h
     by (Some b) (Changed t) p q h = cc
 
 -- a slot that isn't unclean is made free, as a call
-pub vacated : (old new : Caching) (items items' : List Slot) (at : ℕ) → IsDistinct items
+pub vacated : (old new : AbstractCache) (items items' : List Slot) (at : ℕ) → IsDistinct items
     → IsSlotAt items at (λ s. not (is_unclean_slot s)) → IsSetAt items items' at (λ t. record t { block = None })
     → old.held ≡ held items → new ≡ record old { held = held items' } → IsReady old → Keeps old new
-vacated old new items items' at d f e here all ready = subst (λ (c : Caching). Keeps old c) (sym all)
+vacated old new items items' at d f e here all ready = subst (λ (c : AbstractCache). Keeps old c) (sym all)
     (elim (vacated_held items items' at f.slot d f.is e) [
       | inl p ↦
           let same : record old { held = held items' } ≡ old = ap (λ (h : ℕ → Option Slot). record old { held = h }) (p.1 ∙ sym here) in
-          subst (λ (c : Caching). Keeps old c) (sym same) (keeps_none old ready)
+          subst (λ (c : AbstractCache). Keeps old c) (sym same) (keeps_none old ready)
       | inr p ↦ elim (not_unclean f.slot f.passes) [
         | inl none ↦ absurd (never p.0 none p.1)
         | inr clean ↦ given_up p.0 f.slot (ap (λ (h : ℕ → Option Slot). h p.0) here ∙ p.1) clean (p.2 ∙ ap (λ (h : ℕ → Option Slot). put h p.0 None) (sym here))
@@ -190,7 +190,7 @@ vacated old new items items' at d f e here all ready = subst (λ (c : Caching). 
 -- ---- a block comes into a free slot
 
 -- what was read comes into it, as a call
-pub placed : (old new : Caching) (items items' : List Slot) (at b start size : ℕ) (bytes : List ℕ) (before : Caching)
+pub placed : (old new : AbstractCache) (items items' : List Slot) (at b start size : ℕ) (bytes : List ℕ) (before : AbstractCache)
     → IsDistinct items → IsFreeAt items at → held items b ≡ None
     → (e : IsFilledAt items items' at b bytes Clean)
     → old.held ≡ held items → new ≡ record old { held = held items' } → start ≡ b * size → old.size ≡ size → IsReady old
@@ -200,7 +200,7 @@ placed old new items items' at b start size bytes before d free none e here all 
     runs_then None before old new (λ w v. Reads (Ok bytes) start size before old w v)
     (λ w v. AreDisk start size bytes w → Serves old new w v) (λ w v. Serves before new w v)
     (λ u v w p q. serves_then before old new u v w p.serves (q p.bytes)) x
-    (subst (λ (c : Caching). Runs None old c (λ w v. AreDisk start size bytes w → Serves old c w v)) (sym all)
+    (subst (λ (c : AbstractCache). Runs None old c (λ w v. AreDisk start size bytes w → Serves old c w v)) (sym all)
     (runs_slots old after (λ w v. AreDisk start size bytes w → Serves old after w v) refl refl refl refl refl refl refl refl ready tied
     (λ w told. record {
       agrees = λ a. subst (λ (h : ℕ → Option Slot). CacheAgrees old.size h w) (sym to)
@@ -213,7 +213,7 @@ placed old new items items' at b start size bytes before d free none e here all 
     t : Slot
     t = e.after
 
-    after : Caching
+    after : AbstractCache
     after = record old { held = held items' }
 
     slot : old.held b ≡ None
@@ -238,13 +238,13 @@ placed old new items items' at b start size bytes before d free none e here all 
 -- ---- a block has other bytes
 
 -- the bytes of one slot are changed, as a call
-pub rewritten : (old new : Caching) (items items' : List Slot) (at b : ℕ) (s t : Slot) (row : (ℕ → ℕ) → ℕ → ℕ)
+pub rewritten : (old new : AbstractCache) (items items' : List Slot) (at b : ℕ) (s t : Slot) (row : (ℕ → ℕ) → ℕ → ℕ)
     → IsDistinct items → slice_get items at ≡ Some s → s.block ≡ Some b → t.block ≡ s.block → t.state ≡ dirtied s.state → items' ≡ set items at t
     → ((w : DiskState) → frame_or (frame_of old.size (Some t)) (disk_block old.size w b) ≡ row (frame_or (frame_of old.size (Some s)) (disk_block old.size w b)))
     → old.held ≡ held items → new ≡ record old { held = held items' } → IsReady old
     → Runs None old new (λ w v. Rewrites b row old new w v)
 rewritten old new items items' at b s t row d is block same st set_is h here all ready =
-    subst (λ (c : Caching). Runs None old c (λ w v. Rewrites b row old c w v)) (sym all)
+    subst (λ (c : AbstractCache). Runs None old c (λ w v. Rewrites b row old c w v)) (sym all)
     (runs_slots old after (λ w v. Rewrites b row old after w v) refl refl refl refl refl refl refl refl ready
     (subst (λ (f : ℕ → Option Slot). Tied old.size f (pending_of old.table.pending)) (sym to)
     (tied_changed old.size old.held (pending_of old.table.pending) b s t slot st ready.tied))
@@ -257,7 +257,7 @@ rewritten old new items items' at b s t row d is block same st set_is h here all
           (h w ∙ ap (λ (x : Option Slot). row (frame_or (frame_of old.size x) (disk_block old.size w b))) (sym slot));
     }))
   where
-    after : Caching
+    after : AbstractCache
     after = record old { held = held items' }
 
     slot : old.held b ≡ Some s
@@ -300,7 +300,7 @@ zero_row size b t w h = λ i o. at o (cases_lt o size) i
 -- ---- a block without a frame gets one of zero bytes
 
 -- as a call, after others
-pub blanked : (old new : Caching) (items items' : List Slot) (at b : ℕ) (bytes : List ℕ) (before : Caching)
+pub blanked : (old new : AbstractCache) (items items' : List Slot) (at b : ℕ) (bytes : List ℕ) (before : AbstractCache)
     → IsDistinct items → IsFreeAt items at → held items b ≡ None → ((o : ℕ) → slice_index bytes o ≡ 0)
     → (e : IsFilledAt items items' at b bytes Dirty)
     → old.held ≡ held items → new ≡ record old { held = held items' } → IsReady old → Keeps before old
@@ -311,7 +311,7 @@ blanked old new items items' at b bytes before d free none zeros e here all read
       agrees = λ a. q.agrees (p.agrees a);
       changed = λ a. q.changed (p.agrees a) ∙ ap (λ (y : ℕ → ℕ → ℕ). put y b (λ o. 0)) (p.same a);
     }) x
-    (subst (λ (c : Caching). Runs None old c (λ w v. Rewrites b (λ row o. 0) old c w v)) (sym all)
+    (subst (λ (c : AbstractCache). Runs None old c (λ w v. Rewrites b (λ row o. 0) old c w v)) (sym all)
     (runs_slots old after (λ w v. Rewrites b (λ row o. 0) old after w v) refl refl refl refl refl refl refl refl ready tied
     (λ w. record {
       agrees = λ a. subst (λ (h : ℕ → Option Slot). CacheAgrees old.size h w) (sym to)
@@ -324,7 +324,7 @@ blanked old new items items' at b bytes before d free none zeros e here all read
     t : Slot
     t = e.after
 
-    after : Caching
+    after : AbstractCache
     after = record old { held = held items' }
 
     slot : old.held b ≡ None
@@ -380,6 +380,6 @@ pub forgotten_none : (h : ℕ → Option Slot) (b : ℕ) → h b ≡ None → h 
 forgotten_none h b none = put_id h b (unless_clean (h b)) (none ∙ sym (ap unless_clean none))
 
 -- a frame of zero bytes that was cut
-pub blanks_cut : {X : Type 0} (r : Result X Cut) (b : ℕ) (old new : Caching) → IsErr r → Keeps old new → Runs None old new (λ w v. Blanks r b old new w v)
+pub blanks_cut : {X : Type 0} (r : Result X Cut) (b : ℕ) (old new : AbstractCache) → IsErr r → Keeps old new → Runs None old new (λ w v. Blanks r b old new w v)
 blanks_cut (Err cut) b old new h x = x
 blanks_cut (Ok frame) b old new h x = cc

@@ -23,7 +23,7 @@ use Rattle.message.specs.declared.endpoint.Endpoint.{Endpoint}
 use Rattle.reissue.specs.Calls.{Begins, Steps, Absorbs, more_may_come}
 use Rattle.reissue.proofs.Joining.{grown_append}
 use Rattle.cache.proofs.Handing.{Done, told_both, none_of_both}
-use Rattle.cache.specs.Calls.{Caching, IsReady, Runs, after_message, with_handed, messages_left}
+use Rattle.cache.specs.Calls.{AbstractCache, IsReady, Runs, after_message, with_handed, messages_left}
 use Rattle.cache.specs.Settling.{is_ended_by}
 
 -- ---- true replies
@@ -79,7 +79,7 @@ handed_first (Some message) xs ys = sym (append_assoc xs ys (Absorbed message �
 -- ---- messages and ids
 
 -- where none was taken as many are left, or fewer
-pub left_same : (a b : Caching) → b.ended ≡ a.ended → b.budget ≤ a.budget → messages_left b ≤ messages_left a
+pub left_same : (a b : AbstractCache) → b.ended ≡ a.ended → b.budget ≤ a.budget → messages_left b ≤ messages_left a
 left_same a b e less = by a.ended b.ended e
   where
     by : (x y : Bool) → y ≡ x → cond y 0 (b.budget + 1) ≤ cond x 0 (a.budget + 1)
@@ -89,7 +89,7 @@ left_same a b e less = by a.ended b.ended e
     by true false e = cc
 
 -- where one was taken fewer
-left_step : (a b : Caching) → a.ended ≡ false → (b.ended ≡ false → b.budget < a.budget) → messages_left b < messages_left a
+left_step : (a b : AbstractCache) → a.ended ≡ false → (b.ended ≡ false → b.budget < a.budget) → messages_left b < messages_left a
 left_step a b alive less = by a.ended b.ended alive less
   where
     by : (x y : Bool) → x ≡ false → (y ≡ false → b.budget < a.budget) → cond y 0 (b.budget + 1) < cond x 0 (a.budget + 1)
@@ -127,7 +127,7 @@ same_left m = omega arith
 -- ---- calls one after the other
 
 -- nothing happened
-pub runs_none : (c : Caching) (R : DiskState → DiskState → Type 0) → IsReady c → ((w : DiskState) → R w w) → Runs None c c R
+pub runs_none : (c : AbstractCache) (R : DiskState → DiskState → Type 0) → IsReady c → ((w : DiskState) → R w w) → Runs None c c R
 runs_none c R ready h = record {
   ready = ready;
   told = [];
@@ -148,7 +148,7 @@ runs_none c R ready h = record {
 }
 
 -- another relation that follows
-pub runs_as : (m : Option Incoming) (a b : Caching) (R S : DiskState → DiskState → Type 0)
+pub runs_as : (m : Option Incoming) (a b : AbstractCache) (R S : DiskState → DiskState → Type 0)
     → ((w v : DiskState) → R w v → S w v) → Runs m a b R → Runs m a b S
 runs_as m a b R S h x = record {
   ready = x.ready;
@@ -170,7 +170,7 @@ runs_as m a b R S h x = record {
 }
 
 -- one call after the other
-pub runs_then : (m : Option Incoming) (a b c : Caching) (R S T : DiskState → DiskState → Type 0)
+pub runs_then : (m : Option Incoming) (a b c : AbstractCache) (R S T : DiskState → DiskState → Type 0)
     → ((u v w : DiskState) → R u v → S v w → T u w) → Runs m a b R → Runs None b c S → Runs m a c T
 runs_then m a b c R S T h x y = record {
   ready = y.ready;
@@ -215,7 +215,7 @@ runs_then m a b c R S T h x y = record {
 -- ---- a request is begun, as a call
 
 -- what beginning did, where the frames may have changed too
-pub begin_runs : (ask : Ask) (old new : Caching) (R : DiskState → DiskState → Type 0)
+pub begin_runs : (ask : Ask) (old new : AbstractCache) (R : DiskState → DiskState → Type 0)
     → Begins ask old.table new.table old.told new.told old.truth new.truth
     → IsReady new → AllOfMinor old.minor old.table.pending → ask.minor ≡ old.minor → new.minor ≡ old.minor → new.size ≡ old.size
     → new.ended ≡ old.ended → new.budget ≤ old.budget
@@ -261,7 +261,7 @@ heard_news incoming.End before = by (took_end before) refl
     by false e = (false, rw e refl, λ marks. refl)
 
 -- what taking a message did, where the frames may have changed too
-pub step_runs : (res : Settlement) (old new : Caching) (R : DiskState → DiskState → Type 0)
+pub step_runs : (res : Settlement) (old new : AbstractCache) (R : DiskState → DiskState → Type 0)
     → Steps res old.table new.table old.told new.told old.truth new.truth
     → IsReady new → AllOfMinor old.minor old.table.pending → IsBusy (pending_of old.table.pending) → old.table.given_up ≡ false
     → new.minor ≡ old.minor → new.size ≡ old.size → old.ended ≡ false → new.ended ≡ is_ended_by res
@@ -336,7 +336,7 @@ step_runs res old new R x ready minors busy going same_minor same_size alive end
 -- ---- a message is handed over, as a call
 
 -- what absorbing a message did, where the frames may have changed too
-pub absorb_runs : (m : Incoming) (res : Settlement) (old new : Caching) (R : DiskState → DiskState → Type 0)
+pub absorb_runs : (m : Incoming) (res : Settlement) (old new : AbstractCache) (R : DiskState → DiskState → Type 0)
     → (x : Absorbs m res old.table new.table old.told new.told old.truth new.truth)
     → IsReady new → AllOfMinor old.minor old.table.pending
     → new.minor ≡ old.minor → new.size ≡ old.size → new.ended ≡ old.ended → new.budget ≤ old.budget

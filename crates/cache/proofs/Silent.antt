@@ -19,7 +19,7 @@ use Rattle.reissue.specs.Agrees.{Agrees, unposted}
 use Rattle.reissue.specs.Answers.{complaints_about}
 use Rattle.reissue.specs.Posts.{PostsInOrder, is_message, due_after}
 use Rattle.reissue.specs.Calls.{Absorbs}
-use Rattle.cache.specs.Calls.{Caching, IsIdle}
+use Rattle.cache.specs.Calls.{AbstractCache, IsIdle}
 
 -- nothing can be taken out of nothing
 none_closed : (res : Settlement) (new : ℕ → Option Begun) → Closes res (pending_of []) new → (t : ℕ) → new t ≡ None
@@ -71,7 +71,7 @@ drop_none (suc n) = refl
 none_unposted : (table : Table) → table.pending ≡ [] → unposted table ≡ []
 none_unposted table none = ap (λ (l : List Pending). map request_of (drop table.posted l)) none ∙ ap (λ (l : List Pending). map request_of l) (drop_none table.posted)
 
-pub silent : (m : Incoming) (res : Settlement) (old new : Caching)
+pub silent : (m : Incoming) (res : Settlement) (old new : AbstractCache)
     → Absorbs m res old.table new.table old.told new.told old.truth new.truth → IsIdle old → new.told ≡ old.told
 silent m res old new x idle =
     let closes : Closes res (pending_of []) (pending_of new.table.pending) =

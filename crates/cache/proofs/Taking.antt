@@ -13,16 +13,15 @@ use Rattle.reissue.specs.Calls.{Steps, Absorbs, more_may_come}
 use Rattle.reissue.proofs.Maps.{put-other, put_cases}
 use Rattle.cache.specs.declared.slot.Slot.{Slot}
 use Rattle.cache.specs.declared.settling.Took.{Took}
-use Rattle.cache.specs.Settling.{Taking}
-use Rattle.store.specs.declared.Cut.{Cut}
+use Rattle.cache.specs.Settling.{Taking, Settles, taking_in, took_of, is_ended_by}
+use Rattle.block_store.specs.declared.Cut.{Cut}
 use Rattle.cache.specs.Slots.{held}
 use Rattle.cache.specs.Edits.{Leaves}
 use Rattle.cache.specs.Frames.{Tied, CacheAgrees, view}
-use Rattle.cache.specs.Calls.{Caching, IsReady, Serves, Runs, HandsOver}
+use Rattle.cache.specs.Calls.{AbstractCache, IsReady, Serves, Runs, HandsOver}
 use Rattle.records.specs.Told.{took_nothing}
 use Rattle.records.specs.Acts.{Act, told_of}
 use Rattle.cache.proofs.Handing.{Done, done_on}
-use Rattle.cache.specs.Settling.{Settles, taking_in, took_of, is_ended_by}
 use Rattle.cache.specs.Takes.{read_into, Takes, ReadTells, ReadsStay, NoReadBegun, IsHandedOut, is_read_of}
 use Rattle.cache.proofs.Tied.{tied_read_settled, tied_written, same_begun}
 use Rattle.cache.proofs.Agreeing.{agrees_moved, view_moved, agrees_written, view_written}
@@ -49,7 +48,7 @@ tied_settled size settled.GaveUp old new pending pending' closes same k = tied_s
 tied_settled size settled.End old new pending pending' closes same k = tied_same size old new pending pending' closes same k
 
 -- as said of a cache
-tied_after : (res : Settlement) (old new : Caching) (items items' : List Slot)
+tied_after : (res : Settlement) (old new : AbstractCache) (items items' : List Slot)
     → Closes res (pending_of old.table.pending) (pending_of new.table.pending) → Settles res items items'
     → old.held ≡ held items → new.held ≡ held items' → new.size ≡ old.size
     → Tied old.size old.held (pending_of old.table.pending) → Tied new.size new.held (pending_of new.table.pending)
@@ -88,7 +87,7 @@ moved_settled size settled.GaveUp old new pending pending' w v closes same k m =
 moved_settled size settled.End old new pending pending' w v closes same k m = moved_same size old new pending settled.End w v m same k
 
 -- as said of a cache
-pub serves_settled : (res : Settlement) (old new : Caching) (items items' : List Slot) (w v : DiskState)
+pub serves_settled : (res : Settlement) (old new : AbstractCache) (items items' : List Slot) (w v : DiskState)
     → Closes res (pending_of old.table.pending) (pending_of new.table.pending) → Settles res items items'
     → old.held ≡ held items → new.held ≡ held items' → new.size ≡ old.size
     → Tied old.size old.held (pending_of old.table.pending) → Moves res (pending_of old.table.pending) w v → Serves old new w v
@@ -177,7 +176,7 @@ goes settled.GaveUp h = refl
 goes settled.End h = cc
 
 -- a message taken, as a call
-pub takes_one : (res : Settlement) (old new : Caching) (items items' : List Slot)
+pub takes_one : (res : Settlement) (old new : AbstractCache) (items items' : List Slot)
     → Steps res old.table new.table old.told new.told old.truth new.truth
     → Settles res items items' → old.held ≡ held items → new.held ≡ held items'
     → IsReady old → IsBusy (pending_of old.table.pending) → old.ended ≡ false → old.table.given_up ≡ false
@@ -201,7 +200,7 @@ takes_one res old new items items' x settles here there ready busy alive going m
     }
 
 -- a call that was cut before it took anything
-pub takes_none : (r : Result Taking Cut) (c : Caching) (w : DiskState) → IsErr r → Takes r c c w w
+pub takes_none : (r : Result Taking Cut) (c : AbstractCache) (w : DiskState) → IsErr r → Takes r c c w w
 takes_none (Err cut) c w h = record { serves = record { agrees = λ a. a; same = λ a. refl }; tells = tt }
 takes_none (Ok t) c w h = cc
 
@@ -216,7 +215,7 @@ read_cut_off (Ok done) bytes h = cc
 read_cut_off (Err cut) bytes h = h
 
 -- a message that is handed over, as a call
-pub absorbs_one : (m : Incoming) (res : Settlement) (old new : Caching) (items items' : List Slot)
+pub absorbs_one : (m : Incoming) (res : Settlement) (old new : AbstractCache) (items items' : List Slot)
     → Absorbs m res old.table new.table old.told new.told old.truth new.truth
     → Settles res items items' → old.held ≡ held items → new.held ≡ held items'
     → IsReady old → (old.ended ≡ false → old.table.ids + old.budget + 17 < 2 ^ 60 + length old.table.pending)

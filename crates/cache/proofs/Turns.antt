@@ -1,4 +1,4 @@
--- Which slot goes: the one whose turn is lowest; and the keys of places after one slot is changed.
+-- Which slot goes: the one whose eviction rank is lowest; and the keys of places after one slot is changed.
 use Rattle.std.proofs.Common.{◌≡◌, ℕ, ◌+◌, ◌^◌, ◌<◌, ◌≤◌, List, length, set, get_or, length-set, refl, sym, ap, subst, ◌∙◌, arith}
 use Rattle.std.proofs.Common.{Bool, true, false, Option, Some, None}
 use mathlib.Core.Logic.{inl, inr, ◌⊎◌}
@@ -10,7 +10,7 @@ use Rattle.cache.specs.declared.state.State.TheVariants.{Clean, Dirty, Writing, 
 use Rattle.cache.specs.Slots.{held, is_clean, is_unclean_slot, IsDistinct}
 use Rattle.cache.specs.Edits.{AllClean, SomeUnclean}
 use Rattle.cache.specs.Uses.{AllBelow, OthersKeep}
-use Rattle.cache.specs.Order.{Among, slot_key, key_of, IsNone, IsFirstOf, IsVictim, turn, IsRanked, IsRankedBut}
+use Rattle.cache.specs.Order.{Among, slot_key, key_of, IsNone, IsFirstOf, IsVictim, eviction_rank, IsRanked, IsRankedBut}
 use Rattle.cache.specs.Order as among
 use Rattle.cache.specs.Winners.{IsLowest, IsNoneLate, IsSomeLate}
 use Rattle.cache.proofs.Held.{place_of, held_at, in_range, get_set_same, get_set_other}
@@ -23,20 +23,20 @@ bool_cases : (b : Bool) → (b ≡ true) ⊎ (b ≡ false)
 bool_cases true = inl refl
 bool_cases false = inr refl
 
-turn_free : (s : Slot) (n : ℕ) → is_some s.block ≡ false → turn s n ≡ n
+turn_free : (s : Slot) (n : ℕ) → is_some s.block ≡ false → eviction_rank s n ≡ n
 turn_free s n h = cond-false (is_some s.block) (if is_clean s.state then 2 ^ 62 + n else 2 ^ 63 + n) n h
 
-turn_held : (s : Slot) (n : ℕ) → is_some s.block ≡ true → turn s n ≡ (if is_clean s.state then 2 ^ 62 + n else 2 ^ 63 + n)
+turn_held : (s : Slot) (n : ℕ) → is_some s.block ≡ true → eviction_rank s n ≡ (if is_clean s.state then 2 ^ 62 + n else 2 ^ 63 + n)
 turn_held s n h = cond-true (is_some s.block) (if is_clean s.state then 2 ^ 62 + n else 2 ^ 63 + n) n h
 
-turn_clean : (s : Slot) (n : ℕ) → is_some s.block ≡ true → is_clean s.state ≡ true → turn s n ≡ 2 ^ 62 + n
+turn_clean : (s : Slot) (n : ℕ) → is_some s.block ≡ true → is_clean s.state ≡ true → eviction_rank s n ≡ 2 ^ 62 + n
 turn_clean s n h k = turn_held s n h ∙ cond-true (is_clean s.state) (2 ^ 62 + n) (2 ^ 63 + n) k
 
-turn_unclean : (s : Slot) (n : ℕ) → is_some s.block ≡ true → is_clean s.state ≡ false → turn s n ≡ 2 ^ 63 + n
+turn_unclean : (s : Slot) (n : ℕ) → is_some s.block ≡ true → is_clean s.state ≡ false → eviction_rank s n ≡ 2 ^ 63 + n
 turn_unclean s n h k = turn_held s n h ∙ cond-false (is_clean s.state) (2 ^ 62 + n) (2 ^ 63 + n) k
 
--- a slot with a block has a later turn than each without one
-turn_late : (s : Slot) (n : ℕ) → is_some s.block ≡ true → 2 ^ 62 + n ≤ turn s n
+-- a slot with a block has a later eviction rank than each without one
+turn_late : (s : Slot) (n : ℕ) → is_some s.block ≡ true → 2 ^ 62 + n ≤ eviction_rank s n
 turn_late s n h = elim (bool_cases (is_clean s.state)) [
   | inl k ↦ let e = turn_clean s n h k in omega (arith, e)
   | inr k ↦ let e = turn_unclean s n h k in omega (arith, e)
@@ -122,8 +122,8 @@ victim_goes items numbers keys at r below all low = elim (bool_cases (is_some he
     here : (s : Slot) × (slice_get items at ≡ Some s)
     here = get_some items at at_in
 
-    -- its turn isn't after that of any other
-    before : (i : ℕ) (t : Slot) → i < length items → slice_get items i ≡ Some t → turn here.0 (num at) ≤ turn t (num i)
+    -- its eviction rank isn't after that of any other
+    before : (i : ℕ) (t : Slot) → i < length items → slice_get items i ≡ Some t → eviction_rank here.0 (num at) ≤ eviction_rank t (num i)
     before i t lt is =
         let h = low.least i (let c = r.count in omega arith) in
         let x = r.each at here.0 here.1 in
@@ -240,12 +240,12 @@ pub but_used : (items : List Slot) (old new keys : List ℕ) (at : ℕ) → Othe
     → IsRankedBut at items new keys
 but_used items old new keys at o r = record {
   count = r.count;
-  each = λ i s ne is. r.each i s ne is ∙ ap (turn s) (sym (o.each i ne));
+  each = λ i s ne is. r.each i s ne is ∙ ap (eviction_rank s) (sym (o.each i ne));
 }
 
--- its key becomes its turn
+-- its key becomes its eviction rank
 pub rank_set : (items : List Slot) (numbers keys new : List ℕ) (at key n : ℕ) (s : Slot) → IsRankedBut at items numbers keys
-    → slice_get items at ≡ Some s → get_or numbers at 0 ≡ n → key ≡ turn s n → new ≡ set keys at key → IsRanked items numbers new
+    → slice_get items at ≡ Some s → get_or numbers at 0 ≡ n → key ≡ eviction_rank s n → new ≡ set keys at key → IsRanked items numbers new
 rank_set items numbers keys new at key n s r is number turn_is all = subst (λ (l : List ℕ). IsRanked items numbers l) (sym all) (record {
   count = length-set keys at key ∙ r.count;
   each = λ i t it. elim (cases_eq i at) [
@@ -253,15 +253,15 @@ rank_set items numbers keys new at key n s r is number turn_is all = subst (λ (
         let two : Some s ≡ Some t = sym is ∙ ap (slice_get items) (sym e) ∙ it in
         let one : s ≡ t = cc in
         let lt : at < length keys = (let c = r.count in let h = in_range items at s is in omega arith) in
-        ap (λ (k : ℕ). get_or (set keys at key) k 0) e ∙ set_same keys at key lt ∙ turn_is ∙ ap (turn s) (sym number)
-        ∙ ap (λ (k : ℕ). turn s (get_or numbers k 0)) (sym e) ∙ ap (λ (y : Slot). turn y (get_or numbers i 0)) one
+        ap (λ (k : ℕ). get_or (set keys at key) k 0) e ∙ set_same keys at key lt ∙ turn_is ∙ ap (eviction_rank s) (sym number)
+        ∙ ap (λ (k : ℕ). eviction_rank s (get_or numbers k 0)) (sym e) ∙ ap (λ (y : Slot). eviction_rank y (get_or numbers i 0)) one
     | inr ne ↦ set_other keys at i key ne ∙ r.each i t ne it
   ];
 })
 
--- the changed slot's key becomes its turn
+-- the changed slot's key becomes its eviction rank
 pub rank_changed : (items : List Slot) (numbers keys new : List ℕ) (at key n : ℕ) (s t : Slot) → IsRanked items numbers keys
-    → slice_get items at ≡ Some s → get_or numbers at 0 ≡ n → key ≡ turn t n → new ≡ set keys at key → IsRanked (set items at t) numbers new
+    → slice_get items at ≡ Some s → get_or numbers at 0 ≡ n → key ≡ eviction_rank t n → new ≡ set keys at key → IsRanked (set items at t) numbers new
 rank_changed items numbers keys new at key n s t r is number turn_is all =
     rank_set (set items at t) numbers keys new at key n t (but_set items numbers keys at t r) (get_set_same items at s t is) number turn_is all
 
@@ -270,7 +270,7 @@ rank_changed items numbers keys new at key n s t r is number turn_is all =
 -- those below n are the turns of their slots
 pub record IsRankedTo (n : ℕ) (items : List Slot) (numbers keys : List ℕ) : Type 0 where
   pub count : length keys ≡ length items
-  pub each : (i : ℕ) (s : Slot) → i < n → slice_get items i ≡ Some s → slice_index keys i ≡ turn s (slice_index numbers i)
+  pub each : (i : ℕ) (s : Slot) → i < n → slice_get items i ≡ Some s → slice_index keys i ≡ eviction_rank s (slice_index numbers i)
 
 -- ---- the number of a place
 

@@ -24,14 +24,14 @@ use Rattle.cache.specs.declared.frame.Frame.{Frame}
 use Rattle.reissue.specs.declared.transfers.Transfers.{Transfers}
 use Rattle.cache.specs.declared.shape.Shape.{Shape}
 use Rattle.cache.specs.declared.cache.Cache.{Cache}
-use Rattle.store.specs.declared.Cut.{Cut}
-use Rattle.store.specs.declared.Cut.TheVariants.{Eio, LinkEnded}
+use Rattle.block_store.specs.declared.Cut.{Cut}
+use Rattle.block_store.specs.declared.Cut.TheVariants.{Eio, LinkEnded}
 use Rattle.cache.specs.Slots.{held, is_clean}
 use Rattle.cache.specs.Edits.{IsAt, NoneDirty}
 use Rattle.cache.specs.Frames.{Tied, CacheAgrees, view}
 
 -- What is said of a cache.
-pub record Caching : Type 1 where
+pub record AbstractCache : Type 1 where
   -- the range of the media that its requests name, and the bytes of a block
   pub minor : ℕ
   pub size : ℕ
@@ -48,7 +48,7 @@ pub record Caching : Type 1 where
   pub ended : Bool
 
 -- a cache with these parts
-abbrev pub caching_of : {L : Type 0} → LinkWords L → Transfers L → Shape → List Slot → Bool → Caching
+abbrev pub caching_of : {L : Type 0} → LinkWords L → Transfers L → Shape → List Slot → Bool → AbstractCache
 caching_of words transfers shape items ended =
     let link = link_of transfers in
     record {
@@ -64,7 +64,7 @@ caching_of words transfers shape items ended =
     }
 
 -- a cache, by what its link's words say of its link
-abbrev pub caching : {L : Type 0} → LinkWords L → Cache L → Caching
+abbrev pub caching : {L : Type 0} → LinkWords L → Cache L → AbstractCache
 caching words cache = caching_of words cache.transfers cache.shape cache.slots.items.items cache.ended
 
 -- the slot of each block that has one
@@ -80,7 +80,7 @@ abbrev pub LinkGoesOn : {L : Type 0} → LinkWords L → Cache L → Cache L →
 LinkGoesOn words old new = words.goes_on (link_of old.transfers) (link_of new.transfers)
 
 -- its requests are for its range, its slots are tied to them, and while the link hasn't ended it has room and ids are left
-pub record IsReady (c : Caching) : Type 0 where
+pub record IsReady (c : AbstractCache) : Type 0 where
   pub minors : AllOfMinor c.minor c.table.pending
   pub tied : Tied c.size c.held (pending_of c.table.pending)
   pub room : c.ended ≡ false → HasRoom c.table c.room
@@ -102,12 +102,12 @@ with_handed None acts = acts
 with_handed (Some message) acts = acts ++ Absorbed message ∷ []
 
 -- how many messages may still come: one more is asked for than the link gives, since it may say that it ended
-abbrev pub messages_left : Caching → ℕ
+abbrev pub messages_left : AbstractCache → ℕ
 messages_left c = if c.ended then 0 else c.budget + 1
 
 -- A call that leads from one state of a cache to the next, and what it was told at its link. From each record that agrees with the pending
 -- requests it leads to one that agrees, by acts that keep the rules; over true replies the disk before and after are related so.
-pub record Runs (message : Option Incoming) (old new : Caching) (Related : DiskState → DiskState → Type 0) : Type 0 where
+pub record Runs (message : Option Incoming) (old new : AbstractCache) (Related : DiskState → DiskState → Type 0) : Type 0 where
   pub ready : IsReady new
   pub told : List Told
   pub history : new.told ≡ told ++ old.told
@@ -133,48 +133,48 @@ pub record Runs (message : Option Incoming) (old new : Caching) (Related : DiskS
       → KeepsRulesBy (with_handed message acts) old.minor old.table new.table old.told new.told marks (grown told (after_message message marks))
 
 -- a call on a cache, which relates the disk before and after so
-abbrev pub Does : {L : Type 0} → LinkWords L → Cache L → Cache L → (Caching → Caching → DiskState → DiskState → Type 0) → Type 0
+abbrev pub Does : {L : Type 0} → LinkWords L → Cache L → Cache L → (AbstractCache → AbstractCache → DiskState → DiskState → Type 0) → Type 0
 Does words old new Related = Runs None (caching words old) (caching words new) (Related (caching words old) (caching words new))
 
 -- slots and the disk go on agreeing, and what would be read back stays
-pub record Serves (old new : Caching) (w v : DiskState) : Type 0 where
+pub record Serves (old new : AbstractCache) (w v : DiskState) : Type 0 where
   pub agrees : CacheAgrees old.size old.held w → CacheAgrees new.size new.held v
   pub same : CacheAgrees old.size old.held w → view new.size new.held v ≡ view old.size old.held w
 
 -- a call that leaves what would be read back
-abbrev pub Keeps : Caching → Caching → Type 0
+abbrev pub Keeps : AbstractCache → AbstractCache → Type 0
 Keeps old new = Runs None old new (λ w v. Serves old new w v)
 
 -- nothing is pending, as a record has it
-pub record IsIdle (c : Caching) : Type 0 where
+pub record IsIdle (c : AbstractCache) : Type 0 where
   pub none : c.table.pending ≡ []
   pub marks : List Mark
   pub agrees : Agrees c.table marks
 
 -- A message that is handed over between two calls: no message is taken, and an End has no effect.
-pub record HandsOver (message : Incoming) (old new : Caching) : Type 0 where
+pub record HandsOver (message : Incoming) (old new : AbstractCache) : Type 0 where
   pub runs : Runs (Some message) old new (λ w v. Serves old new w v)
   pub none_taken : took_nothing (told_of runs.acts) ≡ true
   pub no_effect : message ≡ End → runs.acts ≡ []
 
 -- slots and the disk go on agreeing, and of what would be read back the bytes of one block alone change, in this way
-pub record Rewrites (block : ℕ) (change : (ℕ → ℕ) → ℕ → ℕ) (old new : Caching) (w v : DiskState) : Type 0 where
+pub record Rewrites (block : ℕ) (change : (ℕ → ℕ) → ℕ → ℕ) (old new : AbstractCache) (w v : DiskState) : Type 0 where
   pub agrees : CacheAgrees old.size old.held w → CacheAgrees new.size new.held v
   pub changed : CacheAgrees old.size old.held w
       → view new.size new.held v ≡ put (view old.size old.held w) block (change (view old.size old.held w block))
 
 -- a call that needed messages: where it was cut what would be read back stays
-abbrev pub Blanks : {X : Type 0} → Result X Cut → ℕ → Caching → Caching → DiskState → DiskState → Type 0
+abbrev pub Blanks : {X : Type 0} → Result X Cut → ℕ → AbstractCache → AbstractCache → DiskState → DiskState → Type 0
 Blanks (Ok frame) block old new w v = Rewrites block (λ row o. 0) old new w v
 Blanks (Err cut) block old new w v = Serves old new w v
 
 -- a call is cut for want of messages only where a take gave End, and else only where the device was given up
-abbrev pub IsWhyCut : Caching → Cut → Type 0
+abbrev pub IsWhyCut : AbstractCache → Cut → Type 0
 IsWhyCut c LinkEnded = c.ended ≡ true
 IsWhyCut c Eio = (c.ended ≡ false) × (c.table.given_up ≡ true)
 
 -- messages may come: no take gave End, and the device isn't given up
-pub record IsLive (c : Caching) : Type 0 where
+pub record IsLive (c : AbstractCache) : Type 0 where
   pub not_ended : c.ended ≡ false
   pub not_given_up : c.table.given_up ≡ false
 
@@ -197,25 +197,25 @@ abbrev pub forgotten : ℕ → (ℕ → Option Slot) → ℕ → Option Slot
 forgotten block held = put held block (unless_clean (held block))
 
 -- a cache just made: no frame is in use, and the link hasn't ended
-pub record IsMade (minor size : ℕ) (c : Caching) : Type 0 where
+pub record IsMade (minor size : ℕ) (c : AbstractCache) : Type 0 where
   pub minor_is : c.minor ≡ minor
   pub size_is : c.size ≡ size
   pub none : (b : ℕ) → c.held b ≡ None
   pub not_ended : c.ended ≡ false
 
 -- the link was told nothing but posts: no message was taken
-pub record PostsAlone (old new : Caching) : Type 0 where
+pub record PostsAlone (old new : AbstractCache) : Type 0 where
   pub posts : List Told
   pub history : new.told ≡ posts ++ old.told
   pub only_posts : OnlyPosts posts
 
 -- a dirty block's write is refused: sixteen requests are pending, or a byte of it is
-abbrev pub IsRefusing : Caching → Type 0
+abbrev pub IsRefusing : AbstractCache → Type 0
 IsRefusing c = (length c.table.pending ≡ 16)
     ⊎ ((b : ℕ) × (s : Slot) × (c.held b ≡ Some s) × (s.state ≡ Dirty) × IsTrue (list_any (meets (b * c.size) c.size) c.table.pending))
 
 -- no further write can be begun before a message is taken: no frame is dirty, or the write is refused
-pub record IsStuck (c : Caching) : Type 0 where
+pub record IsStuck (c : AbstractCache) : Type 0 where
   pub why : NoneDirty c.held ⊎ (IsBusy (pending_of c.table.pending) × IsRefusing c)
 
 -- a cache over another link

@@ -47,16 +47,16 @@ pub record IsVictim (items : List Slot) (numbers : List ℕ) (at : ℕ) : Type 0
       ⊎ (IsNone Free items numbers × (IsFirstOf Clean items numbers at
       ⊎ (IsNone Clean items numbers × IsFirstOf All items numbers at)))
 
--- a slot's turn by the number of its last use, which is below 2 ^ 62: a lower one goes first
-abbrev pub turn : Slot → ℕ → ℕ
-turn s used = if is_some s.block then (if is_clean s.state then 2 ^ 62 + used else 2 ^ 63 + used) else used
+-- a slot's eviction rank by the number of its last use, which is below 2 ^ 62: a lower one goes first
+abbrev pub eviction_rank : Slot → ℕ → ℕ
+eviction_rank s used = if is_some s.block then (if is_clean s.state then 2 ^ 62 + used else 2 ^ 63 + used) else used
 
--- each key but the one at this place is the turn of its slot
+-- each key but the one at this place is the eviction rank of its slot
 pub record IsRankedBut (at : ℕ) (items : List Slot) (numbers keys : List ℕ) : Type 0 where
   pub count : length keys ≡ length items
-  pub each : (i : ℕ) (s : Slot) → (i ≡ at → ⊥) → slice_get items i ≡ Some s → slice_index keys i ≡ turn s (slice_index numbers i)
+  pub each : (i : ℕ) (s : Slot) → (i ≡ at → ⊥) → slice_get items i ≡ Some s → slice_index keys i ≡ eviction_rank s (slice_index numbers i)
 
--- each key is the turn of its slot
+-- each key is the eviction rank of its slot
 pub record IsRanked (items : List Slot) (numbers keys : List ℕ) : Type 0 where
   pub count : length keys ≡ length items
-  pub each : (i : ℕ) (s : Slot) → slice_get items i ≡ Some s → slice_index keys i ≡ turn s (slice_index numbers i)
+  pub each : (i : ℕ) (s : Slot) → slice_get items i ≡ Some s → slice_index keys i ≡ eviction_rank s (slice_index numbers i)

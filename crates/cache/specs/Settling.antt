@@ -4,7 +4,7 @@ use Rattle.reissue.specs.Settlements.{Settlement}
 use Rattle.reissue.specs.Settlements as settled
 use Rattle.cache.specs.declared.slot.Slot.{Slot}
 use Rattle.cache.specs.Edits.{IsWritten}
-use Rattle.store.specs.declared.Cut.{Cut}
+use Rattle.block_store.specs.declared.Cut.{Cut}
 use Rattle.cache.specs.declared.settling.Took.{Took}
 use Rattle.cache.specs.declared.settling.Took.TheVariants as took
 

@@ -4,8 +4,8 @@ use Rattle.reissue.specs.Moves.{DiskState, Begun}
 use Rattle.reissue.specs.Entries.{pending_of}
 use Rattle.cache.specs.Settling.{Taking}
 use Rattle.cache.specs.Settling as took
-use Rattle.store.specs.declared.Cut.{Cut}
-use Rattle.cache.specs.Calls.{Caching, Serves}
+use Rattle.block_store.specs.declared.Cut.{Cut}
+use Rattle.cache.specs.Calls.{AbstractCache, Serves}
 
 -- these bytes are the disk's from the place on, where it is sure
 pub record AreDisk (start size : ℕ) (bytes : List ℕ) (v : DiskState) : Type 0 where
@@ -18,7 +18,7 @@ ReadTells (Ok took.Nothing) pending v = Unit {0}
 ReadTells (Err cut) pending v = Unit {0}
 
 -- what a message taken does
-pub record Takes (result : Result Taking Cut) (old new : Caching) (w v : DiskState) : Type 0 where
+pub record Takes (result : Result Taking Cut) (old new : AbstractCache) (w v : DiskState) : Type 0 where
   pub serves : Serves old new w v
   pub tells : ReadTells result (pending_of old.table.pending) v
 
@@ -67,6 +67,6 @@ BytesOf (Ok bytes) start size v = AreDisk start size bytes v
 BytesOf (Err cut) start size v = Unit {0}
 
 -- what a read of a range does
-pub record Reads (result : Result (List ℕ) Cut) (start size : ℕ) (old new : Caching) (w v : DiskState) : Type 0 where
+pub record Reads (result : Result (List ℕ) Cut) (start size : ℕ) (old new : AbstractCache) (w v : DiskState) : Type 0 where
   pub serves : Serves old new w v
   pub bytes : BytesOf result start size v

@@ -13,7 +13,8 @@ ghost use Rattle.reissue.specs.Posts.{is_message, HasRoom};
 ghost use Rattle.reissue.specs.Moves.{IsBusy};
 
 use crate::frame::Frame;
-use crate::{CacheRefusal, Cut, Shape, Slots, State, Took, is_end, settle, zeros};
+use crate::{CacheRefusal, Shape, Slots, State, Took, is_end, settle, zeros};
+use block_store::Cut;
 use layout::Geometry;
 use message::Incoming;
 use reissue::{Link, Ticket, Transfers};

@@ -14,9 +14,10 @@ mod shape;
 mod slot;
 mod state;
 mod table;
+mod tournament;
 mod uses;
-mod winners;
 
+pub use block_store::Cut;
 pub use cache::Cache;
 pub use frame::Frame;
 pub use refusals::CacheRefusal;
@@ -24,5 +25,4 @@ pub use settling::{Took, is_end, settle};
 pub use shape::Shape;
 pub use slot::{Slot, zeros};
 pub use state::State;
-pub use store::Cut;
 pub use table::Slots;

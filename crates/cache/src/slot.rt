@@ -3,7 +3,7 @@
 ghost use Rattle.std.specs.Prelude.{◌≡◌, ◌<◌, ◌≤◌, ◌+◌, ◌^◌, ◌-◌, ◌&&◌, ℕ, IfOk, Some, None, slice_index, length, nat_le, nat_lt, if◌then◌else◌};
 ghost use Rattle.std.specs.Prelude.{min, max, is_some};
 ghost use Rattle.cache.specs.Slots.{is_number, ticket_of, dirtied, is_under, is_dirty_slot, is_unclean_slot, dirty_block, clean_block};
-ghost use Rattle.cache.specs.Order.{turn};
+ghost use Rattle.cache.specs.Order.{eviction_rank};
 
 use crate::state::State;
 use crate::uses::MOST_USES;
@@ -114,10 +114,10 @@ impl Slot {
         }
     }
 
-    /// Its turn to go, where this is the number of its last use: the slot whose turn is lowest goes first.
-    pub(crate) fn turn(&self, number: u64) -> u64
+    /// Its eviction rank to go, where this is the number of its last use: the slot whose eviction rank is lowest goes first.
+    pub(crate) fn eviction_rank(&self, number: u64) -> u64
         requires { number < 2 ^ 62 }
-        ensures { result ≡ turn self.now number }
+        ensures { result ≡ eviction_rank self.now number }
     {
         if self.block.is_none() {
             number

@@ -11,8 +11,8 @@ ghost use Rattle.cache.specs.Order.{IsRanked, IsRankedBut};
 use crate::index::Index;
 use crate::slot::{Slot, clear, put, zeros};
 use crate::state::State;
+use crate::tournament::Tournament;
 use crate::uses::Uses;
-use crate::winners::Winners;
 use reissue::Ticket;
 use std::alloc::{AllocError, Global};
 use step_count::Steps;
@@ -24,7 +24,7 @@ pub struct Slots {
     // When each was used last.
     uses: Uses,
     // Which goes next: the keys are the slots' turns.
-    winners: Winners,
+    winners: Tournament,
     // Where each block stands.
     index: Index,
     // The block that the search for a dirty slot begins at: none below it has one.
@@ -56,22 +56,22 @@ fn lowered(from: u32, block: Option<u32>) -> u32
     }
 }
 
-/// Gives each slot the key of its turn.
+/// Gives each slot the key of its eviction rank.
 #[inline(never)]
-fn rank_all(winners: &mut Winners, items: &[Slot], uses: &Uses)
+fn rank_all(winners: &mut Tournament, items: &[Slot], uses: &Uses)
     requires count { length winners.old.keys.items ≡ length items.now }
     requires paired { length uses.now.numbers.items ≡ length items.now }
     ensures { IsRanked items.now uses.now.numbers.items winners.new.keys.items }
 {
     for at in 0..items.len() {
-        let key = items[at].turn(uses.number(at));
+        let key = items[at].eviction_rank(uses.number(at));
         winners.set(at, key);
     }
 }
 
 /// The slot there, which may have been changed, is used now.
 #[inline]
-fn use_now(uses: &mut Uses, winners: &mut Winners, items: &[Slot], at: usize)
+fn use_now(uses: &mut Uses, winners: &mut Tournament, items: &[Slot], at: usize)
     requires at { at < length items.now }
     requires paired { length uses.old.numbers.items ≡ length items.now }
     requires others { IsRankedBut at items.now uses.old.numbers.items winners.old.keys.items }
@@ -81,7 +81,7 @@ fn use_now(uses: &mut Uses, winners: &mut Winners, items: &[Slot], at: usize)
     if uses.touch(at) {
         rank_all(winners, items, uses);
     } else {
-        let key = items[at].turn(uses.number(at));
+        let key = items[at].eviction_rank(uses.number(at));
         winners.set(at, key);
     }
 }
@@ -104,7 +104,7 @@ impl Slots {
             items.push(Slot::free(alloc)?)?;
         }
         let uses = Uses::new(alloc, count)?;
-        let mut winners = Winners::new(alloc, count)?;
+        let mut winners = Tournament::new(alloc, count)?;
         rank_all(&mut winners, &items, &uses);
         Ok(Slots {
             items,
@@ -302,7 +302,7 @@ impl Slots {
         slot.state = state;
         self.search_from = lowered(self.search_from, slot.dirty_block());
         slot.widen(at, &mut self.open_from, &mut self.open_to);
-        let key = slot.turn(self.uses.number(at));
+        let key = slot.eviction_rank(self.uses.number(at));
         self.winners.set(at, key);
     }
 
@@ -349,7 +349,7 @@ impl Slots {
             return;
         };
         slot.block = None;
-        let key = slot.turn(self.uses.number(at));
+        let key = slot.eviction_rank(self.uses.number(at));
         self.index.remove(block);
         self.winners.set(at, key);
     }
@@ -406,7 +406,7 @@ impl Slots {
         // Of a change a clean slot alone becomes dirty.
         self.search_from = lowered(self.search_from, slot.clean_block());
         slot.change(from, bytes);
-        let key = slot.turn(self.uses.number(at));
+        let key = slot.eviction_rank(self.uses.number(at));
         self.winners.set(at, key);
     }
 }

@@ -22,7 +22,7 @@ use Rattle.zone.proofs.ZoneInodes.{inode_is}
 use Rattle.inode.specs.Bytes.{attributes_in}
 use Rattle.inode.proofs.Stat.{held_attributes}
 use Rattle.descriptors.specs.Files.{Files, HasFiles}
-use Rattle.store.specs.Volume.{Alters}
+use Rattle.block_store.specs.Volume.{Alters}
 use Rattle.inode.specs.Table.{with_inode}
 use Rattle.calls_attributes.specs.Does.{Does, IsHeld}
 use Rattle.calls_attributes.proofs.Made.{refused_made, looked_made}

@@ -18,7 +18,7 @@ use Rattle.volume.specs.Pieces.{pieces}
 use Rattle.volume.specs.Nodes.{is_mode, is_directory_mode, node_of}
 use Rattle.volume.specs.Holds.{HoldsVolume}
 use Rattle.descriptors.specs.Files.{Files, HasFiles}
-use Rattle.store.specs.Volume.{Alters}
+use Rattle.block_store.specs.Volume.{Alters}
 use Rattle.inode.specs.Table.{with_inode}
 use Rattle.zone.specs.ZoneSteps.{node_from}
 use Rattle.zone.proofs.ZoneInodes.{inode_is}

@@ -14,9 +14,9 @@ use Rattle.volume.specs.declared.Inode.{Inode}
 use Rattle.volume.specs.Reading.{Disk, is_inode}
 use Rattle.volume.specs.Pieces.{pieces}
 use Rattle.volume.specs.Holds.{Holds, HoldsVolume}
-use Rattle.store.specs.declared.Halt.{Halt}
-use Rattle.store.specs.declared.Halt.TheVariants as halt
-use Rattle.store.specs.Halts.{Ends}
+use Rattle.block_store.specs.declared.Halt.{Halt}
+use Rattle.block_store.specs.declared.Halt.TheVariants as halt
+use Rattle.block_store.specs.Halts.{Ends}
 use Rattle.zone.proofs.ZoneInodes.{inode_is}
 use Rattle.path.specs.declared.stop.Stop.{Stop}
 use Rattle.path.specs.declared.stop.Stop.TheVariants as stop
@@ -24,7 +24,7 @@ use Rattle.path.specs.Stops.{Answers}
 use Rattle.path.specs.Walking.{Walks}
 use Rattle.path.specs.Places.{place_of}
 use Rattle.path.specs.Places as place
-use Rattle.path.specs.declared.place.Place.{Place}
+use Rattle.path.specs.declared.place.NamePlace.{NamePlace}
 use Rattle.path.specs.declared.place.Found.{Found}
 use Rattle.path.specs.declared.place.Found.TheVariants as found
 use Rattle.calls_attributes.proofs.Made.{node_there}
@@ -76,7 +76,7 @@ module _ (g : Geometry) (d : Disk) (user : User) (parts : List Name)
       let x = looked (Ok (found.There n)) is t holds in
       record { answer = at_last t (Ok (is_there n)) x.0; there = x.1 }
 
-  pub last_missing : (p : Place) → s ≡ Ok (found.Missing p) → LeadsTo g d user parts (Err ENOENT)
+  pub last_missing : (p : NamePlace) → s ≡ Ok (found.Missing p) → LeadsTo g d user parts (Err ENOENT)
   last_missing p is t holds = record {
     answer = at_last t (Ok (is_missing (place_of g d p))) (looked (Ok (found.Missing p)) is t holds).0;
     there = tt;

@@ -17,7 +17,7 @@ use Rattle.volume.specs.Pieces.{Pieces, pieces}
 use Rattle.volume.specs.Nodes.{file_of, is_marked, is_mode, is_directory_mode}
 use Rattle.volume.specs.Entries.{is_directory_inode}
 use Rattle.volume.specs.Holds.{HasSuperblock, HoldsVolume, IsSoundDirectory}
-use Rattle.store.specs.Volume.{Alters, SameHead}
+use Rattle.block_store.specs.Volume.{Alters, SameHead}
 use Rattle.inode.specs.Table.{with_inode}
 use Rattle.zone.specs.ZoneSteps.{node_from}
 use Rattle.zone.proofs.Keeps.{sound_is_sound_but, sound_but_is_sound}

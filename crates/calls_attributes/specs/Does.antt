@@ -8,8 +8,8 @@ use Rattle.tree.specs.Answers.{Answer, Effect, refused, answer_of}
 use Rattle.volume.specs.Reading.{Disk}
 use Rattle.volume.specs.Holds.{HoldsVolume}
 use Rattle.records.specs.Legal.{is_success}
-use Rattle.store.specs.declared.Halt.{Halt}
-use Rattle.store.specs.Halts.{Ends}
+use Rattle.block_store.specs.declared.Halt.{Halt}
+use Rattle.block_store.specs.Halts.{Ends}
 
 -- what an effect answers
 abbrev pub answer_in : Effect → Answer

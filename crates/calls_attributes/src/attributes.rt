@@ -5,18 +5,18 @@ ghost use Rattle.tree.specs.Tree.{Tree};
 ghost use Rattle.tree.specs.Answers.{answer_of, refused};
 ghost use Rattle.tree.specs.NodeCalls.{stat, chmod, chown, utime};
 ghost use Rattle.descriptors.specs.Files.{Files, HasFiles};
-ghost use Rattle.store.specs.World.{Turns};
-ghost use Rattle.store.specs.Volume.{IsOn};
-ghost use Rattle.store.specs.Halts.{IsHalt};
+ghost use Rattle.block_store.specs.World.{Turns};
+ghost use Rattle.block_store.specs.Volume.{IsOn};
+ghost use Rattle.block_store.specs.Halts.{IsHalt};
 ghost use Rattle.calls_attributes.specs.Does.{Meets};
 
 use crate::named::find_node;
+use block_store::{Blocks, Halt};
 use errno::Errno;
 use inode::attributes;
 use inode::inode_table::store;
 use layout::Geometry;
 use path::{NameCache, is_owner};
-use store::{Blocks, Halt};
 use tree::{MAX_PERMISSIONS, Reply, User};
 
 /// stat: the attributes of the node to which a path leads.

@@ -6,16 +6,16 @@ ghost use Rattle.volume.specs.Nodes.{is_directory_mode, is_link_mode};
 ghost use Rattle.volume.specs.Pieces.{pieces};
 ghost use Rattle.descriptors.specs.Files.{HasFiles, file_at};
 ghost use Rattle.descriptors.specs.Table.{files_of};
-ghost use Rattle.store.specs.World.{Reads};
-ghost use Rattle.store.specs.Volume.{IsOn};
-ghost use Rattle.store.specs.Halts.{IsHalt, Ends};
+ghost use Rattle.block_store.specs.World.{Reads};
+ghost use Rattle.block_store.specs.Volume.{IsOn};
+ghost use Rattle.block_store.specs.Halts.{IsHalt, Ends};
 ghost use Rattle.calls_attributes.specs.Does.{IsHeld};
 ghost use Rattle.calls_attributes.specs.Found.{file_of};
 
+use block_store::{Blocks, Halt};
 use descriptors::Descriptors;
 use inode::inode_table::load;
 use layout::Geometry;
-use store::{Blocks, Halt};
 use tree::OpenFlags;
 use volume::Inode;
 

@@ -1,16 +1,16 @@
 //! The node to which a path leads, where a symbolic link that stands last isn't followed.
 
 ghost use Rattle.std.specs.Prelude.{◌≢◌, IfErr, IfOk};
-ghost use Rattle.store.specs.World.{Reads};
-ghost use Rattle.store.specs.Volume.{IsOn};
-ghost use Rattle.store.specs.Halts.{IsHalt, Ends};
+ghost use Rattle.block_store.specs.World.{Reads};
+ghost use Rattle.block_store.specs.Volume.{IsOn};
+ghost use Rattle.block_store.specs.Halts.{IsHalt, Ends};
 ghost use Rattle.calls_attributes.specs.Named.{IsVolume, LeadsTo, NamesLast, FindsLast};
 
+use block_store::{Blocks, Halt};
 use errno::Errno;
 use inode::inode_table::load;
 use layout::Geometry;
 use path::{Found, NameCache, Path, Stop, look_up};
-use store::{Blocks, Halt};
 use tree::User;
 use volume::Inode;
 

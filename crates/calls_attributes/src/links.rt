@@ -8,19 +8,19 @@ ghost use Rattle.volume.specs.Nodes.{file_of};
 ghost use Rattle.volume.specs.Pieces.{pieces};
 ghost use Rattle.file.specs.Reading.{HasFileBytes, read_count};
 ghost use Rattle.descriptors.specs.Files.{Files, HasFiles};
-ghost use Rattle.store.specs.World.{Reads, Turns};
-ghost use Rattle.store.specs.Volume.{IsOn};
-ghost use Rattle.store.specs.Halts.{IsHalt};
+ghost use Rattle.block_store.specs.World.{Reads, Turns};
+ghost use Rattle.block_store.specs.Volume.{IsOn};
+ghost use Rattle.block_store.specs.Halts.{IsHalt};
 ghost use Rattle.calls_attributes.specs.Does.{Meets};
 
 use crate::found::is_link;
 use crate::last::find_last;
+use block_store::{Blocks, Cut, Halt};
 use errno::Errno;
 use file::file_pages::reading::read_at;
 use inode::attributes;
 use layout::Geometry;
 use path::NameCache;
-use store::{Blocks, Cut, Halt};
 use tree::{LinkTarget, MAX_TARGET, Reply, User};
 use volume::Inode;
 

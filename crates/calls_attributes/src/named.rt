@@ -1,16 +1,16 @@
 //! The node to which a path leads.
 
 ghost use Rattle.std.specs.Prelude.{◌≢◌, IfErr, IfOk};
-ghost use Rattle.store.specs.World.{Reads};
-ghost use Rattle.store.specs.Volume.{IsOn};
-ghost use Rattle.store.specs.Halts.{IsHalt, Ends};
+ghost use Rattle.block_store.specs.World.{Reads};
+ghost use Rattle.block_store.specs.Volume.{IsOn};
+ghost use Rattle.block_store.specs.Halts.{IsHalt, Ends};
 ghost use Rattle.calls_attributes.specs.Named.{IsVolume, Names, Finds};
 
+use block_store::{Blocks, Halt};
 use errno::Errno;
 use inode::inode_table::load;
 use layout::Geometry;
 use path::{NameCache, Path, Stop, walk};
-use store::{Blocks, Halt};
 use tree::User;
 use volume::Inode;
 

@@ -6,19 +6,19 @@ ghost use Rattle.tree.specs.FileCalls.{dup, fstat};
 ghost use Rattle.tree.specs.Answers.{answer_of, refused};
 ghost use Rattle.descriptors.specs.Files.{HasFiles};
 ghost use Rattle.descriptors.specs.Table.{files_of};
-ghost use Rattle.store.specs.World.{Turns};
-ghost use Rattle.store.specs.Volume.{IsOn};
-ghost use Rattle.store.specs.Halts.{IsHalt};
+ghost use Rattle.block_store.specs.World.{Turns};
+ghost use Rattle.block_store.specs.Volume.{IsOn};
+ghost use Rattle.block_store.specs.Halts.{IsHalt};
 ghost use Rattle.layout.specs.declared.Geometry.{Geometry};
 ghost use Rattle.volume.specs.Reading.{Disk};
 ghost use Rattle.calls_attributes.specs.Does.{Does, Meets};
 
 use crate::found::find;
+use block_store::{Blocks, Halt};
 use descriptors::Descriptors;
 use errno::Errno;
 use inode::attributes;
 use layout::Geometry;
-use store::{Blocks, Halt};
 use tree::Reply;
 
 /// fstat: the attributes of the node of an open file. EBADF where the descriptor leads to none.

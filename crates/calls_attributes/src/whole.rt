@@ -5,16 +5,16 @@ ghost use Rattle.tree.specs.Tree.{Tree};
 ghost use Rattle.tree.specs.NodeCalls.{statfs};
 ghost use Rattle.tree.specs.Answers.{answer_of, refused, done};
 ghost use Rattle.descriptors.specs.Files.{Files, HasFiles};
-ghost use Rattle.store.specs.World.{Turns};
-ghost use Rattle.store.specs.Volume.{IsOn};
-ghost use Rattle.store.specs.Halts.{IsHalt};
+ghost use Rattle.block_store.specs.World.{Turns};
+ghost use Rattle.block_store.specs.Volume.{IsOn};
+ghost use Rattle.block_store.specs.Halts.{IsHalt};
 ghost use Rattle.calls_attributes.specs.Does.{Meets};
 
 use bitmap::{Map, count_free};
+use block_store::{Blocks, Halt};
 use errno::Errno;
 use layout::Geometry;
-use store::{Blocks, Halt};
-use tree::{Reply, Room};
+use tree::{Reply, Statfs};
 
 /// sync: writes all that was changed.
 pub fn sync<B: Blocks>(blocks: &mut B, geometry: &Geometry, reply: &mut Reply) -> Result<(), Halt>
@@ -40,7 +40,7 @@ pub fn statfs<B: Blocks>(blocks: &mut B, geometry: &Geometry, reply: &mut Reply)
 {
     let free_zones = count_free(blocks, geometry, Map::Zones)?;
     let free_inodes = count_free(blocks, geometry, Map::Inodes)?;
-    *reply = Reply::Space(Room {
+    *reply = Reply::Space(Statfs {
         block_size: geometry.block_size,
         zones: geometry.zones - geometry.first_zone,
         free_zones,

@@ -21,10 +21,10 @@ use Rattle.volume.specs.Nodes.{node_of}
 use Rattle.volume.specs.Holds.{HoldsVolume}
 use Rattle.descriptors.specs.Files.{Files, HasFiles, files_in, tree_with, with_files, let_go, close_file}
 use Rattle.descriptors.proofs.TreeCalls.{close_is_close}
-use Rattle.node_steps.specs.Steps.{IsOfNode, LosesNode, left_of}
-use Rattle.node_steps.proofs.Nodes.{put_back}
-use Rattle.node_steps.proofs.Between.{nothing_is_done, step_is_done, holds_at_end}
-use Rattle.node_steps.proofs.CallLawsEnding.{left_is_left}
+use Rattle.inode_operations.specs.Steps.{IsOfNode, LosesNode, left_of}
+use Rattle.inode_operations.proofs.Nodes.{put_back}
+use Rattle.inode_operations.proofs.Between.{nothing_is_done, step_is_done, holds_at_end}
+use Rattle.inode_operations.proofs.CallLawsEnding.{left_is_left}
 use Rattle.calls_attributes.specs.Does.{Does, IsHeld}
 use Rattle.calls_attributes.proofs.Made.{refused_made, granted_made}
 use Rattle.calls_attributes.proofs.Looks.{same_found, node_open, opened_by}

@@ -13,7 +13,7 @@ use Rattle.volume.specs.Pieces.{Pieces, pieces}
 use Rattle.volume.specs.Nodes.{entry_inode, entry_name, names_in, entry_count_of, is_directory_mode, is_marked, directory_of, file_of, file_byte, node_of}
 use Rattle.volume.specs.Entries.{is_directory_inode}
 use Rattle.volume.specs.Holds.{HoldsVolume}
-use Rattle.store.specs.Rows.{HasBytes}
+use Rattle.block_store.specs.Rows.{HasBytes}
 use Rattle.directory.specs.Rows.{IsRow, SameEntry}
 use Rattle.directory.proofs.Rows.{same_target, same_name_there, next_name, found_at}
 use Rattle.directory.proofs.Text.{name_is_field, name_of_good}

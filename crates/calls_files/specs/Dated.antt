@@ -4,7 +4,7 @@ use Rattle.layout.specs.declared.Geometry.{Geometry}
 use Rattle.tree.specs.Changes.{file_after_resize}
 use Rattle.volume.specs.Reading.{Disk}
 use Rattle.volume.specs.Pieces.{pieces}
-use Rattle.store.specs.Volume.{SameHead}
+use Rattle.block_store.specs.Volume.{SameHead}
 use Rattle.file.specs.PageChanges.{MayChange, BecomesFile, file_at, stamped}
 use Rattle.file.specs.Changing.{HasZonesFor, written_at}
 

@@ -6,16 +6,16 @@ ghost use Rattle.tree.specs.FileCalls.{close};
 ghost use Rattle.tree.specs.Answers.{answer_of, refused};
 ghost use Rattle.descriptors.specs.Files.{HasFiles};
 ghost use Rattle.descriptors.specs.Table.{files_of};
-ghost use Rattle.store.specs.World.{Turns};
-ghost use Rattle.store.specs.Volume.{IsOn};
-ghost use Rattle.store.specs.Halts.{IsHalt};
+ghost use Rattle.block_store.specs.World.{Turns};
+ghost use Rattle.block_store.specs.Volume.{IsOn};
+ghost use Rattle.block_store.specs.Halts.{IsHalt};
 ghost use Rattle.calls_attributes.specs.Does.{Meets};
 
+use block_store::{Blocks, Halt};
 use descriptors::Descriptors;
 use errno::Errno;
+use inode_operations::lose_node;
 use layout::Geometry;
-use node_steps::lose_node;
-use store::{Blocks, Halt};
 use tree::Reply;
 
 /// close: frees a descriptor. The last one of an open file closes it, and where no name leads to its node and no other open file is of

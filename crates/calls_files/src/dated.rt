@@ -2,17 +2,17 @@
 
 ghost use Rattle.std.specs.Prelude.{◌≤◌, ◌<◌, ◌+◌, length, IfErr};
 ghost use Rattle.volume.specs.Pieces.{pieces};
-ghost use Rattle.store.specs.World.{Turns};
-ghost use Rattle.store.specs.Volume.{IsOn};
-ghost use Rattle.store.specs.Halts.{Ends, IsHalt};
+ghost use Rattle.block_store.specs.World.{Turns};
+ghost use Rattle.block_store.specs.Volume.{IsOn};
+ghost use Rattle.block_store.specs.Halts.{Ends, IsHalt};
 ghost use Rattle.file.specs.PageChanges.{MayChange};
 ghost use Rattle.calls_files.specs.Dated.{WritesIfRoom, SetsSizeAt};
 
+use block_store::{Blocks, Halt};
 use file::file_pages::changing::{set_size, stamp};
 use file::file_room::has_room;
 use file::write_at;
 use layout::Geometry;
-use store::{Blocks, Halt};
 
 /// Writes these bytes into the file of an inode from a place on, at `now`, if there are zones enough for all of them, and says whether
 /// there are. Where not, nothing is changed. Unsound only where the rules are broken, or the inode isn't marked.

@@ -9,19 +9,19 @@ ghost use Rattle.volume.specs.Pieces.{pieces};
 ghost use Rattle.file.specs.Reading.{read_count};
 ghost use Rattle.descriptors.specs.Files.{HasFiles};
 ghost use Rattle.descriptors.specs.Table.{files_of};
-ghost use Rattle.store.specs.World.{Turns, Reads};
-ghost use Rattle.store.specs.Volume.{IsOn};
-ghost use Rattle.store.specs.Halts.{IsHalt};
+ghost use Rattle.block_store.specs.World.{Turns, Reads};
+ghost use Rattle.block_store.specs.Volume.{IsOn};
+ghost use Rattle.block_store.specs.Halts.{IsHalt};
 ghost use Rattle.calls_attributes.specs.Does.{MeetsOrLacks};
 ghost use Rattle.calls_files.specs.Reading.{why_unread};
 
+use block_store::{Blocks, Cut, Halt};
 use calls_attributes::found::{Found, find, is_directory};
 use descriptors::Descriptors;
 use errno::Errno;
 use file::file_pages::reading::read_at;
 use layout::Geometry;
 use std::alloc::{AllocError, Global};
-use store::{Blocks, Cut, Halt};
 use tree::{MAX_SIZE, MAX_TRANSFER, Reply};
 use volume::Inode;
 

@@ -6,17 +6,17 @@ ghost use Rattle.tree.specs.FileCalls.{seek, seek_place};
 ghost use Rattle.tree.specs.Answers.{answer_of, refused};
 ghost use Rattle.descriptors.specs.Files.{HasFiles};
 ghost use Rattle.descriptors.specs.Table.{files_of};
-ghost use Rattle.store.specs.World.{Turns};
-ghost use Rattle.store.specs.Volume.{IsOn};
-ghost use Rattle.store.specs.Halts.{IsHalt};
+ghost use Rattle.block_store.specs.World.{Turns};
+ghost use Rattle.block_store.specs.Volume.{IsOn};
+ghost use Rattle.block_store.specs.Halts.{IsHalt};
 ghost use Rattle.calls_attributes.specs.Does.{Meets};
 ghost use Rattle.calls_files.specs.Seeking.{base_of, may_lie};
 
+use block_store::{Blocks, Halt};
 use calls_attributes::found::{Found, find, is_directory};
 use descriptors::Descriptors;
 use errno::Errno;
 use layout::Geometry;
-use store::{Blocks, Halt};
 use tree::{MAX_SIZE, Reply, Whence};
 
 /// The place from which a seek counts.

@@ -4,18 +4,18 @@ ghost use Rattle.std.specs.Prelude.{◌≡◌, ◌≢◌, IfErr, OnOk};
 ghost use Rattle.tree.specs.NodeCalls.{truncate};
 ghost use Rattle.tree.specs.Answers.{answer_of, refused};
 ghost use Rattle.descriptors.specs.Files.{Files, HasFiles};
-ghost use Rattle.store.specs.World.{Turns};
-ghost use Rattle.store.specs.Volume.{IsOn};
-ghost use Rattle.store.specs.Halts.{IsHalt};
+ghost use Rattle.block_store.specs.World.{Turns};
+ghost use Rattle.block_store.specs.Volume.{IsOn};
+ghost use Rattle.block_store.specs.Halts.{IsHalt};
 ghost use Rattle.calls_attributes.specs.Does.{Meets};
 
 use crate::dated::set_size_at;
+use block_store::{Blocks, Halt};
 use calls_attributes::found::is_directory;
 use calls_attributes::named::find_node;
 use errno::Errno;
 use layout::Geometry;
 use path::{NameCache, Wish, may};
-use store::{Blocks, Halt};
 use tree::{MAX_SIZE, Reply, User};
 
 /// truncate: the size of a file; what lies past it is gone, and what is new reads as zeros. EFBIG of more than 2147483647 bytes, else the

@@ -6,18 +6,18 @@ ghost use Rattle.tree.specs.FileCalls.{write};
 ghost use Rattle.tree.specs.Answers.{answer_of, refused};
 ghost use Rattle.descriptors.specs.Files.{HasFiles};
 ghost use Rattle.descriptors.specs.Table.{files_of};
-ghost use Rattle.store.specs.World.{Turns};
-ghost use Rattle.store.specs.Volume.{IsOn};
-ghost use Rattle.store.specs.Halts.{IsHalt};
+ghost use Rattle.block_store.specs.World.{Turns};
+ghost use Rattle.block_store.specs.Volume.{IsOn};
+ghost use Rattle.block_store.specs.Halts.{IsHalt};
 ghost use Rattle.calls_attributes.specs.Does.{Meets};
 ghost use Rattle.calls_files.specs.Writing.{write_place, why_unwritten};
 
 use crate::dated::write_if_room;
+use block_store::{Blocks, Halt};
 use calls_attributes::found::{Found, find, is_directory, is_link};
 use descriptors::Descriptors;
 use errno::Errno;
 use layout::Geometry;
-use store::{Blocks, Halt};
 use tree::{MAX_SIZE, MAX_TRANSFER, Reply};
 
 /// Where a write to an open file begins: with the append flag at the end of the file, else at the position.

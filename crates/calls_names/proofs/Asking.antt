@@ -20,13 +20,13 @@ use Rattle.volume.specs.Pieces.{Pieces, pieces}
 use Rattle.volume.specs.Nodes.{directory_of, is_directory_mode, is_marked, node_of}
 use Rattle.volume.specs.Holds.{HoldsVolume}
 use Rattle.zone.proofs.ZoneInodes.{inode_is}
-use Rattle.path.specs.declared.place.Place.{Place as Found}
+use Rattle.path.specs.declared.place.NamePlace.{NamePlace as Found}
 use Rattle.path.specs.Places.{place_of}
 use Rattle.calls_attributes.specs.Named.{LeadsTo}
 use Rattle.calls_attributes.specs.Named as named
 use Rattle.calls_attributes.proofs.Made.{node_there}
-use Rattle.node_steps.specs.Steps.{node_at}
-use Rattle.node_steps.proofs.Between.{kind_is}
+use Rattle.inode_operations.specs.Steps.{node_at}
+use Rattle.inode_operations.proofs.Between.{kind_is}
 use Rattle.calls_names.specs.Names.{IsOfInode, IsVolume, MeansPlace}
 use Rattle.calls_names.specs.Linking.{FindsFile, FindsFree, on_file, on_free}
 

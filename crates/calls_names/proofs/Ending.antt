@@ -8,11 +8,11 @@ use Rattle.tree.specs.Tree.{Tree}
 use Rattle.tree.specs.Answers.{Answer, Effect, refused}
 use Rattle.volume.specs.Reading.{Disk}
 use Rattle.volume.specs.Holds.{HoldsVolume}
-use Rattle.store.specs.declared.Halt.{Halt}
-use Rattle.store.specs.declared.Halt.TheVariants as halt
-use Rattle.store.specs.Halts.{Ends}
-use Rattle.store.specs.World.{IsWorld, Reads, World}
-use Rattle.store.proofs.Turns.{reads_then}
+use Rattle.block_store.specs.declared.Halt.{Halt}
+use Rattle.block_store.specs.declared.Halt.TheVariants as halt
+use Rattle.block_store.specs.Halts.{Ends}
+use Rattle.block_store.specs.World.{IsWorld, Reads, World}
+use Rattle.block_store.proofs.Turns.{reads_then}
 use Rattle.path.specs.declared.stop.Stop.{Stop}
 use Rattle.path.specs.declared.stop.Stop.TheVariants as stop
 use Rattle.path.specs.Stops.{Answers, halted, refused as refused_stop}

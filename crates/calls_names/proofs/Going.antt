@@ -30,17 +30,17 @@ use Rattle.volume.specs.Pieces.{pieces}
 use Rattle.volume.specs.Nodes.{is_directory_mode, node_of}
 use Rattle.volume.specs.Holds.{HoldsVolume}
 use Rattle.directory.specs.Removal.{Removes}
-use Rattle.store.specs.World.{IsWorld, Turns, World}
-use Rattle.store.proofs.Turns.{turns_then}
-use Rattle.store.proofs.Ending.{turns_three}
+use Rattle.block_store.specs.World.{IsWorld, Turns, World}
+use Rattle.block_store.proofs.Turns.{turns_then}
+use Rattle.block_store.proofs.Ending.{turns_three}
 use Rattle.zone.proofs.ZoneInodes.{inode_is}
 use Rattle.descriptors.specs.Files.{Files, HasFiles, tree_with}
 use Rattle.calls_attributes.specs.Does.{Does, IsHeld, tree_in}
 use Rattle.calls_attributes.proofs.Made.{granted_made, refused_made}
-use Rattle.node_steps.specs.Steps.{BecomesAt, DropsLink, FreesNode, IsOfNode}
-use Rattle.node_steps.specs.Stands.{NodeIs, Stands}
-use Rattle.node_steps.proofs.Between.{holds_at_end, node_stands, nothing_is_done, step_is_done}
-use Rattle.node_steps.proofs.CallLawsEnding.{open_by_files}
+use Rattle.inode_operations.specs.Steps.{BecomesAt, DropsLink, FreesNode, IsOfNode}
+use Rattle.inode_operations.specs.Stands.{NodeIs, Stands}
+use Rattle.inode_operations.proofs.Between.{holds_at_end, node_stands, nothing_is_done, step_is_done}
+use Rattle.inode_operations.proofs.CallLawsEnding.{open_by_files}
 use Rattle.calls_names.specs.declared.named.Named.{Named}
 use Rattle.calls_names.specs.Names.{FindsName, place_at, why_kept}
 use Rattle.calls_names.proofs.Standing.{less, name_gone, parent, parent_kind, parent_there, placed, target, target_kind, target_there}

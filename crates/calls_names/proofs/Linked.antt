@@ -41,11 +41,11 @@ use Rattle.directory.specs.Names.{Inserts, IsOfDirectory, MayInsert}
 use Rattle.descriptors.specs.Files.{Files, HasFiles}
 use Rattle.calls_attributes.specs.Does.{Does, IsHeld, tree_in}
 use Rattle.calls_attributes.proofs.Made.{granted_made, refused_made}
-use Rattle.node_steps.specs.Steps.{AddsLink, BecomesAt, MayAddLink, node_at}
-use Rattle.node_steps.specs.Naming.{named}
-use Rattle.node_steps.specs.Stands.{Stands}
-use Rattle.node_steps.proofs.Between.{holds_at_end, kind_is, node_stands, nothing_is_done, step_is_done}
-use Rattle.node_steps.proofs.Entering.{body_is, name_may_be_put, names_are, room_is_for_name}
+use Rattle.inode_operations.specs.Steps.{AddsLink, BecomesAt, MayAddLink, node_at}
+use Rattle.inode_operations.specs.Naming.{named}
+use Rattle.inode_operations.specs.Stands.{Stands}
+use Rattle.inode_operations.proofs.Between.{holds_at_end, kind_is, node_stands, nothing_is_done, step_is_done}
+use Rattle.inode_operations.proofs.Entering.{body_is, name_may_be_put, names_are, room_is_for_name}
 use Rattle.calls_names.specs.declared.linking.Free.{Free}
 use Rattle.calls_names.specs.Linking.{FindsFile, FindsFree, IsFree, IsLast, IsRoomFor, free_at, on_file, on_free}
 

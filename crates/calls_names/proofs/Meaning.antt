@@ -19,13 +19,13 @@ use Rattle.volume.specs.Reading.{Disk, is_inode}
 use Rattle.volume.specs.Pieces.{Pieces, pieces}
 use Rattle.volume.specs.Nodes.{directory_of, is_directory_mode, is_marked, node_of}
 use Rattle.volume.specs.Holds.{Holds, HoldsVolume}
-use Rattle.store.specs.declared.Halt.{Halt}
-use Rattle.store.specs.declared.Halt.TheVariants as halt
-use Rattle.store.specs.Halts.{Ends}
+use Rattle.block_store.specs.declared.Halt.{Halt}
+use Rattle.block_store.specs.declared.Halt.TheVariants as halt
+use Rattle.block_store.specs.Halts.{Ends}
 use Rattle.zone.proofs.ZoneInodes.{inode_is}
 use Rattle.path.specs.declared.stop.Stop.{Stop}
 use Rattle.path.specs.declared.stop.Stop.TheVariants as stop
-use Rattle.path.specs.declared.place.Place.{Place as Found}
+use Rattle.path.specs.declared.place.NamePlace.{NamePlace as Found}
 use Rattle.path.specs.Stops.{Answers}
 use Rattle.path.specs.Places.{FindsPlace, place_of}
 use Rattle.path.proofs.Going.{has_entries}

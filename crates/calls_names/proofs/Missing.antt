@@ -21,7 +21,7 @@ use Rattle.tree.proofs.OpenCall.{missing_at}
 use Rattle.volume.specs.Reading.{Disk}
 use Rattle.volume.specs.Holds.{HoldsVolume}
 use Rattle.descriptors.specs.Files.{files_in}
-use Rattle.path.specs.declared.place.Place.{Place}
+use Rattle.path.specs.declared.place.NamePlace.{NamePlace}
 use Rattle.path.specs.Places.{IsPlace, place_of}
 use Rattle.calls_names.specs.Asking.{only_makes}
 use Rattle.calls_names.specs.Making.{IsFileMade, IsFileRefused, MakesFileOr, with_new_file}
@@ -67,7 +67,7 @@ module _ (g : Geometry) (t : Tree) (user : User) (now : ℕ) (path : List ℕ) (
       refused_as errno x = record { same = x.same; refused = λ slot. to_found slot ∙ x.refused slot }
 
 -- a missing name is of a vacant place
-pub missing_vacant : (g : Geometry) (d : Disk) (t : Tree) (user : User) (path : List ℕ) (parts : List Name) (p : Place) (holds : HoldsVolume g d t) (at : IsPlace g d t user parts p)
+pub missing_vacant : (g : Geometry) (d : Disk) (t : Tree) (user : User) (path : List ℕ) (parts : List Name) (p : NamePlace) (holds : HoldsVolume g d t) (at : IsPlace g d t user parts p)
     → IsBytes path → read_path path ≡ Ok parts → look_up t user parts ≡ Ok (is_missing (place_of g d p)) → IsVacant g d t p (parent_node g d t user parts p holds at)
 missing_vacant g d t user path parts p holds at bytes read looked =
     let m = missing_at t user parts (place_of g d p) looked in
@@ -75,7 +75,7 @@ missing_vacant g d t user path parts p holds at bytes read looked =
     ap (λ b. not b || has_name (place_of g d p).names p.name.now) m.last ∙ ap is_some m.free in
     is_vacant g d t user parts p holds at path bytes read free
 
-module _ (g : Geometry) (ok : IsGeometry g) (t : Tree) (user : User) (now flags mode : ℕ) (d e : Disk) (p : Place) (parent : Node) (vacant : IsVacant g d t p parent) where
+module _ (g : Geometry) (ok : IsGeometry g) (t : Tree) (user : User) (now flags mode : ℕ) (d e : Disk) (p : NamePlace) (parent : Node) (vacant : IsVacant g d t p parent) where
   abbrev place : tree.Place
   place = place_of g d p
 

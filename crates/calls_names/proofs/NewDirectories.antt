@@ -24,11 +24,11 @@ use Rattle.tree.proofs.Outcomes.{free_inode_is}
 use Rattle.volume.specs.Holds.{HoldsVolume}
 use Rattle.volume.specs.Reading.{Disk}
 use Rattle.descriptors.specs.Files.{Files, HasFiles}
-use Rattle.path.specs.declared.place.Place.{Place}
+use Rattle.path.specs.declared.place.NamePlace.{NamePlace}
 use Rattle.path.specs.Places.{place_of}
 use Rattle.calls_attributes.specs.Does.{Does}
 use Rattle.calls_attributes.proofs.Made.{granted_made}
-use Rattle.node_steps.proofs.Between.{holds_at_end}
+use Rattle.inode_operations.proofs.Between.{holds_at_end}
 use Rattle.calls_names.specs.Making.{MakesDirectoryAt, MayMakeDirectoryAt, with_new_directory}
 use Rattle.calls_names.specs.Vacant.{IsFreeFor, IsFull, IsNewPlace, at_new_place, zones_with_name}
 use Rattle.calls_names.proofs.Numbers.{directory_in}
@@ -60,7 +60,7 @@ module _ (g : Geometry) (ok : IsGeometry g) (user : User) (now mode : ℕ) (path
     pub no_place : (t : Tree) (e : Errno) → ((rest : tree.Place → Node → Effect) → at_new_place t user path.now rest ≡ Err e) → effect t ≡ Err e
     no_place t e h = good_mode t ∙ h (rest t)
 
-    module _ (d : Disk) (t : Tree) (p : Place) (holds : HoldsVolume g d t) (new : IsNewPlace g d t user path.now p) where
+    module _ (d : Disk) (t : Tree) (p : NamePlace) (holds : HoldsVolume g d t) (new : IsNewPlace g d t user path.now p) where
       abbrev place : tree.Place
       place = place_of g d p
 
@@ -133,7 +133,7 @@ module _ (g : Geometry) (ok : IsGeometry g) (user : User) (now mode : ℕ) (path
               directory_files g ok t user now mode place n new.parent new.vacant.there new.vacant.directory it.nothing new.vacant.free f h
 
     -- the whole call
-    pub directory_done : (d e : Disk) (p : Place) (n : ℕ) (f : Files) → now < 2 ^ 32 → user.uid < 2 ^ 16 → user.gid < 2 ^ 16 → IsBytes path.now → p.inode.links < most_links
+    pub directory_done : (d e : Disk) (p : NamePlace) (n : ℕ) (f : Files) → now < 2 ^ 32 → user.uid < 2 ^ 16 → user.gid < 2 ^ 16 → IsBytes path.now → p.inode.links < most_links
         → ((t : Tree) → HoldsVolume g d t → (new : IsNewPlace g d t user path.now p) × IsFreeFor g t p.directory new.parent p.name.now 1 n)
         → MakesDirectoryAt g user now mode p n d e → Does g effect done (HasFiles f) (HasFiles f) d e
     directory_done d e p n f small uid gid bytes low found makes = record {

@@ -18,18 +18,18 @@ use Rattle.volume.specs.declared.Inode.{Inode}
 use Rattle.volume.specs.Holds.{HoldsVolume}
 use Rattle.volume.specs.Nodes.{permissions_in}
 use Rattle.volume.specs.Reading.{Disk}
-use Rattle.path.specs.declared.place.Place.{Place}
+use Rattle.path.specs.declared.place.NamePlace.{NamePlace}
 use Rattle.path.specs.Places.{place_of}
-use Rattle.node_steps.proofs.Between.{node_stands, nothing_is_done}
+use Rattle.inode_operations.proofs.Between.{node_stands, nothing_is_done}
 use Rattle.calls_names.specs.Making.{IsFileMade, IsFileRefused, MakesFileAt, MayMakeAt, at_missing, with_new_file}
 use Rattle.calls_names.specs.Vacant.{IsFreeFor, IsFull, IsVacant, zones_with_name}
 use Rattle.calls_names.proofs.Numbers.{directory_in}
 use Rattle.calls_names.proofs.Putting.{is_free}
 use Rattle.calls_names.proofs.Trees.{file_zones}
 
-module _ (g : Geometry) (ok : IsGeometry g) (t : Tree) (user : User) (now mode : ℕ) (d : Disk) (p : Place) (parent : Node)
+module _ (g : Geometry) (ok : IsGeometry g) (t : Tree) (user : User) (now mode : ℕ) (d : Disk) (p : NamePlace) (parent : Node)
     (holds : HoldsVolume g d t) (vacant : IsVacant g d t p parent) where
-  its_node : Rattle.node_steps.specs.Steps.node_at g (Rattle.volume.specs.Pieces.pieces g d) p.directory ≡ parent
+  its_node : Rattle.inode_operations.specs.Steps.node_at g (Rattle.volume.specs.Pieces.pieces g d) p.directory ≡ parent
   its_node = (node_stands g d d t.nodes p.directory parent ok (nothing_is_done g d t holds) vacant.there).node
 
   -- the parent's attributes are those of its inode

@@ -25,11 +25,11 @@ use Rattle.tree.proofs.Outcomes.{free_inode_is}
 use Rattle.volume.specs.Holds.{HoldsVolume}
 use Rattle.volume.specs.Reading.{Disk}
 use Rattle.descriptors.specs.Files.{Files, HasFiles}
-use Rattle.path.specs.declared.place.Place.{Place}
+use Rattle.path.specs.declared.place.NamePlace.{NamePlace}
 use Rattle.path.specs.Places.{place_of}
 use Rattle.calls_attributes.specs.Does.{Does}
 use Rattle.calls_attributes.proofs.Made.{granted_made}
-use Rattle.node_steps.proofs.Between.{holds_at_end}
+use Rattle.inode_operations.proofs.Between.{holds_at_end}
 use Rattle.calls_names.specs.Asking.{may_be_target}
 use Rattle.calls_names.specs.Making.{MakesLinkAt, MayMakeAt, with_new_link}
 use Rattle.calls_names.specs.Vacant.{IsFreeFor, IsFull, IsNewPlace, at_new_place, zones_with_name}
@@ -79,7 +79,7 @@ module _ (g : Geometry) (ok : IsGeometry g) (user : User) (now : ℕ) (target pa
         → effect t ≡ Err e
     no_place t e h = good_target t ∙ h (rest t)
 
-    module _ (d : Disk) (t : Tree) (p : Place) (holds : HoldsVolume g d t) (new : IsNewPlace g d t user path.now p) where
+    module _ (d : Disk) (t : Tree) (p : NamePlace) (holds : HoldsVolume g d t) (new : IsNewPlace g d t user path.now p) where
       abbrev place : tree.Place
       place = place_of g d p
 
@@ -144,7 +144,7 @@ module _ (g : Geometry) (ok : IsGeometry g) (user : User) (now : ℕ) (target pa
             link_files g ok t user now 0 place n new.parent new.vacant.there new.vacant.directory it.nothing new.vacant.free target.now f h
 
     -- the whole call
-    pub link_done : (d e : Disk) (p : Place) (n : ℕ) (f : Files) → now < 2 ^ 32 → user.uid < 2 ^ 16 → user.gid < 2 ^ 16
+    pub link_done : (d e : Disk) (p : NamePlace) (n : ℕ) (f : Files) → now < 2 ^ 32 → user.uid < 2 ^ 16 → user.gid < 2 ^ 16
         → IsBytes target.now → IsBytes path.now
         → ((t : Tree) → HoldsVolume g d t → (new : IsNewPlace g d t user path.now p) × IsFreeFor g t p.directory new.parent p.name.now 1 n)
         → MakesLinkAt g user now target.now p n d e → Does g effect done (HasFiles f) (HasFiles f) d e

@@ -27,17 +27,17 @@ use Rattle.file.specs.Room.{IsRoomBeside}
 use Rattle.file.proofs.RoomSpaces.{room_beside_is_space}
 use Rattle.directory.proofs.Becoming.{may_change}
 use Rattle.directory.specs.Names.{IsOfDirectory}
-use Rattle.path.specs.declared.place.Place.{Place}
-use Rattle.node_steps.specs.NewNodes.{IsLeastFree}
-use Rattle.node_steps.specs.Steps.{node_at}
-use Rattle.node_steps.specs.Naming.{named}
-use Rattle.node_steps.specs.Stands.{Stands}
-use Rattle.node_steps.proofs.Between.{directory_stands, node_stands, nothing_is_done}
-use Rattle.node_steps.proofs.Entering.{held_with_name, names_are}
+use Rattle.path.specs.declared.place.NamePlace.{NamePlace}
+use Rattle.inode_operations.specs.NewNodes.{IsLeastFree}
+use Rattle.inode_operations.specs.Steps.{node_at}
+use Rattle.inode_operations.specs.Naming.{named}
+use Rattle.inode_operations.specs.Stands.{Stands}
+use Rattle.inode_operations.proofs.Between.{directory_stands, node_stands, nothing_is_done}
+use Rattle.inode_operations.proofs.Entering.{held_with_name, names_are}
 use Rattle.calls_names.specs.Vacant.{IsFreeFor, IsFull, IsVacant, zones_with_name}
 use Rattle.calls_names.proofs.Zones.{directory_is_small, part_taken}
 
-module _ (g : Geometry) (ok : IsGeometry g) (d : Disk) (t : Tree) (p : Place) (parent : Node) (holds : HoldsVolume g d t) (vacant : IsVacant g d t p parent) where
+module _ (g : Geometry) (ok : IsGeometry g) (d : Disk) (t : Tree) (p : NamePlace) (parent : Node) (holds : HoldsVolume g d t) (vacant : IsVacant g d t p parent) where
   abbrev v : Pieces
   v = pieces g d
 

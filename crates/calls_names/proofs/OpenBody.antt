@@ -19,14 +19,14 @@ use Rattle.tree.proofs.OpenCall.{open_keeps}
 use Rattle.volume.specs.Reading.{Disk}
 use Rattle.volume.specs.Holds.{HoldsVolume}
 use Rattle.descriptors.specs.Files.{Files, HasFiles, files_in, tree_with}
-use Rattle.store.specs.declared.Halt.{Halt}
-use Rattle.store.specs.declared.Halt.TheVariants as halt
-use Rattle.store.specs.Halts.{Ends}
+use Rattle.block_store.specs.declared.Halt.{Halt}
+use Rattle.block_store.specs.declared.Halt.TheVariants as halt
+use Rattle.block_store.specs.Halts.{Ends}
 use Rattle.path.specs.Stops.{Answers, halted}
 use Rattle.calls_attributes.specs.Does.{Does, IsHeld}
 use Rattle.calls_attributes.proofs.Made.{granted_made, refused_made}
 use Rattle.calls_attributes.proofs.OpenFiles.{tree_kept}
-use Rattle.node_steps.proofs.Between.{holds_at_end}
+use Rattle.inode_operations.proofs.Between.{holds_at_end}
 use Rattle.calls_names.specs.Asking.{may_begin}
 use Rattle.calls_names.specs.Opening.{IsPut, IsReady, Readies, open_named}
 use Rattle.calls_names.proofs.Slots.{HasSlot, IsBegun, goes_on, has_slot, not_begun, put_there, slot_of}

@@ -24,13 +24,13 @@ use Rattle.volume.specs.Pieces.{Pieces, pieces}
 use Rattle.volume.specs.Reading.{Disk}
 use Rattle.zone.specs.Room.{taken_by}
 use Rattle.directory.specs.Names.{Inserts, MayInsert}
-use Rattle.path.specs.declared.place.Place.{Place}
+use Rattle.path.specs.declared.place.NamePlace.{NamePlace}
 use Rattle.path.specs.Places.{place_of}
-use Rattle.node_steps.specs.NewNodes.{MakesDirectory, MakesFile, MakesLink, MayMakeDirectory, MayMakeFile, MayMakeLink}
-use Rattle.node_steps.specs.Steps.{AddsLink, MayAddLink}
-use Rattle.node_steps.specs.Stands.{Stands}
-use Rattle.node_steps.proofs.Between.{node_stands, nothing_is_done, step_is_done}
-use Rattle.node_steps.proofs.Entering.{name_may_be_put}
+use Rattle.inode_operations.specs.NewNodes.{MakesDirectory, MakesFile, MakesLink, MayMakeDirectory, MayMakeFile, MayMakeLink}
+use Rattle.inode_operations.specs.Steps.{AddsLink, MayAddLink}
+use Rattle.inode_operations.specs.Stands.{Stands}
+use Rattle.inode_operations.proofs.Between.{node_stands, nothing_is_done, step_is_done}
+use Rattle.inode_operations.proofs.Entering.{name_may_be_put}
 use Rattle.calls_names.specs.Making.{MayMakeAt, MayMakeDirectoryAt, with_new_directory, with_new_file, with_new_link}
 use Rattle.calls_names.specs.Vacant.{IsVacant, zones_with_name}
 use Rattle.calls_names.proofs.Numbers.{directory_in, directory_some, may_grow}
@@ -51,7 +51,7 @@ name_short name is =
     let two = and_parts (nat_le 1 (length name) && nat_le (length name) most_name) _ one.0 in
     leb-true (length name) 60 (and_parts (nat_le 1 (length name)) (nat_le (length name) most_name) two.0).1
 
-module _ (g : Geometry) (ok : IsGeometry g) (d : Disk) (p : Place) (n others now mode : ℕ) (user : User) (may : MayMakeAt g d p n others) where
+module _ (g : Geometry) (ok : IsGeometry g) (d : Disk) (p : NamePlace) (n others now mode : ℕ) (user : User) (may : MayMakeAt g d p n others) where
   abbrev t : Tree
   t = may.tree
 
@@ -218,13 +218,13 @@ module _ (g : Geometry) (ok : IsGeometry g) (d : Disk) (p : Place) (n others now
           }))
 
 -- the parent's links are those of its inode
-pub parent_links : (g : Geometry) → IsGeometry g → (d : Disk) (t : Tree) (p : Place) (parent : Node) → HoldsVolume g d t → IsVacant g d t p parent → p.inode.links ≡ parent.links
+pub parent_links : (g : Geometry) → IsGeometry g → (d : Disk) (t : Tree) (p : NamePlace) (parent : Node) → HoldsVolume g d t → IsVacant g d t p parent → p.inode.links ≡ parent.links
 parent_links g ok d t p parent holds vacant =
     let node = (node_stands g d d t.nodes p.directory parent ok (nothing_is_done g d t holds) vacant.there).node in
     ap (λ (i : Inode). i.links) vacant.inode ∙ ap (λ (y : Node). y.links) node
 
 -- The same of a directory, from what is asked before.
-module _ (g : Geometry) (ok : IsGeometry g) (d : Disk) (p : Place) (n now mode : ℕ) (user : User) (may : MayMakeDirectoryAt g d p n) where
+module _ (g : Geometry) (ok : IsGeometry g) (d : Disk) (p : NamePlace) (n now mode : ℕ) (user : User) (may : MayMakeDirectoryAt g d p n) where
   low : may.make.parent.links < most_links
   low =
       let same = parent_links g ok d may.make.tree p may.make.parent may.make.holds may.make.vacant in

@@ -21,10 +21,10 @@ use Rattle.directory.specs.Removal.{Removes}
 use Rattle.calls_attributes.specs.Does.{IsHeld}
 use Rattle.calls_attributes.proofs.Made.{node_there}
 use Rattle.descriptors.specs.Files.{Files, HasFiles}
-use Rattle.node_steps.specs.Steps.{node_at}
-use Rattle.node_steps.specs.Stands.{Stands}
-use Rattle.node_steps.proofs.Between.{kind_is, nothing_is_done, step_is_done}
-use Rattle.node_steps.proofs.Entering.{body_is, name_is_there, names_are}
+use Rattle.inode_operations.specs.Steps.{node_at}
+use Rattle.inode_operations.specs.Stands.{Stands}
+use Rattle.inode_operations.proofs.Between.{kind_is, nothing_is_done, step_is_done}
+use Rattle.inode_operations.proofs.Entering.{body_is, name_is_there, names_are}
 use Rattle.calls_names.specs.declared.named.Named.{Named}
 use Rattle.calls_names.specs.Names.{FindsName, IsNamed, IsVolume, place_at}
 

@@ -27,8 +27,8 @@ use Rattle.file.specs.PageChanges.{MayChange, file_at, stamped}
 use Rattle.calls_attributes.proofs.Made.{node_there}
 use Rattle.calls_attributes.proofs.Volumes.{may_change, no_directory, volume_changed}
 use Rattle.calls_files.specs.Dated.{SetsSizeAt}
-use Rattle.node_steps.specs.Stands.{Stands}
-use Rattle.node_steps.proofs.Between.{kind_is, nothing_is_done}
+use Rattle.inode_operations.specs.Stands.{Stands}
+use Rattle.inode_operations.proofs.Between.{kind_is, nothing_is_done}
 use Rattle.calls_names.specs.Asking.{lacks_permission, only_makes, why_barred}
 use Rattle.calls_names.specs.Opening.{IsReady, IsRefused}
 

@@ -16,7 +16,7 @@ use Rattle.tree.proofs.TreeOver.{over_itself, over_on_node, over_with_node}
 use Rattle.tree.proofs.Views.{on_node_there}
 use Rattle.zone.specs.Room.{taken_by}
 use Rattle.descriptors.specs.Files.{Files, HasFiles}
-use Rattle.node_steps.proofs.Nodes.{put_twice}
+use Rattle.inode_operations.proofs.Nodes.{put_twice}
 use Rattle.calls_names.specs.Making.{with_new_directory, with_new_file, with_new_link}
 use Rattle.calls_names.specs.Vacant.{zones_with_name}
 use Rattle.calls_names.proofs.Zones.{by_directory, directory_takes, file_takes, link_takes, taken_put}

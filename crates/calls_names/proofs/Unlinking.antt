@@ -26,10 +26,10 @@ use Rattle.directory.specs.Removal.{Removes}
 use Rattle.descriptors.specs.Files.{Files, HasFiles}
 use Rattle.calls_attributes.specs.Does.{Does, IsHeld, tree_in}
 use Rattle.calls_attributes.proofs.Made.{granted_made, refused_made}
-use Rattle.node_steps.specs.Steps.{BecomesAt, IsOfNode, LosesName, left_of, node_at}
-use Rattle.node_steps.specs.Stands.{NodeIs, Stands}
-use Rattle.node_steps.proofs.Between.{holds_at_end, node_stands, step_is_done}
-use Rattle.node_steps.proofs.CallLawsEnding.{put_is_left}
+use Rattle.inode_operations.specs.Steps.{BecomesAt, IsOfNode, LosesName, left_of, node_at}
+use Rattle.inode_operations.specs.Stands.{NodeIs, Stands}
+use Rattle.inode_operations.proofs.Between.{holds_at_end, node_stands, step_is_done}
+use Rattle.inode_operations.proofs.CallLawsEnding.{put_is_left}
 use Rattle.calls_names.specs.declared.named.Named.{Named}
 use Rattle.calls_names.specs.Names.{FindsName, place_at}
 use Rattle.calls_names.proofs.Standing.{less, name_gone, parent, parent_kind, parent_there, target, target_kind, target_there}

@@ -21,7 +21,7 @@ use Rattle.volume.specs.Holds.{HoldsVolume}
 use Rattle.volume.specs.Nodes.{node_of}
 use Rattle.volume.specs.Pieces.{pieces}
 use Rattle.volume.specs.Reading.{Disk}
-use Rattle.path.specs.declared.place.Place.{Place}
+use Rattle.path.specs.declared.place.NamePlace.{NamePlace}
 use Rattle.path.specs.Places.{IsPlace, place_of}
 use Rattle.calls_attributes.proofs.Made.{node_there}
 use Rattle.calls_names.specs.Vacant.{IsNewPlace, IsVacant, at_new_place}
@@ -70,7 +70,7 @@ module _ (t : Tree) (user : User) (path : List ℕ) (rest : tree.Place → Node 
   on parts place parent read is free there may =
       free_at parts place parent read is free there ∙ ap (λ b. refuse_if (not b) EACCES >>= λ _. rest place parent) may
 
-module _ (g : Geometry) (d : Disk) (t : Tree) (user : User) (parts : List Name) (p : Place) (holds : HoldsVolume g d t) (at : IsPlace g d t user parts p) where
+module _ (g : Geometry) (d : Disk) (t : Tree) (user : User) (parts : List Name) (p : NamePlace) (holds : HoldsVolume g d t) (at : IsPlace g d t user parts p) where
   -- whether the name is taken is what was looked up
   pub taken_is : is_taken (place_of g d p) parts ≡ (not (has_last_name parts) || is_some p.there)
   taken_is = elim (cases_Bool (has_last_name parts)) [

@@ -16,7 +16,7 @@ use Rattle.volume.specs.Entries.{is_directory_inode}
 use Rattle.volume.specs.Holds.{HoldsVolume}
 use Rattle.directory.specs.Directories.{before}
 use Rattle.file.specs.PageChanges.{MayChange}
-use Rattle.node_steps.specs.Naming.{IsRoomForEntry}
+use Rattle.inode_operations.specs.Naming.{IsRoomForEntry}
 use Rattle.calls_names.specs.declared.linking.Free.{Free}
 
 -- Link, from where the paths are read up to where it looks for the new place. A link that stands last isn't followed.

@@ -14,9 +14,9 @@ use Rattle.tree.specs.NameCalls.{with_entry}
 use Rattle.tree.specs.Space.{data_zones, zones_used}
 use Rattle.volume.specs.Holds.{HoldsVolume}
 use Rattle.volume.specs.Reading.{Disk}
-use Rattle.path.specs.declared.place.Place.{Place}
+use Rattle.path.specs.declared.place.NamePlace.{NamePlace}
 use Rattle.path.specs.Places.{place_of}
-use Rattle.node_steps.specs.Stands.{Stands}
+use Rattle.inode_operations.specs.Stands.{Stands}
 use Rattle.calls_names.specs.Vacant.{IsFreeFor, IsVacant}
 
 -- the tree with a new directory at a place
@@ -34,7 +34,7 @@ abbrev pub with_new_link : Tree → User → ℕ → List ℕ → tree.Place →
 with_new_link t user now target place n = with_entry (with_node t n (Some (new_link now user target))) now place n
 
 -- A tree is held in which the place is vacant, with a number for a new node and zones enough for its name and others beside.
-pub record MayMakeAt (g : Geometry) (d : Disk) (p : Place) (n others : ℕ) : Type 0 where
+pub record MayMakeAt (g : Geometry) (d : Disk) (p : NamePlace) (n others : ℕ) : Type 0 where
   pub tree : Tree
   pub holds : HoldsVolume g d tree
   pub parent : Node
@@ -42,20 +42,20 @@ pub record MayMakeAt (g : Geometry) (d : Disk) (p : Place) (n others : ℕ) : Ty
   pub free : IsFreeFor g tree p.directory parent p.name.now others n
 
 -- the same, where the directory may have a link more
-pub record MayMakeDirectoryAt (g : Geometry) (d : Disk) (p : Place) (n : ℕ) : Type 0 where
+pub record MayMakeDirectoryAt (g : Geometry) (d : Disk) (p : NamePlace) (n : ℕ) : Type 0 where
   pub make : MayMakeAt g d p n 1
   pub links : p.inode.links < most_links
 
 -- The nodes are those with a new file, a new directory or a new symbolic link there.
-abbrev pub MakesFileAt : Geometry → User → ℕ → ℕ → Place → ℕ → Disk → Disk → Type 0
+abbrev pub MakesFileAt : Geometry → User → ℕ → ℕ → NamePlace → ℕ → Disk → Disk → Type 0
 MakesFileAt g user now mode p n d e =
     (may : MayMakeAt g d p n 0) → Stands g d e (with_new_file may.tree user now mode (place_of g d p) n).nodes
 
-abbrev pub MakesDirectoryAt : Geometry → User → ℕ → ℕ → Place → ℕ → Disk → Disk → Type 0
+abbrev pub MakesDirectoryAt : Geometry → User → ℕ → ℕ → NamePlace → ℕ → Disk → Disk → Type 0
 MakesDirectoryAt g user now mode p n d e =
     (may : MayMakeDirectoryAt g d p n) → Stands g d e (with_new_directory may.make.tree user now mode (place_of g d p) n).nodes
 
-abbrev pub MakesLinkAt : Geometry → User → ℕ → List ℕ → Place → ℕ → Disk → Disk → Type 0
+abbrev pub MakesLinkAt : Geometry → User → ℕ → List ℕ → NamePlace → ℕ → Disk → Disk → Type 0
 MakesLinkAt g user now target p n d e =
     (may : MayMakeAt g d p n 1) → Stands g d e (with_new_link may.tree user now target (place_of g d p) n).nodes
 
@@ -69,19 +69,19 @@ at_missing g t user creates directory rest = do
   rest n
 
 -- The call goes on with that number, and the volume has the file.
-pub record IsFileMade (g : Geometry) (t : Tree) (user : User) (creates : Bool) (now mode : ℕ) (p : Place) (d e : Disk) (n : ℕ) : Type 0 where
+pub record IsFileMade (g : Geometry) (t : Tree) (user : User) (creates : Bool) (now mode : ℕ) (p : NamePlace) (d e : Disk) (n : ℕ) : Type 0 where
   pub goes_on : (rest : ℕ → Effect) → at_missing g t user creates p.directory rest ≡ rest n
   pub least : free_inode g t ≡ Ok n
   pub fits : zones_used g (with_new_file t user now mode (place_of g d p) n) ≤ data_zones g
   pub stands : Stands g d e (with_new_file t user now mode (place_of g d p) n).nodes
 
 -- The call is refused for this where it refuses a tree that doesn't fit, and nothing is changed.
-pub record IsFileRefused (g : Geometry) (t : Tree) (user : User) (creates : Bool) (now mode : ℕ) (p : Place) (d e : Disk) (errno : Errno) : Type 0 where
+pub record IsFileRefused (g : Geometry) (t : Tree) (user : User) (creates : Bool) (now mode : ℕ) (p : NamePlace) (d e : Disk) (errno : Errno) : Type 0 where
   pub same : e ≡ d
   pub refused : (rest : ℕ → Effect)
       → ((n : ℕ) → data_zones g < zones_used g (with_new_file t user now mode (place_of g d p) n) → rest n ≡ Err ENOSPC)
       → at_missing g t user creates p.directory rest ≡ Err errno
 
-abbrev pub MakesFileOr : Geometry → Tree → User → Bool → ℕ → ℕ → Place → Disk → Disk → Result ℕ Errno → Type 0
+abbrev pub MakesFileOr : Geometry → Tree → User → Bool → ℕ → ℕ → NamePlace → Disk → Disk → Result ℕ Errno → Type 0
 MakesFileOr g t user creates now mode p d e (Ok n) = IsFileMade g t user creates now mode p d e n
 MakesFileOr g t user creates now mode p d e (Err errno) = IsFileRefused g t user creates now mode p d e errno

@@ -17,7 +17,7 @@ use Rattle.volume.specs.Entries.{is_directory_inode}
 use Rattle.volume.specs.Holds.{HoldsVolume}
 use Rattle.directory.specs.Directories.{before}
 use Rattle.descriptors.specs.Files.{Files, tree_with}
-use Rattle.path.specs.declared.place.Place.{Place as Found}
+use Rattle.path.specs.declared.place.NamePlace.{NamePlace as Found}
 use Rattle.path.specs.Places.{FindsPlace}
 use Rattle.calls_names.specs.declared.named.Named.{Named}
 

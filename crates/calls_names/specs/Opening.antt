@@ -14,7 +14,7 @@ use Rattle.descriptors.specs.Files.{Files, HasFiles, files_in, put_file}
 use Rattle.path.specs.declared.place.Found.{Found}
 use Rattle.path.specs.declared.place.Found.TheVariants as found
 use Rattle.path.specs.Places.{Finds}
-use Rattle.node_steps.specs.Stands.{Stands}
+use Rattle.inode_operations.specs.Stands.{Stands}
 use Rattle.calls_names.specs.Asking.{only_makes}
 
 -- open from the path on, where the slot of the open file is known

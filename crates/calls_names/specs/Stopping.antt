@@ -4,7 +4,7 @@ use Rattle.layout.specs.declared.Geometry.{Geometry}
 use Rattle.tree.specs.Tree.{Tree}
 use Rattle.tree.specs.Answers.{Answer, Effect, refused}
 use Rattle.volume.specs.Reading.{Disk}
-use Rattle.store.specs.declared.Halt.TheVariants as halt
+use Rattle.block_store.specs.declared.Halt.TheVariants as halt
 use Rattle.path.specs.declared.stop.Stop.{Stop}
 use Rattle.path.specs.declared.stop.Stop.TheVariants as stop
 use Rattle.calls_attributes.specs.Does.{Does, IsHeld}

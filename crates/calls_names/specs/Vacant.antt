@@ -16,7 +16,7 @@ use Rattle.tree.specs.Space.{data_zones}
 use Rattle.volume.specs.Pieces.{pieces}
 use Rattle.volume.specs.Reading.{Disk}
 use Rattle.zone.specs.Room.{taken_by}
-use Rattle.path.specs.declared.place.Place.{Place}
+use Rattle.path.specs.declared.place.NamePlace.{NamePlace}
 use Rattle.path.specs.Places.{place_of}
 
 -- A call that puts a new name at the end of a path, up to where it looks at the place and its directory.
@@ -30,7 +30,7 @@ at_new_place t user path rest = do
   rest place parent
 
 -- Nothing is at the place, whose directory is this node, and its name is one that may be.
-pub record IsVacant (g : Geometry) (d : Disk) (t : Tree) (p : Place) (parent : Node) : Type 0 where
+pub record IsVacant (g : Geometry) (d : Disk) (t : Tree) (p : NamePlace) (parent : Node) : Type 0 where
   pub there : t.nodes p.directory ≡ Some parent
   pub directory : is_dir parent ≡ true
   pub names : (place_of g d p).names ≡ names_of (Some parent)
@@ -39,13 +39,13 @@ pub record IsVacant (g : Geometry) (d : Disk) (t : Tree) (p : Place) (parent : N
   pub free : inode_of (names_of (Some parent)) p.name.now ≡ None
 
 -- The call goes on with that place and its directory.
-pub record IsNewPlace (g : Geometry) (d : Disk) (t : Tree) (user : User) (path : List ℕ) (p : Place) : Type 0 where
+pub record IsNewPlace (g : Geometry) (d : Disk) (t : Tree) (user : User) (path : List ℕ) (p : NamePlace) : Type 0 where
   pub parent : Node
   pub goes_on : (rest : tree.Place → Node → Effect) → at_new_place t user path rest ≡ rest (place_of g d p) parent
   pub vacant : IsVacant g d t p parent
 
 -- or the refusal
-abbrev pub FindsNewPlace : Geometry → Disk → Tree → User → List ℕ → Result Place Errno → Type 0
+abbrev pub FindsNewPlace : Geometry → Disk → Tree → User → List ℕ → Result NamePlace Errno → Type 0
 FindsNewPlace g d t user path (Ok p) = IsNewPlace g d t user path p
 FindsNewPlace g d t user path (Err e) = (rest : tree.Place → Node → Effect) → at_new_place t user path rest ≡ Err e
 

@@ -5,28 +5,28 @@ ghost use Rattle.tree.specs.Tree.{most_permissions};
 ghost use Rattle.tree.specs.Answers.{answer_of, done, refused};
 ghost use Rattle.tree.specs.NameCalls.{mkdir};
 ghost use Rattle.descriptors.specs.Files.{Files, HasFiles};
-ghost use Rattle.store.specs.Halts.{Ends, IsHalt};
-ghost use Rattle.store.specs.Volume.{IsOn};
-ghost use Rattle.store.specs.World.{Turns};
+ghost use Rattle.block_store.specs.Halts.{Ends, IsHalt};
+ghost use Rattle.block_store.specs.Volume.{IsOn};
+ghost use Rattle.block_store.specs.World.{Turns};
 ghost use Rattle.calls_attributes.specs.Does.{Meets};
 ghost use Rattle.path.specs.Stops.{IfRefused, IsStop};
 ghost use Rattle.calls_names.specs.Making.{MakesDirectoryAt, MayMakeDirectoryAt};
 ghost use Rattle.calls_names.specs.Stopping.{MeetsOrStops};
 
 use crate::vacant::{free_number, vacant_place};
+use block_store::{Blocks, Halt};
 use directory::insert;
 use errno::Errno;
+use inode_operations::{add_link, new_directory};
 use layout::Geometry;
-use node_steps::{add_link, new_directory};
-use path::{NameCache, Place, Stop};
-use store::{Blocks, Halt};
+use path::{NameCache, NamePlace, Stop};
 use tree::{MAX_LINKS, MAX_NAME, MAX_PERMISSIONS, Reply, User};
 
 /// Makes a directory at a vacant place: its node, its name, and the link that its `..` is of its parent.
 fn put_directory<B: Blocks>(
     blocks: &mut B,
     geometry: &Geometry,
-    place: &Place,
+    place: &NamePlace,
     number: u32,
     user: User,
     now: u32,

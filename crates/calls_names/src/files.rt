@@ -3,20 +3,20 @@
 ghost use Rattle.std.specs.Prelude.{◌≢◌, ◌≤◌, IfErr};
 ghost use Rattle.tree.specs.Tree.{Node, Tree, most_permissions};
 ghost use Rattle.volume.specs.Holds.{HoldsVolume};
-ghost use Rattle.store.specs.Halts.{Ends, IsHalt};
-ghost use Rattle.store.specs.Volume.{IsOn};
-ghost use Rattle.store.specs.World.{Turns};
+ghost use Rattle.block_store.specs.Halts.{Ends, IsHalt};
+ghost use Rattle.block_store.specs.Volume.{IsOn};
+ghost use Rattle.block_store.specs.World.{Turns};
 ghost use Rattle.path.specs.Stops.{Answers, IfRefused, IsStop};
 ghost use Rattle.calls_names.specs.Making.{MakesFileAt, MakesFileOr, MayMakeAt};
 ghost use Rattle.calls_names.specs.Vacant.{IsVacant};
 
 use crate::vacant::{free_number, may_write};
+use block_store::{Blocks, Halt};
 use directory::insert;
 use errno::Errno;
+use inode_operations::new_file;
 use layout::Geometry;
-use node_steps::new_file;
-use path::{Place, Stop};
-use store::{Blocks, Halt};
+use path::{NamePlace, Stop};
 use tree::{MAX_NAME, User};
 
 /// Makes a file of no bytes at a vacant place, with a number that `free_number` gave for no zones beside: its node, and its name. Its
@@ -24,7 +24,7 @@ use tree::{MAX_NAME, User};
 pub fn put_file<B: Blocks>(
     blocks: &mut B,
     geometry: &Geometry,
-    place: &Place,
+    place: &NamePlace,
     number: u32,
     user: User,
     now: u32,
@@ -51,7 +51,7 @@ pub fn make_file<B: Blocks>(
     geometry: &Geometry,
     user: User,
     now: u32,
-    place: &Place,
+    place: &NamePlace,
     creates: bool,
     mode: u16,
 ) -> Result<u32, Stop>

@@ -7,24 +7,24 @@ ghost use Rattle.tree.specs.Walk.{has_last_name, last_part};
 ghost use Rattle.volume.specs.Pieces.{pieces};
 ghost use Rattle.volume.specs.Reading.{is_inode};
 ghost use Rattle.descriptors.specs.Files.{Files, HasFiles};
-ghost use Rattle.store.specs.World.{Reads, Turns};
-ghost use Rattle.store.specs.Volume.{IsOn};
-ghost use Rattle.store.specs.Halts.{Ends, IsHalt};
+ghost use Rattle.block_store.specs.World.{Reads, Turns};
+ghost use Rattle.block_store.specs.Volume.{IsOn};
+ghost use Rattle.block_store.specs.Halts.{Ends, IsHalt};
 ghost use Rattle.calls_attributes.specs.Does.{Meets};
 ghost use Rattle.calls_names.specs.Names.{IsVolume};
 ghost use Rattle.calls_names.specs.Linking.{FindsFile, FindsFree, IsLast, IsRoomFor};
 
 use crate::named::{may_write, place_of};
+use block_store::{Blocks, Halt};
 use calls_attributes::found::is_directory;
 use calls_attributes::last::walk_to_last;
 use directory::insert;
 use errno::Errno;
 use file::file_room::has_room;
 use inode::inode_table::load;
+use inode_operations::add_link;
 use layout::Geometry;
-use node_steps::add_link;
 use path::{NameCache, Path};
-use store::{Blocks, Halt};
 use tree::{MAX_LINKS, MAX_SIZE, Reply, User};
 
 /// A place for a name more.

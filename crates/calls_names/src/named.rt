@@ -1,18 +1,18 @@
 //! The name at the end of a path.
 
 ghost use Rattle.std.specs.Prelude.{◌≡◌, ◌≢◌, ◌<◌, IfErr, IfOk, length};
-ghost use Rattle.store.specs.World.{Reads};
-ghost use Rattle.store.specs.Volume.{IsOn};
-ghost use Rattle.store.specs.Halts.{IsHalt, Ends};
+ghost use Rattle.block_store.specs.World.{Reads};
+ghost use Rattle.block_store.specs.Volume.{IsOn};
+ghost use Rattle.block_store.specs.Halts.{IsHalt, Ends};
 ghost use Rattle.tree.specs.Tree.{Node};
 ghost use Rattle.tree.specs.Walk.{may_access, to_write};
 ghost use Rattle.calls_names.specs.Names.{FindsName, IsOfInode, IsVolume, MeansPlace};
 
+use block_store::{Blocks, Halt};
 use errno::Errno;
 use inode::inode_table::load;
 use layout::Geometry;
-use path::{NameCache, Path, Place, Stop, Wish, find_place, may};
-use store::{Blocks, Halt};
+use path::{NameCache, NamePlace, Path, Stop, Wish, find_place, may};
 use tree::User;
 use volume::Inode;
 
@@ -42,7 +42,7 @@ pub fn place_of<'a, B: Blocks>(
     geometry: &Geometry,
     user: User,
     path: &Path<'a>,
-) -> Result<Result<Place<'a>, Errno>, Halt>
+) -> Result<Result<NamePlace<'a>, Errno>, Halt>
     requires on { IsOn B.world geometry.now blocks.old }
     ensures reads { Reads B.world blocks.old blocks.new (λ d. Ends result
         (λ r. MeansPlace geometry.now d user path.now r) (IsVolume geometry.now d)) }

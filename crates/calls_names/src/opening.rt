@@ -6,19 +6,19 @@ ghost use Rattle.tree.specs.FileCalls.{open_path};
 ghost use Rattle.tree.specs.Answers.{answer_of, refused};
 ghost use Rattle.descriptors.specs.Files.{HasFiles, room_for_file};
 ghost use Rattle.descriptors.specs.Table.{files_of};
-ghost use Rattle.store.specs.Halts.{IsHalt};
-ghost use Rattle.store.specs.Volume.{IsOn};
-ghost use Rattle.store.specs.World.{Turns};
+ghost use Rattle.block_store.specs.Halts.{IsHalt};
+ghost use Rattle.block_store.specs.Volume.{IsOn};
+ghost use Rattle.block_store.specs.World.{Turns};
 ghost use Rattle.calls_attributes.specs.Does.{Meets};
 ghost use Rattle.calls_names.specs.Opening.{IsPut};
 
 use crate::asking::may_begin;
 use crate::readying::ready;
+use block_store::{Blocks, Halt};
 use descriptors::Descriptors;
 use errno::Errno;
 use layout::Geometry;
 use path::{NameCache, Stop};
-use store::{Blocks, Halt};
 use tree::{OpenFlags, Reply, User};
 
 /// Opens a node at position 0, under the lowest free descriptor of a session that has one.

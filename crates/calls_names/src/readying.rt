@@ -3,21 +3,21 @@
 ghost use Rattle.std.specs.Prelude.{◌≡◌, ◌≢◌, ◌≤◌, IfErr, IsTrue, false, is_some};
 ghost use Rattle.tree.specs.Tree.{Tree, is_link_at, most_permissions};
 ghost use Rattle.volume.specs.Holds.{HoldsVolume};
-ghost use Rattle.store.specs.Volume.{IsOn};
-ghost use Rattle.store.specs.World.{Reads, Turns};
+ghost use Rattle.block_store.specs.Volume.{IsOn};
+ghost use Rattle.block_store.specs.World.{Reads, Turns};
 ghost use Rattle.path.specs.Stops.{Answers, IfRefused, IsStop};
 ghost use Rattle.calls_names.specs.Asking.{only_makes};
 ghost use Rattle.calls_names.specs.Opening.{FindsToOpen, Readies, ReadiesThere, open_named};
 
 use crate::asking::{is_emptied, only_makes, refusal};
 use crate::make_file;
+use block_store::Blocks;
 use calls_attributes::found::is_link;
 use calls_files::set_size_at;
 use errno::Errno;
 use inode::inode_table::load;
 use layout::Geometry;
 use path::{Found, NameCache, Path, Stop, look_up, walk};
-use store::Blocks;
 use tree::{OpenFlags, User};
 
 /// Readies a node that is there, no symbolic link unless the call opens only what it makes: with the truncate flag its file is emptied,

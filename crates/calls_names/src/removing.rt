@@ -5,21 +5,21 @@ ghost use Rattle.tree.specs.Answers.{answer_of, refused};
 ghost use Rattle.tree.specs.NameCalls.{rmdir, unlink};
 ghost use Rattle.descriptors.specs.Files.{HasFiles};
 ghost use Rattle.descriptors.specs.Table.{files_of};
-ghost use Rattle.store.specs.World.{Turns};
-ghost use Rattle.store.specs.Volume.{IsOn};
-ghost use Rattle.store.specs.Halts.{Ends, IsHalt};
+ghost use Rattle.block_store.specs.World.{Turns};
+ghost use Rattle.block_store.specs.Volume.{IsOn};
+ghost use Rattle.block_store.specs.Halts.{Ends, IsHalt};
 ghost use Rattle.calls_attributes.specs.Does.{Meets};
 ghost use Rattle.calls_names.specs.Names.{why_kept};
 
 use crate::named::{Named, find_name};
+use block_store::{Blocks, Halt};
 use calls_attributes::found::is_directory;
 use descriptors::Descriptors;
 use directory::remove;
 use errno::Errno;
+use inode_operations::{drop_link, free_node, lose_name};
 use layout::Geometry;
-use node_steps::{drop_link, free_node, lose_name};
 use path::NameCache;
-use store::{Blocks, Halt};
 use tree::{Reply, User};
 
 /// unlink: a file has one name less, and is gone where that was its last and it isn't open; one that is open lives on without a name. In

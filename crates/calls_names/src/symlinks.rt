@@ -6,9 +6,9 @@ ghost use Rattle.tree.specs.Tree.{most_target};
 ghost use Rattle.tree.specs.Answers.{answer_of, done, refused};
 ghost use Rattle.tree.specs.NameCalls.{symlink};
 ghost use Rattle.descriptors.specs.Files.{Files, HasFiles};
-ghost use Rattle.store.specs.Halts.{Ends, IsHalt};
-ghost use Rattle.store.specs.Volume.{IsOn};
-ghost use Rattle.store.specs.World.{Turns};
+ghost use Rattle.block_store.specs.Halts.{Ends, IsHalt};
+ghost use Rattle.block_store.specs.Volume.{IsOn};
+ghost use Rattle.block_store.specs.World.{Turns};
 ghost use Rattle.calls_attributes.specs.Does.{Meets};
 ghost use Rattle.path.specs.Stops.{IfRefused, IsStop};
 ghost use Rattle.calls_names.specs.Asking.{may_be_target};
@@ -16,12 +16,12 @@ ghost use Rattle.calls_names.specs.Making.{MakesLinkAt, MayMakeAt};
 ghost use Rattle.calls_names.specs.Stopping.{MeetsOrStops};
 
 use crate::vacant::{free_number, vacant_place};
+use block_store::{Blocks, Halt};
 use directory::insert;
 use errno::Errno;
+use inode_operations::new_link;
 use layout::Geometry;
-use node_steps::new_link;
-use path::{NameCache, Place, Stop};
-use store::{Blocks, Halt};
+use path::{NameCache, NamePlace, Stop};
 use tree::{MAX_NAME, MAX_TARGET, Reply, User};
 
 /// Whether a byte of a target is zero.
@@ -54,7 +54,7 @@ fn may_be_target(target: &[u8]) -> Result<(), Errno>
 fn put_link<B: Blocks>(
     blocks: &mut B,
     geometry: &Geometry,
-    place: &Place,
+    place: &NamePlace,
     number: u32,
     user: User,
     now: u32,

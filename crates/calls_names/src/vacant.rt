@@ -5,17 +5,17 @@ ghost use Rattle.tree.specs.Tree.{Node, Tree};
 ghost use Rattle.tree.specs.Walk.{may_access, to_write};
 ghost use Rattle.volume.specs.Holds.{HoldsVolume};
 ghost use Rattle.volume.specs.Nodes.{permissions_in};
-ghost use Rattle.store.specs.Volume.{IsOn};
-ghost use Rattle.store.specs.World.{Reads};
+ghost use Rattle.block_store.specs.Volume.{IsOn};
+ghost use Rattle.block_store.specs.World.{Reads};
 ghost use Rattle.path.specs.Stops.{Answers, IfRefused, IsStop};
 ghost use Rattle.calls_names.specs.Vacant.{FindsNewPlace, FindsNumber, IsVacant};
 
+use block_store::{Blocks, Halt};
 use errno::Errno;
 use file::file_room::has_room_beside;
+use inode_operations::free_inode;
 use layout::Geometry;
-use node_steps::free_inode;
-use path::{NameCache, Path, Place, Stop, Wish, find_place, may};
-use store::{Blocks, Halt};
+use path::{NameCache, NamePlace, Path, Stop, Wish, find_place, may};
 use tree::{MAX_SIZE, User};
 use volume::Inode;
 
@@ -35,7 +35,7 @@ pub(crate) fn vacant_place<'a, B: Blocks>(
     geometry: &Geometry,
     user: User,
     path: &'a [u8],
-) -> Result<Place<'a>, Stop>
+) -> Result<NamePlace<'a>, Stop>
     requires on { IsOn B.world geometry.now blocks.old }
     ensures reads { Reads B.world blocks.old blocks.new (λ d. (t : Tree) → HoldsVolume geometry.now d t
         → Answers result (FindsNewPlace geometry.now d t user path.now)) }
@@ -58,7 +58,7 @@ pub(crate) fn vacant_place<'a, B: Blocks>(
 pub fn free_number<B: Blocks>(
     blocks: &mut B,
     geometry: &Geometry,
-    place: &Place,
+    place: &NamePlace,
     others: u32,
 ) -> Result<u32, Stop>
     requires on { IsOn B.world geometry.now blocks.old }

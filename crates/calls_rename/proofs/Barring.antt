@@ -18,9 +18,9 @@ use Rattle.volume.specs.Nodes.{is_directory_mode}
 use Rattle.volume.specs.Holds.{HoldsVolume}
 use Rattle.calls_rename.specs.Within.{SaysWithin}
 use Rattle.descriptors.specs.Files.{Files, HasFiles, tree_with}
-use Rattle.node_steps.proofs.Between.{kind_is}
-use Rattle.node_steps.proofs.CallLawsEnding.{open_by_files}
-use Rattle.node_steps.specs.declared.moves.Move.{Move}
+use Rattle.inode_operations.proofs.Between.{kind_is}
+use Rattle.inode_operations.proofs.CallLawsEnding.{open_by_files}
+use Rattle.inode_operations.specs.declared.moves.Move.{Move}
 use Rattle.calls_rename.specs.declared.asked.Asked.{Asked}
 use Rattle.calls_rename.specs.Asked.{AreFound, Rest, moving_at, new_at, old_at}
 use Rattle.calls_rename.specs.Barred.{MayMoveOr, SaysBarred, SaysInside, Then, on_move, onto, other_at, why_full, why_kept}

@@ -13,8 +13,8 @@ use Rattle.tree.proofs.Totals.{weigh_one}
 use Rattle.tree.proofs.Views.{on_node_at, on_node_elsewhere, view_kept}
 use Rattle.tree.proofs.Weights.{weigh_with_name}
 use Rattle.tree.proofs.TreeOver.{IsOver, over_itself, over_on_node}
-use Rattle.node_steps.specs.declared.moves.Move.{Move}
-use Rattle.node_steps.specs.Whole.{into, links_of, moved, out_of}
+use Rattle.inode_operations.specs.declared.moves.Move.{Move}
+use Rattle.inode_operations.specs.Whole.{into, links_of, moved, out_of}
 
 -- A directory with a name less.
 pub record IsLess (x y : Node) (name : Name) : Type 0 where

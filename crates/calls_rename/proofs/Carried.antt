@@ -11,12 +11,12 @@ use Rattle.tree.specs.Tree.{Tree}
 use Rattle.tree.specs.Space.{data_zones, zones_used}
 use Rattle.volume.specs.Reading.{Disk}
 use Rattle.descriptors.specs.Files.{Files}
-use Rattle.node_steps.specs.Stands.{Stands}
-use Rattle.node_steps.specs.declared.moves.Move.{Move}
-use Rattle.node_steps.specs.Leads.{CanLead, Leads}
-use Rattle.node_steps.specs.Replaced.{MayDropReplaced, without_it}
-use Rattle.node_steps.specs.Whole.{MayMoveOver, MayMoveTo, MayMoveWithin, moved, moved_within}
-use Rattle.node_steps.proofs.Leading.{can_then, leads_then}
+use Rattle.inode_operations.specs.Stands.{Stands}
+use Rattle.inode_operations.specs.declared.moves.Move.{Move}
+use Rattle.inode_operations.specs.Leads.{CanLead, Leads}
+use Rattle.inode_operations.specs.Replaced.{MayDropReplaced, without_it}
+use Rattle.inode_operations.specs.Whole.{MayMoveOver, MayMoveTo, MayMoveWithin, moved, moved_within}
+use Rattle.inode_operations.proofs.Leading.{can_then, leads_then}
 use Rattle.calls_rename.specs.MoveAsked.{IsAsked}
 use Rattle.calls_rename.specs.declared.asked.Asked.{Asked}
 use Rattle.calls_rename.specs.Elsewhere.{CanMove, IsElsewhere, TellsRoom}

@@ -19,14 +19,14 @@ use Rattle.volume.specs.Reading.{Disk, is_inode}
 use Rattle.volume.specs.Pieces.{Pieces, pieces}
 use Rattle.volume.specs.Nodes.{is_directory_mode, is_marked, node_of}
 use Rattle.volume.specs.Holds.{HoldsVolume}
-use Rattle.store.specs.declared.Halt.{Halt}
+use Rattle.block_store.specs.declared.Halt.{Halt}
 use Rattle.zone.proofs.ZoneInodes.{inode_is}
-use Rattle.path.specs.declared.place.Place.{Place as Found}
+use Rattle.path.specs.declared.place.NamePlace.{NamePlace as Found}
 use Rattle.path.specs.Places.{place_of}
 use Rattle.path.proofs.Going.{has_entries}
 use Rattle.calls_attributes.proofs.Made.{node_there}
 use Rattle.calls_names.specs.Names.{IsOfInode, IsVolume, MeansPlace}
-use Rattle.node_steps.specs.declared.moves.Move.{Move}
+use Rattle.inode_operations.specs.declared.moves.Move.{Move}
 use Rattle.calls_rename.specs.declared.asked.Asked.{Asked}
 use Rattle.calls_rename.specs.Asked.{FindsAsked, FindsBoth, IsBetween, IsNamed, Rest, on_paths, on_places}
 

@@ -30,9 +30,9 @@ use Rattle.zone.specs.Room.{taken_by}
 use Rattle.zone.specs.ZoneSteps.{marked_in}
 use Rattle.zone.proofs.Room.{nodes_take_marked}
 use Rattle.file.proofs.Rest.{wide}
-use Rattle.node_steps.specs.declared.moves.Move.{Move}
-use Rattle.node_steps.specs.Replaced.{without_it}
-use Rattle.node_steps.specs.Whole.{links_of, moved, moved_within, out_of, within}
+use Rattle.inode_operations.specs.declared.moves.Move.{Move}
+use Rattle.inode_operations.specs.Replaced.{without_it}
+use Rattle.inode_operations.specs.Whole.{links_of, moved, moved_within, out_of, within}
 use Rattle.calls_rename.specs.MoveAsked.{IsAsked}
 use Rattle.calls_rename.proofs.Between.{in_names, less, out_here, out_names, out_other, zones_are, zones_out}
 use Rattle.calls_rename.proofs.Possible.{may_move_onto}

@@ -29,12 +29,12 @@ use Rattle.volume.specs.Holds.{HoldsVolume}
 use Rattle.descriptors.specs.Files.{Files, HasFiles}
 use Rattle.calls_attributes.specs.Does.{Does, IsHeld, tree_in}
 use Rattle.calls_attributes.proofs.Made.{granted_made, looked_made, refused_made}
-use Rattle.node_steps.proofs.Between.{holds_at_end, nothing_is_done}
-use Rattle.node_steps.specs.declared.moves.Move.{Move}
-use Rattle.node_steps.specs.Leads.{CanLead, Leads}
-use Rattle.node_steps.specs.Replaced.{without_it}
-use Rattle.node_steps.specs.Whole.{moved}
-use Rattle.node_steps.proofs.Whole.{moved_is_moved}
+use Rattle.inode_operations.proofs.Between.{holds_at_end, nothing_is_done}
+use Rattle.inode_operations.specs.declared.moves.Move.{Move}
+use Rattle.inode_operations.specs.Leads.{CanLead, Leads}
+use Rattle.inode_operations.specs.Replaced.{without_it}
+use Rattle.inode_operations.specs.Whole.{moved}
+use Rattle.inode_operations.proofs.Whole.{moved_is_moved}
 use Rattle.calls_rename.specs.MoveAsked.{IsAsked}
 use Rattle.calls_rename.proofs.Between.{open_stay}
 use Rattle.calls_rename.proofs.Possible.{may_drop_other, may_move_in_directory, may_move_onto, may_move_where_it_fits}

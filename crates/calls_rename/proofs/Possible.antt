@@ -22,11 +22,11 @@ use Rattle.tree.proofs.Weights.{weigh}
 use Rattle.volume.proofs.Entries.{same_by_cmp}
 use Rattle.zone.specs.Room.{taken_by}
 use Rattle.descriptors.specs.Files.{Files, HasFiles}
-use Rattle.node_steps.specs.declared.moves.Move.{Move}
-use Rattle.node_steps.specs.Moves.{IsParent, MaySettle, MayTakeOut}
-use Rattle.node_steps.specs.Replaced.{MayDropReplaced}
-use Rattle.node_steps.specs.Whole.{MayMoveOver, MayMoveTo, MayMoveWithin, into, links_of, moved, out_of, within}
-use Rattle.node_steps.proofs.Asked.{move_to_may_be_made}
+use Rattle.inode_operations.specs.declared.moves.Move.{Move}
+use Rattle.inode_operations.specs.Moves.{IsParent, MaySettle, MayTakeOut}
+use Rattle.inode_operations.specs.Replaced.{MayDropReplaced}
+use Rattle.inode_operations.specs.Whole.{MayMoveOver, MayMoveTo, MayMoveWithin, into, links_of, moved, out_of, within}
+use Rattle.inode_operations.proofs.Asked.{move_to_may_be_made}
 use Rattle.calls_rename.specs.MoveAsked.{IsAsked}
 use Rattle.calls_rename.specs.MoveLaws.{MayDropOther, MayMoveInDirectory, MayMoveOnto, MayMoveWhereItFits}
 use Rattle.calls_rename.proofs.Apart.{name_in, not_its_goal, not_its_place, size_fits}

@@ -19,7 +19,7 @@ use Rattle.zone.proofs.ZoneInodes.{inode_is}
 use Rattle.path.proofs.Going.{has_entries}
 use Rattle.calls_rename.specs.Within.{HoldsDirectory}
 use Rattle.calls_attributes.proofs.Made.{node_there}
-use Rattle.node_steps.proofs.Between.{kind_is, node_stands, nothing_is_done}
+use Rattle.inode_operations.proofs.Between.{kind_is, node_stands, nothing_is_done}
 use Rattle.calls_rename.specs.declared.asked.Asked.{Asked}
 use Rattle.calls_rename.specs.Asked.{AreFound, Rest, moving_at}
 use Rattle.calls_rename.specs.Barred.{IsFound, other_at}

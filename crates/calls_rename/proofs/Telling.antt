@@ -16,10 +16,10 @@ use Rattle.bitmap.specs.Numbers.{count_free_in}
 use Rattle.bitmap.proofs.Counting.{free_taken}
 use Rattle.zone.proofs.ZoneInodes.{inode_is}
 use Rattle.file.specs.Room.{TakesMore}
-use Rattle.node_steps.specs.Stands.{NodeIs, Stands}
-use Rattle.node_steps.proofs.Between.{node_stands, nothing_is_done}
+use Rattle.inode_operations.specs.Stands.{NodeIs, Stands}
+use Rattle.inode_operations.proofs.Between.{node_stands, nothing_is_done}
 use Rattle.calls_rename.specs.Sizes.{zones_of_size}
-use Rattle.node_steps.specs.Whole.{moved}
+use Rattle.inode_operations.specs.Whole.{moved}
 use Rattle.calls_rename.specs.declared.asked.Asked.{Asked}
 use Rattle.calls_rename.proofs.Apart.{size_fits}
 use Rattle.calls_rename.proofs.Between.{out_other}

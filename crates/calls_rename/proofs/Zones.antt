@@ -24,14 +24,14 @@ use Rattle.file.specs.Room.{TakesMore}
 use Rattle.file.proofs.Spaces.{node_takes_held}
 use Rattle.directory.specs.Names.{IsOfDirectory}
 use Rattle.directory.proofs.Becoming.{may_change}
-use Rattle.node_steps.specs.Steps.{node_at}
-use Rattle.node_steps.specs.Stands.{NodeIs, Stands}
-use Rattle.node_steps.specs.Naming.{named}
-use Rattle.node_steps.proofs.Between.{directory_stands, node_stands, nothing_is_done}
-use Rattle.node_steps.proofs.Entering.{held_with_name, names_are}
+use Rattle.inode_operations.specs.Steps.{node_at}
+use Rattle.inode_operations.specs.Stands.{NodeIs, Stands}
+use Rattle.inode_operations.specs.Naming.{named}
+use Rattle.inode_operations.proofs.Between.{directory_stands, node_stands, nothing_is_done}
+use Rattle.inode_operations.proofs.Entering.{held_with_name, names_are}
 use Rattle.calls_rename.specs.Sizes.{zones_of_size}
-use Rattle.node_steps.specs.declared.moves.Move.{Move}
-use Rattle.node_steps.specs.Whole.{moved, out_of}
+use Rattle.inode_operations.specs.declared.moves.Move.{Move}
+use Rattle.inode_operations.specs.Whole.{moved, out_of}
 use Rattle.calls_rename.specs.MoveAsked.{IsAsked}
 use Rattle.calls_rename.specs.MoveZones.{MoveTakes}
 use Rattle.calls_rename.proofs.Between.{in_names, out_names, out_other, zones_are, zones_out}

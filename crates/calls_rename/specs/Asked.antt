@@ -14,7 +14,7 @@ use Rattle.volume.specs.Pieces.{pieces}
 use Rattle.volume.specs.Nodes.{directory_of, is_directory_mode, node_of}
 use Rattle.volume.specs.Entries.{is_directory_inode}
 use Rattle.volume.specs.Holds.{HoldsVolume}
-use Rattle.node_steps.specs.declared.moves.Move.{Move}
+use Rattle.inode_operations.specs.declared.moves.Move.{Move}
 use Rattle.calls_rename.specs.declared.asked.Asked.{Asked}
 
 -- what a rename does with its places and the node that moves

@@ -14,7 +14,7 @@ use Rattle.volume.specs.Pieces.{pieces}
 use Rattle.volume.specs.Nodes.{is_directory_mode, node_of}
 use Rattle.volume.specs.Holds.{Holds, HoldsVolume}
 use Rattle.descriptors.specs.Files.{Files, HasFiles, tree_with}
-use Rattle.node_steps.specs.declared.moves.Move.{Move}
+use Rattle.inode_operations.specs.declared.moves.Move.{Move}
 use Rattle.calls_rename.specs.declared.asked.Asked.{Asked}
 use Rattle.calls_rename.specs.Asked.{AreFound, Rest, moving_at, new_at, old_at}
 

@@ -7,9 +7,9 @@ use Rattle.volume.specs.Reading.{Disk}
 use Rattle.volume.specs.Pieces.{pieces}
 use Rattle.volume.specs.Holds.{HoldsVolume}
 use Rattle.descriptors.specs.Files.{Files}
-use Rattle.node_steps.specs.declared.moves.Move.{Move}
-use Rattle.node_steps.specs.Whole.{MayMoveOver, MayMoveTo, MayMoveWithin, moved}
-use Rattle.node_steps.specs.Replaced.{MayDropReplaced, without_it}
+use Rattle.inode_operations.specs.declared.moves.Move.{Move}
+use Rattle.inode_operations.specs.Whole.{MayMoveOver, MayMoveTo, MayMoveWithin, moved}
+use Rattle.inode_operations.specs.Replaced.{MayDropReplaced, without_it}
 use Rattle.calls_rename.specs.MoveAsked.{IsAsked}
 use Rattle.calls_rename.specs.declared.asked.Asked.{Asked}
 

@@ -6,7 +6,7 @@ use Rattle.tree.specs.Space.{data_zones, zones_used}
 use Rattle.volume.specs.Reading.{Disk}
 use Rattle.volume.specs.Pieces.{pieces}
 use Rattle.volume.specs.Holds.{HoldsVolume}
-use Rattle.node_steps.specs.Whole.{moved}
+use Rattle.inode_operations.specs.Whole.{moved}
 use Rattle.calls_rename.specs.declared.asked.Asked.{Asked}
 use Rattle.calls_rename.specs.MoveAsked.{IsAsked}
 

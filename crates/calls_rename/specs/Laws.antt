@@ -11,9 +11,9 @@ use Rattle.volume.specs.Reading.{Disk}
 use Rattle.volume.specs.Pieces.{pieces}
 use Rattle.volume.specs.Nodes.{node_of}
 use Rattle.volume.specs.Holds.{HoldsVolume}
-use Rattle.node_steps.specs.declared.moves.Move.{Move}
-use Rattle.node_steps.specs.Replaced.{without_it}
-use Rattle.node_steps.specs.Whole.{moved, moved_within}
+use Rattle.inode_operations.specs.declared.moves.Move.{Move}
+use Rattle.inode_operations.specs.Replaced.{without_it}
+use Rattle.inode_operations.specs.Whole.{moved, moved_within}
 use Rattle.calls_rename.specs.declared.asked.Asked.{Asked}
 use Rattle.calls_rename.specs.Asked.{AreFound, Rest, moving_at}
 use Rattle.calls_rename.specs.MoveAsked.{IsAsked}

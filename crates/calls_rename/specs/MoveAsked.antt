@@ -5,7 +5,7 @@ use Rattle.tree.specs.Names.{inode_of, is_name}
 use Rattle.tree.specs.Tree.{Node, Tree, is_dir, names_of}
 use Rattle.tree.specs.IsTree.{IsTree}
 use Rattle.tree.specs.NameCalls.{is_same, is_within}
-use Rattle.node_steps.specs.declared.moves.Move.{Move}
+use Rattle.inode_operations.specs.declared.moves.Move.{Move}
 
 -- Both directories are there, the old name leads to what moves, the new one to what stands there, if anything, which is another; and what
 -- moves isn't a directory that the new place lies in.

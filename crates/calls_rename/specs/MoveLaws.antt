@@ -5,9 +5,9 @@ use Rattle.layout.specs.Places.{IsGeometry}
 use Rattle.tree.specs.Tree.{Node, Tree}
 use Rattle.tree.specs.Space.{data_zones, zones_used}
 use Rattle.descriptors.specs.Files.{Files, HasFiles}
-use Rattle.node_steps.specs.declared.moves.Move.{Move}
-use Rattle.node_steps.specs.Whole.{MayMoveOver, MayMoveTo, MayMoveWithin, moved}
-use Rattle.node_steps.specs.Replaced.{MayDropReplaced}
+use Rattle.inode_operations.specs.declared.moves.Move.{Move}
+use Rattle.inode_operations.specs.Whole.{MayMoveOver, MayMoveTo, MayMoveWithin, moved}
+use Rattle.inode_operations.specs.Replaced.{MayDropReplaced}
 use Rattle.calls_rename.specs.MoveAsked.{IsAsked}
 
 -- to a new name of the same directory

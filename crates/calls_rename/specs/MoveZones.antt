@@ -9,8 +9,8 @@ use Rattle.volume.specs.Pieces.{pieces}
 use Rattle.volume.specs.Holds.{HoldsVolume}
 use Rattle.file.specs.Room.{TakesMore}
 use Rattle.calls_rename.specs.Sizes.{zones_of_size}
-use Rattle.node_steps.specs.declared.moves.Move.{Move}
-use Rattle.node_steps.specs.Whole.{moved}
+use Rattle.inode_operations.specs.declared.moves.Move.{Move}
+use Rattle.inode_operations.specs.Whole.{moved}
 use Rattle.calls_rename.specs.MoveAsked.{IsAsked}
 
 -- `more` zones are taken for an entry's bytes at the end of the one, and `less` given back with the last 64 bytes of the other.

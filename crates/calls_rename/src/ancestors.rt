@@ -1,15 +1,15 @@
 //! Which directories a directory lies below, over any blocks. No memory is taken.
 
 ghost use Rattle.std.specs.Prelude.{◌≡◌, ◌≤◌, ◌<◌, IfErr};
-ghost use Rattle.store.specs.Halts.{Ends, IsHalt};
-ghost use Rattle.store.specs.Volume.{IsOn};
-ghost use Rattle.store.specs.World.{Reads};
+ghost use Rattle.block_store.specs.Halts.{Ends, IsHalt};
+ghost use Rattle.block_store.specs.Volume.{IsOn};
+ghost use Rattle.block_store.specs.World.{Reads};
 ghost use Rattle.calls_rename.specs.Within.{HoldsDirectory, SaysWithin};
 
+use block_store::{Blocks, Halt};
 use directory::parent;
 use inode::inode_table::load;
 use layout::Geometry;
-use store::{Blocks, Halt};
 
 /// The number of the root's inode.
 const ROOT: u32 = 1;

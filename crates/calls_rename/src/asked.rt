@@ -2,20 +2,20 @@
 
 ghost use Rattle.std.specs.Prelude.{◌≡◌, ◌≢◌, IfErr, IfOk, true};
 ghost use Rattle.tree.specs.Walk.{has_last_name};
-ghost use Rattle.store.specs.World.{Reads};
-ghost use Rattle.store.specs.Volume.{IsOn};
-ghost use Rattle.store.specs.Halts.{Ends, IsHalt};
+ghost use Rattle.block_store.specs.World.{Reads};
+ghost use Rattle.block_store.specs.Volume.{IsOn};
+ghost use Rattle.block_store.specs.Halts.{Ends, IsHalt};
 ghost use Rattle.calls_names.specs.Names.{IsVolume};
 ghost use Rattle.calls_rename.specs.Asked.{FindsAsked, FindsBoth, IsBetween, IsNamed};
 
+use block_store::{Blocks, Halt};
 use calls_attributes::found::is_directory;
 use calls_names::named::{may_write, place_of};
 use errno::Errno;
 use inode::inode_table::load;
+use inode_operations::Move;
 use layout::Geometry;
-use node_steps::Move;
 use path::{NameCache, Path};
-use store::{Blocks, Halt};
 use tree::User;
 use volume::Inode;
 

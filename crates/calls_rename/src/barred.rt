@@ -2,21 +2,21 @@
 
 ghost use Rattle.std.specs.Prelude.{◌≡◌, ◌≢◌, ◌≤◌, IfErr, IfOk, IfSome};
 ghost use Rattle.descriptors.specs.Table.{files_of};
-ghost use Rattle.store.specs.Halts.{Ends, IsHalt};
-ghost use Rattle.store.specs.Volume.{IsOn};
-ghost use Rattle.store.specs.World.{Reads};
+ghost use Rattle.block_store.specs.Halts.{Ends, IsHalt};
+ghost use Rattle.block_store.specs.Volume.{IsOn};
+ghost use Rattle.block_store.specs.World.{Reads};
 ghost use Rattle.calls_rename.specs.Within.{HoldsDirectory};
 ghost use Rattle.calls_rename.specs.Barred.{IsFound, SaysBarred, SaysInside, why_full, why_kept};
 
 use crate::ancestors::is_within;
 use crate::asked::Asked;
+use block_store::{Blocks, Halt};
 use calls_attributes::found::is_directory;
 use descriptors::Descriptors;
 use errno::Errno;
 use inode::inode_table::load;
+use inode_operations::Move;
 use layout::Geometry;
-use node_steps::Move;
-use store::{Blocks, Halt};
 use tree::MAX_LINKS;
 use volume::Inode;
 

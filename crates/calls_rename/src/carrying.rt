@@ -2,20 +2,20 @@
 
 ghost use Rattle.std.specs.Prelude.{◌≡◌, IfErr};
 ghost use Rattle.descriptors.specs.Table.{files_of};
-ghost use Rattle.store.specs.Halts.{Ends, IsHalt};
-ghost use Rattle.store.specs.Volume.{IsOn};
-ghost use Rattle.store.specs.World.{Reads, Turns};
-ghost use Rattle.node_steps.specs.Leads.{Makes};
-ghost use Rattle.node_steps.specs.Whole.{moved};
+ghost use Rattle.block_store.specs.Halts.{Ends, IsHalt};
+ghost use Rattle.block_store.specs.Volume.{IsOn};
+ghost use Rattle.block_store.specs.World.{Reads, Turns};
+ghost use Rattle.inode_operations.specs.Leads.{Makes};
+ghost use Rattle.inode_operations.specs.Whole.{moved};
 ghost use Rattle.calls_rename.specs.Asked.{IsNamed};
 ghost use Rattle.calls_rename.specs.Carrying.{IsSomeReady, MayCarry, MayMoveAside, MayMoveOnto, SaysFits, carried, moved_onto};
 
 use crate::Asked;
 use crate::room::has_room;
+use block_store::{Blocks, Halt};
 use descriptors::Descriptors;
+use inode_operations::{Move, drop_replaced, move_over, move_to, move_within};
 use layout::Geometry;
-use node_steps::{Move, drop_replaced, move_over, move_to, move_within};
-use store::{Blocks, Halt};
 
 /// Whether the tree after the move fits. Room is asked for a new name of another directory alone: no other move takes a zone more.
 pub(crate) fn fits<B: Blocks>(

@@ -5,18 +5,18 @@ ghost use Rattle.tree.specs.Answers.{answer_of, refused};
 ghost use Rattle.tree.specs.NameCalls.{is_same, rename};
 ghost use Rattle.descriptors.specs.Files.{HasFiles};
 ghost use Rattle.descriptors.specs.Table.{files_of};
-ghost use Rattle.store.specs.World.{Turns};
-ghost use Rattle.store.specs.Volume.{IsOn};
-ghost use Rattle.store.specs.Halts.{IsHalt};
+ghost use Rattle.block_store.specs.World.{Turns};
+ghost use Rattle.block_store.specs.Volume.{IsOn};
+ghost use Rattle.block_store.specs.Halts.{IsHalt};
 ghost use Rattle.calls_attributes.specs.Does.{Meets};
 
 use crate::carrying::{carry, fits};
 use crate::{Asked, find_asked, why_barred};
+use block_store::{Blocks, Halt};
 use descriptors::Descriptors;
 use errno::Errno;
 use layout::Geometry;
 use path::NameCache;
-use store::{Blocks, Halt};
 use tree::{Reply, User};
 
 /// Whether the node at the new name is the one that was to move.

@@ -1,17 +1,17 @@
 //! Whether there are zones enough for a move to another directory.
 
 ghost use Rattle.std.specs.Prelude.{IfErr};
-ghost use Rattle.store.specs.Halts.{Ends, IsHalt};
-ghost use Rattle.store.specs.Volume.{IsOn};
-ghost use Rattle.store.specs.World.{Reads};
+ghost use Rattle.block_store.specs.Halts.{Ends, IsHalt};
+ghost use Rattle.block_store.specs.Volume.{IsOn};
+ghost use Rattle.block_store.specs.World.{Reads};
 ghost use Rattle.calls_rename.specs.Elsewhere.{CanMove, TellsRoom};
 
 use crate::Asked;
 use crate::last_page::let_go;
 use bitmap::{Map, count_free};
+use block_store::{Blocks, Halt};
 use file::file_room::zones_for;
 use layout::Geometry;
-use store::{Blocks, Halt};
 use tree::MAX_SIZE;
 
 /// Whether the tree after a move to a new name of another directory fits: whether those zones are free that the entry takes there, or

@@ -17,10 +17,10 @@ use Rattle.volume.specs.Reading.{Disk}
 use Rattle.volume.specs.Holds.{HoldsVolume}
 use Rattle.records.specs.Legal.{is_success, is_no_memory, may_lack_memory, tree_after_answer}
 use Rattle.descriptors.specs.Files.{Files, HasFiles}
-use Rattle.store.specs.declared.Halt.{Halt}
-use Rattle.store.specs.declared.Halt.TheVariants as halt
-use Rattle.store.specs.Halts.{Ends}
-use Rattle.store.proofs.Turns.{ends_as}
+use Rattle.block_store.specs.declared.Halt.{Halt}
+use Rattle.block_store.specs.declared.Halt.TheVariants as halt
+use Rattle.block_store.specs.Halts.{Ends}
+use Rattle.block_store.proofs.Turns.{ends_as}
 use Rattle.calls_attributes.specs.Does.{answer_in, tree_in, IsHeld, IsMade, IsLacking, Does, DoesOrLacks, Meets, MeetsOrLacks}
 use Rattle.client_calls.specs.Calls.{IsDone, DoesCall, MeetsCall}
 use Rattle.calls_attributes.proofs.Made.{refused_made}

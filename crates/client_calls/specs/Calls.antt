@@ -11,8 +11,8 @@ use Rattle.volume.specs.Reading.{Disk}
 use Rattle.volume.specs.Holds.{HoldsVolume}
 use Rattle.records.specs.Legal.{IsReplyOf, tree_after_answer}
 use Rattle.descriptors.specs.Files.{Files, HasFiles}
-use Rattle.store.specs.declared.Halt.{Halt}
-use Rattle.store.specs.Halts.{Ends}
+use Rattle.block_store.specs.declared.Halt.{Halt}
+use Rattle.block_store.specs.Halts.{Ends}
 use Rattle.calls_attributes.specs.Does.{IsHeld}
 
 -- the answer is the tree's or want of memory, and the tree after it would be read back, with these open files

@@ -4,12 +4,13 @@ ghost use Rattle.std.specs.Prelude.{◌≡◌, ◌≢◌, IfErr, OnOk, IsTrue};
 ghost use Rattle.tree.specs.Answers.{answer_of, refused};
 ghost use Rattle.records.specs.Legal.{is_success, is_sync};
 ghost use Rattle.descriptors.specs.Table.{files_of};
-ghost use Rattle.store.specs.World.{Turns};
-ghost use Rattle.store.specs.Volume.{IsOn};
-ghost use Rattle.store.specs.Halts.{IsHalt};
+ghost use Rattle.block_store.specs.World.{Turns};
+ghost use Rattle.block_store.specs.Volume.{IsOn};
+ghost use Rattle.block_store.specs.Halts.{IsHalt};
 ghost use Rattle.tree.specs.Effects.{user_of};
 ghost use Rattle.client_calls.specs.Calls.{DoesCall, MeetsCall};
 
+use block_store::{Blocks, Cut, Halt};
 use calls_attributes::{chmod, chown, dup, fstat, lstat, readlink, stat, statfs, sync, utime};
 use calls_files::{close, read, readdir, seek, truncate, write};
 use calls_names::{link, mkdir, open, rmdir, symlink, unlink};
@@ -19,7 +20,6 @@ use errno::Errno;
 use layout::Geometry;
 use path::NameCache;
 use std::alloc::Global;
-use store::{Blocks, Cut, Halt};
 use tree::{Call, MAX_SESSIONS, Reply, User, Who};
 
 /// The user who calls.

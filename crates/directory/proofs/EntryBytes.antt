@@ -4,8 +4,8 @@ use Rattle.std.specs.Prelude.{slice_index, nat_lt}
 use Rattle.std.specs.Int.{w32, to_le_bytes}
 use Rattle.std.proofs.lemmas.Bool.{cases_Bool, ltb-true, ltb-false}
 use Rattle.volume.specs.Reading.{u32_in}
-use Rattle.store.specs.Rows.{with_bytes}
-use Rattle.store.proofs.Rows.{row_new, row_old, number_written}
+use Rattle.block_store.specs.Rows.{with_bytes}
+use Rattle.block_store.proofs.Rows.{row_new, row_old, number_written}
 use Rattle.tree.specs.Names.{dot, dot_dot}
 use Rattle.directory.specs.Files.{IsEntryBytes}
 use Rattle.directory.specs.Places.{IsNameBytes}

@@ -4,7 +4,7 @@ use Rattle.std.specs.Prelude.{◌==◌, ◌&&◌, IsTrue, nat_le, nat_lt, slice_
 use Rattle.std.specs.Ordering.{eq_by_cmp}
 use Rattle.std.proofs.lemmas.Bool.{and_from, and_parts, eqb-true, le-leb, le-ltb, leb-true, lt-leb, lt-ltb, ltb-true}
 use Rattle.layout.specs.declared.Geometry.{Geometry}
-use Rattle.store.specs.Rows.{HasBytes}
+use Rattle.block_store.specs.Rows.{HasBytes}
 use Rattle.tree.specs.Names.{Name, name_cmp, is_name, inode_of}
 use Rattle.volume.specs.declared.Inode.{Inode}
 use Rattle.volume.specs.Entries.{entry_count}

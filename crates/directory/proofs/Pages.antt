@@ -9,7 +9,7 @@ use Rattle.volume.specs.declared.Inode.{Inode}
 use Rattle.volume.specs.Reading.{Disk, is_data_zone}
 use Rattle.volume.specs.Pieces.{Pieces, pieces}
 use Rattle.volume.specs.Nodes.{page_zone, page_byte, file_byte}
-use Rattle.store.specs.Rows.{HasBytes}
+use Rattle.block_store.specs.Rows.{HasBytes}
 use Rattle.directory.specs.Scan.{last_named, last_placed, placed}
 use Rattle.directory.proofs.Scans.{scan_moved, scan_zeros}
 

@@ -8,7 +8,7 @@ use Rattle.volume.specs.declared.Inode.{Inode}
 use Rattle.volume.specs.Pieces.{Pieces, pieces}
 use Rattle.volume.specs.Reading.{Disk}
 use Rattle.volume.specs.Nodes.{file_byte}
-use Rattle.store.specs.Rows.{HasBytes}
+use Rattle.block_store.specs.Rows.{HasBytes}
 use Rattle.directory.specs.Directories.{IsDirectoryOf, before}
 use Rattle.directory.proofs.Writes.{file_removed}
 use Rattle.file.specs.PageChanges.{BecomesFile, MayChange, SetsSize, Stamps}

@@ -9,8 +9,8 @@ use Rattle.volume.specs.declared.Inode.{Inode}
 use Rattle.volume.specs.Reading.{Disk, is_data_zone}
 use Rattle.volume.specs.Pieces.{pieces}
 use Rattle.volume.specs.Nodes.{entry_count_of, entry_inode, file_byte, names_in, page_zone}
-use Rattle.store.specs.World.{World, IsWorld, Reads}
-use Rattle.store.proofs.Turns.{reads_then}
+use Rattle.block_store.specs.World.{World, IsWorld, Reads}
+use Rattle.block_store.proofs.Turns.{reads_then}
 use Rattle.directory.specs.declared.entries.Placed.{Placed}
 use Rattle.directory.specs.Scan.{last_named, last_placed, placed}
 use Rattle.directory.specs.Finding.{FindsEntry}

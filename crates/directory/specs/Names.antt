@@ -11,7 +11,7 @@ use Rattle.volume.specs.Pieces.{Pieces, pieces}
 use Rattle.volume.specs.Nodes.{node_of, nodes_of}
 use Rattle.volume.specs.Entries.{is_directory_inode}
 use Rattle.volume.specs.Holds.{IsSound}
-use Rattle.store.specs.Volume.{SameHead}
+use Rattle.block_store.specs.Volume.{SameHead}
 use Rattle.directory.specs.Directories.{before, row_of}
 use Rattle.directory.specs.Rows.{SetsEntry}
 use Rattle.file.specs.Changing.{HasZonesFor, written_at}

@@ -7,7 +7,7 @@ use Rattle.tree.specs.Changes.{file_after_resize}
 use Rattle.volume.specs.Reading.{Disk}
 use Rattle.volume.specs.Pieces.{Pieces, pieces}
 use Rattle.volume.specs.Entries.{entry_count}
-use Rattle.store.specs.Volume.{SameHead}
+use Rattle.block_store.specs.Volume.{SameHead}
 use Rattle.directory.specs.Directories.{row_of}
 use Rattle.directory.specs.Files.{IsCopy}
 use Rattle.file.specs.PageChanges.{BecomesFile}

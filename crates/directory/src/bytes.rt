@@ -3,7 +3,7 @@
 ghost use Rattle.std.specs.Prelude.{◌≡◌, ◌≤◌, ◌+◌, ℕ, length, slice_index};
 ghost use Rattle.directory.specs.Files.{IsEntryBytes};
 ghost use Rattle.directory.specs.First.{AreFirstEntries};
-ghost use Rattle.store.specs.Rows.{with_bytes};
+ghost use Rattle.block_store.specs.Rows.{with_bytes};
 ghost use Rattle.directory.specs.Places.{IsNameBytes};
 
 /// Writes bytes from a place on.

@@ -1,20 +1,20 @@
 //! Names more, names less, names that lead elsewhere.
 
 ghost use Rattle.std.specs.Prelude.{◌≡◌, ◌≤◌, ◌<◌, ◌+◌, ◌*◌, IfErr, IfOk, length};
-ghost use Rattle.store.specs.Halts.{Ends, IsHalt};
-ghost use Rattle.store.specs.Volume.{IsOn};
-ghost use Rattle.store.specs.World.{Reads, Turns};
+ghost use Rattle.block_store.specs.Halts.{Ends, IsHalt};
+ghost use Rattle.block_store.specs.Volume.{IsOn};
+ghost use Rattle.block_store.specs.World.{Reads, Turns};
 ghost use Rattle.volume.specs.Pieces.{pieces};
 ghost use Rattle.directory.specs.Places.{IsPlaced};
 ghost use Rattle.directory.specs.Names.{HasName, Inserts, MayInsert, MayRenameIt, MayReplace, MaySetParent, Renames, Replaces, SetsParent};
 
 use crate::bytes::{entry_bytes, name_bytes};
 use crate::position;
+use block_store::{Blocks, Halt};
 use file::file_pages::changing::stamp;
 use file::write_at;
 use inode::inode_table::load;
 use layout::Geometry;
-use store::{Blocks, Halt};
 use tree::MAX_SIZE;
 
 /// Gives a directory a name more, of 1 to 60 bytes, that leads to an inode: it stands last, and the directory is 64 bytes longer. Zones

@@ -1,19 +1,19 @@
 //! What a name leads to.
 
 ghost use Rattle.std.specs.Prelude.{◌≡◌, ◌<◌, ◌≤◌, ◌+◌, ◌-◌, ◌*◌, ◌/◌, ℕ, IfErr, IfOk, length, slice_index};
-ghost use Rattle.store.specs.Rows.{HasBytes};
+ghost use Rattle.block_store.specs.Rows.{HasBytes};
 ghost use Rattle.directory.specs.Scan.{last_placed};
 ghost use Rattle.directory.specs.Finding.{FindsEntry, stands_at};
-ghost use Rattle.store.specs.Halts.{Ends, IsHalt};
-ghost use Rattle.store.specs.Volume.{IsOn};
-ghost use Rattle.store.specs.World.{Reads};
+ghost use Rattle.block_store.specs.Halts.{Ends, IsHalt};
+ghost use Rattle.block_store.specs.Volume.{IsOn};
+ghost use Rattle.block_store.specs.World.{Reads};
 ghost use Rattle.volume.specs.Nodes.{directory_of, file_byte};
 ghost use Rattle.volume.specs.Pieces.{pieces};
 
 use crate::entries::{Placed, entry_inode, last_named, leads_to};
+use block_store::words::read_bytes;
+use block_store::{Blocks, Cut, Halt};
 use layout::Geometry;
-use store::words::read_bytes;
-use store::{Blocks, Cut, Halt};
 use volume::Inode;
 use zone::numbers::is_data_zone;
 use zone::places::lookup;

@@ -2,14 +2,14 @@
 
 ghost use Rattle.std.specs.Prelude.{◌≡◌, ◌<◌, ◌≤◌, ◌+◌, ◌-◌, ◌*◌, ◌/◌, IfErr, IfOk, IfSome, length, slice_index};
 ghost use Rattle.directory.specs.Standing.{StandsAt};
-ghost use Rattle.store.specs.Volume.{IsOn};
-ghost use Rattle.store.specs.World.{Reads};
+ghost use Rattle.block_store.specs.Volume.{IsOn};
+ghost use Rattle.block_store.specs.World.{Reads};
 ghost use Rattle.volume.specs.Nodes.{entry_count_of, file_byte};
 ghost use Rattle.volume.specs.Pieces.{pieces};
 
 use crate::entries::is_named;
+use block_store::{Blocks, Cut};
 use layout::Geometry;
-use store::{Blocks, Cut};
 use volume::Inode;
 use zone::numbers::is_data_zone;
 use zone::places::lookup;

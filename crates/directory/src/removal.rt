@@ -1,20 +1,20 @@
 //! Names less.
 
 ghost use Rattle.std.specs.Prelude.{◌≡◌, ◌≤◌, ◌<◌, ◌+◌, ◌*◌, IfErr, IfOk, length};
-ghost use Rattle.store.specs.Halts.{Ends, IsHalt};
-ghost use Rattle.store.specs.Volume.{IsOn};
-ghost use Rattle.store.specs.World.{Turns};
+ghost use Rattle.block_store.specs.Halts.{Ends, IsHalt};
+ghost use Rattle.block_store.specs.Volume.{IsOn};
+ghost use Rattle.block_store.specs.World.{Turns};
 ghost use Rattle.volume.specs.Pieces.{pieces};
 ghost use Rattle.directory.specs.Names.{HasName};
 ghost use Rattle.directory.specs.Removal.{CopiesLast, Drops, MayDrop, Removes};
 
 use crate::changes::place_of;
 use crate::entry;
+use block_store::{Blocks, Halt};
 use file::file_pages::changing::{set_size, stamp};
 use file::write_at;
 use inode::inode_table::load;
 use layout::Geometry;
-use store::{Blocks, Halt};
 use tree::MAX_SIZE;
 
 /// Copies the last entry of a directory over another, and tells its number.

@@ -8,7 +8,7 @@ ghost use Rattle.bdev.specs.Promises.{StepKeeps};
 ghost use Rattle.driver_threads.specs.Confined.{KeepsOutside, IsImageOutside, IsInVolume, StaysInVolume, step_of};
 
 use bdev::{BlockDriver, Stepped};
-use board::counting::room::Room;
+use board::counting::parameters::ServiceParameters;
 use media::Media;
 use message::BlockReply;
 use std::alloc::{AllocError, Global};
@@ -17,7 +17,7 @@ use std::marker::{Model, PhantomData};
 /// Media on which drivers write in a volume's range alone: they have as many sectors as were handed in, and outside of the range each
 /// sector is as it was handed in. Contracts see them as the media.
 #[derive(Drop)]
-pub struct Confined<N: Room> {
+pub struct Confined<N: ServiceParameters> {
     media: Media,
     // The volume's first sector, and how many it has.
     first: u32,
@@ -25,7 +25,7 @@ pub struct Confined<N: Room> {
     of: PhantomData<N>,
 }
 
-impl<N: Room> Model for Confined<N> {
+impl<N: ServiceParameters> Model for Confined<N> {
     ghost use Rattle.std.specs.Prelude.{◌≡◌};
     ghost use Rattle.media.specs.Contents.{MediaState};
     ghost use Rattle.driver_threads.specs.Confined.{KeepsOutside};
@@ -37,7 +37,7 @@ impl<N: Room> Model for Confined<N> {
     ghost invariant = { λ c. (c.first ≡ N.opening.first) × (c.count ≡ N.opening.count) × KeepsOutside N.opening c.media };
 }
 
-impl<N: Room> Confined<N> {
+impl<N: ServiceParameters> Confined<N> {
     /// The media as they were handed in, and the volume's first sector and how many it has.
     #[tactic(auto, using(crate::proofs::Confining::keeps_given))]
     pub fn new(media: Media, range: (u32, u32)) -> Confined<N>

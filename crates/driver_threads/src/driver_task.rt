@@ -6,7 +6,7 @@ ghost use Rattle.std.specs.Arc.{arc_value};
 use crate::shared::Shared;
 use bdev::{BlockDriver, Stepped};
 use board::Seat;
-use board::counting::room::Room;
+use board::counting::parameters::ServiceParameters;
 use channel_link::channel::{Receiver, Sender};
 use channel_link::messages::{Exchange, Order, Report};
 use channel_link::server_line::NewsSender;
@@ -19,7 +19,7 @@ use std::thread::{JoinHandle, Threads};
 
 /// A driver, with the ends of channels that its thread uses, and what it shares with the others.
 #[derive(Drop)]
-pub(crate) struct DriverTask<N: Room, D: BlockDriver, G: Gate> {
+pub(crate) struct DriverTask<N: ServiceParameters, D: BlockDriver, G: Gate> {
     driver: D,
     orders: Receiver<Order>,
     news: NewsSender,
@@ -34,7 +34,7 @@ pub(crate) struct DriverTask<N: Room, D: BlockDriver, G: Gate> {
     ghost seated: { seat.table ≡ arc_value shared.board },
 }
 
-impl<N: Room, D: BlockDriver, G: Gate> DriverTask<N, D, G> {
+impl<N: ServiceParameters, D: BlockDriver, G: Gate> DriverTask<N, D, G> {
     /// A driver that takes these orders, and sends by this end of the server's line.
     pub(crate) fn new(
         driver: D,
@@ -149,7 +149,7 @@ impl<N: Room, D: BlockDriver, G: Gate> DriverTask<N, D, G> {
 
 /// Starts a driver's thread. None where no thread could be made: the driver is dropped then.
 pub(crate) fn start_driver<
-    N: Room + Send + Sync + 'static,
+    N: ServiceParameters + Send + Sync + 'static,
     D: BlockDriver + 'static,
     G: Gate + 'static,
     R: Threads + Wait + Copy + Send + 'static,

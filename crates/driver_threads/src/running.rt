@@ -10,7 +10,7 @@ use crate::confined::Confined;
 use crate::shared::Shared;
 use crate::supervisor::{Lines, Supervisor, start_supervisor};
 use bdev::BlockDriver;
-use board::counting::room::Room;
+use board::counting::parameters::ServiceParameters;
 use board::{Board, Seat};
 use channel_link::channel::bounded;
 use channel_link::link::ChannelLink;
@@ -31,13 +31,13 @@ const LINE: usize = 64;
 
 /// The thread of the reincarnation server, which has those of the drivers, and the media that they share. Where it is let go and not
 /// stopped, all its threads are told to end, and end by themselves.
-pub struct Running<N: Room> {
+pub struct Running<N: ServiceParameters> {
     supervisor: JoinHandle<()>,
     media: Arc<Mutex<Confined<N>>>,
     ending: Arc<Bell>,
 }
 
-impl<N: Room> Drop for Running<N> {
+impl<N: ServiceParameters> Drop for Running<N> {
     fn drop(self) {
         let Self {
             supervisor: _,
@@ -80,7 +80,7 @@ fn open_lines<R: Threads + Wait + Copy>(
 ///
 /// The seat is one of the board's without a number. No driver is started before the gate lets the first tick pass.
 pub fn start_drivers<
-    N: Room + Send + Sync + 'static,
+    N: ServiceParameters + Send + Sync + 'static,
     D: BlockDriver + 'static,
     G: Gate + 'static,
     R: Threads + Wait + Copy + Send + 'static,
@@ -117,7 +117,7 @@ pub fn start_drivers<
     ))
 }
 
-impl<N: Room> Running<N> {
+impl<N: ServiceParameters> Running<N> {
     /// The image of the media as they stand while the threads run: the bytes of as many sectors as were handed in, each of 512 bytes, and
     /// outside of the volume's range each as it was handed in. It waits for the step of a driver, and drivers wait for it: no step is taken
     /// while the bytes are copied. Refused where no memory was found for it.

@@ -6,7 +6,7 @@ ghost use Rattle.true_replies.specs.Events.{opening_media};
 
 use crate::confined::Confined;
 use board::Board;
-use board::counting::room::Room;
+use board::counting::parameters::ServiceParameters;
 use gate::Gate;
 use gate::bell::Bell;
 use media::Media;
@@ -15,14 +15,14 @@ use std::sync::{Arc, Mutex};
 
 /// The media under their lock, the board, the gate, and the bell that tells all threads to end.
 #[derive(Drop)]
-pub(crate) struct Shared<N: Room, G: Gate> {
+pub(crate) struct Shared<N: ServiceParameters, G: Gate> {
     pub(crate) media: Arc<Mutex<Confined<N>>>,
     pub(crate) board: Arc<Board>,
     pub(crate) gate: Arc<G>,
     pub(crate) ending: Arc<Bell>,
 }
 
-impl<N: Room, G: Gate> Shared<N, G> {
+impl<N: ServiceParameters, G: Gate> Shared<N, G> {
     /// For the first of the threads: these media, which drivers write in this range alone.
     pub(crate) fn new(
         alloc: Global,

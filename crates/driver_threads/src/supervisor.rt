@@ -8,7 +8,7 @@ use crate::driver_task::{DriverTask, start_driver};
 use crate::shared::Shared;
 use bdev::BlockDriver;
 use board::Seat;
-use board::counting::room::Room;
+use board::counting::parameters::ServiceParameters;
 use channel_link::channel::{Receiver, Sender, bounded};
 use channel_link::messages::{Order, Report};
 use channel_link::order_line::OrderLine;
@@ -91,7 +91,7 @@ impl OrderEnds {
 
 /// The reincarnation server, with the ends of channels that its thread uses, and what it shares with the drivers.
 #[derive(Drop)]
-pub(crate) struct Supervisor<N: Room, D: BlockDriver, G: Gate> {
+pub(crate) struct Supervisor<N: ServiceParameters, D: BlockDriver, G: Gate> {
     alloc: Global,
     reincarnation: Reincarnation<D>,
     lines: Lines,
@@ -104,11 +104,11 @@ pub(crate) struct Supervisor<N: Room, D: BlockDriver, G: Gate> {
     ghost low: { ticks < 2 ^ 48 },
 }
 
-impl<N: Room + Send + Sync + 'static, D: BlockDriver + 'static, G: Gate + 'static> Supervisor<
-    N,
-    D,
-    G,
-> {
+impl<
+    N: ServiceParameters + Send + Sync + 'static,
+    D: BlockDriver + 'static,
+    G: Gate + 'static,
+> Supervisor<N, D, G> {
     /// The reincarnation server, which was told nothing yet.
     pub(crate) fn new(
         alloc: Global,
@@ -310,7 +310,7 @@ fn join<R: Threads + Wait>(rt: &R, worker: Worker) {
 
 /// Starts the thread of the reincarnation server. None where no thread could be made: all its drivers are dropped then.
 pub(crate) fn start_supervisor<
-    N: Room + Send + Sync + 'static,
+    N: ServiceParameters + Send + Sync + 'static,
     D: BlockDriver + 'static,
     G: Gate + 'static,
     R: Threads + Wait + Copy + Send + 'static,

@@ -16,8 +16,8 @@ use Rattle.volume.specs.declared.Inode.{Inode}
 use Rattle.volume.specs.Reading.{Disk}
 use Rattle.volume.specs.Pieces.{Pieces, pieces}
 use Rattle.volume.specs.Nodes.{file_byte, page_byte, page_zone}
-use Rattle.store.specs.Rows.{with_bytes}
-use Rattle.store.proofs.Rows.{row_new, row_old}
+use Rattle.block_store.specs.Rows.{with_bytes}
+use Rattle.block_store.proofs.Rows.{row_new, row_old}
 use Rattle.zone.specs.ZoneSteps.{with_page}
 use Rattle.zone.specs.Raw.{with_bytes as with_page_bytes}
 use Rattle.zone.specs.Chunks.{grown, resized, Replaces}

@@ -13,7 +13,7 @@ use Rattle.volume.specs.declared.Inode.{Inode}
 use Rattle.volume.specs.Reading.{Disk}
 use Rattle.volume.specs.Pieces.{Pieces, pieces}
 use Rattle.volume.specs.Nodes.{file_of, page_zone}
-use Rattle.store.specs.Volume.{SameHead}
+use Rattle.block_store.specs.Volume.{SameHead}
 use Rattle.zone.specs.ZoneSteps.{with_page}
 use Rattle.zone.specs.Composite.{Attached}
 use Rattle.zone.proofs.Raw.{no_attributes}

@@ -10,8 +10,8 @@ use Rattle.tree.specs.Tree.{File}
 use Rattle.volume.specs.declared.Inode.{Inode}
 use Rattle.volume.specs.Pieces.{Pieces}
 use Rattle.volume.specs.Nodes.{file_of, file_byte, page_byte, page_zone}
-use Rattle.store.specs.declared.Cut.{Cut}
-use Rattle.store.specs.Rows.{HasBytes}
+use Rattle.block_store.specs.declared.Cut.{Cut}
+use Rattle.block_store.specs.Rows.{HasBytes}
 use Rattle.zone.specs.PlaceParts.{HasZones}
 use Rattle.file.specs.Reading.{HasFileBytes}
 use Rattle.file.proofs.Parts.{index_before, index_inside}

@@ -7,7 +7,7 @@ use Rattle.layout.specs.Places.{IsGeometry}
 use Rattle.volume.specs.Reading.{Disk, is_data_zone}
 use Rattle.volume.specs.Pieces.{pieces}
 use Rattle.volume.specs.Nodes.{page_byte}
-use Rattle.store.specs.Rows.{HasBytes}
+use Rattle.block_store.specs.Rows.{HasBytes}
 use Rattle.zone.proofs.Frames.{zone_bounds, zone_row}
 
 -- a page that lies in a data zone has the bytes that stand there

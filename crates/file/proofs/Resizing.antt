@@ -13,7 +13,7 @@ use Rattle.volume.specs.declared.Inode.{Inode}
 use Rattle.volume.specs.Reading.{Disk, is_inode}
 use Rattle.volume.specs.Pieces.{Pieces, pieces}
 use Rattle.volume.specs.Nodes.{file_of, page_zone, is_mode}
-use Rattle.store.specs.Volume.{Alters}
+use Rattle.block_store.specs.Volume.{Alters}
 use Rattle.inode.specs.Table.{with_inode}
 use Rattle.zone.specs.Raw.{Resizes}
 use Rattle.zone.specs.Chunks.{resized}

@@ -13,8 +13,8 @@ use Rattle.volume.specs.declared.Inode.{Inode}
 use Rattle.volume.specs.Reading.{Disk}
 use Rattle.volume.specs.Pieces.{Pieces, pieces}
 use Rattle.volume.specs.Nodes.{file_byte, page_byte, page_zone, is_marked}
-use Rattle.store.specs.Rows.{with_bytes}
-use Rattle.store.proofs.Rows.{row_new, row_old}
+use Rattle.block_store.specs.Rows.{with_bytes}
+use Rattle.block_store.proofs.Rows.{row_new, row_old}
 use Rattle.zone.proofs.Files.{same_file}
 use Rattle.file.specs.Writing.{MayWrite, IsPageZone, PageIsWritten, WritesPage, with_chunk}
 use Rattle.file.specs.PageChanges.{MayChange, BecomesFile, file_at, IsPadded, PadsRest}

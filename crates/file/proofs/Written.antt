@@ -7,9 +7,9 @@ use Rattle.tree.proofs.Maps.{put-same, put-other}
 use Rattle.volume.specs.Reading.{Disk, is_data_zone}
 use Rattle.volume.specs.Pieces.{Pieces, pieces}
 use Rattle.volume.specs.Nodes.{file_of, is_marked, nodes_of}
-use Rattle.store.specs.Rows.{with_bytes}
-use Rattle.store.specs.Volume.{Alters}
-use Rattle.store.specs.Regions.{with_zone}
+use Rattle.block_store.specs.Rows.{with_bytes}
+use Rattle.block_store.specs.Volume.{Alters}
+use Rattle.block_store.specs.Regions.{with_zone}
 use Rattle.zone.specs.ZoneSteps.{SameInodes, node_from}
 use Rattle.zone.specs.Raw.{Writes, with_bytes as with_page_bytes}
 use Rattle.zone.proofs.Stay.{written_file, write_keeps, write_keeps_files, write_keeps_numbers, places_stay}

@@ -10,7 +10,7 @@ use Rattle.volume.specs.Pieces.{Pieces, pieces}
 use Rattle.zone.specs.ZoneSteps.{marked_in}
 use Rattle.zone.specs.Chunks.{grown, resized}
 use Rattle.zone.specs.PlaceParts.{HasZones}
-use Rattle.store.specs.Volume.{SameHead}
+use Rattle.block_store.specs.Volume.{SameHead}
 use Rattle.file.specs.PageChanges.{MayChange, BecomesFile, file_at}
 
 -- that file after a write

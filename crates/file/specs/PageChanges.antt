@@ -13,7 +13,7 @@ use Rattle.volume.specs.Pieces.{Pieces, pieces}
 use Rattle.volume.specs.Nodes.{file_of, is_marked, nodes_of, page_zone}
 use Rattle.zone.specs.ZoneSteps.{IsSoundBut, node_from, marked_in}
 use Rattle.zone.specs.Chunks.{resized}
-use Rattle.store.specs.Volume.{SameHead}
+use Rattle.block_store.specs.Volume.{SameHead}
 
 -- a marked inode of a volume of which directory n may be out of order
 pub record MayChange (g : Geometry) (v : Pieces) (n : ℕ) : Type 0 where

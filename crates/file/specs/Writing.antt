@@ -7,10 +7,10 @@ use Rattle.tree.specs.Tree.{File}
 use Rattle.volume.specs.Reading.{Disk}
 use Rattle.volume.specs.Pieces.{Pieces, pieces}
 use Rattle.volume.specs.Nodes.{file_of, is_marked, nodes_of, page_zone}
-use Rattle.store.specs.Rows.{with_bytes}
+use Rattle.block_store.specs.Rows.{with_bytes}
 use Rattle.zone.specs.ZoneSteps.{IsSoundBut, node_from}
 use Rattle.zone.specs.Raw.{Writes, with_bytes as with_page_bytes}
-use Rattle.store.specs.Volume.{SameHead}
+use Rattle.block_store.specs.Volume.{SameHead}
 
 -- page p of a marked inode lies in this zone, of a volume of which directory n may be out of order
 pub record MayWrite (g : Geometry) (v : Pieces) (n p z : ℕ) : Type 0 where

@@ -2,18 +2,18 @@
 
 ghost use Rattle.std.specs.Prelude.{◌≡◌, ◌≤◌, ◌<◌, ◌+◌, ◌*◌, ◌/◌, ◌%◌, ℕ, length, take, IfErr, IfOk};
 ghost use Rattle.volume.specs.Pieces.{pieces};
-ghost use Rattle.store.specs.World.{Turns};
-ghost use Rattle.store.specs.Halts.{Ends, IsHalt};
-ghost use Rattle.store.specs.Volume.{IsOn};
+ghost use Rattle.block_store.specs.World.{Turns};
+ghost use Rattle.block_store.specs.Halts.{Ends, IsHalt};
+ghost use Rattle.block_store.specs.Volume.{IsOn};
 ghost use Rattle.file.specs.PageChanges.{MayChange};
 ghost use Rattle.file.specs.Changing.{MayWriteAt, WritesAt, MayWriteInside, WritesInside, IsHeldRow, Grows};
 
 use crate::file_pages::changing::resize;
 use crate::file_pages::rows::{find_row, held_before};
 use crate::file_pages::writing::write_page;
+use block_store::{Blocks, Halt};
 use inode::inode_table::load;
 use layout::Geometry;
-use store::{Blocks, Halt};
 use zone::pages::attach;
 
 /// Makes the file of an inode that long where it is shorter.

@@ -11,7 +11,7 @@ use Rattle.records.specs.Told.{received}
 use Rattle.records.specs.Acts.{Absorbed, marks_after}
 use Rattle.records.specs.ServerCall.{Serving, Replied, Cut}
 use Rattle.reissue.specs.Calls.{Truth}
-use Rattle.file_server.specs.Over.{CallsOver, AbsorbsOver, SameServing, Stands, Hears}
+use Rattle.file_server.specs.Over.{CallSpecification, AbsorbsOver, SameServing, Stands, Hears}
 
 -- through what changes nothing of it but its link's guarantee
 abbrev pub SameStands : (Server Line : Type 0) → (Server → Serving) → (Line → Truth) → Type 0
@@ -30,7 +30,7 @@ MessageStands Server Line serving truth =
 abbrev pub AnswerStands : (Server Line : Type 0) → (Server → Serving) → (Line → Truth) → Type 0
 AnswerStands Server Line serving truth =
     (s t u : Server) (l m n : Line) (who : Who) (now : ℕ) (call : Call) (answer : Answer) (v : Opening) (tree : Tree) (marks : List Mark)
-    (calls : CallsOver (serving s) (serving t) (truth l) (truth m) who now call (Replied answer)) → SameServing (serving t) (serving u)
+    (calls : CallSpecification (serving s) (serving t) (truth l) (truth m) who now call (Replied answer)) → SameServing (serving t) (serving u)
     → (truth m v (marks_after calls.keeps.acts marks) → truth n v (Took who now call answer ∷ marks_after calls.keeps.acts marks))
     → Stands (serving s) (truth l) v tree marks
     → Stands (serving u) (truth n) v tree (Took who now call answer ∷ marks_after calls.keeps.acts marks)
@@ -39,5 +39,5 @@ AnswerStands Server Line serving truth =
 abbrev pub CutStands : (Server Line : Type 0) → (Server → Serving) → (Line → Truth) → Type 0
 CutStands Server Line serving truth =
     (s t : Server) (l m : Line) (who : Who) (now : ℕ) (call : Call) (v : Opening) (tree : Tree) (marks : List Mark)
-    (calls : CallsOver (serving s) (serving t) (truth l) (truth m) who now call Cut) → Stands (serving s) (truth l) v tree marks
+    (calls : CallSpecification (serving s) (serving t) (truth l) (truth m) who now call Cut) → Stands (serving s) (truth l) v tree marks
     → Stands (serving t) (truth m) v tree (marks_after calls.keeps.acts marks)

@@ -9,7 +9,7 @@ use Rattle.records.specs.Told.{Told, Received, took_end}
 use Rattle.records.specs.Acts.{marks_after, needs_message}
 use Rattle.records.specs.ServerCall.{Serving, Cut}
 use Rattle.reissue.specs.Calls.{Truth}
-use Rattle.file_server.specs.Over.{CallsOver, Stands}
+use Rattle.file_server.specs.Over.{CallSpecification, Stands}
 
 -- no message was taken after an End
 abbrev pub IsEndLast : List Told → Type 0
@@ -22,7 +22,7 @@ IsEndLast (_ ∷ told) = IsEndLast told
 abbrev pub CutLeaves : (Server Line : Type 0) → (Server → Serving) → (Line → Truth) → Type 0
 CutLeaves Server Line serving truth =
     (s t : Server) (l m : Line) (who : Who) (now : ℕ) (call : Call) (v : Opening) (tree : Tree) (marks : List Mark)
-    (calls : CallsOver (serving s) (serving t) (truth l) (truth m) who now call Cut) → (serving s).ended ≡ false
+    (calls : CallSpecification (serving s) (serving t) (truth l) (truth m) who now call Cut) → (serving s).ended ≡ false
     → IsEndLast (serving t).told → Stands (serving s) (truth l) v tree marks
     → IsTrue (needs_message (marks_after calls.keeps.acts marks) (serving t).outbox)
     × (gave_up (marks_after calls.keeps.acts marks) ≡ false)

@@ -30,7 +30,7 @@ outcome_in ending.Cut r = tree.Cut
 
 -- One call over a link: what its link guarantees of a record that the server agrees with it guarantees after the call, up to the call's own
 -- mark, which the server doesn't note.
-pub record CallsOver (old new : Serving) (was is : Truth) (who : Who) (now : ℕ) (call : Call) (outcome : Outcome) : Type 0 where
+pub record CallSpecification (old new : Serving) (was is : Truth) (who : Who) (now : ℕ) (call : Call) (outcome : Outcome) : Type 0 where
   pub keeps : CallKeeps old who now call outcome new
   pub truth : (v : Opening) (tree : Tree) (marks : List Mark) → v.minor ≡ old.minor → old.Agrees (contents_at v) tree marks
       → was v marks → is v (marks_after keeps.acts marks)

@@ -5,7 +5,7 @@ ghost use Rattle.std.specs.Prelude.{◌≡◌, ◌≢◌, ◌≤◌, ◌<◌, �
 ghost use Rattle.std.specs.Borrow.{Lends, sem};
 ghost use Rattle.tree.specs.declared.Call.{Call as TreeCall};
 ghost use Rattle.reissue.specs.Room.{room_needed};
-ghost use Rattle.file_server.specs.Over.{CallsOver, AbsorbsOver, SameServing, outcome_in, outcome_of};
+ghost use Rattle.file_server.specs.Over.{CallSpecification, AbsorbsOver, SameServing, outcome_in, outcome_of};
 
 pub mod laws;
 
@@ -64,7 +64,7 @@ pub trait FileServer<L: Link + Drop>: Serve + Drop {
         requires ready { is_ready self.old }
         requires knows { knows call.now }
         ensures ready { is_ready self.new }
-        ensures keeps { CallsOver (Self.serving self.old) (Self.serving self.new) (L.truth (line self.old)) (L.truth (line self.new))
+        ensures keeps { CallSpecification (Self.serving self.old) (Self.serving self.new) (L.truth (line self.old)) (L.truth (line self.new))
             who now call.now (outcome_of (outcome_in result reply.new)) }
         ensures goes { L.goes_on (line self.old) (line self.new) }
         ensures budget { (Self.serving self.new).ended ≡ false → L.budget_left (line self.new) ≤ L.budget_left (line self.old) }

@@ -1,7 +1,7 @@
 //! Three faults at drawn places.
 
 use crate::draws::Draws;
-use crate::schedules::{End, Fault};
+use crate::schedules::{End, ScheduledFault};
 use crate::trial::Faults;
 use std::alloc::{AllocError, Global};
 
@@ -34,7 +34,7 @@ pub fn three(alloc: Global, draws: &mut Draws, events: usize) -> Result<Faults, 
     let mut faults = Vec::new(alloc);
     for (place, (generation, died, hung)) in places.iter().zip(&TICKS) {
         let end = end(draws);
-        faults.push(Fault {
+        faults.push(ScheduledFault {
             place: *place,
             generation: *generation,
             end,

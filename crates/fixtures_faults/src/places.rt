@@ -1,12 +1,12 @@
 //! The faults that are put at every place of a schedule: one, or two at every pair of places.
 
-use crate::schedules::{End, Fault};
+use crate::schedules::{End, ScheduledFault};
 use crate::trial::Faults;
 use std::alloc::{AllocError, Global};
 
 /// Driver 1 ends so before an event, and the schedule gives no ticks.
-fn first_ends(place: usize, end: End) -> Fault {
-    Fault {
+fn first_ends(place: usize, end: End) -> ScheduledFault {
+    ScheduledFault {
         place,
         generation: 1,
         end,
@@ -15,8 +15,8 @@ fn first_ends(place: usize, end: End) -> Fault {
 }
 
 /// Driver 1 dies before an event, and a tick follows.
-fn first_dies(place: usize) -> Fault {
-    Fault {
+fn first_dies(place: usize) -> ScheduledFault {
+    ScheduledFault {
         place,
         generation: 1,
         end: End::Dies,
@@ -25,8 +25,8 @@ fn first_dies(place: usize) -> Fault {
 }
 
 /// Driver 2 dies before an event, and tears the sector that it was writing.
-fn second_tears(place: usize) -> Fault {
-    Fault {
+fn second_tears(place: usize) -> ScheduledFault {
+    ScheduledFault {
         place,
         generation: 2,
         end: End::Tears,

@@ -16,7 +16,7 @@ pub enum End {
 
 /// A fault that is put into a schedule.
 #[derive(Clone, Copy, Debug, PartialEq, Eq)]
-pub struct Fault {
+pub struct ScheduledFault {
     /// Before which event it comes, counted from 0; as many as there are events: behind all of them.
     pub place: usize,
     /// The driver at fault: the first one is 1.
@@ -77,7 +77,7 @@ pub fn twice<'t>(alloc: Global, events: &[Event<'t>]) -> Result<Vec<Event<'t>>, 
 }
 
 /// The event by which a driver ends.
-fn event_of(fault: &Fault) -> Event<'static> {
+fn event_of(fault: &ScheduledFault) -> Event<'static> {
     match fault.end {
         End::Dies => Event::Die(fault.generation, None),
         End::Tears => Event::Die(fault.generation, Some([0xee; 512])),
@@ -86,7 +86,7 @@ fn event_of(fault: &Fault) -> Event<'static> {
 }
 
 /// Puts a fault behind these events.
-fn strike(events: &mut Vec<Event<'_>>, fault: &Fault) -> Result<(), AllocError> {
+fn strike(events: &mut Vec<Event<'_>>, fault: &ScheduledFault) -> Result<(), AllocError> {
     events.push(event_of(fault))?;
     for _ in 0..fault.ticks {
         events.extend_from_slice(&TICK)?;
@@ -95,7 +95,7 @@ fn strike(events: &mut Vec<Event<'_>>, fault: &Fault) -> Result<(), AllocError> 
 }
 
 /// The driver that makes the steps of driver 1 at a place.
-fn stepping(faults: &[Fault], place: usize) -> u32 {
+fn stepping(faults: &[ScheduledFault], place: usize) -> u32 {
     let last = faults.iter().filter(|fault| fault.place <= place).last();
     match last {
         Some(fault) if fault.ticks > 0 => fault.generation.saturating_add(1),
@@ -114,7 +114,7 @@ fn stepped<'t>(event: &Event<'t>, generation: u32) -> Event<'t> {
 /// Puts the faults of a place behind these events.
 fn strike_at(
     events: &mut Vec<Event<'_>>,
-    faults: &[Fault],
+    faults: &[ScheduledFault],
     place: usize,
 ) -> Result<(), AllocError> {
     for fault in faults {
@@ -129,7 +129,7 @@ fn strike_at(
 pub fn with_faults<'t>(
     alloc: Global,
     base: &[Event<'t>],
-    faults: &[Fault],
+    faults: &[ScheduledFault],
 ) -> Result<Vec<Event<'t>>, AllocError> {
     let mut events = Vec::new(alloc);
     for (place, event) in base.iter().enumerate() {

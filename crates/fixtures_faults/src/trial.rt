@@ -1,7 +1,7 @@
 //! Schedules that are tried one after the other, each with its faults.
 
 use crate::run_out::{RanOut, run_out};
-use crate::schedules::{End, Fault, base, twice, with_faults};
+use crate::schedules::{End, ScheduledFault, base, twice, with_faults};
 use crate::settings::Setting;
 use fixtures::new_volume;
 use fsck::{Verdict, check};
@@ -10,7 +10,7 @@ use schedule_text::reading::read_schedule;
 use std::alloc::{AllocError, Global};
 
 /// Faults that come in one schedule, in their order.
-pub type Faults = Vec<Fault>;
+pub type Faults = Vec<ScheduledFault>;
 
 /// How many schedules were tried, how many came out wrong, and which: their faults, and what is wrong.
 #[derive(Drop)]
@@ -40,7 +40,7 @@ impl Tried {
     }
 
     /// A schedule with these faults was tried, and this is wrong.
-    fn note(&mut self, faults: &[Fault], why: &str) -> Result<(), AllocError> {
+    fn note(&mut self, faults: &[ScheduledFault], why: &str) -> Result<(), AllocError> {
         self.wrong = self.wrong.saturating_add(1);
         for fault in faults {
             let (end, place) = (name_of(fault.end), fault.place);
@@ -137,7 +137,7 @@ impl Trial<'_> {
     fn wrong_with(
         &self,
         alloc: Global,
-        faults: &[Fault],
+        faults: &[ScheduledFault],
     ) -> Result<Option<&'static str>, AllocError> {
         let schedule = with_faults(alloc, self.base.as_slice(), faults)?;
         let came = run_out(alloc, &self.setting, self.image.as_slice(), schedule)?;

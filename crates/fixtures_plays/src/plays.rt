@@ -15,7 +15,7 @@ use std::sync::{Arc, Wait};
 use std::test::Fail;
 use std::thread::Threads;
 use std::time::Clock;
-use tools::play::{Image, Status, play};
+use tools::play::{ImageFile, PlayStatus, play};
 
 /// Drivers, each with its fault once so many of a request's sectors were moved, or with none.
 pub type Faults<'f> = &'f [Option<(u32, FaultKind)>];
@@ -115,12 +115,12 @@ fn files<'b>(
 }
 
 /// The file of an image, which a play takes over, from its bytes if it can be read.
-fn image_file(alloc: Global, bytes: Option<&[u8]>) -> Result<Image<'static>, AllocError> {
+fn image_file(alloc: Global, bytes: Option<&[u8]>) -> Result<ImageFile<'static>, AllocError> {
     let bytes = match bytes {
         Some(bytes) => Some(Vec::from_slice(alloc, bytes)?),
         None => None,
     };
-    Ok(Image {
+    Ok(ImageFile {
         name: "v.img",
         bytes,
     })
@@ -128,7 +128,7 @@ fn image_file(alloc: Global, bytes: Option<&[u8]>) -> Result<Image<'static>, All
 
 /// How many bytes writers take.
 #[derive(Clone, Copy)]
-pub struct Room {
+pub struct WriterLimits {
     /// At a call.
     pub most: usize,
     /// In all on standard output.
@@ -137,8 +137,8 @@ pub struct Room {
     pub err: usize,
 }
 
-/// Room for all.
-const FREE: Room = Room {
+/// WriterLimits for all.
+const FREE: WriterLimits = WriterLimits {
     most: usize::MAX,
     out: usize::MAX,
     err: usize::MAX,
@@ -171,8 +171,8 @@ fn play_into<R: Threads + Wait + Copy + Send + Sync + 'static, G: Gate + 'static
     setup: &Setup,
     supply: Vec<ScriptedDriver>,
     gate: Arc<G>,
-    room: Room,
-) -> Result<(Played, Status), AllocError> {
+    room: WriterLimits,
+) -> Result<(Played, PlayStatus), AllocError> {
     let files = files(alloc, scripts)?;
     let image = image_file(alloc, image)?;
     let mut out = Sink(Vec::new(alloc), room.most, room.out);
@@ -250,8 +250,8 @@ impl<'p> Play<'p> {
         alloc: Global,
         rt: R,
         gate: Arc<G>,
-        room: Room,
-    ) -> Result<(Played, Status), AllocError> {
+        room: WriterLimits,
+    ) -> Result<(Played, PlayStatus), AllocError> {
         let supply = supply_at(alloc, self.sectors, self.request, self.faults)?;
         let (image, scripts, setup) = (self.image, self.scripts, &self.setup);
         play_into(alloc, rt, image, scripts, setup, supply, gate, room)
@@ -262,8 +262,8 @@ impl<'p> Play<'p> {
         &self,
         alloc: Global,
         rt: R,
-        room: Room,
-    ) -> Result<(Played, Status), AllocError> {
+        room: WriterLimits,
+    ) -> Result<(Played, PlayStatus), AllocError> {
         let gate = Arc::new(alloc, Ticking::new(rt, self.pace))?;
         self.played_under(alloc, rt, gate, room)
     }

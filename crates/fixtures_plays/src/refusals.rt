@@ -9,7 +9,7 @@ use std::time::Clock;
 
 /// An image: one that can't be read, the first bytes of a new volume's, or a new volume's with a byte at a place changed to another.
 #[derive(Clone, Copy)]
-pub enum Image {
+pub enum PlayedImage {
     /// It can't be read.
     Unread,
     /// So many bytes of a new volume's.
@@ -20,7 +20,7 @@ pub enum Image {
 
 /// An image, how many sectors each driver serves, the scripts' bytes if they can be read, the drivers, and the fault that is told.
 pub type Refused = (
-    Image,
+    PlayedImage,
     usize,
     &'static [Option<&'static [u8]>],
     Faults<'static>,
@@ -28,11 +28,11 @@ pub type Refused = (
 );
 
 /// An image's bytes, if it can be read.
-fn bytes_of(alloc: Global, image: Image) -> Result<Option<Vec<u8>>, AllocError> {
+fn bytes_of(alloc: Global, image: PlayedImage) -> Result<Option<Vec<u8>>, AllocError> {
     Ok(match image {
-        Image::Unread => None,
-        Image::Changed(at, byte) => Some(changed(alloc, at, byte)?),
-        Image::First(length) => {
+        PlayedImage::Unread => None,
+        PlayedImage::Changed(at, byte) => Some(changed(alloc, at, byte)?),
+        PlayedImage::First(length) => {
             let mut image = new_volume(alloc, 1024)?;
             image.truncate(length);
             Some(image)

@@ -3,14 +3,14 @@
 ghost use Rattle.std.specs.Prelude.{◌≡◌, ◌↔◌, IsOk};
 
 use crate::left::has_left;
-use crate::plays::{Play, Played, Room};
+use crate::plays::{Play, Played, WriterLimits};
 use fixtures::new_volume;
 use std::alloc::Global;
 use std::sync::Wait;
 use std::test::Fail;
 use std::thread::Threads;
 use std::time::Clock;
-use tools::play::{Status, finish};
+use tools::play::{PlayStatus, finish};
 
 /// Whether there is an image, a script, how many bytes are taken at a call, on standard output and on standard error, how the play ends,
 /// what is written, and what bytes the image has then, if it is there.
@@ -18,17 +18,22 @@ pub type Narrow = (
     bool,
     &'static [u8],
     (usize, usize, usize),
-    Status,
+    PlayStatus,
     (&'static str, &'static str),
     Option<&'static str>,
 );
 
 /// Looks at what a play gave, and at how it ended, which is an error where it is something else than a row says.
-fn is_as_said(alloc: Global, played: &Played, status: Status, row: &Narrow) -> Result<(), Fail> {
+fn is_as_said(
+    alloc: Global,
+    played: &Played,
+    status: PlayStatus,
+    row: &Narrow,
+) -> Result<(), Fail> {
     let (_, _, _, ended, (told, line), left) = *row;
     let is_told = played.out.as_slice() == told.as_bytes()
         && played.err.as_slice() == line.as_bytes();
-    let number = if ended == Status::Done { 0 } else { 1 };
+    let number = if ended == PlayStatus::Done { 0 } else { 1 };
     let is_ended = status == ended && played.status == number;
     if is_told && is_ended && played.image.is_some() == left.is_some() {
         return has_left(alloc, played.left(), left.unwrap_or(""));
@@ -49,7 +54,7 @@ fn comes_out<R: Threads + Wait + Clock + Copy + Send + Sync + 'static>(
         image: has_image.then_some(image),
         ..Play::new(image, &scripts)
     };
-    let (played, status) = play.played_into(alloc, rt, Room { most, out, err })?;
+    let (played, status) = play.played_into(alloc, rt, WriterLimits { most, out, err })?;
     is_as_said(alloc, &played, status, row)
 }
 
@@ -67,10 +72,10 @@ pub fn all_come_out<R: Threads + Wait + Clock + Copy + Send + Sync + 'static>(
 }
 
 /// How a play ended, whether its image was written, how it ended then, and what was told of that.
-pub type Finished = (Status, bool, Status, &'static str);
+pub type Finished = (PlayStatus, bool, PlayStatus, &'static str);
 
 /// Looks at how a row ended, and at what was told.
-fn has_ended(ended: Status, told: &[u8], status: Status, line: &str) -> Result<(), Fail>
+fn has_ended(ended: PlayStatus, told: &[u8], status: PlayStatus, line: &str) -> Result<(), Fail>
     ensures { IsOk result ↔ ((ended ≡ status) × (told.now ≡ line.now)) }
 {
     if ended == status && told == line.as_bytes() {

@@ -1,8 +1,8 @@
 //! Sessions that call.
 
 use board::Device;
+use board::counting::parameters::ServiceParameters;
 use board::counting::recorder::Recorder;
-use board::counting::room::Room;
 use file_server::FileServer;
 use reply_text::text::OutcomeText;
 use serve::service::Shared;
@@ -25,7 +25,7 @@ pub trait Caller {
     fn looks(&mut self) -> Device;
 }
 
-impl<N: Room, R: Wait + Copy, L: Recorder<N>, S: FileServer<L>> Caller
+impl<N: ServiceParameters, R: Wait + Copy, L: Recorder<N>, S: FileServer<L>> Caller
     for Session<N, Shared<N, R, L, S>> {
     fn make(&mut self, now: u32, call: &Call<'_>) -> Outcome {
         self.call(now, call)

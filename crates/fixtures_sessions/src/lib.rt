@@ -3,7 +3,7 @@
 #![tactic(auto)]
 
 pub mod callers;
-pub mod noting;
+pub mod recording_driver;
 pub mod services;
 pub mod silent;
 pub mod stage;

@@ -1,8 +1,8 @@
 //! Services, and what is done in their sessions.
 
 use crate::callers::{in_turn, told};
+use board::counting::parameters::ServiceParameters;
 use board::counting::recorder::Recorder;
-use board::counting::room::Room;
 use file_server::FileServer;
 use serve::service::{Service, Shared};
 use serve::session::Session;
@@ -13,11 +13,12 @@ use std::thread::{Threads, join};
 use tree::Call;
 
 /// Two sessions, of user 0 and of user 7, call in turn, and end. No image.
-pub fn two_in_turn<N: Room, R: Threads + Wait + Copy, L: Recorder<N>, S: FileServer<L>>(
-    alloc: Global,
-    service: Service<N, R, L, S>,
-    lines: &mut String,
-) -> Option<Vec<u8>> {
+pub fn two_in_turn<
+    N: ServiceParameters,
+    R: Threads + Wait + Copy,
+    L: Recorder<N>,
+    S: FileServer<L>,
+>(alloc: Global, service: Service<N, R, L, S>, lines: &mut String) -> Option<Vec<u8>> {
     let mut one = service.session(0, 0).ok()?;
     let mut two = service.session(7, 8).ok()?;
     in_turn(&mut one, &mut two, lines);
@@ -27,7 +28,7 @@ pub fn two_in_turn<N: Room, R: Threads + Wait + Copy, L: Recorder<N>, S: FileSer
 }
 
 /// A session asks for the root three times, and ends. A line for each answer.
-fn three_calls<N: Room, R: Threads + Wait + Copy, L: Recorder<N>, S: FileServer<L>>(
+fn three_calls<N: ServiceParameters, R: Threads + Wait + Copy, L: Recorder<N>, S: FileServer<L>>(
     alloc: Global,
     mut session: Session<N, Shared<N, R, L, S>>,
 ) -> String {
@@ -41,7 +42,7 @@ fn three_calls<N: Room, R: Threads + Wait + Copy, L: Recorder<N>, S: FileServer<
 
 /// Two sessions call in threads of their own. The lines of each.
 pub fn two_in_threads<
-    N: Room + Send + Sync,
+    N: ServiceParameters + Send + Sync,
     R: Threads + Wait + Copy + Send + Sync,
     L: Recorder<N> + Send,
     S: FileServer<L> + Send,
@@ -56,7 +57,7 @@ pub fn two_in_threads<
 }
 
 /// Makes as many sessions as there are numbers.
-fn fill<N: Room, R: Threads + Wait + Copy, L: Recorder<N>, S: FileServer<L>>(
+fn fill<N: ServiceParameters, R: Threads + Wait + Copy, L: Recorder<N>, S: FileServer<L>>(
     service: &Service<N, R, L, S>,
     sessions: &mut Vec<Session<N, Shared<N, R, L, S>>>,
 ) -> Option<()> {
@@ -68,7 +69,7 @@ fn fill<N: Room, R: Threads + Wait + Copy, L: Recorder<N>, S: FileServer<L>>(
 
 /// As many sessions are made as there are numbers, and one more is asked for before and after one of them ends: why there was none more,
 /// before and after, and how many are left. No image.
-pub fn many<N: Room, R: Threads + Wait + Copy, L: Recorder<N>, S: FileServer<L>>(
+pub fn many<N: ServiceParameters, R: Threads + Wait + Copy, L: Recorder<N>, S: FileServer<L>>(
     alloc: Global,
     service: Service<N, R, L, S>,
     lines: &mut String,
@@ -109,7 +110,7 @@ fn cut_off<S: Drop>(stopped: Result<Vec<u8>, StopRefusal<S>>) -> Option<Vec<u8>>
 }
 
 /// Stops a service with the end of a session, and at once, which are both refused since another session is left.
-fn refused<N: Room, R: Threads + Wait + Copy, L: Recorder<N>, S: FileServer<L>>(
+fn refused<N: ServiceParameters, R: Threads + Wait + Copy, L: Recorder<N>, S: FileServer<L>>(
     service: Service<N, R, L, S>,
     session: Session<N, Shared<N, R, L, S>>,
 ) -> Option<Service<N, R, L, S>> {
@@ -119,7 +120,7 @@ fn refused<N: Room, R: Threads + Wait + Copy, L: Recorder<N>, S: FileServer<L>>(
 
 /// Makes a call in one of two sessions, and stops the service three times: with the end of the other session, at once, which are refused
 /// since the first session is left, and when that one has ended, or with its end. The image.
-pub fn stopped<N: Room, R: Threads + Wait + Copy, L: Recorder<N>, S: FileServer<L>>(
+pub fn stopped<N: ServiceParameters, R: Threads + Wait + Copy, L: Recorder<N>, S: FileServer<L>>(
     service: Service<N, R, L, S>,
     call: &Call<'_>,
     has_ended: bool,
@@ -135,7 +136,12 @@ pub fn stopped<N: Room, R: Threads + Wait + Copy, L: Recorder<N>, S: FileServer<
 }
 
 /// Stops a service when its last session has ended, or with its end. Whether the last sync was made, and the image.
-fn stopped_at_last<N: Room, R: Threads + Wait + Copy, L: Recorder<N>, S: FileServer<L>>(
+fn stopped_at_last<
+    N: ServiceParameters,
+    R: Threads + Wait + Copy,
+    L: Recorder<N>,
+    S: FileServer<L>,
+>(
     service: Service<N, R, L, S>,
     last: Session<N, Shared<N, R, L, S>>,
     has_ended: bool,
@@ -149,10 +155,12 @@ fn stopped_at_last<N: Room, R: Threads + Wait + Copy, L: Recorder<N>, S: FileSer
 }
 
 /// A session calls, another one is asked for, and the service is stopped, whose link has ended. The image.
-pub fn asked_and_stopped<N: Room, R: Threads + Wait + Copy, L: Recorder<N>, S: FileServer<L>>(
-    service: Service<N, R, L, S>,
-    lines: &mut String,
-) -> Option<Vec<u8>> {
+pub fn asked_and_stopped<
+    N: ServiceParameters,
+    R: Threads + Wait + Copy,
+    L: Recorder<N>,
+    S: FileServer<L>,
+>(service: Service<N, R, L, S>, lines: &mut String) -> Option<Vec<u8>> {
     let mut session = service.session(0, 0).ok()?;
     told(&mut session, 100, &Call::Stat { path: b"/" }, lines);
     let refusal = service.session(0, 0).err();

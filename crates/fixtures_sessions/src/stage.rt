@@ -1,12 +1,12 @@
 //! What a test of a service's threads runs on: an image, a gate, drivers that note what they write, and a service over them.
 
-use crate::noting::{Notes, Noting, drivers};
+use crate::recording_driver::{Notes, RecordingDriver, drivers};
 use crate::watch::{Holds, Watch};
 use fixtures::whole;
-use launch::program::Program;
-use launch::start::serve;
 use modeldisk::Fault;
 use reincarnate::policy::{Policy, Setup};
+use service_start::program::Program;
+use service_start::start::serve;
 use std::alloc::{AllocError, Global};
 use std::sync::{Arc, Wait};
 use std::test::Fail;
@@ -58,7 +58,7 @@ impl<R: Wait + Clock + Copy> Stage<R> {
     }
 
     /// Drivers of the image's sectors, the first ones each with its fault in this list.
-    pub fn supply(&self, faults: &[Fault]) -> Result<Vec<Noting<R>>, AllocError> {
+    pub fn supply(&self, faults: &[Fault]) -> Result<Vec<RecordingDriver<R>>, AllocError> {
         let sectors = u32::try_from(self.image.len() / 512).unwrap_or(0);
         drivers(self.alloc, sectors, faults, &self.notes)
     }

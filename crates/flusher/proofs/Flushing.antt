@@ -11,12 +11,12 @@ use Rattle.reissue.specs.Entries.{pending_of}
 use Rattle.cache.specs.declared.slot.Slot.{Slot}
 use Rattle.cache.specs.declared.state.State.{State}
 use Rattle.cache.specs.declared.state.State.TheVariants.{Clean, Dirty, Writing, Changed}
-use Rattle.store.specs.declared.Cut.{Cut}
+use Rattle.block_store.specs.declared.Cut.{Cut}
 use Rattle.cache.specs.Slots.{ticket_of, is_clean, is_dirty}
 use Rattle.cache.specs.Edits.{AllClean, SomeUnclean, IssuesLowest, IsBegun, IsOutside, AreBegun}
 use Rattle.cache.specs.Runs.{IssuesRun, BeginsRun}
 use Rattle.cache.specs.Frames.{CacheAgrees}
-use Rattle.cache.specs.Calls.{Caching, IsReady, IsStuck, PostsAlone, Runs, Keeps, Serves}
+use Rattle.cache.specs.Calls.{AbstractCache, IsReady, IsStuck, PostsAlone, Runs, Keeps, Serves}
 use Rattle.records.specs.Told.{Told, Posted, Complained, Received}
 use Rattle.reissue.specs.Posts.{OnlyPosts}
 use Rattle.cache.proofs.Tied.{way_ticket, no_ticket}
@@ -39,7 +39,7 @@ one_more (suc k) old mid new (inl same) x = inr (new, subst (λ (m : ℕ → Opt
 one_more (suc k) old mid new (inr y) x = inr (y.0, y.1, one_more k y.0 mid new y.2 x)
 
 -- where a frame isn't clean and no write can be begun, a request is pending
-pub busy_unclean : (c : Caching) → IsReady c → IsStuck c → SomeUnclean c.held → IsBusy (pending_of c.table.pending)
+pub busy_unclean : (c : AbstractCache) → IsReady c → IsStuck c → SomeUnclean c.held → IsBusy (pending_of c.table.pending)
 busy_unclean c ready stuck some = elim stuck.why [
   | inl none ↦ by some.slot.state refl (none some.block some.slot some.is)
   | inr busy ↦ busy.0
@@ -55,7 +55,7 @@ busy_unclean c ready stuck some = elim stuck.why [
     by (Changed t) e h = under t (ap ticket_of e)
 
 -- where each frame is clean no write is open
-pub idle : (c : Caching) → IsReady c → AllClean c.held → IsIdle c
+pub idle : (c : AbstractCache) → IsReady c → AllClean c.held → IsIdle c
 idle c ready clean = record {
   clean = clean;
   no_write = λ t r bytes is wr.
@@ -65,7 +65,7 @@ idle c ready clean = record {
 }
 
 -- and the disk is what would be read back
-pub synced : (c : Caching) (v : DiskState) → 0 < c.size → AllClean c.held → CacheAgrees c.size c.held v → IsSynced c v
+pub synced : (c : AbstractCache) (v : DiskState) → 0 < c.size → AllClean c.held → CacheAgrees c.size c.held v → IsSynced c v
 synced c v some clean k = record {
   sure = λ place.
       let b = place / c.size in
@@ -84,19 +84,19 @@ synced c v some clean k = record {
     by_slot b o lt (Some s) e = rw e (k.clean b s e (clean b s e) o lt).byte_is
 
 -- a sync that answered ok
-pub syncs_ok : (old new : Caching) → 0 < new.size → AllClean new.held → Keeps old new → Runs None old new (λ w v. Syncs (Ok tt) old new w v)
+pub syncs_ok : (old new : AbstractCache) → 0 < new.size → AllClean new.held → Keeps old new → Runs None old new (λ w v. Syncs (Ok tt) old new w v)
 syncs_ok old new some clean x =
     runs_as None old new (λ w v. Serves old new w v) (λ w v. Syncs (Ok tt) old new w v)
     (λ w v p. record { serves = p; synced = λ k. synced new v some clean (p.agrees k) }) x
 
 -- a sync that was cut
-pub syncs_cut : (r : Result (Unit {0}) Cut) (old new : Caching) → IsErr r → Keeps old new → Runs None old new (λ w v. Syncs r old new w v)
+pub syncs_cut : (r : Result (Unit {0}) Cut) (old new : AbstractCache) → IsErr r → Keeps old new → Runs None old new (λ w v. Syncs r old new w v)
 syncs_cut (Err cut) old new h x =
     runs_as None old new (λ w v. Serves old new w v) (λ w v. Syncs (Err cut) old new w v) (λ w v p. record { serves = p; synced = λ k. tt }) x
 syncs_cut (Ok u) old new h x = cc
 
 -- posts, and then posts
-pub posts_then : (a b c : Caching) → PostsAlone a b → PostsAlone b c → PostsAlone a c
+pub posts_then : (a b c : AbstractCache) → PostsAlone a b → PostsAlone b c → PostsAlone a c
 posts_then a b c x y = record {
   posts = y.posts ++ x.posts;
   history = y.history ∙ ap (λ (l : List Told). y.posts ++ l) x.history ∙ sym (append_assoc y.posts x.posts a.told);
@@ -110,7 +110,7 @@ posts_then a b c x y = record {
     both (Received message ∷ p) q h k = absurd h
 
 -- nothing was told
-pub posts_none : (c : Caching) → PostsAlone c c
+pub posts_none : (c : AbstractCache) → PostsAlone c c
 posts_none c = record { posts = []; history = refl; only_posts = tt }
 
 -- ---- runs

@@ -3,10 +3,10 @@ use Rattle.std.specs.Prelude.{◌≡◌, ◌⊎◌, ℕ, zero, suc, ◌-◌, Lis
 use Rattle.reissue.specs.Moves.{DiskState, Begun}
 use Rattle.reissue.specs.Entries.{pending_of}
 use Rattle.cache.specs.declared.slot.Slot.{Slot}
-use Rattle.store.specs.declared.Cut.{Cut}
+use Rattle.block_store.specs.declared.Cut.{Cut}
 use Rattle.cache.specs.Edits.{AllClean, IssuesLowest}
 use Rattle.cache.specs.Frames.{CacheAgrees, view}
-use Rattle.cache.specs.Calls.{Caching, IsStuck, Serves}
+use Rattle.cache.specs.Calls.{AbstractCache, IsStuck, Serves}
 use Rattle.cache.specs.Runs.{IssuesRun}
 
 -- so many writes at most are begun, each of the dirty frame that then has the lowest block
@@ -33,25 +33,25 @@ pub record WritesInRuns (most size : ℕ) (old new : ℕ → Option Slot) (pendi
   pub runs : WritesRuns counts most size old new pending pending'
 
 -- as many writes are begun as may be, or no further one can be before a message is taken
-abbrev pub BeginsAll : ℕ → (ℕ → Option Slot) → Caching → Type 0
+abbrev pub BeginsAll : ℕ → (ℕ → Option Slot) → AbstractCache → Type 0
 BeginsAll most old new = WritesJust most old new.held ⊎ IsStuck new
 
 -- no frame is dirty, and no write is open
-pub record IsIdle (c : Caching) : Type 0 where
+pub record IsIdle (c : AbstractCache) : Type 0 where
   pub clean : AllClean c.held
   pub no_write : (t : ℕ) (r : Begun) (bytes : List ℕ) → pending_of c.table.pending t ≡ Some r → r.written ≡ Some bytes → ⊥
 
 -- no place is unsure, and the disk is what would be read back
-pub record IsSynced (c : Caching) (v : DiskState) : Type 0 where
+pub record IsSynced (c : AbstractCache) (v : DiskState) : Type 0 where
   pub sure : (place : ℕ) → v.unsure place ≡ false
   pub on_disk : view c.size c.held v ≡ view c.size (λ b. None) v
 
 -- so it is where a sync answered ok
-abbrev pub IsSyncedAt : Result (Unit {0}) Cut → Caching → DiskState → Type 0
+abbrev pub IsSyncedAt : Result (Unit {0}) Cut → AbstractCache → DiskState → Type 0
 IsSyncedAt (Ok u) c v = IsSynced c v
 IsSyncedAt (Err cut) c v = Unit {0}
 
 -- what a sync does
-pub record Syncs (result : Result (Unit {0}) Cut) (old new : Caching) (w v : DiskState) : Type 0 where
+pub record Syncs (result : Result (Unit {0}) Cut) (old new : AbstractCache) (w v : DiskState) : Type 0 where
   pub serves : Serves old new w v
   pub synced : CacheAgrees old.size old.held w → IsSyncedAt result new v

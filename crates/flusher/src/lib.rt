@@ -10,9 +10,9 @@ ghost use Rattle.cache.specs.Edits.{AllClean, SomeUnclean};
 ghost use Rattle.cache.specs.declared.frame.Frame.{Frame};
 ghost use Rattle.flusher.specs.Flushing.{WritesLowest, WritesInRuns, BeginsAll, IsIdle, Syncs};
 
+use block_store::Cut;
 use cache::Cache;
 use reissue::Link;
-use store::Cut;
 
 /// Of how many frames a flush begins the writes at most.
 const MOST_FRAMES: u32 = 16;

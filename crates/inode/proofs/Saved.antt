@@ -10,11 +10,11 @@ use Rattle.tree.proofs.Maps.{put-same, put-other, is_put}
 use Rattle.volume.specs.declared.Inode.{Inode}
 use Rattle.volume.specs.Reading.{Disk, is_inode, inode_in, inode_block, inode_offset, inode_of_disk, u16_in, u32_in}
 use Rattle.volume.specs.Pieces.{pieces, blank}
-use Rattle.store.specs.Rows.{with_bytes, written}
-use Rattle.store.specs.Volume.{Alters}
-use Rattle.store.proofs.Rows.{row_new, row_old}
-use Rattle.store.proofs.Places.{after_maps, before_zones, apart}
-use Rattle.store.proofs.Alone.{in_table}
+use Rattle.block_store.specs.Rows.{with_bytes, written}
+use Rattle.block_store.specs.Volume.{Alters}
+use Rattle.block_store.proofs.Rows.{row_new, row_old}
+use Rattle.block_store.proofs.Places.{after_maps, before_zones, apart}
+use Rattle.block_store.proofs.Alone.{in_table}
 use Rattle.inode.specs.Table.{with_inode}
 
 module _ (f h : ℕ → ℕ) (p q : ℕ) (same : (k : ℕ) → k < 64 → f (p + k) ≡ h (q + k)) where

@@ -4,15 +4,15 @@ ghost use Rattle.std.specs.Prelude.{◌≡◌, ◌≤◌, ◌<◌, ◌+◌, ◌�
 ghost use Rattle.layout.specs.Places.{IsGeometry};
 ghost use Rattle.volume.specs.Reading.{is_inode, inode_block, inode_offset};
 ghost use Rattle.volume.specs.Pieces.{pieces};
-ghost use Rattle.store.specs.World.{Turns, Reads};
-ghost use Rattle.store.specs.Volume.{IsOn, Alters};
-ghost use Rattle.store.specs.Halts.{IsHalt, Ends};
+ghost use Rattle.block_store.specs.World.{Turns, Reads};
+ghost use Rattle.block_store.specs.Volume.{IsOn, Alters};
+ghost use Rattle.block_store.specs.Halts.{IsHalt, Ends};
 ghost use Rattle.inode.specs.Table.{with_inode};
 
 use crate::{decode_in, encode};
+use block_store::words::write_bytes;
+use block_store::{Blocks, Halt};
 use layout::Geometry;
-use store::words::write_bytes;
-use store::{Blocks, Halt};
 use volume::Inode;
 
 /// Where an inode begins.

@@ -6,7 +6,7 @@ use Rattle.std.proofs.lemmas.Bool.Decides.{nat_tests}
 use Rattle.std.proofs.Math.ListN.{get_or-map}
 use Rattle.std.proofs.lemmas.Bool.{cases_lt}
 use Rattle.lemmas.proofs.Bools.{or_false_right}
-use Rattle.media.specs.declared.partition.Entry.{Entry}
+use Rattle.media.specs.declared.partition.PartitionEntry.{PartitionEntry}
 use Rattle.media.specs.Entries.{passes, holds_sector_0, meets, overlap, has_overlap}
 use Rattle.media.specs.Table.{TableState, IsTable, HoldsSector, range_of_entry, range_at}
 
@@ -24,23 +24,23 @@ range_entry t zero other = absurd (other refl)
 range_entry t (suc k) other = range_later t k
 
 -- an entry that doesn't pass the media lies in them
-inside : (sectors : ℕ) (e : Option Entry) → passes sectors e ≡ false → IfSome (range_of_entry e) (λ r. r.0 + r.1 ≤ sectors)
+inside : (sectors : ℕ) (e : Option PartitionEntry) → passes sectors e ≡ false → IfSome (range_of_entry e) (λ r. r.0 + r.1 ≤ sectors)
 inside sectors None is = tt
 inside sectors (Some e) is = grind (arith, nat_tests)
 
 -- an entry without sector 0 begins after it
-off_sector_0 : (e : Option Entry) → holds_sector_0 e ≡ false → IfSome (range_of_entry e) (λ r. 0 < r.0)
+off_sector_0 : (e : Option PartitionEntry) → holds_sector_0 e ≡ false → IfSome (range_of_entry e) (λ r. 0 < r.0)
 off_sector_0 None is = tt
 off_sector_0 (Some e) is = grind (arith, nat_tests)
 
 -- entries that don't meet share no sector
-apart : (a b : Option Entry) (s : ℕ) → meets a b ≡ false → HoldsSector (range_of_entry a) s → HoldsSector (range_of_entry b) s → ⊥
+apart : (a b : Option PartitionEntry) (s : ℕ) → meets a b ≡ false → HoldsSector (range_of_entry a) s → HoldsSector (range_of_entry b) s → ⊥
 apart None b s is x y = x
 apart (Some a) None s is x y = y
 apart (Some a) (Some b) s is x y = grind (arith, nat_tests)
 
 -- a test that no element passes fails at each place, and past the end where it fails of nothing
-none_passes : (p : Option Entry → Bool) (entries : List (Option Entry)) (i : ℕ) → p None ≡ false → list_any p entries ≡ false → p (get_or entries i None) ≡ false
+none_passes : (p : Option PartitionEntry → Bool) (entries : List (Option PartitionEntry)) (i : ℕ) → p None ≡ false → list_any p entries ≡ false → p (get_or entries i None) ≡ false
 none_passes p [] i nothing is = nothing
 none_passes p (e ∷ entries) zero nothing is = first (p e) is
   where
@@ -54,7 +54,7 @@ none_passes p (e ∷ entries) (suc i) nothing is = none_passes p entries i nothi
     rest false h = h
 
 -- nothing meets nothing
-meets_nothing : (a : Option Entry) → meets a None ≡ false
+meets_nothing : (a : Option PartitionEntry) → meets a None ≡ false
 meets_nothing None = refl
 meets_nothing (Some a) = refl
 
@@ -64,7 +64,7 @@ left_false true b h = h
 left_false false b h = refl
 
 -- where no two entries overlap, an earlier one doesn't meet a later one
-none_meet : (entries : List (Option Entry)) → overlap entries ≡ false → (i j : ℕ) → i < j → meets (get_or entries i None) (get_or entries j None) ≡ false
+none_meet : (entries : List (Option PartitionEntry)) → overlap entries ≡ false → (i j : ℕ) → i < j → meets (get_or entries i None) (get_or entries j None) ≡ false
 none_meet [] is i j less = refl
 none_meet (e ∷ entries) is i zero less = absurd (omega arith)
 none_meet (e ∷ entries) is zero (suc j) less = none_passes (meets e) entries j (meets_nothing e) (left_false (list_any (meets e) entries) (overlap entries) is)

@@ -1,15 +1,15 @@
 -- The ranges that a partition table gives, by minor.
 use Rattle.std.specs.Prelude.{ℕ, ◌≡◌, ◌≢◌, ◌+◌, ◌≤◌, ◌<◌, ◌^◌, List, ◌∷◌, length, map, Option, Some, None, option_map, IfSome}
 use Rattle.std.proofs.Common.{get_or}
-use Rattle.media.specs.declared.partition.Entry.{Entry}
+use Rattle.media.specs.declared.partition.PartitionEntry.{PartitionEntry}
 
 -- a table: the sectors of the media, and the four entries, None where one is empty
 pub record TableState : Type 0 where
   pub sectors : ℕ
-  pub entries : List (Option Entry)
+  pub entries : List (Option PartitionEntry)
 
 -- where an entry lies: its first sector and how many there are
-abbrev pub range_of_entry : Option Entry → Option (ℕ × ℕ)
+abbrev pub range_of_entry : Option PartitionEntry → Option (ℕ × ℕ)
 range_of_entry None = None
 range_of_entry (Some e) = Some (e.first, e.count)
 
@@ -23,7 +23,7 @@ range_at t minor = get_or (ranges_of t) minor None
 
 -- the type of a minor's entry; the whole media has none
 abbrev pub kind_at : TableState → ℕ → Option ℕ
-kind_at t minor = option_map (λ (e : Entry). e.kind) (get_or (None ∷ t.entries) minor None)
+kind_at t minor = option_map (λ (e : PartitionEntry). e.kind) (get_or (None ∷ t.entries) minor None)
 
 -- sector s is one of the range
 abbrev pub HoldsSector : Option (ℕ × ℕ) → ℕ → Type 0

@@ -55,7 +55,7 @@ impl error::Error for PartitionRefusal {}
 
 /// An entry of a table.
 #[derive(Clone, Copy)]
-pub struct Entry {
+pub struct PartitionEntry {
     /// The type of the partition; MINIX's is 0x81.
     pub kind: u8,
     /// Its first sector.
@@ -68,7 +68,7 @@ pub struct Entry {
 #[derive(Clone, Copy)]
 pub struct Table {
     sectors: u32,
-    entries: [Option<Entry>; 4],
+    entries: [Option<PartitionEntry>; 4],
 }
 
 impl Model for Table {
@@ -116,7 +116,7 @@ impl Table {
     }
 
     /// The entry of a minor.
-    fn entry(&self, minor: u8) -> Option<Entry>
+    fn entry(&self, minor: u8) -> Option<PartitionEntry>
         ensures { result ≡ get_or (None ∷ self.now.entries) minor None }
     {
         match minor {
@@ -139,7 +139,7 @@ pub fn parse(sector: &[u8; 512], sectors: u32) -> Result<Table, PartitionRefusal
 }
 
 /// The table of these entries, unless some passes the media, meets another or holds sector 0.
-fn checked(sectors: u32, entries: [Option<Entry>; 4]) -> Result<Table, PartitionRefusal>
+fn checked(sectors: u32, entries: [Option<PartitionEntry>; 4]) -> Result<Table, PartitionRefusal>
     ensures value { result ≡ checked (record { sectors = sectors; entries = entries }) }
     ensures table { IfOk result IsTable }
 {
@@ -153,28 +153,28 @@ fn checked(sectors: u32, entries: [Option<Entry>; 4]) -> Result<Table, Partition
 }
 
 /// Whether some entry holds sector 0, or some two have a sector in common.
-fn has_overlap(entries: &[Option<Entry>]) -> bool
+fn has_overlap(entries: &[Option<PartitionEntry>]) -> bool
     ensures { result ≡ has_overlap entries.now }
 {
     hold_sector_0(entries) || overlap(entries)
 }
 
 /// Whether some entry ends past media of so many sectors.
-fn passes_media(entries: &[Option<Entry>], sectors: u32) -> bool
+fn passes_media(entries: &[Option<PartitionEntry>], sectors: u32) -> bool
     ensures { result ≡ list_any (passes sectors) entries.now }
 {
     entries.iter().any(|entry| passes(*entry, sectors))
 }
 
 /// Whether some entry holds sector 0.
-fn hold_sector_0(entries: &[Option<Entry>]) -> bool
+fn hold_sector_0(entries: &[Option<PartitionEntry>]) -> bool
     ensures { result ≡ list_any holds_sector_0 entries.now }
 {
     entries.iter().any(|entry| holds_sector_0(*entry))
 }
 
 /// Whether an entry has a sector in common with some of the others.
-fn meets_some(entry: Option<Entry>, others: &[Option<Entry>]) -> bool
+fn meets_some(entry: Option<PartitionEntry>, others: &[Option<PartitionEntry>]) -> bool
     ensures { result ≡ list_any (meets entry) others.now }
 {
     others.iter().any(|other| meets(entry, *other))
@@ -188,7 +188,7 @@ fn has_signature(sector: &[u8; 512]) -> bool
 }
 
 /// The four entries.
-fn entries_in(sector: &[u8; 512]) -> [Option<Entry>; 4]
+fn entries_in(sector: &[u8; 512]) -> [Option<PartitionEntry>; 4]
     ensures { result ≡ entries_of sector.now }
 {
     [
@@ -200,11 +200,11 @@ fn entries_in(sector: &[u8; 512]) -> [Option<Entry>; 4]
 }
 
 /// The entry in the 16 bytes at `at`, unless it is empty.
-fn entry_in(sector: &[u8; 512], at: usize) -> Option<Entry>
+fn entry_in(sector: &[u8; 512], at: usize) -> Option<PartitionEntry>
     requires { at + 16 ≤ 512 }
     ensures { result ≡ unless_empty (entry_at sector.now at) }
 {
-    let entry = Entry {
+    let entry = PartitionEntry {
         kind: sector[at + 4],
         first: LittleEndian::read_u32(&sector[at + 8..]),
         count: LittleEndian::read_u32(&sector[at + 12..]),
@@ -216,7 +216,7 @@ fn entry_in(sector: &[u8; 512], at: usize) -> Option<Entry>
 }
 
 /// Where an entry lies.
-fn range_of(entry: Option<Entry>) -> Option<(u32, u32)>
+fn range_of(entry: Option<PartitionEntry>) -> Option<(u32, u32)>
     ensures { result ≡ range_of_entry entry }
 {
     match entry {
@@ -226,7 +226,7 @@ fn range_of(entry: Option<Entry>) -> Option<(u32, u32)>
 }
 
 /// Whether an entry ends past media of so many sectors.
-fn passes(entry: Option<Entry>, sectors: u32) -> bool
+fn passes(entry: Option<PartitionEntry>, sectors: u32) -> bool
     ensures { result ≡ passes sectors entry }
 {
     match entry {
@@ -236,7 +236,7 @@ fn passes(entry: Option<Entry>, sectors: u32) -> bool
 }
 
 /// Whether an entry holds sector 0.
-fn holds_sector_0(entry: Option<Entry>) -> bool
+fn holds_sector_0(entry: Option<PartitionEntry>) -> bool
     ensures { result ≡ holds_sector_0 entry }
 {
     match entry {
@@ -246,7 +246,7 @@ fn holds_sector_0(entry: Option<Entry>) -> bool
 }
 
 /// Whether two entries have a sector in common.
-fn meets(a: Option<Entry>, b: Option<Entry>) -> bool
+fn meets(a: Option<PartitionEntry>, b: Option<PartitionEntry>) -> bool
     ensures { result ≡ meets a b }
 {
     match (a, b) {
@@ -259,7 +259,7 @@ fn meets(a: Option<Entry>, b: Option<Entry>) -> bool
 }
 
 /// Whether some two of the entries have a sector in common.
-fn overlap(entries: &[Option<Entry>]) -> bool
+fn overlap(entries: &[Option<PartitionEntry>]) -> bool
     ensures { result ≡ overlap entries.now }
 {
     match entries.split_first() {

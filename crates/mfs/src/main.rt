@@ -4,7 +4,7 @@
 use call_text::scripts::script_files::File;
 use gate::paced_gate::Paced;
 use host::command_line::{line_of, status_for};
-use host::play_words::mfs::{Words, read as read_words};
+use host::play_words::mfs::{MfsWords, read as read_words};
 use host::whole_file::{read, replace};
 use modeldisk::supply::{drivers_for, setup_for, table_in};
 use std::alloc::{AllocError, Global};
@@ -13,7 +13,7 @@ use std::process::ExitCode;
 use std::rt::Files;
 use std::sync::{Arc, Wait};
 use std::thread::Threads;
-use tools::play::{Image, finish, play};
+use tools::play::{ImageFile, finish, play};
 
 /// A file of this name, with its bytes if it could be read.
 fn file<'n, 'b>(name: &'n str, bytes: &'b Option<Vec<u8>>) -> File<'n, 'b> {
@@ -53,7 +53,7 @@ fn files<'n, 'b>(
 fn play_files<W: Threads + Wait + Copy + Send + Sync + 'static>(
     rt: HostRuntime,
     waits: W,
-    words: &Words<'_>,
+    words: &MfsWords<'_>,
 ) -> io::Result<ExitCode> {
     let alloc = rt.alloc();
     let image = read(&rt, words.image).ok();
@@ -64,7 +64,7 @@ fn play_files<W: Threads + Wait + Copy + Send + Sync + 'static>(
     let mut setup = setup_for(words.minor);
     setup.frames = words.frames as usize;
     let gate = Arc::new(alloc, Paced::new(waits))?;
-    let image = Image {
+    let image = ImageFile {
         name: words.image,
         bytes: image,
     };

@@ -4,7 +4,7 @@ ghost use Rattle.std.specs.Prelude.{ℕ, List, Result};
 
 use errno::Errno;
 use host::whole_file::replace;
-use mount_service::archive::Archive;
+use ninep_service::archive::Archive;
 use std::io::ErrorKind;
 use std::rt::Files;
 

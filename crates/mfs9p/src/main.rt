@@ -6,14 +6,14 @@ mod image_file;
 use crate::image_file::ImageFile;
 use gate::paced_gate::Paced;
 use host::command_line::{line_of, status_for};
-use host::play_words::mfs9p::{Words, read as read_words};
+use host::play_words::mfs9p::{Mfs9pWords, read as read_words};
 use host::whole_file::read;
 use modeldisk::supply::table_in;
-use mount_service::archive::Archive;
-use mount_service::mortal::{Mortality, mortal_drivers, mortal_setup};
-use mount_service::mount::{Ended, Status, finish, mount};
-use mount_service::program::{Came, Streams};
-use mount_service::telling_gate::Telling;
+use ninep_service::archive::Archive;
+use ninep_service::mortal::{Mortality, mortal_drivers, mortal_setup};
+use ninep_service::mount::{Ended, MountStatus, finish, mount};
+use ninep_service::program::{Came, Streams};
+use ninep_service::telling_gate::Telling;
 use std::alloc::Global;
 use std::io;
 use std::io::{BufReader, Write};
@@ -38,7 +38,7 @@ fn finished<I: Drop, O: Drop, C: Drop, A: Archive + Drop, E: Write>(
     mounted: Ended<I, O, C, A>,
     name: Option<&str>,
     err: &mut E,
-) -> Status {
+) -> MountStatus {
     let Ended { status, came } = mounted;
     if let (Some(came), Some(name)) = (came, name) {
         let Came {
@@ -58,7 +58,7 @@ fn finished<I: Drop, O: Drop, C: Drop, A: Archive + Drop, E: Write>(
 fn mount_file<W: Threads + Wait + Copy + Send + Sync + 'static>(
     rt: HostRuntime,
     waits: W,
-    words: &Words<'_>,
+    words: &Mfs9pWords<'_>,
 ) -> io::Result<ExitCode> {
     let alloc = rt.alloc();
     let image = read(&rt, words.image).ok();

@@ -2,14 +2,14 @@
 #![tactic(auto)]
 
 use host::command_line::{line_of, status_for};
-use host::volume_words::mfsck::{Words, read as read_words};
+use host::volume_words::mfsck::{MfsckWords, read as read_words};
 use host::whole_file::read;
 use std::io;
 use std::process::ExitCode;
-use volume_tools::verify::verify;
+use volume_commands::verify::verify;
 
 /// Checks the volume in the file that the words name.
-fn check_file(rt: HostRuntime, words: &Words<'_>) -> io::Result<ExitCode> {
+fn check_file(rt: HostRuntime, words: &MfsckWords<'_>) -> io::Result<ExitCode> {
     let alloc = rt.alloc();
     let image = read(&rt, words.image).ok();
     let (mut out, mut err) = (io::writer(&rt), rt.stderr());

@@ -2,7 +2,7 @@
 #![tactic(auto)]
 
 use host::command_line::{line_of, status_for};
-use host::play_words::mfssim::{Words, read};
+use host::play_words::mfssim::{MfssimWords, read};
 use modeldisk::supply::{drivers_for, setup_for, table_in};
 use simulation::inputs::File;
 use simulation::simulate::simulate;
@@ -18,7 +18,7 @@ fn file<'n, 'b>(name: &'n str, bytes: &'b Option<Vec<u8>>) -> File<'n, 'b> {
 }
 
 /// Runs the schedule that the words name on the image that they name.
-fn run_files(rt: HostRuntime, words: &Words<'_>) -> io::Result<ExitCode> {
+fn run_files(rt: HostRuntime, words: &MfssimWords<'_>) -> io::Result<ExitCode> {
     let alloc = rt.alloc();
     let image = fs::read(&rt, words.image).ok();
     let schedule = fs::read(&rt, words.schedule).ok();

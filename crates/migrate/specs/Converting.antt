@@ -7,7 +7,7 @@ use Rattle.tree.specs.Space.{data_zones}
 use Rattle.volume.specs.Reading.{disk_of}
 use Rattle.volume.specs.Pieces.{pieces}
 use Rattle.migrate.specs.Migrated.{IsMigrated, IsRefused, refusal_text as migrate_text}
-use Rattle.volume_tools.specs.Making.{line_text}
+use Rattle.volume_commands.specs.Making.{line_text}
 use Rattle.migrate.specs.declared.convert.ConvertRefusal.{ConvertRefusal}
 use Rattle.migrate.specs.declared.convert.ConvertRefusal.TheVariants.{CannotRead, Migrate, NotWritten}
 

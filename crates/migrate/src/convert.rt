@@ -13,7 +13,7 @@ use output::{Told, tell, write_text};
 use std::alloc::{AllocError, Global};
 use std::fmt;
 use std::io::Write;
-use volume_tools::make::Status;
+use volume_commands::make::CommandStatus;
 
 /// Why there is no new volume.
 #[derive(Clone, Copy)]
@@ -42,7 +42,7 @@ impl fmt::Display for ConvertRefusal<'_> {
 #[derive(Drop)]
 pub struct Converted {
     /// How it ended so far.
-    pub status: Status,
+    pub status: CommandStatus,
     /// The image that is to be written; none where there is no new volume.
     pub image: Option<Vec<u8>>,
 }
@@ -58,19 +58,19 @@ pub fn convert<W: Write, E: Write>(
     out: &mut W,
     err: &mut E,
 ) -> Converted
-    ensures converted { IfSome result.image (λ image. (result.status ≡ Status.Done) × (err.new ≡ err.old)
+    ensures converted { IfSome result.image (λ image. (result.status ≡ CommandStatus.Done) × (err.new ≡ err.old)
         × IsConverted old.entry blocks image.items (Appends (W.contents out.old) (W.contents out.new))) }
-    ensures refused { IfNone result.image ((told : Told) × (result.status ≡ Status.Refused told) × (refusal : ConvertRefusal)
+    ensures refused { IfNone result.image ((told : Told) × (result.status ≡ CommandStatus.Refused told) × (refusal : ConvertRefusal)
         × Tells (Some (convert_text refusal)) told (E.contents err.old) (E.contents err.new)
         × IsUnconverted old.entry name.entry blocks refusal (out.new ≡ out.old) (AppendsPart (W.contents out.old) (W.contents out.new))) }
 {
     match try_convert(alloc, name, old, blocks, out) {
         Ok(image) => Converted {
-            status: Status::Done,
+            status: CommandStatus::Done,
             image: Some(image),
         },
         Err(refusal) => Converted {
-            status: Status::Refused(tell(alloc, err, &refusal)),
+            status: CommandStatus::Refused(tell(alloc, err, &refusal)),
             image: None,
         },
     }

@@ -2,14 +2,14 @@
 #![tactic(auto)]
 
 use host::command_line::{line_of, status_for};
-use host::volume_words::mkmfs::{Words, read};
+use host::volume_words::mkmfs::{MkmfsWords, read};
 use host::whole_file::replace_filled;
 use std::io;
 use std::process::ExitCode;
-use volume_tools::make::{Wanted, finish, make};
+use volume_commands::make::{Wanted, finish, make};
 
 /// Makes the volume that the words say, and writes it to its file.
-fn make_file(rt: HostRuntime, words: &Words<'_>) -> io::Result<ExitCode> {
+fn make_file(rt: HostRuntime, words: &MkmfsWords<'_>) -> io::Result<ExitCode> {
     let alloc = rt.alloc();
     let (mut out, mut err) = (io::writer(&rt), rt.stderr());
     let wanted = Wanted {

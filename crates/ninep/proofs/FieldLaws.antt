@@ -8,8 +8,8 @@ use Rattle.std.proofs.lemmas.List.{take_at, drop_at, take-append-drop, length-ap
 use Rattle.std.proofs.lemmas.List.Concat.{flat_map-cons}
 use Rattle.std.proofs.lemmas.Nat.{le_bytes_2, le_bytes_4, le_bytes_8, from_le_bytes-to_le_bytes_2, from_le_bytes-to_le_bytes_4}
 use Rattle.std.proofs.lemmas.Nat.{from_le_bytes-to_le_bytes_8}
-use Rattle.ninep.specs.declared.fault.Fault.{Fault}
-use Rattle.ninep.specs.declared.fault.Fault.TheVariants.{Short, ManyNames}
+use Rattle.ninep.specs.declared.fault.MalformedMessage.{MalformedMessage}
+use Rattle.ninep.specs.declared.fault.MalformedMessage.TheVariants.{Short, ManyNames}
 use Rattle.ninep.specs.Fields.{Size, One, Two, Four, Eight, width, number_bytes, text_bytes, IsShort, most_names}
 use Rattle.ninep.specs.Parts.{◌>>=◌, number_at, bytes_at, text_at, texts_at, names_at}
 
@@ -27,16 +27,16 @@ bytes_take n bytes h i =
     ]
 
 -- the value of a step that did not fail
-pub bind_ok : {A B : Type 0} (r : Result A Fault) (f : A → Result B Fault) (y : B) → (r >>= f) ≡ Ok y → (x : A) × (r ≡ Ok x) × (f x ≡ Ok y)
+pub bind_ok : {A B : Type 0} (r : Result A MalformedMessage) (f : A → Result B MalformedMessage) (y : B) → (r >>= f) ≡ Ok y → (x : A) × (r ≡ Ok x) × (f x ≡ Ok y)
 bind_ok (Ok x) f y e = (x, refl, e)
 bind_ok (Err d) f y e = absurd cc
 
 -- a test that did not fail
-pub guard_ok : {A : Type 0} (b : Bool) (d : Fault) (x : Result A Fault) (y : A) → cond b (Err d) x ≡ Ok y → (b ≡ false) × (x ≡ Ok y)
+pub guard_ok : {A : Type 0} (b : Bool) (d : MalformedMessage) (x : Result A MalformedMessage) (y : A) → cond b (Err d) x ≡ Ok y → (b ≡ false) × (x ≡ Ok y)
 guard_ok true d x y e = absurd cc
 guard_ok false d x y e = (refl, e)
 
-abbrev pub done : {A : Type 0} → A → Result A Fault
+abbrev pub done : {A : Type 0} → A → Result A MalformedMessage
 done x = Ok x
 
 pub ok_is : {A : Type 0} (x y : A) → done x ≡ done y → x ≡ y

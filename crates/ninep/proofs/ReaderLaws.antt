@@ -1,7 +1,7 @@
 -- Fields that are read one behind the other are read as the bytes say them.
 use Rattle.std.proofs.Common.{◌≡◌, ℕ, List, [], ◌∷◌, Some, Result, Ok, Err, refl, subst}
 use Rattle.std.specs.Borrow.{Bor}
-use Rattle.ninep.specs.declared.fault.Fault.{Fault}
+use Rattle.ninep.specs.declared.fault.MalformedMessage.{MalformedMessage}
 use Rattle.ninep.specs.Fields.{Kind, Field}
 use Rattle.ninep.specs.Parts.{Gives, ◌>>=◌}
 use Rattle.ninep.specs.Reading.{fields_at, typed_at}
@@ -9,7 +9,7 @@ use Rattle.ninep.specs.Requests.{Body, kinds_of}
 use Rattle.ninep.specs.Readers.{TakesAll}
 
 -- behind a fault nothing is read
-none_taken : (kinds : List Kind) (fields : List Field) (fault : Fault) (new : Result (Bor (List ℕ)) Fault)
+none_taken : (kinds : List Kind) (fields : List Field) (fault : MalformedMessage) (new : Result (Bor (List ℕ)) MalformedMessage)
     → TakesAll (Err fault) kinds fields new → new ≡ Err fault
 none_taken [] [] fault new e = e
 none_taken (kind ∷ kinds) (field ∷ fields) fault new (mid, e, all) =
@@ -17,14 +17,14 @@ none_taken (kind ∷ kinds) (field ∷ fields) fault new (mid, e, all) =
 none_taken [] (field ∷ fields) fault new e = absurd e
 none_taken (kind ∷ kinds) [] fault new e = absurd e
 
-goes_on : (kinds : List Kind) (fields : List Field) (field : Field) (rest : Bor (List ℕ)) (new : Result (Bor (List ℕ)) Fault)
+goes_on : (kinds : List Kind) (fields : List Field) (field : Field) (rest : Bor (List ℕ)) (new : Result (Bor (List ℕ)) MalformedMessage)
     → Gives {Y = List Field × List ℕ} (λ rest. (fields, rest.now)) new (fields_at kinds rest.now)
     → Gives {Y = List Field × List ℕ} (λ rest. (field ∷ fields, rest.now)) new
     (fields_at kinds rest.now >>= λ fields. Ok (field ∷ fields.0, fields.1))
 goes_on kinds fields field rest (Ok after) e = rw e refl
 goes_on kinds fields field rest (Err fault) e = rw e refl
 
-pub all_taken : (kinds : List Kind) (fields : List Field) (bytes : Bor (List ℕ)) (new : Result (Bor (List ℕ)) Fault)
+pub all_taken : (kinds : List Kind) (fields : List Field) (bytes : Bor (List ℕ)) (new : Result (Bor (List ℕ)) MalformedMessage)
     → TakesAll (Ok bytes) kinds fields new → Gives {Y = List Field × List ℕ} (λ rest. (fields, rest.now)) new (fields_at kinds bytes.now)
 unfolding fields_at
 all_taken [] [] bytes new e = rw e refl
@@ -35,14 +35,14 @@ all_taken [] (field ∷ fields) bytes new e = absurd e
 all_taken (kind ∷ kinds) [] bytes new e = absurd e
 
 -- a request of fields that were read
-made_of : (body : Body) (read : Result (List Field × List ℕ) Fault) (new : Result (Bor (List ℕ)) Fault)
+made_of : (body : Body) (read : Result (List Field × List ℕ) MalformedMessage) (new : Result (Bor (List ℕ)) MalformedMessage)
     → Gives {Y = List Field × List ℕ} (λ rest. (body.fields, rest.now)) new read
     → Gives {Y = Body × List ℕ} (λ rest. (body, rest.now)) new
     (read >>= λ fields. Ok (record { number = body.number; fields = fields.0 }, fields.1))
 made_of body read (Ok rest) e = rw e refl
 made_of body read (Err fault) e = rw e refl
 
-pub typed_is : (body : Body) (kinds : List Kind) (bytes : Bor (List ℕ)) (new : Result (Bor (List ℕ)) Fault)
+pub typed_is : (body : Body) (kinds : List Kind) (bytes : Bor (List ℕ)) (new : Result (Bor (List ℕ)) MalformedMessage)
     → kinds_of body.number ≡ Some kinds
     → TakesAll (Ok bytes) kinds body.fields new → Gives {Y = Body × List ℕ} (λ rest. (body, rest.now)) new (typed_at body.number bytes.now)
 unfolding typed_at

@@ -7,8 +7,8 @@ use Rattle.std.specs.List.{AllByRecursion}
 use Rattle.std.proofs.lemmas.Bool.{eqb-true, eq-eqb}
 use Rattle.std.proofs.lemmas.List.{append-nil, nil_from_length, length-append}
 use Rattle.std.proofs.lemmas.List.Concat.{flat_map-cons}
-use Rattle.ninep.specs.declared.fault.Fault.{Fault}
-use Rattle.ninep.specs.declared.fault.Fault.TheVariants.{Size, Unknown, Trailing}
+use Rattle.ninep.specs.declared.fault.MalformedMessage.{MalformedMessage}
+use Rattle.ninep.specs.declared.fault.MalformedMessage.TheVariants.{Size, Unknown, Trailing}
 use Rattle.ninep.specs.declared.request.Message.{Message}
 use Rattle.ninep.specs.Fields.{One, Two, Four, width, number_bytes, Kind, IsNumber, IsText, IsData, AreNames, Field, Number, Text, Data}
 use Rattle.ninep.specs.Fields.{Names, kind_of, field_bytes, fields_bytes, Fits}
@@ -74,7 +74,7 @@ fields_again (field ∷ fields) rest fits =
     ap (λ (x : List ℕ). x ++ rest) (flat_map-cons field_bytes field fields) ∙ append_assoc (field_bytes field) (fields_bytes fields) rest in
     ap (fields_at (map kind_of (field ∷ fields))) regrouped ∙ rw (field_again field others fits.0, fields_again fields rest fits.1) refl
 
-guard_ended : {A : Type 0} (b : Bool) (d : Fault) (x y : A) → cond b (Ok x) (Err d) ≡ Ok y → (b ≡ true) × (x ≡ y)
+guard_ended : {A : Type 0} (b : Bool) (d : MalformedMessage) (x y : A) → cond b (Ok x) (Err d) ≡ Ok y → (b ≡ true) × (x ≡ y)
 guard_ended true d x y e = (refl, ok_is x y e)
 guard_ended false d x y e = absurd cc
 
@@ -86,7 +86,7 @@ record AreFields (number : ℕ) (bytes : List ℕ) (x : Body × List ℕ) : Type
   fits : AllByRecursion Fits x.0.fields
 
 -- the fields of these kinds, if there are such
-abbrev read_as : ℕ → List ℕ → Option (List Kind) → Result (Body × List ℕ) Fault
+abbrev read_as : ℕ → List ℕ → Option (List Kind) → Result (Body × List ℕ) MalformedMessage
 read_as number bytes kinds = elim kinds [
   | None ↦ Err Unknown
   | Some kinds ↦ (fields_at kinds bytes >>= λ fields. Ok (record { number = number; fields = fields.0 }, fields.1))
@@ -173,7 +173,7 @@ request_takes bytes m fits e =
       parts ∙ ap (λ n. number_bytes Four n ++ rest_bytes m) long,
     )
   where
-    sized : (b : Bool) (x : Result Tagged Fault) (y : Tagged) → cond b x (Err Size) ≡ Ok y → (b ≡ true) × (x ≡ Ok y)
+    sized : (b : Bool) (x : Result Tagged MalformedMessage) (y : Tagged) → cond b x (Err Size) ≡ Ok y → (b ≡ true) × (x ≡ Ok y)
     sized true x y h = (refl, h)
     sized false x y h = absurd cc
 
@@ -185,7 +185,7 @@ request_again m is =
     length-append (number_bytes Four size) (rest_bytes m) ∙ ap (λ n. n + length (rest_bytes m)) (number_length Four size) in
     rw (number_again Four size (rest_bytes m) is.size, long, eq-eqb size size refl) (rest_again m is)
 
-pub is_found : (bytes : List ℕ) (r : Result Message Fault) → IsBytes bytes → Gives (λ m. view m) r (request_at bytes)
+pub is_found : (bytes : List ℕ) (r : Result Message MalformedMessage) → IsBytes bytes → Gives (λ m. view m) r (request_at bytes)
     → IfOk r (λ m. IsRequest (view m) × (bytes ≡ spelling (view m)))
 is_found bytes (Ok m) fits given = request_takes bytes (view m) fits given
 is_found bytes (Err fault) fits given = tt

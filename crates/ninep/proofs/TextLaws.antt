@@ -4,13 +4,13 @@ use Rattle.std.proofs.Common.{subst, ◌∙◌, append_assoc, arith}
 use Rattle.std.specs.Int.{w16}
 use Rattle.std.specs.List.{flat_map}
 use Rattle.std.proofs.lemmas.List.{append-nil, take_at, length-append}
-use Rattle.ninep.specs.declared.fault.Fault.{Fault}
+use Rattle.ninep.specs.declared.fault.MalformedMessage.{MalformedMessage}
 use Rattle.ninep.specs.Fields.{text_bytes}
 use Rattle.ninep.specs.Parts.{◌>>=◌, AreTexts, text_at, texts_at, texts_or_none}
 use Rattle.ninep.proofs.FieldLaws.{IsBytes, bind_ok, done, ok_is, texts_take, texts_again}
 
 -- what was read before, and what is still read
-abbrev pub with_front : List (List ℕ) → Result (List (List ℕ) × List ℕ) Fault → Result (List (List ℕ) × List ℕ) Fault
+abbrev pub with_front : List (List ℕ) → Result (List (List ℕ) × List ℕ) MalformedMessage → Result (List (List ℕ) × List ℕ) MalformedMessage
 with_front front read = read >>= λ x. Ok (front ++ x.0, x.1)
 
 -- so many of the texts were read, and these bytes are left
@@ -22,11 +22,11 @@ pub nothing_read : (count : ℕ) (bytes : List ℕ) → HasRead count 0 bytes by
 nothing_read count bytes =
     let all : count - 0 ≡ count = omega arith in
     record { front = []; total = ap (λ n. with_front [] (texts_at n bytes)) all ∙ same (texts_at count bytes) } where
-      same : (read : Result (List (List ℕ) × List ℕ) Fault) → with_front [] read ≡ read
+      same : (read : Result (List (List ℕ) × List ℕ) MalformedMessage) → with_front [] read ≡ read
       same (Ok x) = refl
       same (Err fault) = refl
 
-regroup : (front : List (List ℕ)) (text : List ℕ) (read : Result (List (List ℕ) × List ℕ) Fault)
+regroup : (front : List (List ℕ)) (text : List ℕ) (read : Result (List (List ℕ) × List ℕ) MalformedMessage)
     → with_front front (read >>= λ x. Ok (text ∷ x.0, x.1)) ≡ with_front (front ++ text ∷ []) read
 regroup front text (Ok x) = ap (λ (texts : List (List ℕ)). Ok (texts, x.1)) (simp append_assoc)
 regroup front text (Err fault) = refl
@@ -41,7 +41,7 @@ goes_on count i bytes rest text after below is so_far =
     rw (k, is) (regroup so_far.front text (texts_at (count - (i + 1)) after)) in
     record { front = so_far.front ++ text ∷ []; total = sym one ∙ so_far.total }
 
-pub ends : (count i : ℕ) (bytes rest : List ℕ) (fault : Fault) → i < count → text_at w16 rest ≡ Err fault → HasRead count i bytes rest
+pub ends : (count i : ℕ) (bytes rest : List ℕ) (fault : MalformedMessage) → i < count → text_at w16 rest ≡ Err fault → HasRead count i bytes rest
     → texts_at count bytes ≡ Err fault
 unfolding texts_at
 ends count i bytes rest fault below is so_far =
@@ -79,7 +79,7 @@ is_shorter count bytes rest texts fits is =
     omega (arith, ap length t.0.parts, length-append (flat_map text_bytes texts) rest)
 
 -- what was read whole
-own_texts : (read : Result (List (List ℕ) × List ℕ) Fault) (texts : List (List ℕ)) → read ≡ Ok (texts, [])
+own_texts : (read : Result (List (List ℕ) × List ℕ) MalformedMessage) (texts : List (List ℕ)) → read ≡ Ok (texts, [])
     → read ≡ Ok (texts_or_none read, [])
 own_texts read texts is = is ∙ ap (λ (ts : List (List ℕ)). Ok (ts, [])) (sym (ap texts_or_none is))
 
@@ -130,7 +130,7 @@ unfolding texts_at
 none_at n bytes is = ap (λ k. texts_or_none (texts_at k bytes)) is
 
 -- where there are some, the first can be read
-pub first_is_read : {X : Type 0} (n : ℕ) (bytes : List ℕ) (fault : Fault) → (n ≡ 0 → ⊥) → AreTexts n bytes → text_at w16 bytes ≡ Err fault
+pub first_is_read : {X : Type 0} (n : ℕ) (bytes : List ℕ) (fault : MalformedMessage) → (n ≡ 0 → ⊥) → AreTexts n bytes → text_at w16 bytes ≡ Err fault
     → X
 unfolding texts_at
 first_is_read zero bytes fault some are is = absurd (some refl)

@@ -3,9 +3,9 @@ use Rattle.std.specs.Prelude.{ℕ, ◌+◌, List, [], ◌∷◌, ◌++◌, lengt
 use Rattle.std.specs.List.{flat_map}
 use Rattle.ninep.specs.Fields.{One, Two, Four, Eight, Field, Number, Text, Data, fields_bytes}
 use Rattle.ninep.specs.Requests.{Tagged}
-use Rattle.ninep.specs.declared.entries.Entry.{Entry}
+use Rattle.ninep.specs.declared.entries.ReaddirEntry.{ReaddirEntry}
 use Rattle.ninep.specs.declared.reply.Qid.{Qid}
-use Rattle.ninep.specs.declared.reply.Room.{Room}
+use Rattle.ninep.specs.declared.reply.StatfsReply.{StatfsReply}
 use Rattle.ninep.specs.declared.reply.Attributes.{Attributes}
 use Rattle.ninep.specs.declared.reply.Held.{Held}
 use Rattle.ninep.specs.declared.reply.Reply.{Reply}
@@ -23,17 +23,17 @@ abbrev pub pair_fields : ℕ → ℕ → List Field
 pair_fields a b = Number Eight a ∷ Number Eight b ∷ []
 
 -- how large blocks are, and how many of them there are
-unfoldable pub block_fields : Room → List Field
+unfoldable pub block_fields : StatfsReply → List Field
 block_fields room =
     Number Four room.kind ∷ Number Four room.block_size ∷ Number Eight room.blocks ∷ Number Eight room.free ∷ Number Eight room.available
     ∷ []
 
 -- how many files there may be
-unfoldable pub file_fields : Room → List Field
+unfoldable pub file_fields : StatfsReply → List Field
 file_fields room =
     Number Eight room.files ∷ Number Eight room.free_files ∷ Number Eight room.id ∷ Number Four room.name_length ∷ []
 
-abbrev pub room_fields : Room → List Field
+abbrev pub room_fields : StatfsReply → List Field
 room_fields room = block_fields room ++ file_fields room
 
 -- which attributes are told, and of which file
@@ -121,5 +121,5 @@ abbrev pub size_of : Reply → ℕ
 size_of r = 7 + length (fields_bytes (reply_fields r))
 
 -- an entry of a directory: its qid, where the next one begins, its type and its name
-abbrev pub entry_fields : Entry → List Field
+abbrev pub entry_fields : ReaddirEntry → List Field
 entry_fields e = qid_fields e.qid ++ Number Eight e.next ∷ Number One e.kind ∷ Text e.name.now ∷ []

@@ -11,7 +11,7 @@ use std::alloc::AllocError;
 
 /// An entry of a directory.
 #[derive(Clone, Copy)]
-pub struct Entry<'a> {
+pub struct ReaddirEntry<'a> {
     pub qid: Qid,
     /// The offset by which a later request goes on behind this entry.
     pub next: u64,
@@ -21,7 +21,7 @@ pub struct Entry<'a> {
 }
 
 /// Writes an entry behind others. An error: no memory was found for it, and `out` has what it had.
-pub fn push_entry(out: &mut Vec<u8>, entry: &Entry<'_>) -> Result<(), AllocError>
+pub fn push_entry(out: &mut Vec<u8>, entry: &ReaddirEntry<'_>) -> Result<(), AllocError>
     requires { IsShort entry.now.name.now }
     ensures ok { OnOk result (out.new.items ≡ out.old.items ++ fields_bytes (entry_fields entry.now)) }
     ensures kept { OnErr result (out.new.items ≡ out.old.items) }
@@ -35,7 +35,7 @@ pub fn push_entry(out: &mut Vec<u8>, entry: &Entry<'_>) -> Result<(), AllocError
 }
 
 /// The fields of an entry.
-fn put_entry(out: &mut Vec<u8>, entry: &Entry<'_>) -> Result<(), AllocError>
+fn put_entry(out: &mut Vec<u8>, entry: &ReaddirEntry<'_>) -> Result<(), AllocError>
     requires { IsShort entry.now.name.now }
     ensures ok { OnOk result (out.new.items ≡ out.old.items ++ fields_bytes (entry_fields entry.now)) }
     ensures kept { OnErr result (StandsFirst out.old.items out.new.items) }

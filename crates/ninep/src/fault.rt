@@ -2,7 +2,7 @@
 
 /// What is wrong with a message's bytes: the first fault from left to right.
 #[derive(Clone, Copy, Debug, PartialEq, Eq)]
-pub enum Fault {
+pub enum MalformedMessage {
     /// A field passes the end of the bytes.
     Short,
     /// The size that the message tells of itself isn't the number of its bytes.

@@ -9,7 +9,7 @@ ghost use Rattle.ninep.specs.Requests.{body_of, kinds_of, names_in};
 ghost use Rattle.ninep.specs.Reading.{typed_at};
 ghost use Rattle.ninep.specs.Readers.{Takes, TakesAll};
 
-use crate::fault::Fault;
+use crate::fault::MalformedMessage;
 use crate::fields::{data_of, names_of, text_of, u8_at, u16_at, u32_at, u64_at};
 use crate::names::Names;
 use crate::request::Request;
@@ -18,7 +18,7 @@ use crate::request::Request;
 /// else is empty.
 #[derive(Clone, Copy)]
 pub(crate) struct Reader<'a> {
-    pub(crate) left: Result<&'a [u8], Fault>,
+    pub(crate) left: Result<&'a [u8], MalformedMessage>,
 }
 
 impl<'a> Reader<'a> {
@@ -156,7 +156,10 @@ impl<'a> Reader<'a> {
     }
 
     /// The request of these fields, and the bytes behind it, or the first fault.
-    pub(crate) fn end(self, request: Request<'a>) -> Result<(Request<'a>, &'a [u8]), Fault>
+    pub(crate) fn end(
+        self,
+        request: Request<'a>,
+    ) -> Result<(Request<'a>, &'a [u8]), MalformedMessage>
         ensures { (input : Bor (List ℕ)) (kinds : List Kind) → kinds_of (body_of request.entry).number ≡ Some kinds
             → TakesAll (Ok input) kinds (body_of request.entry).fields self.entry.left
             → Gives (λ r. (body_of r.0, r.1.now)) result (typed_at (body_of request.entry).number input.now) }

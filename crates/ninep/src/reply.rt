@@ -13,7 +13,7 @@ pub struct Qid {
 
 /// What is known of a volume's room.
 #[derive(Clone, Copy, Debug, PartialEq, Eq)]
-pub struct Room {
+pub struct StatfsReply {
     /// The number of the kind of file system.
     pub kind: u32,
     pub block_size: u32,
@@ -68,7 +68,7 @@ pub enum Reply<'a> {
         number: u32,
     },
     Statfs {
-        room: Room,
+        room: StatfsReply,
     },
     /// The unit is the most bytes that are best moved at once, 0 where that is the message's size.
     Open {

@@ -5,11 +5,11 @@ ghost use Rattle.ninep.specs.Requests.{body_of};
 ghost use Rattle.ninep.specs.Parts.{Gives};
 ghost use Rattle.ninep.specs.Reading.{typed_at};
 
-use crate::fault::Fault;
+use crate::fault::MalformedMessage;
 use crate::reader::Reader;
 use crate::request::Request;
 
-fn statfs(input: &[u8]) -> Result<(Request<'_>, &[u8]), Fault>
+fn statfs(input: &[u8]) -> Result<(Request<'_>, &[u8]), MalformedMessage>
     ensures { Gives (λ r. (body_of r.0, r.1.now)) result (typed_at 8 input.now) }
 {
     let mut reader = Reader { left: Ok(input) };
@@ -17,7 +17,7 @@ fn statfs(input: &[u8]) -> Result<(Request<'_>, &[u8]), Fault>
     reader.end(request)
 }
 
-fn open(input: &[u8]) -> Result<(Request<'_>, &[u8]), Fault>
+fn open(input: &[u8]) -> Result<(Request<'_>, &[u8]), MalformedMessage>
     ensures { Gives (λ r. (body_of r.0, r.1.now)) result (typed_at 12 input.now) }
 {
     let mut reader = Reader { left: Ok(input) };
@@ -28,7 +28,7 @@ fn open(input: &[u8]) -> Result<(Request<'_>, &[u8]), Fault>
     reader.end(request)
 }
 
-fn create(input: &[u8]) -> Result<(Request<'_>, &[u8]), Fault>
+fn create(input: &[u8]) -> Result<(Request<'_>, &[u8]), MalformedMessage>
     ensures { Gives (λ r. (body_of r.0, r.1.now)) result (typed_at 14 input.now) }
 {
     let mut reader = Reader { left: Ok(input) };
@@ -42,7 +42,7 @@ fn create(input: &[u8]) -> Result<(Request<'_>, &[u8]), Fault>
     reader.end(request)
 }
 
-fn symlink(input: &[u8]) -> Result<(Request<'_>, &[u8]), Fault>
+fn symlink(input: &[u8]) -> Result<(Request<'_>, &[u8]), MalformedMessage>
     ensures { Gives (λ r. (body_of r.0, r.1.now)) result (typed_at 16 input.now) }
 {
     let mut reader = Reader { left: Ok(input) };
@@ -55,7 +55,7 @@ fn symlink(input: &[u8]) -> Result<(Request<'_>, &[u8]), Fault>
     reader.end(request)
 }
 
-fn mknod(input: &[u8]) -> Result<(Request<'_>, &[u8]), Fault>
+fn mknod(input: &[u8]) -> Result<(Request<'_>, &[u8]), MalformedMessage>
     ensures { Gives (λ r. (body_of r.0, r.1.now)) result (typed_at 18 input.now) }
 {
     let mut reader = Reader { left: Ok(input) };
@@ -70,7 +70,7 @@ fn mknod(input: &[u8]) -> Result<(Request<'_>, &[u8]), Fault>
     reader.end(request)
 }
 
-fn rename(input: &[u8]) -> Result<(Request<'_>, &[u8]), Fault>
+fn rename(input: &[u8]) -> Result<(Request<'_>, &[u8]), MalformedMessage>
     ensures { Gives (λ r. (body_of r.0, r.1.now)) result (typed_at 20 input.now) }
 {
     let mut reader = Reader { left: Ok(input) };
@@ -82,7 +82,7 @@ fn rename(input: &[u8]) -> Result<(Request<'_>, &[u8]), Fault>
     reader.end(request)
 }
 
-fn readlink(input: &[u8]) -> Result<(Request<'_>, &[u8]), Fault>
+fn readlink(input: &[u8]) -> Result<(Request<'_>, &[u8]), MalformedMessage>
     ensures { Gives (λ r. (body_of r.0, r.1.now)) result (typed_at 22 input.now) }
 {
     let mut reader = Reader { left: Ok(input) };
@@ -90,7 +90,7 @@ fn readlink(input: &[u8]) -> Result<(Request<'_>, &[u8]), Fault>
     reader.end(request)
 }
 
-fn getattr(input: &[u8]) -> Result<(Request<'_>, &[u8]), Fault>
+fn getattr(input: &[u8]) -> Result<(Request<'_>, &[u8]), MalformedMessage>
     ensures { Gives (λ r. (body_of r.0, r.1.now)) result (typed_at 24 input.now) }
 {
     let mut reader = Reader { left: Ok(input) };
@@ -101,7 +101,7 @@ fn getattr(input: &[u8]) -> Result<(Request<'_>, &[u8]), Fault>
     reader.end(request)
 }
 
-fn xattrwalk(input: &[u8]) -> Result<(Request<'_>, &[u8]), Fault>
+fn xattrwalk(input: &[u8]) -> Result<(Request<'_>, &[u8]), MalformedMessage>
     ensures { Gives (λ r. (body_of r.0, r.1.now)) result (typed_at 30 input.now) }
 {
     let mut reader = Reader { left: Ok(input) };
@@ -113,7 +113,7 @@ fn xattrwalk(input: &[u8]) -> Result<(Request<'_>, &[u8]), Fault>
     reader.end(request)
 }
 
-fn xattrcreate(input: &[u8]) -> Result<(Request<'_>, &[u8]), Fault>
+fn xattrcreate(input: &[u8]) -> Result<(Request<'_>, &[u8]), MalformedMessage>
     ensures { Gives (λ r. (body_of r.0, r.1.now)) result (typed_at 32 input.now) }
 {
     let mut reader = Reader { left: Ok(input) };
@@ -126,7 +126,7 @@ fn xattrcreate(input: &[u8]) -> Result<(Request<'_>, &[u8]), Fault>
     reader.end(request)
 }
 
-fn readdir(input: &[u8]) -> Result<(Request<'_>, &[u8]), Fault>
+fn readdir(input: &[u8]) -> Result<(Request<'_>, &[u8]), MalformedMessage>
     ensures { Gives (λ r. (body_of r.0, r.1.now)) result (typed_at 40 input.now) }
 {
     let mut reader = Reader { left: Ok(input) };
@@ -138,7 +138,7 @@ fn readdir(input: &[u8]) -> Result<(Request<'_>, &[u8]), Fault>
     reader.end(request)
 }
 
-fn fsync(input: &[u8]) -> Result<(Request<'_>, &[u8]), Fault>
+fn fsync(input: &[u8]) -> Result<(Request<'_>, &[u8]), MalformedMessage>
     ensures { Gives (λ r. (body_of r.0, r.1.now)) result (typed_at 50 input.now) }
 {
     let mut reader = Reader { left: Ok(input) };
@@ -149,7 +149,7 @@ fn fsync(input: &[u8]) -> Result<(Request<'_>, &[u8]), Fault>
     reader.end(request)
 }
 
-fn lock(input: &[u8]) -> Result<(Request<'_>, &[u8]), Fault>
+fn lock(input: &[u8]) -> Result<(Request<'_>, &[u8]), MalformedMessage>
     ensures { Gives (λ r. (body_of r.0, r.1.now)) result (typed_at 52 input.now) }
 {
     let mut reader = Reader { left: Ok(input) };
@@ -165,7 +165,7 @@ fn lock(input: &[u8]) -> Result<(Request<'_>, &[u8]), Fault>
     reader.end(request)
 }
 
-fn getlock(input: &[u8]) -> Result<(Request<'_>, &[u8]), Fault>
+fn getlock(input: &[u8]) -> Result<(Request<'_>, &[u8]), MalformedMessage>
     ensures { Gives (λ r. (body_of r.0, r.1.now)) result (typed_at 54 input.now) }
 {
     let mut reader = Reader { left: Ok(input) };
@@ -180,7 +180,7 @@ fn getlock(input: &[u8]) -> Result<(Request<'_>, &[u8]), Fault>
     reader.end(request)
 }
 
-fn link(input: &[u8]) -> Result<(Request<'_>, &[u8]), Fault>
+fn link(input: &[u8]) -> Result<(Request<'_>, &[u8]), MalformedMessage>
     ensures { Gives (λ r. (body_of r.0, r.1.now)) result (typed_at 70 input.now) }
 {
     let mut reader = Reader { left: Ok(input) };
@@ -192,7 +192,7 @@ fn link(input: &[u8]) -> Result<(Request<'_>, &[u8]), Fault>
     reader.end(request)
 }
 
-fn mkdir(input: &[u8]) -> Result<(Request<'_>, &[u8]), Fault>
+fn mkdir(input: &[u8]) -> Result<(Request<'_>, &[u8]), MalformedMessage>
     ensures { Gives (λ r. (body_of r.0, r.1.now)) result (typed_at 72 input.now) }
 {
     let mut reader = Reader { left: Ok(input) };
@@ -205,7 +205,7 @@ fn mkdir(input: &[u8]) -> Result<(Request<'_>, &[u8]), Fault>
     reader.end(request)
 }
 
-fn renameat(input: &[u8]) -> Result<(Request<'_>, &[u8]), Fault>
+fn renameat(input: &[u8]) -> Result<(Request<'_>, &[u8]), MalformedMessage>
     ensures { Gives (λ r. (body_of r.0, r.1.now)) result (typed_at 74 input.now) }
 {
     let mut reader = Reader { left: Ok(input) };
@@ -218,7 +218,7 @@ fn renameat(input: &[u8]) -> Result<(Request<'_>, &[u8]), Fault>
     reader.end(request)
 }
 
-fn unlinkat(input: &[u8]) -> Result<(Request<'_>, &[u8]), Fault>
+fn unlinkat(input: &[u8]) -> Result<(Request<'_>, &[u8]), MalformedMessage>
     ensures { Gives (λ r. (body_of r.0, r.1.now)) result (typed_at 76 input.now) }
 {
     let mut reader = Reader { left: Ok(input) };
@@ -230,7 +230,7 @@ fn unlinkat(input: &[u8]) -> Result<(Request<'_>, &[u8]), Fault>
     reader.end(request)
 }
 
-fn version(input: &[u8]) -> Result<(Request<'_>, &[u8]), Fault>
+fn version(input: &[u8]) -> Result<(Request<'_>, &[u8]), MalformedMessage>
     ensures { Gives (λ r. (body_of r.0, r.1.now)) result (typed_at 100 input.now) }
 {
     let mut reader = Reader { left: Ok(input) };
@@ -241,7 +241,7 @@ fn version(input: &[u8]) -> Result<(Request<'_>, &[u8]), Fault>
     reader.end(request)
 }
 
-fn auth(input: &[u8]) -> Result<(Request<'_>, &[u8]), Fault>
+fn auth(input: &[u8]) -> Result<(Request<'_>, &[u8]), MalformedMessage>
     ensures { Gives (λ r. (body_of r.0, r.1.now)) result (typed_at 102 input.now) }
 {
     let mut reader = Reader { left: Ok(input) };
@@ -254,7 +254,7 @@ fn auth(input: &[u8]) -> Result<(Request<'_>, &[u8]), Fault>
     reader.end(request)
 }
 
-fn attach(input: &[u8]) -> Result<(Request<'_>, &[u8]), Fault>
+fn attach(input: &[u8]) -> Result<(Request<'_>, &[u8]), MalformedMessage>
     ensures { Gives (λ r. (body_of r.0, r.1.now)) result (typed_at 104 input.now) }
 {
     let mut reader = Reader { left: Ok(input) };
@@ -268,7 +268,7 @@ fn attach(input: &[u8]) -> Result<(Request<'_>, &[u8]), Fault>
     reader.end(request)
 }
 
-fn flush(input: &[u8]) -> Result<(Request<'_>, &[u8]), Fault>
+fn flush(input: &[u8]) -> Result<(Request<'_>, &[u8]), MalformedMessage>
     ensures { Gives (λ r. (body_of r.0, r.1.now)) result (typed_at 108 input.now) }
 {
     let mut reader = Reader { left: Ok(input) };
@@ -278,7 +278,7 @@ fn flush(input: &[u8]) -> Result<(Request<'_>, &[u8]), Fault>
     reader.end(request)
 }
 
-fn walk(input: &[u8]) -> Result<(Request<'_>, &[u8]), Fault>
+fn walk(input: &[u8]) -> Result<(Request<'_>, &[u8]), MalformedMessage>
     ensures { Gives (λ r. (body_of r.0, r.1.now)) result (typed_at 110 input.now) }
 {
     let mut reader = Reader { left: Ok(input) };
@@ -290,7 +290,7 @@ fn walk(input: &[u8]) -> Result<(Request<'_>, &[u8]), Fault>
     reader.end(request)
 }
 
-fn read(input: &[u8]) -> Result<(Request<'_>, &[u8]), Fault>
+fn read(input: &[u8]) -> Result<(Request<'_>, &[u8]), MalformedMessage>
     ensures { Gives (λ r. (body_of r.0, r.1.now)) result (typed_at 116 input.now) }
 {
     let mut reader = Reader { left: Ok(input) };
@@ -302,7 +302,7 @@ fn read(input: &[u8]) -> Result<(Request<'_>, &[u8]), Fault>
     reader.end(request)
 }
 
-fn write(input: &[u8]) -> Result<(Request<'_>, &[u8]), Fault>
+fn write(input: &[u8]) -> Result<(Request<'_>, &[u8]), MalformedMessage>
     ensures { Gives (λ r. (body_of r.0, r.1.now)) result (typed_at 118 input.now) }
 {
     let mut reader = Reader { left: Ok(input) };
@@ -314,7 +314,7 @@ fn write(input: &[u8]) -> Result<(Request<'_>, &[u8]), Fault>
     reader.end(request)
 }
 
-fn clunk(input: &[u8]) -> Result<(Request<'_>, &[u8]), Fault>
+fn clunk(input: &[u8]) -> Result<(Request<'_>, &[u8]), MalformedMessage>
     ensures { Gives (λ r. (body_of r.0, r.1.now)) result (typed_at 120 input.now) }
 {
     let mut reader = Reader { left: Ok(input) };
@@ -322,7 +322,7 @@ fn clunk(input: &[u8]) -> Result<(Request<'_>, &[u8]), Fault>
     reader.end(request)
 }
 
-fn remove(input: &[u8]) -> Result<(Request<'_>, &[u8]), Fault>
+fn remove(input: &[u8]) -> Result<(Request<'_>, &[u8]), MalformedMessage>
     ensures { Gives (λ r. (body_of r.0, r.1.now)) result (typed_at 122 input.now) }
 {
     let mut reader = Reader { left: Ok(input) };
@@ -330,7 +330,7 @@ fn remove(input: &[u8]) -> Result<(Request<'_>, &[u8]), Fault>
     reader.end(request)
 }
 
-fn setattr(input: &[u8]) -> Result<(Request<'_>, &[u8]), Fault>
+fn setattr(input: &[u8]) -> Result<(Request<'_>, &[u8]), MalformedMessage>
     ensures { Gives (λ r. (body_of r.0, r.1.now)) result (typed_at 26 input.now) }
 {
     let mut reader = Reader { left: Ok(input) };
@@ -349,7 +349,7 @@ fn setattr(input: &[u8]) -> Result<(Request<'_>, &[u8]), Fault>
 
 /// The fields of a request of the type with this number.
 #[tactic(auto, unfolding(crate::specs::Reading::typed_at))]
-pub(crate) fn typed(number: u8, input: &[u8]) -> Result<(Request<'_>, &[u8]), Fault>
+pub(crate) fn typed(number: u8, input: &[u8]) -> Result<(Request<'_>, &[u8]), MalformedMessage>
     ensures { Gives (λ r. (body_of r.0, r.1.now)) result (typed_at number input.now) }
 {
     match number {
@@ -381,6 +381,6 @@ pub(crate) fn typed(number: u8, input: &[u8]) -> Result<(Request<'_>, &[u8]), Fa
         118 => write(input),
         120 => clunk(input),
         122 => remove(input),
-        _ => Err(Fault::Unknown),
+        _ => Err(MalformedMessage::Unknown),
     }
 }

@@ -9,7 +9,7 @@ ghost use Rattle.ninep.specs.Replies.{qid_fields, held_fields, room_fields};
 ghost use Rattle.ninep.specs.Replies.{owner_fields, size_fields, times_fields, version_fields, attribute_fields};
 ghost use Rattle.ninep.specs.Replies.{number_of, reply_fields, replied, size_of};
 
-use crate::reply::{Attributes, Held, Qid, Reply, Room};
+use crate::reply::{Attributes, Held, Qid, Reply, StatfsReply};
 use crate::write_refusal::WriteRefusal;
 use std::alloc::AllocError;
 
@@ -139,7 +139,7 @@ fn put_qid(out: &mut Vec<u8>, qid: &Qid) -> Result<(), AllocError>
 }
 
 #[tactic(auto, unfolding(crate::specs::Replies::block_fields, crate::specs::Replies::file_fields))]
-fn put_room(out: &mut Vec<u8>, room: &Room) -> Result<(), AllocError>
+fn put_room(out: &mut Vec<u8>, room: &StatfsReply) -> Result<(), AllocError>
     ensures ok { OnOk result (out.new.items ≡ out.old.items ++ fields_bytes (room_fields room.now)) }
     ensures kept { OnErr result (StandsFirst out.old.items out.new.items) }
     ensures full { OnErr result (vec_capacity out.old < length out.old.items + length (fields_bytes (room_fields room.now))) }

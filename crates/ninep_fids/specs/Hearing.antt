@@ -4,7 +4,7 @@ use Rattle.errno.specs.declared.Errno.TheVariants.{EIO}
 use Rattle.tree.specs.declared.Attributes.{Attributes}
 use Rattle.tree.specs.declared.Entry.{Entry}
 use Rattle.tree.specs.declared.LinkTarget.{LinkTarget}
-use Rattle.tree.specs.declared.Room.{Room}
+use Rattle.tree.specs.declared.Statfs.{Statfs}
 use Rattle.tree.specs.declared.Outcome.TheVariants as outcome
 use Rattle.tree.specs.declared.Reply.{Reply}
 use Rattle.tree.specs.declared.Reply.TheVariants as reply
@@ -54,7 +54,7 @@ abbrev pub as_count : Reply → Result ℕ Refused
 as_count (reply.Wrote count) = Ok count
 as_count r = Err eio
 
-abbrev pub as_room : Reply → Result Room Refused
+abbrev pub as_room : Reply → Result Statfs Refused
 as_room (reply.Space room) = Ok room
 as_room r = Err eio
 
@@ -85,7 +85,7 @@ bytes_in h = then_of (reply_in h) as_bytes
 abbrev pub count_in : Heard → Result ℕ Refused
 count_in h = then_of (reply_in h) as_count
 
-abbrev pub room_in : Heard → Result Room Refused
+abbrev pub room_in : Heard → Result Statfs Refused
 room_in h = then_of (reply_in h) as_room
 
 abbrev pub target_in : Heard → Result LinkTarget Refused

@@ -7,13 +7,13 @@ use Rattle.ninep_fids.specs.Plans.{Plan, Says, body_said}
 use Rattle.ninep_fids.specs.declared.fid.Kind.{Kind}
 use Rattle.ninep_fids.specs.declared.fid.Kind.TheVariants as kind
 use Rattle.ninep_fids.specs.declared.fid.Node.{Node}
-use Rattle.ninep_fids.specs.declared.answer.Answer.{Answer}
+use Rattle.ninep_fids.specs.declared.answer.NinepAnswer.{NinepAnswer}
 use Rattle.ninep_fids.specs.declared.answer.Said.TheVariants as said
 
-abbrev pub said_of : Answer → ℕ → Body
+abbrev pub said_of : NinepAnswer → ℕ → Body
 said_of a = body_said (said.Plain a)
 
-abbrev pub says : Answer → Plan
+abbrev pub says : NinepAnswer → Plan
 says a = Says (said_of a)
 
 -- the node with these attributes: its type is that of its mode

@@ -3,8 +3,8 @@ use Rattle.std.specs.Prelude.{◌≡◌}
 use Rattle.std.specs.declared.alloc.AllocError.{AllocError}
 use Rattle.errno.specs.declared.Errno.{Errno}
 use Rattle.errno.specs.declared.Errno.TheVariants.{EIO, ENFILE, ENOMEM, EINVAL}
-use Rattle.ninep.specs.declared.fault.Fault.{Fault}
-use Rattle.ninep.specs.declared.fault.Fault.TheVariants as fault
+use Rattle.ninep.specs.declared.fault.MalformedMessage.{MalformedMessage}
+use Rattle.ninep.specs.declared.fault.MalformedMessage.TheVariants as fault
 use Rattle.ninep_fids.specs.declared.refused.Refused.{Refused}
 use Rattle.ninep_fids.specs.declared.refused.Refused.TheVariants.{By, Unsupported}
 use Rattle.ninep_fids.specs.declared.sessions.EnterRefusal.{EnterRefusal}
@@ -25,6 +25,6 @@ abbrev pub by_entering : EnterRefusal → Refused → Type 0
 by_entering refusal r = r ≡ By (entering refusal)
 
 -- why a message isn't answered that can't be read
-abbrev pub refusal_for : Fault → Refused
+abbrev pub refusal_for : MalformedMessage → Refused
 refusal_for fault.Unknown = Unsupported
 refusal_for f = By EINVAL

@@ -1,10 +1,10 @@
 -- Attributes of nodes and the room of a volume, as answers have them.
 use Rattle.std.specs.Int.{div_ceil}
 use Rattle.std.specs.Prelude.{ℕ, List, take}
-use Rattle.ninep.specs.declared.reply.Room.{Room as RoomTold}
+use Rattle.ninep.specs.declared.reply.StatfsReply.{StatfsReply as RoomTold}
 use Rattle.ninep.specs.declared.reply.Attributes.{Attributes as AttributesTold}
 use Rattle.tree.specs.declared.Attributes.{Attributes}
-use Rattle.tree.specs.declared.Room.{Room}
+use Rattle.tree.specs.declared.Statfs.{Statfs}
 use Rattle.tree.specs.declared.LinkTarget.{LinkTarget}
 use Rattle.ninep_fids.specs.Nodes.{node_of, qid_of}
 
@@ -30,7 +30,7 @@ attributes_told a = record {
 }
 
 -- the room of the volume, by zones
-abbrev pub room_told : Room → RoomTold
+abbrev pub room_told : Statfs → RoomTold
 room_told room = record {
   kind = 0x01021997;
   block_size = room.block_size;

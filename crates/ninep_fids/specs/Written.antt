@@ -9,8 +9,8 @@ use Rattle.ninep.specs.Replies.{qid_fields, room_fields, attribute_fields}
 use Rattle.ninep.specs.declared.reply.Qid.{Qid}
 use Rattle.ninep_fids.specs.Numbers.{number_of}
 use Rattle.ninep_fids.specs.declared.refused.Refused.TheVariants.{By}
-use Rattle.ninep_fids.specs.declared.answer.Answer.{Answer}
-use Rattle.ninep_fids.specs.declared.answer.Answer.TheVariants as answer
+use Rattle.ninep_fids.specs.declared.answer.NinepAnswer.{NinepAnswer}
+use Rattle.ninep_fids.specs.declared.answer.NinepAnswer.TheVariants as answer
 use Rattle.ninep_fids.specs.declared.answer.Said.{Said}
 use Rattle.ninep_fids.specs.declared.answer.Said.TheVariants as said
 
@@ -19,7 +19,7 @@ abbrev pub tag_in : List ℕ → ℕ
 tag_in bytes = from_le_bytes w16 (slice_index bytes 5 ∷ slice_index bytes 6 ∷ [])
 
 -- the type of an answer
-abbrev pub answer_number : Answer → ℕ
+abbrev pub answer_number : NinepAnswer → ℕ
 answer_number (answer.Refused refused) = 7
 answer_number (answer.Statfs room) = 9
 answer_number (answer.Open qid) = 13
@@ -59,7 +59,7 @@ abbrev pub walked : List Qid → List Qid
 walked qids = take 16 qids
 
 -- The fields of an answer, where data and texts have at most so many bytes.
-abbrev pub answer_fields : ℕ → Answer → List Field
+abbrev pub answer_fields : ℕ → NinepAnswer → List Field
 answer_fields most (answer.Refused refused) = Number Four (number_of refused) ∷ []
 answer_fields most (answer.Statfs room) = room_fields room
 answer_fields most (answer.Open qid) = qid_fields qid ++ Number Four 0 ∷ []

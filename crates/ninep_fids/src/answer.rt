@@ -1,13 +1,13 @@
 //! What a connection answers.
 
 use crate::refused::Refused;
-use ninep::reply::{Attributes, Qid, Room};
+use ninep::reply::{Attributes, Qid, StatfsReply};
 
 /// The answer to a message that isn't an fsync done, before it is written.
 #[derive(Drop)]
-pub enum Answer {
+pub enum NinepAnswer {
     Refused(Refused),
-    Statfs(Room),
+    Statfs(StatfsReply),
     Open(Qid),
     Create(Qid),
     Symlink(Qid),
@@ -46,7 +46,7 @@ pub enum Answer {
 /// What is said to a message: an answer, or that all that was written lies on the disk.
 #[derive(Drop)]
 pub enum Said {
-    Plain(Answer),
+    Plain(NinepAnswer),
     /// A sync was done.
     Synced,
 }

@@ -6,7 +6,7 @@ ghost use Rattle.ninep_fids.specs.Entries.{AreTold, entries_of, entry_bytes, sta
 
 use crate::refused::Refused;
 use errno::Errno;
-use ninep::entries::{Entry, push_entry};
+use ninep::entries::{ReaddirEntry, push_entry};
 use ninep::reply::Qid;
 use std::alloc::Global;
 use tree::MAX_NAME;
@@ -41,7 +41,7 @@ impl Entries {
             self.full = true;
             return Ok(());
         }
-        let entry = Entry {
+        let entry = ReaddirEntry {
             qid: Qid {
                 kind: 0,
                 version: 0,

@@ -10,7 +10,7 @@ ghost use Rattle.ninep_fids.specs.Talks.{IsDone, Replies};
 use crate::refused::Refused;
 use crate::sessions::EnterRefusal;
 use errno::Errno;
-use tree::{Attributes, Entry, LinkTarget, Outcome, Reply, Room};
+use tree::{Attributes, Entry, LinkTarget, Outcome, Reply, Statfs};
 
 /// What the sessions answered.
 #[derive(Drop)]
@@ -128,7 +128,7 @@ impl Heard {
     }
 
     /// The room of the volume.
-    pub fn space(self) -> Result<Room, Refused>
+    pub fn space(self) -> Result<Statfs, Refused>
         ensures { result ≡ room_in self }
     {
         match self.reply() {

@@ -6,7 +6,7 @@ ghost use Rattle.ninep_fids.specs.Refusals.{by_errno, by_memory, by_entering, re
 
 use crate::sessions::EnterRefusal;
 use errno::Errno;
-use ninep::fault::Fault;
+use ninep::fault::MalformedMessage;
 use std::alloc::AllocError;
 
 /// Why a request is refused.
@@ -62,13 +62,14 @@ impl From<EnterRefusal> for Refused {
 }
 
 /// Why a message isn't taken that has a tag.
-pub fn refusal_of(fault: Fault) -> Refused
+pub fn refusal_of(fault: MalformedMessage) -> Refused
     ensures { result ≡ refusal_for fault }
 {
     match fault {
-        Fault::Unknown => Refused::Unsupported,
-        Fault::Short | Fault::Size | Fault::ManyNames | Fault::Trailing => {
-            Refused::By(Errno::EINVAL)
-        }
+        MalformedMessage::Unknown => Refused::Unsupported,
+        MalformedMessage::Short
+        | MalformedMessage::Size
+        | MalformedMessage::ManyNames
+        | MalformedMessage::Trailing => { Refused::By(Errno::EINVAL) }
     }
 }

@@ -8,13 +8,13 @@ ghost use Rattle.ninep.specs.declared.reply.Reply.{Reply as ToClient};
 ghost use Rattle.ninep_fids.specs.Written.{answer_number, answer_fields, said_number, said_fields, too_long, IsWritten, IsSaidIn};
 ghost use Rattle.ninep_fids.specs.Sending.{IsSent};
 
-use crate::answer::{Answer, Said};
+use crate::answer::{NinepAnswer, Said};
 use crate::end::End;
 use crate::knows::HEAD;
 use crate::refused::Refused;
 use errno::Errno;
 use ninep::names::MAX_NAMES;
-use ninep::reply::{Attributes, Held, Qid, Reply, Room};
+use ninep::reply::{Attributes, Held, Qid, Reply, StatfsReply};
 use ninep::write_refusal::WriteRefusal;
 use ninep::writing::write;
 use tree::MAX_TARGET;
@@ -75,7 +75,7 @@ fn walk_reply(qids: &[Qid]) -> Reply<'_>
 
 /// The reply of a room.
 #[tactic(auto, unfolding(ninep::specs::Replies::block_fields, ninep::specs::Replies::file_fields))]
-fn room_reply<'a>(room: Room) -> Reply<'a>
+fn room_reply<'a>(room: StatfsReply) -> Reply<'a>
     ensures { IsSent 9 (reply_fields (ToClient.Statfs room)) result }
 {
     Reply::Statfs { room }
@@ -91,7 +91,7 @@ fn attributes_reply<'a>(attributes: Attributes) -> Reply<'a>
 
 /// The reply of a lock that isn't held.
 fn unlocked<'a>(start: u64, length: u64, process: u32) -> Reply<'a>
-    ensures { IsSent 55 (answer_fields 0 (Answer.Getlock start length process)) result }
+    ensures { IsSent 55 (answer_fields 0 (NinepAnswer.Getlock start length process)) result }
 {
     let held = Held {
         kind: UNLOCKED,
@@ -105,7 +105,7 @@ fn unlocked<'a>(start: u64, length: u64, process: u32) -> Reply<'a>
 
 /// The reply of a refusal.
 fn error<'a>(refused: Refused) -> Reply<'a>
-    ensures { IsSent 7 (answer_fields 0 (Answer.Refused refused)) result }
+    ensures { IsSent 7 (answer_fields 0 (NinepAnswer.Refused refused)) result }
 {
     Reply::Error {
         number: refused.number(),
@@ -114,14 +114,14 @@ fn error<'a>(refused: Refused) -> Reply<'a>
 
 /// The reply of a fid that is open.
 fn opened<'a>(qid: Qid) -> Reply<'a>
-    ensures { IsSent 13 (answer_fields 0 (Answer.Open qid)) result }
+    ensures { IsSent 13 (answer_fields 0 (NinepAnswer.Open qid)) result }
 {
     Reply::Open { qid, unit: 0 }
 }
 
 /// The reply of a file that was made, and is open.
 fn created<'a>(qid: Qid) -> Reply<'a>
-    ensures { IsSent 15 (answer_fields 0 (Answer.Create qid)) result }
+    ensures { IsSent 15 (answer_fields 0 (NinepAnswer.Create qid)) result }
 {
     Reply::Create { qid, unit: 0 }
 }
@@ -155,7 +155,7 @@ fn bytes_reply(bytes: &[u8], most: u32) -> Reply<'_>
 
 /// The reply of a version, and of how many bytes a message has at most.
 fn version_reply<'a>(message_size: u32, known: bool) -> Reply<'a>
-    ensures { IsSent 101 (answer_fields 0 (Answer.Version message_size known)) result }
+    ensures { IsSent 101 (answer_fields 0 (NinepAnswer.Version message_size known)) result }
 {
     Reply::Version {
         message_size,
@@ -164,41 +164,41 @@ fn version_reply<'a>(message_size: u32, known: bool) -> Reply<'a>
 }
 
 /// The reply of an answer, where data have at most so many bytes.
-fn reply_of(answer: &Answer, most: u32) -> Reply<'_>
+fn reply_of(answer: &NinepAnswer, most: u32) -> Reply<'_>
     ensures { IsSent (answer_number answer.now) (answer_fields most answer.now) result }
 {
     match answer {
-        Answer::Refused(refused) => error(*refused),
-        Answer::Statfs(room) => room_reply(*room),
-        Answer::Open(qid) => opened(own(qid)),
-        Answer::Create(qid) => created(own(qid)),
-        Answer::Symlink(qid) => Reply::Symlink { qid: own(qid) },
-        Answer::Rename => Reply::Rename,
-        Answer::Readlink(target) => link_reply(target),
-        Answer::Getattr(attributes) => attributes_reply(*attributes),
-        Answer::Setattr => Reply::Setattr,
-        Answer::Readdir(entries) => entries_reply(entries, most),
-        Answer::Lock => Reply::Lock { status: 0 },
-        Answer::Getlock {
+        NinepAnswer::Refused(refused) => error(*refused),
+        NinepAnswer::Statfs(room) => room_reply(*room),
+        NinepAnswer::Open(qid) => opened(own(qid)),
+        NinepAnswer::Create(qid) => created(own(qid)),
+        NinepAnswer::Symlink(qid) => Reply::Symlink { qid: own(qid) },
+        NinepAnswer::Rename => Reply::Rename,
+        NinepAnswer::Readlink(target) => link_reply(target),
+        NinepAnswer::Getattr(attributes) => attributes_reply(*attributes),
+        NinepAnswer::Setattr => Reply::Setattr,
+        NinepAnswer::Readdir(entries) => entries_reply(entries, most),
+        NinepAnswer::Lock => Reply::Lock { status: 0 },
+        NinepAnswer::Getlock {
             start,
             length,
             process,
         } => unlocked(*start, *length, *process),
-        Answer::Link => Reply::Link,
-        Answer::Mkdir(qid) => Reply::Mkdir { qid: own(qid) },
-        Answer::Renameat => Reply::Renameat,
-        Answer::Unlinkat => Reply::Unlinkat,
-        Answer::Version {
+        NinepAnswer::Link => Reply::Link,
+        NinepAnswer::Mkdir(qid) => Reply::Mkdir { qid: own(qid) },
+        NinepAnswer::Renameat => Reply::Renameat,
+        NinepAnswer::Unlinkat => Reply::Unlinkat,
+        NinepAnswer::Version {
             message_size,
             known,
         } => version_reply(*message_size, *known),
-        Answer::Attach(qid) => Reply::Attach { qid: own(qid) },
-        Answer::Flush => Reply::Flush,
-        Answer::Walk(qids) => walk_reply(walked(qids)),
-        Answer::Read(bytes) => bytes_reply(bytes, most),
-        Answer::Write(count) => Reply::Write { count: *count },
-        Answer::Clunk => Reply::Clunk,
-        Answer::Remove => Reply::Remove,
+        NinepAnswer::Attach(qid) => Reply::Attach { qid: own(qid) },
+        NinepAnswer::Flush => Reply::Flush,
+        NinepAnswer::Walk(qids) => walk_reply(walked(qids)),
+        NinepAnswer::Read(bytes) => bytes_reply(bytes, most),
+        NinepAnswer::Write(count) => Reply::Write { count: *count },
+        NinepAnswer::Clunk => Reply::Clunk,
+        NinepAnswer::Remove => Reply::Remove,
     }
 }
 

@@ -5,7 +5,7 @@ ghost use Rattle.ninep_fids.specs.Told.{room_told, attributes_told, target_of};
 
 use crate::fid::Node;
 use ninep::reply;
-use tree::{Attributes, LinkTarget, MAX_NAME, MAX_TARGET, Room};
+use tree::{Attributes, LinkTarget, MAX_NAME, MAX_TARGET, Statfs};
 
 /// Linux's number of a file system over 9P.
 const KIND: u32 = 0x0102_1997;
@@ -17,10 +17,10 @@ const BASIC: u64 = 0x7ff;
 const BEST: u64 = 4096;
 
 /// The room of the volume, as an answer has it.
-pub fn room_of(room: &Room) -> reply::Room
+pub fn room_of(room: &Statfs) -> reply::StatfsReply
     ensures { result ≡ room_told room.now }
 {
-    reply::Room {
+    reply::StatfsReply {
         kind: KIND,
         block_size: room.block_size,
         blocks: u64::from(room.zones),

@@ -26,8 +26,8 @@ use Rattle.ninep_fids.specs.declared.changes.Wanted.{Wanted}
 use Rattle.ninep_fids.specs.declared.changes.Change.{Change}
 use Rattle.ninep_fids.specs.declared.changes.Change.TheVariants as change
 use Rattle.ninep_fids.specs.declared.changes.Changes.{Changes}
-use Rattle.ninep_fids.specs.declared.answer.Answer.{Answer}
-use Rattle.ninep_fids.specs.declared.answer.Answer.TheVariants as answer
+use Rattle.ninep_fids.specs.declared.answer.NinepAnswer.{NinepAnswer}
+use Rattle.ninep_fids.specs.declared.answer.NinepAnswer.TheVariants as answer
 use Rattle.ninep_server.specs.Attaching.{begins, entering, looking_at_root, attaching_as}
 use Rattle.ninep_server.specs.Walks.{with_name, walking}
 use Rattle.ninep_server.specs.Opens.{opening, opens, or_closes, looking_at_file, made_file, making_file, creates, was_made, making}
@@ -146,7 +146,7 @@ making_within n session path what group = λ h. it_within (suc (suc n)) (done_in
 linking_within : (n session : ℕ) (old new : List ℕ) → Within (linking session old new) (suc n)
 linking_within n session old new = λ h. it_within n (done_in h) _ (λ _. tt)
 
-renaming_within : (n session : ℕ) (old new : List ℕ) (a : Answer) → Within (renaming session old new a) (suc n)
+renaming_within : (n session : ℕ) (old new : List ℕ) (a : NinepAnswer) → Within (renaming session old new a) (suc n)
 renaming_within n session old new a = λ h. it_within n (done_in h) _ (λ _. tt)
 
 unlinking_within : (n session : ℕ) (path : List ℕ) (directory : Bool) → Within (unlinking session path directory) (suc n)

@@ -10,7 +10,7 @@ use Rattle.ninep_fids.specs.Plans.{Plan, Says, Asks, Changes, OrNoMemory, IsSaid
 use Rattle.ninep_fids.specs.Nodes.{said_of}
 use Rattle.ninep_fids.specs.declared.refused.Refused.{Refused}
 use Rattle.ninep_fids.specs.declared.refused.Refused.TheVariants.{By}
-use Rattle.ninep_fids.specs.declared.answer.Answer.TheVariants as answer
+use Rattle.ninep_fids.specs.declared.answer.NinepAnswer.TheVariants as answer
 use Rattle.ninep_fids.specs.declared.ask.Ask.{Ask}
 use Rattle.ninep_fids.specs.declared.ask.Ask.TheVariants as ask
 use Rattle.ninep_fids.specs.declared.heard.Heard.{Heard}

@@ -5,20 +5,20 @@ use Rattle.errno.specs.declared.Errno.TheVariants.{ENOMEM}
 use Rattle.ninep.specs.Parts.{Gives}
 use Rattle.ninep.specs.Reading.{request_at}
 use Rattle.ninep.specs.Requests.{view}
-use Rattle.ninep.specs.declared.fault.Fault.{Fault}
+use Rattle.ninep.specs.declared.fault.MalformedMessage.{MalformedMessage}
 use Rattle.ninep.specs.declared.request.Message.{Message}
 use Rattle.tree.specs.declared.Call.TheVariants as call
 use Rattle.ninep_fids.specs.declared.heard.Heard.{Heard}
 use Rattle.ninep_fids.specs.declared.answer.Said.{Said}
 use Rattle.ninep_fids.specs.declared.answer.Said.TheVariants as said
-use Rattle.ninep_fids.specs.declared.answer.Answer.{Answer}
+use Rattle.ninep_fids.specs.declared.answer.NinepAnswer.{NinepAnswer}
 use Rattle.ninep_fids.specs.declared.ask.Ask.{Ask}
 use Rattle.ninep_fids.specs.declared.ask.Ask.TheVariants as ask
 use Rattle.ninep_fids.specs.Written.{IsWritten, IsSaidIn, too_long, tag_in}
 use Rattle.ninep_fids.specs.Knowledge.{Known}
 use Rattle.ninep_fids.specs.Plans.{Follows}
 use Rattle.ninep_fids.specs.declared.refused.Refused.TheVariants.{By}
-use Rattle.ninep_fids.specs.declared.answer.Answer.TheVariants as answer
+use Rattle.ninep_fids.specs.declared.answer.NinepAnswer.TheVariants as answer
 use Rattle.ninep_fids.specs.Talks.{Exchange, IsDone, HasAsked}
 use Rattle.ninep_server.specs.declared.turn.Turn.{Turn}
 use Rattle.ninep_server.specs.declared.turn.Turn.TheVariants as turn
@@ -62,14 +62,14 @@ pub begins : {S : Type 0} (may : S → Ask → Heard → S → Type 0) (s : S) (
 begins may s here plain = ([], refl, plain_behind here [] plain)
 
 -- an answer that says nothing of a sync, behind whatever was asked
-pub plainly : {S : Type 0} (may : S → Ask → Heard → S → Type 0) (start t : S) (here : Turn) (a : Answer) → Reaches may start here t
+pub plainly : {S : Type 0} (may : S → Ask → Heard → S → Type 0) (start t : S) (here : Turn) (a : NinepAnswer) → Reaches may start here t
     → HasAsked may start (said.Plain a) t
 plainly may start t here a reached = (reached.0, reached.1, λ e. absurd (isnt_synced e)) where
   isnt_synced : said.Plain a ≡ said.Synced → ⊥
   isnt_synced e = cc
 
 -- nothing was asked
-pub unasked : {S : Type 0} (may : S → Ask → Heard → S → Type 0) (s : S) (a : Answer) → HasAsked may s (said.Plain a) s
+pub unasked : {S : Type 0} (may : S → Ask → Heard → S → Type 0) (s : S) (a : NinepAnswer) → HasAsked may s (said.Plain a) s
 unasked may s a = plainly may s s (turn.Said (said.Plain a)) a (begins may s (turn.Said (said.Plain a)) tt)
 
 -- what is written with this tag behind these bytes is so with the same ones by other names
@@ -92,7 +92,7 @@ answered may tag mark limit s t from old new it (Ok a) same_tag same asked (inr 
 
 -- where there is room
 pub with_room : {S : Type 0} (may : S → Ask → Heard → S → Type 0) (now : ℕ) (bytes : List ℕ) (has_room : Bool) (s t : S) (k l : Known)
-    (it : Said) (read : Result Message Fault) → has_room ≡ true → Gives (λ (m : Message). view m) read (request_at bytes)
+    (it : Said) (read : Result Message MalformedMessage) → has_room ≡ true → Gives (λ (m : Message). view m) read (request_at bytes)
     → Follows may (plan_for k now read) s k it t l → IsAnswered may now bytes has_room s k it t l
 with_room may now bytes true s t k l it read e exact followed = (read, exact, followed)
 with_room may now bytes false s t k l it read e exact followed = absurd (no e) where

@@ -10,7 +10,7 @@ use Rattle.ninep_fids.specs.Nodes.{says, node_of, qid_of}
 use Rattle.ninep_fids.specs.declared.refused.Refused.TheVariants.{By}
 use Rattle.ninep_fids.specs.declared.users.User.{User}
 use Rattle.ninep_fids.specs.declared.ask.Ask.TheVariants as ask
-use Rattle.ninep_fids.specs.declared.answer.Answer.TheVariants as answer
+use Rattle.ninep_fids.specs.declared.answer.NinepAnswer.TheVariants as answer
 use Rattle.ninep_fids.specs.Checks.{user_number}
 
 -- Tversion: all sessions end, and a connection begins whose messages have at most so many bytes. EINVAL below the least.

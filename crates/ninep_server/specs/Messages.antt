@@ -15,7 +15,7 @@ use Rattle.ninep_fids.specs.Plans.{Plan, Says, Changes, OrNoMemory, Drops, reply
 use Rattle.ninep_fids.specs.Nodes.{says, said_of}
 use Rattle.ninep_fids.specs.declared.refused.Refused.TheVariants.{By, Stale, Unsupported}
 use Rattle.ninep_fids.specs.declared.heard.Heard.{Heard}
-use Rattle.ninep_fids.specs.declared.answer.Answer.TheVariants as answer
+use Rattle.ninep_fids.specs.declared.answer.NinepAnswer.TheVariants as answer
 use Rattle.ninep_fids.specs.declared.answer.Said.TheVariants as said
 use Rattle.ninep_server.specs.Attaching.{begins, attaching}
 use Rattle.ninep_server.specs.Walks.{walks}

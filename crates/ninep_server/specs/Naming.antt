@@ -12,8 +12,8 @@ use Rattle.ninep_fids.specs.Nodes.{says, said_of}
 use Rattle.ninep_fids.specs.declared.refused.Refused.{Refused}
 use Rattle.ninep_fids.specs.declared.refused.Refused.TheVariants.{Stale}
 use Rattle.ninep_fids.specs.declared.fid.Kind.TheVariants as kind
-use Rattle.ninep_fids.specs.declared.answer.Answer.{Answer}
-use Rattle.ninep_fids.specs.declared.answer.Answer.TheVariants as answer
+use Rattle.ninep_fids.specs.declared.answer.NinepAnswer.{NinepAnswer}
+use Rattle.ninep_fids.specs.declared.answer.NinepAnswer.TheVariants as answer
 use Rattle.ninep_fids.specs.Checks.{is_directory, named_for}
 
 -- Tlink: the file of a fid gets a further name in a directory
@@ -26,7 +26,7 @@ links k directory fid name = with_it (named k.fids directory) (λ parent. with_i
     (λ _. OrNoMemory (linking parent.user.session file.path (below parent.path name)))))
 
 -- a name becomes another one, and each fid stays on its file
-abbrev pub renaming : ℕ → List ℕ → List ℕ → Answer → Plan
+abbrev pub renaming : ℕ → List ℕ → List ℕ → NinepAnswer → Plan
 renaming session old new a = calls session (call.Rename (at (called old)) (at (called new)))
     (λ h. with_it (done_in h) (λ _. Changes (Renames old new) (says a)))
 

@@ -14,8 +14,8 @@ use Rattle.ninep_fids.specs.declared.refused.Refused.{Refused}
 use Rattle.ninep_fids.specs.declared.users.User.{User}
 use Rattle.ninep_fids.specs.declared.fid.Kind.TheVariants as kind
 use Rattle.ninep_fids.specs.declared.fid.Node.{Node}
-use Rattle.ninep_fids.specs.declared.answer.Answer.{Answer}
-use Rattle.ninep_fids.specs.declared.answer.Answer.TheVariants as answer
+use Rattle.ninep_fids.specs.declared.answer.NinepAnswer.{NinepAnswer}
+use Rattle.ninep_fids.specs.declared.answer.NinepAnswer.TheVariants as answer
 use Rattle.ninep_fids.specs.Checks.{not_link, named_for, unopened}
 use Rattle.ninep_server.specs.declared.making.Made.{Made}
 use Rattle.ninep_server.specs.declared.making.Made.TheVariants as made
@@ -66,7 +66,7 @@ abbrev pub making_call : List ℕ → Made → Call
 making_call path (made.Directory mode) = call.Mkdir (at (called path)) mode
 making_call path (made.Symlink target) = call.Symlink (at target.now) (at (called path))
 
-abbrev pub made_told : Made → Qid → Answer
+abbrev pub made_told : Made → Qid → NinepAnswer
 made_told (made.Directory mode) qid = answer.Mkdir qid
 made_told (made.Symlink target) qid = answer.Symlink qid
 

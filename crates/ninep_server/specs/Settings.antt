@@ -10,7 +10,7 @@ use Rattle.ninep_fids.specs.Nodes.{says}
 use Rattle.ninep_fids.specs.declared.fid.Kind.TheVariants as kind
 use Rattle.ninep_fids.specs.declared.changes.Wanted.{Wanted}
 use Rattle.ninep_fids.specs.declared.changes.Change.{Change}
-use Rattle.ninep_fids.specs.declared.answer.Answer.TheVariants as answer
+use Rattle.ninep_fids.specs.declared.answer.NinepAnswer.TheVariants as answer
 use Rattle.ninep_fids.specs.Checks.{changeable}
 
 -- one change is made after the other

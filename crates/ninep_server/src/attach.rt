@@ -4,7 +4,7 @@ ghost use Rattle.std.specs.Prelude.{◌≤◌, Ok};
 
 use crate::work::{FidWork, Next, Work};
 use errno::Errno;
-use ninep_fids::answer::Answer;
+use ninep_fids::answer::NinepAnswer;
 use ninep_fids::ask::Ask;
 use ninep_fids::fid::{Fid, Node};
 use ninep_fids::heard::Heard;
@@ -46,7 +46,7 @@ impl Version {
         knows.users.clear();
         knows.fids.clear();
         knows.message_size = self.message_size;
-        Next::Done(Answer::Version {
+        Next::Done(NinepAnswer::Version {
             message_size: self.message_size,
             known: self.known,
         })
@@ -109,7 +109,7 @@ impl Attach {
                 let root = Node::of(&heard.attributes()?);
                 let path = Vec::new(knows.alloc);
                 knows.fids.put(fid, Fid::closed(user, path, root))?;
-                Ok(Next::Done(Answer::Attach(root.qid())))
+                Ok(Next::Done(NinepAnswer::Attach(root.qid())))
             }
         }
     }

@@ -8,7 +8,7 @@ ghost use Rattle.ninep_server.specs.Settings.{changing, sets};
 ghost use Rattle.ninep_server.specs.Progress.{AsksNext, BeginsAs, GoesOnAs, Leaves, left_of_getattr, left_of_next, left_of_setattr};
 
 use crate::work::{AttributeWork, Next, Work};
-use ninep_fids::answer::Answer;
+use ninep_fids::answer::NinepAnswer;
 use ninep_fids::ask::Ask;
 use ninep_fids::changes::{Change, Changes, Wanted};
 use ninep_fids::checks::check_changeable;
@@ -61,7 +61,7 @@ impl Getattr {
     pub(crate) fn hear<'m>(self, heard: Heard) -> Result<Next<'m>, Refused>
         ensures { GoesOnAs (left_of_getattr self) heard result }
     {
-        Ok(Next::Done(Answer::Getattr(told(&heard.attributes()?))))
+        Ok(Next::Done(NinepAnswer::Getattr(told(&heard.attributes()?))))
     }
 }
 
@@ -124,7 +124,7 @@ impl Setattr {
                 left,
                 ..self
             }))),
-            None => Next::Done(Answer::Setattr),
+            None => Next::Done(NinepAnswer::Setattr),
         }
     }
 

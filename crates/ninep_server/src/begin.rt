@@ -17,7 +17,7 @@ use crate::turn::Turn;
 use crate::walk::Walk;
 use crate::work::{AttributeWork, Next, Work};
 use ninep::request::Request;
-use ninep_fids::answer::{Answer, Said};
+use ninep_fids::answer::{NinepAnswer, Said};
 use ninep_fids::changes::Wanted;
 use ninep_fids::knows::Knows;
 use ninep_fids::refused::Refused;
@@ -30,7 +30,7 @@ pub(crate) fn begin<'m>(knows: &mut Knows, now: u32, request: &Request<'m>) -> T
     match *request {
         Request::Fsync { fid, .. } => match knows.fids.get(fid) {
             Ok(file) => Turn::Sync(file.user.session),
-            Err(refused) => Turn::Said(Said::Plain(Answer::Refused(refused))),
+            Err(refused) => Turn::Said(Said::Plain(NinepAnswer::Refused(refused))),
         },
         _ => Turn::of(on_fid(knows, now, request)),
     }
@@ -53,7 +53,7 @@ fn on_fid<'m>(knows: &mut Knows, now: u32, request: &Request<'m>) -> Result<Next
         } => Walk::begin(knows, fid, new_fid, names),
         Request::Clunk { fid } => Close::clunk(knows, fid),
         Request::Remove { fid } => Remove::begin(knows, fid),
-        Request::Flush { .. } => Ok(Next::Done(Answer::Flush)),
+        Request::Flush { .. } => Ok(Next::Done(NinepAnswer::Flush)),
         _ => on_node(knows, now, request),
     }
 }
@@ -155,7 +155,7 @@ fn on_file<'m>(knows: &Knows, request: &Request<'m>) -> Result<Next<'m>, Refused
         Request::Readdir { fid, offset, count } => Listing::begin(knows, fid, offset, count),
         Request::Lock { fid, .. } => {
             knows.fids.open(fid)?;
-            Ok(Next::Done(Answer::Lock))
+            Ok(Next::Done(NinepAnswer::Lock))
         }
         Request::Getlock {
             fid,
@@ -165,7 +165,7 @@ fn on_file<'m>(knows: &Knows, request: &Request<'m>) -> Result<Next<'m>, Refused
             ..
         } => {
             knows.fids.open(fid)?;
-            Ok(Next::Done(Answer::Getlock {
+            Ok(Next::Done(NinepAnswer::Getlock {
                 start,
                 length,
                 process,

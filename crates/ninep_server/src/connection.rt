@@ -15,7 +15,7 @@ use crate::turn::Turn;
 use errno::Errno;
 use ninep::reading::read;
 use ninep::request::Request;
-use ninep_fids::answer::{Answer, Said};
+use ninep_fids::answer::{NinepAnswer, Said};
 use ninep_fids::ask::Ask;
 use ninep_fids::end::{End, tag_of};
 use ninep_fids::knows::{Knows, MAX_MESSAGE};
@@ -89,11 +89,11 @@ fn said_to<S: Sessions>(
         sessions.new (known_of knows.new) }
 {
     if !has_room {
-        return Said::Plain(Answer::Refused(Refused::By(Errno::ENOMEM)));
+        return Said::Plain(NinepAnswer::Refused(Refused::By(Errno::ENOMEM)));
     }
     match read(bytes) {
         Ok(message) => serve(knows, sessions, now, &message.request),
-        Err(fault) => Said::Plain(Answer::Refused(refusal_of(fault))),
+        Err(fault) => Said::Plain(NinepAnswer::Refused(refusal_of(fault))),
     }
 }
 

@@ -10,7 +10,7 @@ ghost use Rattle.ninep_server.specs.Progress.{AsksNext, BeginsAs, Leaves, behind
 use crate::opening::Close;
 use crate::work::{Next, OpenWork, Work};
 use bitflags::Flags;
-use ninep_fids::answer::Answer;
+use ninep_fids::answer::NinepAnswer;
 use ninep_fids::ask::Ask;
 use ninep_fids::fid::{Fid, Node};
 use ninep_fids::flags::{EXCLUSIVE, bits_of, flag_for, group_of, mode_of};
@@ -159,13 +159,13 @@ impl NewFile {
         knows
             .fids
             .replace(fid, Fid::open(self.user, self.path, node, fd));
-        Next::Done(Answer::Create(node.qid()))
+        Next::Done(NinepAnswer::Create(node.qid()))
     }
 
     /// The file is closed, and the request is refused.
     fn give_up<'m>(self, fd: u32, refused: Refused) -> Next<'m>
         ensures { (k : Known) → Leaves (closing self.user.session (Some fd) (error refused)) k (left_of_next (Ok result)) k }
     {
-        Close::begin(self.user.session, Some(fd), Answer::Refused(refused))
+        Close::begin(self.user.session, Some(fd), NinepAnswer::Refused(refused))
     }
 }

@@ -8,7 +8,7 @@ ghost use Rattle.ninep_server.specs.Progress.{AsksNext, BeginsAs, GoesOnAs, left
 use crate::transfer::least;
 use crate::work::{DataWork, Next, Work};
 use errno::Errno;
-use ninep_fids::answer::Answer;
+use ninep_fids::answer::NinepAnswer;
 use ninep_fids::ask::Ask;
 use ninep_fids::entries::{ENTRY_HEAD, entries_from};
 use ninep_fids::heard::Heard;
@@ -82,6 +82,6 @@ impl Listing {
         let names = heard.names()?;
         let limit = self.limit as usize;
         let bytes = entries_from(knows.alloc, self.inode, above, &names, self.offset, limit)?;
-        Ok(Next::Done(Answer::Readdir(bytes)))
+        Ok(Next::Done(NinepAnswer::Readdir(bytes)))
     }
 }

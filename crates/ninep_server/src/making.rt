@@ -5,7 +5,7 @@ ghost use Rattle.ninep_server.specs.Opens.{makes_directory, makes_link};
 ghost use Rattle.ninep_server.specs.Progress.{AsksNext, BeginsAs, GoesOnAs, left_of_making};
 
 use crate::work::{Next, OpenWork, Work};
-use ninep_fids::answer::Answer;
+use ninep_fids::answer::NinepAnswer;
 use ninep_fids::ask::Ask;
 use ninep_fids::fid::Node;
 use ninep_fids::flags::{group_of, mode_of};
@@ -130,8 +130,8 @@ impl<'m> Making<'m> {
             Stage::Look => {
                 let qid = Node::of(&heard.attributes()?).qid();
                 Ok(Next::Done(match self.made {
-                    Made::Directory { .. } => Answer::Mkdir(qid),
-                    Made::Symlink { .. } => Answer::Symlink(qid),
+                    Made::Directory { .. } => NinepAnswer::Mkdir(qid),
+                    Made::Symlink { .. } => NinepAnswer::Symlink(qid),
                 }))
             }
         }

@@ -10,7 +10,7 @@ ghost use Rattle.ninep_server.specs.Progress.{left_of_unlink, left_of_remove};
 
 use crate::opening::Close;
 use crate::work::{NameWork, Next, Work};
-use ninep_fids::answer::Answer;
+use ninep_fids::answer::NinepAnswer;
 use ninep_fids::ask::Ask;
 use ninep_fids::checks::is_directory;
 use ninep_fids::flags::has;
@@ -63,7 +63,7 @@ impl Link {
         ensures { GoesOnAs (left_of_link self) heard result }
     {
         heard.done()?;
-        Ok(Next::Done(Answer::Link))
+        Ok(Next::Done(NinepAnswer::Link))
     }
 }
 
@@ -73,7 +73,7 @@ pub(crate) struct Rename {
     session: u8,
     old: Vec<u8>,
     new: Vec<u8>,
-    then: Answer,
+    then: NinepAnswer,
 }
 
 impl Rename {
@@ -92,7 +92,7 @@ impl Rename {
             session: parent.user.session,
             old: file.path.to_vec(knows.alloc)?,
             new: below(knows.alloc, &parent.path, name)?,
-            then: Answer::Rename,
+            then: NinepAnswer::Rename,
         }))))
     }
 
@@ -112,7 +112,7 @@ impl Rename {
             session: from.user.session,
             old: below(knows.alloc, &from.path, old.1)?,
             new: below(knows.alloc, &to.path, new.1)?,
-            then: Answer::Renameat,
+            then: NinepAnswer::Renameat,
         }))))
     }
 
@@ -192,7 +192,7 @@ impl Unlink {
     {
         heard.done()?;
         knows.fids.unlink(&self.path);
-        Ok(Next::Done(Answer::Unlinkat))
+        Ok(Next::Done(NinepAnswer::Unlinkat))
     }
 }
 
@@ -212,7 +212,7 @@ impl Remove {
         let taken = knows.fids.take(fid)?;
         let session = taken.user.session;
         if taken.gone {
-            let stale = Answer::Refused(Refused::Stale);
+            let stale = NinepAnswer::Refused(Refused::Stale);
             return Ok(Close::begin(session, taken.descriptor, stale));
         }
         Ok(Next::Go(Work::Name(NameWork::Remove(Remove {
@@ -238,10 +238,10 @@ impl Remove {
         match heard.done() {
             Ok(()) => {
                 knows.fids.unlink(&self.path);
-                Ok(Close::begin(self.session, self.descriptor, Answer::Remove))
+                Ok(Close::begin(self.session, self.descriptor, NinepAnswer::Remove))
             }
             Err(refused) => {
-                let answer = Answer::Refused(refused);
+                let answer = NinepAnswer::Refused(refused);
                 Ok(Close::begin(self.session, self.descriptor, answer))
             }
         }

@@ -11,7 +11,7 @@ ghost use Rattle.ninep_server.specs.Progress.{left_of_readlink, left_of_next};
 
 use crate::work::{DataWork, Next, OpenWork, Work};
 use bitflags::Flags;
-use ninep_fids::answer::Answer;
+use ninep_fids::answer::NinepAnswer;
 use ninep_fids::ask::Ask;
 use ninep_fids::checks::check_kind;
 use ninep_fids::fid::{Fid, Node};
@@ -72,7 +72,7 @@ impl Opening {
         knows
             .fids
             .replace(fid, Fid::open(self.user, self.path, node, fd));
-        Ok(Next::Done(Answer::Open(node.qid())))
+        Ok(Next::Done(NinepAnswer::Open(node.qid())))
     }
 }
 
@@ -81,12 +81,12 @@ impl Opening {
 pub(crate) struct Close {
     session: u8,
     fd: u32,
-    answer: Answer,
+    answer: NinepAnswer,
 }
 
 impl Close {
     /// Closes a descriptor, if there is one; then this is answered.
-    pub(crate) fn begin<'m>(session: u8, descriptor: Option<u32>, answer: Answer) -> Next<'m>
+    pub(crate) fn begin<'m>(session: u8, descriptor: Option<u32>, answer: NinepAnswer) -> Next<'m>
         ensures { left_of_next (Ok result) ≡ closing session descriptor (said_of answer) }
     {
         match descriptor {
@@ -104,7 +104,7 @@ impl Close {
         ensures { BeginsAs (clunking (known_of knows.old) fid) knows.old knows.new result }
     {
         let gone = knows.fids.take(fid)?;
-        Ok(Close::begin(gone.user.session, gone.descriptor, Answer::Clunk))
+        Ok(Close::begin(gone.user.session, gone.descriptor, NinepAnswer::Clunk))
     }
 
     pub(crate) fn ask(&self) -> Ask<'_>
@@ -157,6 +157,6 @@ impl Readlink {
     {
         let target = heard.target()?;
         let bytes = bytes_of(&target).to_vec(knows.alloc)?;
-        Ok(Next::Done(Answer::Readlink(bytes)))
+        Ok(Next::Done(NinepAnswer::Readlink(bytes)))
     }
 }

@@ -7,7 +7,7 @@ ghost use Rattle.ninep_server.specs.Progress.{AsksNext, BeginsAs, GoesOnAs, left
 
 use crate::work::{DataWork, Next, Work};
 use errno::Errno;
-use ninep_fids::answer::Answer;
+use ninep_fids::answer::NinepAnswer;
 use ninep_fids::ask::Ask;
 use ninep_fids::heard::Heard;
 use ninep_fids::knows::Knows;
@@ -53,7 +53,7 @@ impl<'m> Transfer<'m> {
     {
         let (session, fd) = knows.fids.open(fid)?;
         if offset > u64::from(MAX_SIZE) {
-            return Ok(Next::Done(Answer::Read(Vec::new(knows.alloc))));
+            return Ok(Next::Done(NinepAnswer::Read(Vec::new(knows.alloc))));
         }
         let count = least(least(count, knows.most()), MAX_TRANSFER);
         Ok(Next::Go(Work::Data(DataWork::Transfer(Transfer {
@@ -120,8 +120,8 @@ impl<'m> Transfer<'m> {
                 heard.at()?;
                 Ok(Next::Go(Work::Data(DataWork::Transfer(Transfer { seek: None, ..self }))))
             }
-            (None, Moved::Read { .. }) => Ok(Next::Done(Answer::Read(heard.bytes()?))),
-            (None, Moved::Write { .. }) => Ok(Next::Done(Answer::Write(heard.wrote()?))),
+            (None, Moved::Read { .. }) => Ok(Next::Done(NinepAnswer::Read(heard.bytes()?))),
+            (None, Moved::Write { .. }) => Ok(Next::Done(NinepAnswer::Write(heard.wrote()?))),
         }
     }
 }

@@ -8,7 +8,7 @@ ghost use Rattle.ninep_server.specs.Messages.{synced};
 ghost use Rattle.ninep_server.specs.Progress.{Leaves, left_of_next, left_of_turn};
 
 use crate::work::{Next, Work};
-use ninep_fids::answer::{Answer, Said};
+use ninep_fids::answer::{NinepAnswer, Said};
 use ninep_fids::heard::Heard;
 use ninep_fids::refused::Refused;
 
@@ -32,7 +32,7 @@ impl<'m> Turn<'m> {
         match next {
             Ok(Next::Go(work)) => Turn::Go(work),
             Ok(Next::Done(answer)) => Turn::Said(Said::Plain(answer)),
-            Err(refused) => Turn::Said(Said::Plain(Answer::Refused(refused))),
+            Err(refused) => Turn::Said(Said::Plain(NinepAnswer::Refused(refused))),
         }
     }
 
@@ -43,7 +43,7 @@ impl<'m> Turn<'m> {
     {
         let said = match heard.done() {
             Ok(()) => Said::Synced,
-            Err(refused) => Said::Plain(Answer::Refused(refused)),
+            Err(refused) => Said::Plain(NinepAnswer::Refused(refused)),
         };
         Turn::Said(said)
     }

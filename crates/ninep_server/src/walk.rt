@@ -10,7 +10,7 @@ ghost use Rattle.ninep_server.specs.Progress.{AsksNext, BeginsAs, Leaves, behind
 use crate::work::{FidWork, Next, Work};
 use ninep::names::Names;
 use ninep::reply::Qid;
-use ninep_fids::answer::Answer;
+use ninep_fids::answer::NinepAnswer;
 use ninep_fids::ask::Ask;
 use ninep_fids::checks::{check_place, enters};
 use ninep_fids::fid::{Fid, Node};
@@ -93,7 +93,7 @@ impl<'m> Walk<'m> {
             qids,
         } = self;
         knows.fids.put(new_fid, Fid::closed(user, path, node))?;
-        Ok(Next::Done(Answer::Walk(qids)))
+        Ok(Next::Done(NinepAnswer::Walk(qids)))
     }
 
     /// A name leads nowhere: the answer is what those before it lead to, or why the first one leads nowhere.
@@ -101,9 +101,9 @@ impl<'m> Walk<'m> {
         ensures { (k : Known) → Leaves (stops self.entry.qids.items refused) k (left_of_next (Ok result)) k }
     {
         if self.qids.is_empty() {
-            Next::Done(Answer::Refused(refused))
+            Next::Done(NinepAnswer::Refused(refused))
         } else {
-            Next::Done(Answer::Walk(self.qids))
+            Next::Done(NinepAnswer::Walk(self.qids))
         }
     }
 

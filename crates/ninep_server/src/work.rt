@@ -14,7 +14,7 @@ use crate::naming::{Link, Remove, Rename, Unlink};
 use crate::opening::{Close, Opening, Readlink};
 use crate::transfer::Transfer;
 use crate::walk::Walk;
-use ninep_fids::answer::Answer;
+use ninep_fids::answer::NinepAnswer;
 use ninep_fids::ask::Ask;
 use ninep_fids::heard::Heard;
 use ninep_fids::knows::Knows;
@@ -81,7 +81,7 @@ pub(crate) enum Next<'m> {
     /// It asks something more.
     Go(Work<'m>),
     /// It is known.
-    Done(Answer),
+    Done(NinepAnswer),
 }
 
 impl<'m> Work<'m> {
@@ -234,5 +234,5 @@ fn room_told<'m>(session: u8, heard: Heard) -> Result<Next<'m>, Refused>
     ensures { GoesOnAs (measuring session) heard result }
 {
     let room = heard.space()?;
-    Ok(Next::Done(Answer::Statfs(room_of(&room))))
+    Ok(Next::Done(NinepAnswer::Statfs(room_of(&room))))
 }

@@ -3,10 +3,10 @@ use Rattle.std.proofs.Common.{◌≡◌, sym, ap, subst, ◌∙◌}
 use Rattle.std.specs.Prelude.{Result, Ok, Err, IsErrAnd}
 use Rattle.std.proofs.lemmas.Result.{err_from_is_err_and}
 use Rattle.errno.specs.declared.Errno.{Errno}
-use Rattle.store.specs.declared.Cut.{Cut}
-use Rattle.store.specs.declared.Halt.{Halt}
-use Rattle.store.specs.declared.Halt.TheVariants as halt
-use Rattle.store.specs.Halts.{Ends, cut_off}
+use Rattle.block_store.specs.declared.Cut.{Cut}
+use Rattle.block_store.specs.declared.Halt.{Halt}
+use Rattle.block_store.specs.declared.Halt.TheVariants as halt
+use Rattle.block_store.specs.Halts.{Ends, cut_off}
 use Rattle.path.specs.declared.stop.Stop.{Stop}
 use Rattle.path.specs.declared.stop.Stop.TheVariants as stop
 use Rattle.path.specs.Stops.{Answers, halted}

@@ -14,7 +14,7 @@ use Rattle.volume.specs.Holds.{Holds}
 use Rattle.volume.specs.Nodes.{directory_of}
 use Rattle.volume.specs.Pieces.{pieces}
 use Rattle.volume.specs.Reading.{Disk}
-use Rattle.path.specs.declared.place.Place.{Place}
+use Rattle.path.specs.declared.place.NamePlace.{NamePlace}
 use Rattle.path.specs.Walking.{Entered, entries_in, Walks}
 use Rattle.path.specs.Places.{place_of, IsPlace, last_leads_to}
 use Rattle.path.proofs.Going.{has_entries}
@@ -39,7 +39,7 @@ pub not_entered : (t : Tree) (user : User) (parts : List Name) (here : ℕ) (e :
 not_entered t user parts here e walks is = led_here t user parts here (Err e) walks is
 
 -- or to this place
-pub is_placed : (g : Geometry) (d : Disk) (t : Tree) (user : User) (parts : List Name) (p : Place) → Walks t user (all_but_last parts) (Ok p.directory)
+pub is_placed : (g : Geometry) (d : Disk) (t : Tree) (user : User) (parts : List Name) (p : NamePlace) → Walks t user (all_but_last parts) (Ok p.directory)
     → Entered g d t user p.directory p.inode → p.name.now ≡ last_part parts → p.there ≡ last_leads_to (directory_of g (pieces g d) p.inode).names parts → IsPlace g d t user parts p
 is_placed g d t user parts p walks entered name there = record {
   walked = led_here t user parts p.directory (Ok (entries_in g d p.inode)) walks entered.entered
@@ -61,7 +61,7 @@ pub found_placed : (t : Tree) (user : User) (parts : List Name) (r : Result tree
 found_placed t user parts r some is = cond-true (has_last_name parts) _ _ some ∙ ap (λ (x : Result tree.Place Errno). x >>= λ place. Ok (found_at place)) is
 
 -- the last name, of the place
-last_is : (g : Geometry) (d : Disk) (t : Tree) (user : User) (parts : List Name) (p : Place) → has_last_name parts ≡ true → IsPlace g d t user parts p
+last_is : (g : Geometry) (d : Disk) (t : Tree) (user : User) (parts : List Name) (p : NamePlace) → has_last_name parts ≡ true → IsPlace g d t user parts p
     → inode_of (place_of g d p).names (place_of g d p).name ≡ p.there
 last_is g d t user parts p some place =
     ap (inode_of (place_of g d p).names) place.name ∙ sym (cond-true (has_last_name parts) (inode_of (place_of g d p).names (last_part parts)) None some) ∙ sym place.there
@@ -70,7 +70,7 @@ last_is g d t user parts p some place =
 found_of : (place : tree.Place) (o : Option ℕ) → inode_of place.names place.name ≡ o → found_at place ≡ elim o [ None ↦ is_missing place | Some n ↦ is_there n ]
 found_of place o is = ap (λ (x : Option ℕ). elim x [ None ↦ is_missing place | Some n ↦ is_there n ]) is
 
-pub found_there : (g : Geometry) (d : Disk) (t : Tree) (user : User) (parts : List Name) (p : Place) (n : ℕ) → Holds g d t → has_last_name parts ≡ true
+pub found_there : (g : Geometry) (d : Disk) (t : Tree) (user : User) (parts : List Name) (p : NamePlace) (n : ℕ) → Holds g d t → has_last_name parts ≡ true
     → IsPlace g d t user parts p → p.there ≡ Some n → (look_up t user parts ≡ Ok (is_there n)) × IsTrue (is_some (t.nodes n))
 found_there g d t user parts p n holds some place is =
     let leads = last_is g d t user parts p some place ∙ is in
@@ -79,7 +79,7 @@ found_there g d t user parts p n holds some place is =
       holds.tree.nodes.targets p.directory n p.name.now (ap (λ (ns : Names). inode_of ns p.name.now) has.names ∙ leads),
     )
 
-pub found_missing : (g : Geometry) (d : Disk) (t : Tree) (user : User) (parts : List Name) (p : Place) → has_last_name parts ≡ true
+pub found_missing : (g : Geometry) (d : Disk) (t : Tree) (user : User) (parts : List Name) (p : NamePlace) → has_last_name parts ≡ true
     → IsPlace g d t user parts p → p.there ≡ None → (look_up t user parts ≡ Ok (is_missing (place_of g d p))) × IsPlace g d t user parts p
 found_missing g d t user parts p some place is = (
   found_placed t user parts (Ok (place_of g d p)) some place.walked ∙ ap (λ (x : Found). Ok x) (found_of (place_of g d p) None (last_is g d t user parts p some place ∙ is)),

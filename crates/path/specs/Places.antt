@@ -11,12 +11,12 @@ use Rattle.volume.specs.Entries.{is_directory_inode}
 use Rattle.volume.specs.Nodes.{directory_of}
 use Rattle.volume.specs.Pieces.{pieces}
 use Rattle.volume.specs.Reading.{Disk}
-use Rattle.path.specs.declared.place.Place.{Place}
+use Rattle.path.specs.declared.place.NamePlace.{NamePlace}
 use Rattle.path.specs.declared.place.Found.{Found}
 use Rattle.path.specs.declared.place.Found.TheVariants as found
 
 -- the definitions' place: the directory with its names, and the name
-abbrev pub place_of : Geometry → Disk → Place → tree.Place
+abbrev pub place_of : Geometry → Disk → NamePlace → tree.Place
 place_of g d p = record { directory = p.directory; names = (directory_of g (pieces g d) p.inode).names; name = p.name.now }
 
 -- the inode to which the last part of a path leads, if it is a name and one of these
@@ -24,7 +24,7 @@ abbrev pub last_leads_to : Names → List Name → Option ℕ
 last_leads_to names parts = if has_last_name parts then inode_of names (last_part parts) else None
 
 -- This is the place that the path means.
-pub record IsPlace (g : Geometry) (d : Disk) (t : Tree) (user : User) (parts : List Name) (p : Place) : Type 0 where
+pub record IsPlace (g : Geometry) (d : Disk) (t : Tree) (user : User) (parts : List Name) (p : NamePlace) : Type 0 where
   pub walked : parent_walk t user parts ≡ Ok (place_of g d p)
   pub name : p.name.now ≡ last_part parts
   pub inode : p.inode ≡ (pieces g d).inodes p.directory
@@ -32,7 +32,7 @@ pub record IsPlace (g : Geometry) (d : Disk) (t : Tree) (user : User) (parts : L
   pub there : p.there ≡ last_leads_to (place_of g d p).names parts
 
 -- the place, or the refusal of the walk there
-abbrev pub FindsPlace : Geometry → Disk → Tree → User → List Name → Result Place Errno → Type 0
+abbrev pub FindsPlace : Geometry → Disk → Tree → User → List Name → Result NamePlace Errno → Type 0
 FindsPlace g d t user parts (Ok p) = IsPlace g d t user parts p
 FindsPlace g d t user parts (Err e) = parent_walk t user parts ≡ Err e
 

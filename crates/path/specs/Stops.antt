@@ -1,10 +1,10 @@
 -- How a call on a tree ended.
 use Rattle.std.specs.Prelude.{Result, Ok, Err}
 use Rattle.errno.specs.declared.Errno.{Errno}
-use Rattle.store.specs.declared.Halt.{Halt}
-use Rattle.store.specs.declared.Halt.TheVariants as halt
-use Rattle.store.specs.World.{World}
-use Rattle.store.specs.Halts.{IsHalt}
+use Rattle.block_store.specs.declared.Halt.{Halt}
+use Rattle.block_store.specs.declared.Halt.TheVariants as halt
+use Rattle.block_store.specs.World.{World}
+use Rattle.block_store.specs.Halts.{IsHalt}
 use Rattle.path.specs.declared.stop.Stop.{Stop}
 use Rattle.path.specs.declared.stop.Stop.TheVariants as stop
 

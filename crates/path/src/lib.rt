@@ -13,7 +13,7 @@ mod stop;
 pub use access::{Wish, is_owner, may};
 pub use names::NameCache;
 pub use parts::Parts;
-pub use place::{Found, Place, find_place, look_up};
+pub use place::{Found, NamePlace, find_place, look_up};
 pub use read::{Path, is_dot, is_dot_dot};
 pub use step::walk;
 pub use stop::Stop;

@@ -1,8 +1,8 @@
 //! Places for names.
 
 ghost use Rattle.std.specs.Prelude.{◌≡◌, ◌≢◌, IfErr, IfOk};
-ghost use Rattle.store.specs.Volume.{IsOn};
-ghost use Rattle.store.specs.World.{Reads};
+ghost use Rattle.block_store.specs.Volume.{IsOn};
+ghost use Rattle.block_store.specs.World.{Reads};
 ghost use Rattle.tree.specs.Tree.{Tree};
 ghost use Rattle.volume.specs.Holds.{Holds};
 ghost use Rattle.volume.specs.Nodes.{directory_of};
@@ -14,15 +14,15 @@ ghost use Rattle.path.specs.Walking.{IsDirectoryAt};
 use crate::step::{enter, named, walk};
 use crate::stop::Stop;
 use crate::{NameCache, Path};
+use block_store::{Blocks, Cut};
 use errno::Errno;
 use layout::Geometry;
-use store::{Blocks, Cut};
 use tree::User;
 use volume::Inode;
 
 /// A place for a name: a directory that the user may search, and the last part of a path.
 #[derive(Drop)]
-pub struct Place<'a> {
+pub struct NamePlace<'a> {
     /// The directory's number.
     pub directory: u32,
     /// Its inode.
@@ -40,7 +40,7 @@ pub enum Found<'a> {
     /// The inode to which the path leads.
     There(u32),
     /// The place where its last name is missing.
-    Missing(Place<'a>),
+    Missing(NamePlace<'a>),
 }
 
 /// The inode to which the last name of a path leads from a directory. None where there is none, or the path has no last name.
@@ -71,7 +71,7 @@ pub fn find_place<'a, B: Blocks>(
     geometry: &Geometry,
     user: User,
     path: &Path<'a>,
-) -> Result<Place<'a>, Stop>
+) -> Result<NamePlace<'a>, Stop>
     requires on { IsOn B.world geometry.now blocks.old }
     ensures reads { Reads B.world blocks.old blocks.new (λ d. (t : Tree) → Holds geometry.now d t
         → Answers result (FindsPlace geometry.now d t user path.now)) }
@@ -81,7 +81,7 @@ pub fn find_place<'a, B: Blocks>(
     let directory = walk(blocks, names, geometry, user, path.parent())?;
     let inode = enter(blocks, geometry, user, directory)?;
     let there = there(blocks, names, geometry, directory, &inode, path)?;
-    Ok(Place {
+    Ok(NamePlace {
         directory,
         inode,
         name: path.last(),

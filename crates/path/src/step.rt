@@ -1,8 +1,8 @@
 //! The walk of a path's parts.
 
 ghost use Rattle.std.specs.Prelude.{◌≡◌, ◌≢◌, ◌<◌, ◌≤◌, ◌/◌, ◌%◌, ◌==◌, ◌∷◌, [], IfErr, IfOk, IfSome, IsTrue, Some, is_some, length};
-ghost use Rattle.store.specs.Volume.{IsOn};
-ghost use Rattle.store.specs.World.{Reads};
+ghost use Rattle.block_store.specs.Volume.{IsOn};
+ghost use Rattle.block_store.specs.World.{Reads};
 ghost use Rattle.tree.specs.Names.{inode_of};
 ghost use Rattle.tree.specs.Tree.{Tree};
 ghost use Rattle.tree.specs.Walk.{next, start_of};
@@ -14,12 +14,12 @@ ghost use Rattle.path.specs.Walking.{entries_in, Arrives, Enters, IsDirectoryAt,
 
 use crate::stop::Stop;
 use crate::{NameCache, Parts, Wish, is_dot, is_dot_dot, may};
+use block_store::{Blocks, Cut};
 use directory::{find, parent, stands_at};
 use errno::Errno;
 use file::file_pages::reading::read_at;
 use inode::inode_table::load;
 use layout::Geometry;
-use store::{Blocks, Cut};
 use tree::{MAX_TARGET, User};
 use volume::Inode;
 

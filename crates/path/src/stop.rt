@@ -2,8 +2,8 @@
 
 ghost use Rattle.std.specs.Prelude.{◌≡◌};
 
+use block_store::{Cut, Halt};
 use errno::Errno;
-use store::{Cut, Halt};
 use thiserror::Error;
 
 /// Why a call on a tree ended early.
@@ -38,7 +38,7 @@ impl From<Halt> for Stop {
 }
 
 impl From<Cut> for Stop {
-    ghost use Rattle.store.specs.Halts.{cut_off};
+    ghost use Rattle.block_store.specs.Halts.{cut_off};
     ghost use Rattle.path.specs.Stops.{halted};
 
     ghost from_gives = { λ cut stop. stop ≡ halted (cut_off cut) };

@@ -10,8 +10,8 @@ use Rattle.records.specs.Disk.{Contents, unsure, disk_after}
 use Rattle.records.specs.Told.{Told, Complained, received, grown, took_end, took_nothing}
 use Rattle.reissue.specs.declared.pending.Pending.{Pending}
 use Rattle.reissue.specs.declared.table.Table.{Table}
-use Rattle.reissue.specs.declared.table.Answer.{Answer}
-use Rattle.reissue.specs.declared.table.Answer.TheVariants as answer
+use Rattle.reissue.specs.declared.table.AnswerEffect.{AnswerEffect}
+use Rattle.reissue.specs.declared.table.AnswerEffect.TheVariants as answer
 use Rattle.reissue.specs.Settlements.{Settlement}
 use Rattle.reissue.specs.Settlements as settled
 use Rattle.records.specs.Opening.{Opening}
@@ -132,7 +132,7 @@ complaint_ends_none true e before = refl
 complaint_ends_none false e before = refl
 
 -- no answer gives the device up
-reply_gives_none_up : (r : Answer) (bytes : List ℕ) → gives_up (settled_of r bytes) ≡ false
+reply_gives_none_up : (r : AnswerEffect) (bytes : List ℕ) → gives_up (settled_of r bytes) ≡ false
 reply_gives_none_up answer.Dropped bytes = refl
 reply_gives_none_up answer.Bad bytes = refl
 reply_gives_none_up answer.Rest bytes = refl
@@ -140,7 +140,7 @@ reply_gives_none_up (answer.Read t) bytes = refl
 reply_gives_none_up (answer.Written t) bytes = refl
 
 -- a reply
-pub takes_reply : (message : Incoming) (a : BlockReply) (r : Answer) (bytes : List ℕ) (t u : Table) (before after : List Told) (was is : Truth)
+pub takes_reply : (message : Incoming) (a : BlockReply) (r : AnswerEffect) (bytes : List ℕ) (t u : Table) (before after : List Told) (was is : Truth)
     → message ≡ incoming.Reply a
     → ((marks : List Mark) → Agrees t marks → Agrees u (received (incoming.Reply a) marks))
     → ((marks : List Mark) → Agrees t marks → HearsAnswer t u a.id (counted_move marks a))

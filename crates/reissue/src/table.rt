@@ -17,7 +17,7 @@ use std::alloc::{AllocError, Global};
 
 /// What an answer did.
 #[derive(Clone, Copy, PartialEq, Eq)]
-pub enum Answer {
+pub enum AnswerEffect {
     /// It doesn't count.
     Dropped,
     /// It counts, and isn't good: a complaint is due.
@@ -228,7 +228,13 @@ impl Table {
 
     /// The request at this place was answered: so many bytes were moved. The bytes of a read of which nothing is left stand in `into` then:
     /// those of this answer go there from the reply.
-    fn settle(&mut self, at: usize, n: u32, reply: &BlockReply, into: &mut [u8; 4096]) -> Answer
+    fn settle(
+        &mut self,
+        at: usize,
+        n: u32,
+        reply: &BlockReply,
+        into: &mut [u8; 4096],
+    ) -> AnswerEffect
         requires at { at < self.old.issued }
         requires ids { self.old.ids < 2 ^ 60 }
         requires within { (p : Pending) → p ≡ slice_index_or self.old.pending at p → n ≤ p.request.count }
@@ -257,15 +263,15 @@ impl Table {
         if self.hand.goes_on(n) {
             self.hand.answer(n, &reply.bytes, self.ids + 1);
             self.push();
-            return Answer::Rest;
+            return AnswerEffect::Rest;
         }
         let done = &*self.hand;
         match done.request.kind {
             Kind::Read => {
                 done.finish(n, &reply.bytes, into);
-                Answer::Read(done.ticket)
+                AnswerEffect::Read(done.ticket)
             }
-            Kind::Write => Answer::Written(done.ticket),
+            Kind::Write => AnswerEffect::Written(done.ticket),
         }
     }
 
@@ -278,7 +284,7 @@ impl Table {
     }
 
     /// Does what a reply asks for. It needs one more id. The bytes of a read of which nothing is left stand in `into` then.
-    pub fn answer(&mut self, reply: &BlockReply, into: &mut [u8; 4096]) -> Answer
+    pub fn answer(&mut self, reply: &BlockReply, into: &mut [u8; 4096]) -> AnswerEffect
         requires { self.old.ids < 2 ^ 60 }
         ensures agrees { (marks : List Mark) → Agrees self.old marks → Agrees self.new (received (incoming.Reply reply.now) marks) }
         ensures hears { (marks : List Mark) → Agrees self.old marks
@@ -296,13 +302,13 @@ impl Table {
         ensures given_up { self.new.given_up ≡ self.old.given_up }
     {
         if !self.is_current(&reply.from) {
-            return Answer::Dropped;
+            return AnswerEffect::Dropped;
         }
         let Some(at) = self.find(reply.id) else {
-            return Answer::Dropped;
+            return AnswerEffect::Dropped;
         };
         let Some(n) = moved_bytes(self.count_at(at), &reply.outcome) else {
-            return Answer::Bad;
+            return AnswerEffect::Bad;
         };
         self.settle(at, n, reply, into)
     }

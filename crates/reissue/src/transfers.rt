@@ -12,7 +12,7 @@ ghost use Rattle.reissue.specs.Entries.{pending_of, meets};
 
 use crate::ask::{Ask, BeginRefusal, Settled, Ticket};
 use crate::link::Link;
-use crate::table::{Answer, Table};
+use crate::table::{AnswerEffect, Table};
 use message::Incoming;
 use message::endpoint::Endpoint;
 use std::alloc::{AllocError, Global};
@@ -162,14 +162,14 @@ impl<L: Link> Transfers<L> {
     {
         match message {
             Incoming::Reply(reply) => match self.table.answer(reply, into) {
-                Answer::Dropped => Settled::Nothing,
-                Answer::Rest => Settled::Nothing,
-                Answer::Bad => {
+                AnswerEffect::Dropped => Settled::Nothing,
+                AnswerEffect::Rest => Settled::Nothing,
+                AnswerEffect::Bad => {
                     self.link.complain(reply.from);
                     Settled::Nothing
                 }
-                Answer::Read(ticket) => Settled::Read(ticket),
-                Answer::Written(ticket) => Settled::Written(ticket),
+                AnswerEffect::Read(ticket) => Settled::Read(ticket),
+                AnswerEffect::Written(ticket) => Settled::Written(ticket),
             },
             Incoming::Started(endpoint) => {
                 self.table.restart(*endpoint);

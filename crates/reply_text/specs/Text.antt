@@ -3,7 +3,7 @@ use Rattle.std.specs.Prelude.{ℕ, ◌/◌, ◌%◌, ◌++◌, [], ◌∷◌, Li
 use Rattle.std.specs.Fmt.{digits}
 use Rattle.errno.specs.Errors.{errno_name}
 use Rattle.tree.specs.declared.Attributes.{Attributes}
-use Rattle.tree.specs.declared.Room.{Room}
+use Rattle.tree.specs.declared.Statfs.{Statfs}
 use Rattle.tree.specs.declared.Outcome.{Outcome}
 use Rattle.tree.specs.declared.Outcome.TheVariants.{Reply, Cut}
 use Rattle.tree.specs.Names.{Name}
@@ -53,7 +53,7 @@ free_text zones inodes free_inodes =
     codes "free " ++ decimal zones ++ codes " inodes " ++ decimal inodes ++ codes " free " ++ decimal free_inodes
 
 -- what statfs tells of a volume
-abbrev pub room_text : Room → List ℕ
+abbrev pub room_text : Statfs → List ℕ
 room_text r =
     codes "block " ++ decimal r.block_size ++ codes " zones " ++ decimal r.zones ++ codes " "
     ++ free_text r.free_zones r.inodes r.free_inodes

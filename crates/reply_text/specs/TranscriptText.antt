@@ -5,7 +5,7 @@ use Rattle.errno.specs.Errors.{errno_name}
 use Rattle.message.specs.Slots.{endpoint_text}
 use Rattle.message.specs.declared.Kind.{Kind}
 use Rattle.message.specs.declared.Kind.TheVariants.{Read, Write}
-use Rattle.trimmed.specs.Padded.{reply_of, request_of}
+use Rattle.compact_message.specs.Padded.{reply_of, request_of}
 use Rattle.tree.specs.Answers.{answer_of}
 use Rattle.reply_text.specs.Text.{answer_text}
 use Rattle.records.specs.declared.marks.Cause.{Cause}

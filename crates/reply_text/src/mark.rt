@@ -5,13 +5,13 @@ ghost use Rattle.records.specs.Marks.{Mark};
 ghost use Rattle.reply_text.specs.TranscriptText.{cause_text, kind_text, mark_of, mark_text, moved_text};
 
 use crate::text::ReplyText;
+use compact_message::{ReplyRef, RequestRef};
 use errno::Errno;
 use message::Kind;
 use message::endpoint::Endpoint;
 use records::marks::Cause;
 use std::fmt;
 use tree::{Call, Reply, Who};
-use trimmed::{ReplyRef, RequestRef};
 
 /// A mark of a record. The bytes of requests and replies, the calls and their replies stand elsewhere.
 #[derive(Clone, Copy)]

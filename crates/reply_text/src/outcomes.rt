@@ -10,7 +10,7 @@ use errno::Errno;
 use std::alloc::{AllocError, Global};
 use std::marker::Model;
 use std::mem::size_of;
-use tree::{Attributes, Entry, LinkTarget, Outcome, Reply, Room};
+use tree::{Attributes, Entry, LinkTarget, Outcome, Reply, Statfs};
 
 /// What came of a call, as it is kept: of a link's target, where it stands among the targets.
 #[derive(Drop)]
@@ -24,7 +24,7 @@ enum Kept {
     At(u32),
     Inode(Attributes),
     Names(Vec<Entry>),
-    Space(Room),
+    Space(Statfs),
     Target(usize),
 }
 

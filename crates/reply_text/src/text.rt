@@ -9,7 +9,7 @@ ghost use Rattle.reply_text.specs.Told.{told_by, told_text};
 
 use errno::Errno;
 use std::fmt;
-use tree::{Attributes, Entry, LinkTarget, MAX_TARGET, Outcome, Reply, Room};
+use tree::{Attributes, Entry, LinkTarget, MAX_TARGET, Outcome, Reply, Statfs};
 
 /// A number of 16 bits in seven octal digits.
 #[derive(Clone, Copy)]
@@ -158,7 +158,7 @@ impl fmt::Display for Free {
 
 /// What is told of a volume.
 #[derive(Clone, Copy)]
-struct Volume<'a>(&'a Room);
+struct Volume<'a>(&'a Statfs);
 
 /// Writes `block B zones Z free F inodes I free J`.
 impl fmt::Display for Volume<'_> {
@@ -227,7 +227,7 @@ pub enum OutcomeRef<'a> {
     /// The names of a directory.
     Names(&'a [Entry]),
     /// The room of a volume.
-    Space(&'a Room),
+    Space(&'a Statfs),
 }
 
 /// Writes a refusal's name; `ok`; `fd N`; `bytes` with the bytes in hexadecimal, or with `-` for none;

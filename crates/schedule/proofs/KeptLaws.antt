@@ -1,9 +1,7 @@
 -- Notes that are kept beside bytes and replies: more of these change none of them.
-use Rattle.std.proofs.Common.{◌≡◌, ℕ, ◌+◌, ◌<◌, ◌≤◌, arith, List, [], ◌∷◌, ◌++◌, length, map, get_or, take, drop, Bool, true, false, Some}
-use Rattle.std.proofs.Common.{None, refl, sym, ◌∙◌, ap, subst, append-nil}
+use Rattle.std.proofs.Common.{◌≡◌, ℕ, ◌+◌, ◌<◌, ◌≤◌, arith, List, [], ◌∷◌, ◌++◌, length, map, get_or, take, drop, Bool, true, false, Some, None, refl, sym, ◌∙◌, ap, subst, append-nil}
 use Rattle.std.specs.Prelude.{All, slice_get}
-use Rattle.std.proofs.lemmas.List.{take-append-le, drop-append-le, length-append, length-drop, length-map, map-append, get_or-map}
-use Rattle.std.proofs.lemmas.List.{get_or_push, length_push, flat_map_more}
+use Rattle.std.proofs.lemmas.List.{take-append-le, drop-append-le, length-append, length-drop, length-map, map-append, get_or-map, get_or_push, length_push, flat_map_more}
 use Rattle.std.proofs.Math.ListN.{get_or-append}
 use Rattle.std.proofs.lemmas.List.Elements.{All-nil, All-cons, All-head, All-tail, All-append, All-push, All-same, All-weaker, All-get_or}
 use Rattle.message.specs.declared.BlockRequest.{BlockRequest}
@@ -12,20 +10,19 @@ use Rattle.tree.specs.declared.Call.{Call}
 use Rattle.tree.specs.declared.Who.{Who}
 use Rattle.tree.specs.declared.Reply.{Reply}
 use Rattle.tree.specs.declared.Reply.TheVariants.{Done}
-use Rattle.trimmed.specs.Padded.{reply_with, request_with}
+use Rattle.compact_message.specs.Padded.{reply_with, request_with}
 use Rattle.message.specs.declared.Incoming.{Incoming}
 use Rattle.message.specs.declared.Incoming.TheVariants as incoming
-use Rattle.schedule.specs.declared.log.Entry.{Entry}
-use Rattle.schedule.specs.declared.log.Entry.TheVariants as entry
+use Rattle.schedule.specs.declared.log.LogEntry.{LogEntry}
+use Rattle.schedule.specs.declared.log.LogEntry.TheVariants as entry
 use Rattle.schedule.specs.declared.log.Post.{Post}
-use Rattle.schedule.specs.declared.kept.Place.{Place}
+use Rattle.schedule.specs.declared.kept.ByteRange.{ByteRange}
 use Rattle.schedule.specs.declared.kept.KeptRequest.{KeptRequest}
 use Rattle.schedule.specs.declared.kept.KeptMessage.{KeptMessage}
 use Rattle.schedule.specs.declared.kept.KeptMessage.TheVariants as kept
 use Rattle.schedule.specs.declared.kept.Kept.{Kept}
 use Rattle.schedule.specs.declared.kept.Kept.TheVariants.{Begun, Posted, Complained, Received, Handed, Faulted, Took}
-use Rattle.schedule.specs.KeptNotes.{part_of, IsPlaceWithin, Grows, request_at, post_at, message_of, message_end, entry_of, IsWithin}
-use Rattle.schedule.specs.KeptNotes.{accepted_of, accepted_in}
+use Rattle.schedule.specs.KeptNotes.{part_of, IsPlaceWithin, Grows, request_at, post_at, message_of, message_end, entry_of, IsWithin, accepted_of, accepted_in}
 use Rattle.schedule.specs.Noted.{noted_of, with_entry}
 use Rattle.schedule.specs.Posts.{post_of, posts_in}
 use Rattle.schedule.proofs.NotedLaws.{said_push, posts_said, post_there, post_past}
@@ -34,7 +31,7 @@ use Rattle.schedule.proofs.NotedLaws.{said_push, posts_said, post_there, post_pa
 pub same_ones : {X : Type 0} (xs : List X) → Grows xs xs
 same_ones xs = ([], sym (append-nil xs))
 
-part_stays : (bytes more : List ℕ) (p : Place) → p.start + p.len ≤ length bytes → part_of (bytes ++ more) p ≡ part_of bytes p
+part_stays : (bytes more : List ℕ) (p : ByteRange) → p.start + p.len ≤ length bytes → part_of (bytes ++ more) p ≡ part_of bytes p
 part_stays bytes more p within =
     let behind : p.len ≤ length (drop p.start bytes) = omega (arith, length-drop p.start bytes) in
     ap (take p.len) (drop-append-le p.start bytes more (omega arith)) ∙ take-append-le p.len (drop p.start bytes) more behind
@@ -69,7 +66,7 @@ all_stay bytes more replies others (k ∷ notes) within =
     rw (first, rest) refl
 
 -- a note more, whose bytes and reply came behind the others
-pub said_more : (over : Bool) (notes new : List Kept) (bytes all : List ℕ) (replies answers : List Reply) (k : Kept) (e : Entry)
+pub said_more : (over : Bool) (notes new : List Kept) (bytes all : List ℕ) (replies answers : List Reply) (k : Kept) (e : LogEntry)
     → over ≡ false
     → Grows bytes all → Grows replies answers → All (IsWithin (length bytes) (length replies)) notes → new ≡ notes ++ k ∷ []
     → entry_of all answers k ≡ e
@@ -78,12 +75,12 @@ said_more over notes new bytes all replies answers k e live more others within i
     said_push over (map (entry_of bytes replies) notes) (map (entry_of all answers) new) e live (
     ap (map (entry_of all answers)) is
     ∙ map-append (entry_of all answers) notes (k ∷ [])
-    ∙ ap (λ (l : List Entry). l ++ entry_of all answers k ∷ []) (
+    ∙ ap (λ (l : List LogEntry). l ++ entry_of all answers k ∷ []) (
     ap (λ (b : List ℕ). map (entry_of b answers) notes) more.1
     ∙ ap (λ (r : List Reply). map (entry_of (bytes ++ more.0) r) notes) others.1
     ∙ all_stay bytes more.0 replies others.0 notes within
     )
-    ∙ ap (λ (x : Entry). map (entry_of bytes replies) notes ++ x ∷ []) one
+    ∙ ap (λ (x : LogEntry). map (entry_of bytes replies) notes ++ x ∷ []) one
     )
 
 -- a request that is noted

@@ -10,10 +10,10 @@ use Rattle.schedule.specs.Groups.{Group}
 use Rattle.schedule.specs.Noted.{Noted, marks_from, marks_in, grouped, with_mark, with_message, all_noted, with_entry, with_end, noted_of, nothing_noted}
 use Rattle.schedule.specs.Posts.{post_of, posts_with, posts_in}
 use Rattle.schedule.specs.declared.log.Post.{Post}
-use Rattle.schedule.specs.declared.log.Entry.{Entry}
-use Rattle.schedule.specs.declared.log.Entry.TheVariants as entry
+use Rattle.schedule.specs.declared.log.LogEntry.{LogEntry}
+use Rattle.schedule.specs.declared.log.LogEntry.TheVariants as entry
 
-pub all_push : (entries : List Entry) (e : Entry) (n : Noted) → all_noted (entries ++ e ∷ []) n ≡ with_entry e (all_noted entries n)
+pub all_push : (entries : List LogEntry) (e : LogEntry) (n : Noted) → all_noted (entries ++ e ∷ []) n ≡ with_entry e (all_noted entries n)
 all_push [] e n = refl
 all_push (x ∷ entries) e n = all_push entries e (with_entry x n)
 
@@ -36,10 +36,10 @@ message_in incoming.Flush n = mark_in _ n
 message_in incoming.End n = refl
 
 -- a note, where there is room: the link hasn't ended
-pub said_push : (over : Bool) (entries new : List Entry) (e : Entry) → over ≡ false → new ≡ entries ++ e ∷ []
+pub said_push : (over : Bool) (entries new : List LogEntry) (e : LogEntry) → over ≡ false → new ≡ entries ++ e ∷ []
     → noted_of over new ≡ with_entry e (noted_of over entries)
 said_push true entries new e live is = cc
-said_push false entries new e live is = ap (λ (l : List Entry). all_noted l nothing_noted) is ∙ all_push entries e nothing_noted
+said_push false entries new e live is = ap (λ (l : List LogEntry). all_noted l nothing_noted) is ∙ all_push entries e nothing_noted
 
 heard_twice : (told : List Told) → heard incoming.End (heard incoming.End told) ≡ heard incoming.End told
 heard_twice told = by (took_end told) refl where
@@ -47,7 +47,7 @@ heard_twice told = by (took_end told) refl where
   by true e = ap (λ (x : Bool). cond x told (Received incoming.End ∷ told)) e
   by false e = refl
 
-pub said_end : (over : Bool) (entries : List Entry) → noted_of true entries ≡ with_end (noted_of over entries)
+pub said_end : (over : Bool) (entries : List LogEntry) → noted_of true entries ≡ with_end (noted_of over entries)
 said_end false entries = refl
 said_end true entries = let n = all_noted entries nothing_noted in
     ap (λ (h : List Told). record n { history = h }) (sym (heard_twice n.history))
@@ -66,7 +66,7 @@ none_after [] = refl
 none_after (x ∷ xs) = ap (λ (l : List Post). x ∷ l) (none_after xs)
 
 -- a note adds the accepted post that it is, if it is one
-pub one_more : (e : Entry) (posts : List Post) → posts_with e posts ≡ posts ++ post_of e
+pub one_more : (e : LogEntry) (posts : List Post) → posts_with e posts ≡ posts ++ post_of e
 one_more (entry.Posted to r true) posts = refl
 one_more (entry.Posted to r false) posts = sym (none_after posts)
 one_more (entry.Begun event) posts = sym (none_after posts)
@@ -76,13 +76,13 @@ one_more (entry.Handed m) posts = sym (none_after posts)
 one_more (entry.Faulted e cause) posts = sym (none_after posts)
 one_more (entry.Took who now call reply) posts = sym (none_after posts)
 
-posts_noted : (entries : List Entry) (n : Noted) → (all_noted entries n).posts ≡ n.posts ++ posts_in entries
+posts_noted : (entries : List LogEntry) (n : Noted) → (all_noted entries n).posts ≡ n.posts ++ posts_in entries
 posts_noted [] n = sym (none_after n.posts)
 posts_noted (e ∷ entries) n =
     posts_noted entries (with_entry e n) ∙ ap (λ (l : List Post). l ++ posts_in entries) (one_more e n.posts) ∙ assoc n.posts (post_of e) (posts_in entries)
 
 -- the accepted posts are those that were listed
-pub posts_said : (over : Bool) (entries : List Entry) (posts : List Post) → posts ≡ posts_in entries → (noted_of over entries).posts ≡ posts
+pub posts_said : (over : Bool) (entries : List LogEntry) (posts : List Post) → posts ≡ posts_in entries → (noted_of over entries).posts ≡ posts
 posts_said false entries posts listed = posts_noted entries nothing_noted ∙ sym listed
 posts_said true entries posts listed = posts_noted entries nothing_noted ∙ sym listed
 

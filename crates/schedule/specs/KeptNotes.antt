@@ -5,11 +5,11 @@ use Rattle.message.specs.declared.Incoming.{Incoming}
 use Rattle.message.specs.declared.Incoming.TheVariants as incoming
 use Rattle.tree.specs.declared.Reply.{Reply}
 use Rattle.tree.specs.declared.Reply.TheVariants.{Done}
-use Rattle.trimmed.specs.Padded.{reply_with, request_with}
-use Rattle.schedule.specs.declared.log.Entry.{Entry}
-use Rattle.schedule.specs.declared.log.Entry.TheVariants as entry
+use Rattle.compact_message.specs.Padded.{reply_with, request_with}
+use Rattle.schedule.specs.declared.log.LogEntry.{LogEntry}
+use Rattle.schedule.specs.declared.log.LogEntry.TheVariants as entry
 use Rattle.schedule.specs.declared.log.Post.{Post}
-use Rattle.schedule.specs.declared.kept.Place.{Place}
+use Rattle.schedule.specs.declared.kept.ByteRange.{ByteRange}
 use Rattle.schedule.specs.declared.kept.KeptRequest.{KeptRequest}
 use Rattle.schedule.specs.declared.kept.KeptMessage.{KeptMessage}
 use Rattle.schedule.specs.declared.kept.KeptMessage.TheVariants as kept
@@ -17,11 +17,11 @@ use Rattle.schedule.specs.declared.kept.Kept.{Kept}
 use Rattle.schedule.specs.declared.kept.Kept.TheVariants.{Begun, Posted, Complained, Received, Handed, Faulted, Took}
 
 -- the bytes at a place
-abbrev pub part_of : List ℕ → Place → List ℕ
+abbrev pub part_of : List ℕ → ByteRange → List ℕ
 part_of bytes p = take p.len (drop p.start bytes)
 
 -- a place lies within so many bytes
-abbrev pub IsPlaceWithin : ℕ → Place → Type 0
+abbrev pub IsPlaceWithin : ℕ → ByteRange → Type 0
 IsPlaceWithin count p = p.start + p.len ≤ count
 
 -- more came behind these
@@ -57,7 +57,7 @@ abbrev pub IsMessageWithin : ℕ → KeptMessage → Type 0
 IsMessageWithin count m = message_end m ≤ count
 
 -- the note that is kept so beside these bytes and these replies
-abbrev pub entry_of : List ℕ → List Reply → Kept → Entry
+abbrev pub entry_of : List ℕ → List Reply → Kept → LogEntry
 entry_of bytes replies (Begun event) = entry.Begun event.now
 entry_of bytes replies (Posted r accepted) = entry.Posted r.to (request_at bytes r) accepted
 entry_of bytes replies (Complained e is_fault) = entry.Complained e is_fault

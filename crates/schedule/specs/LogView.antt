@@ -2,11 +2,11 @@
 use Rattle.std.specs.Prelude.{ℕ, ◌-◌, ◌/◌, min, if◌then◌else◌, List, map, vec_len, vec_capacity}
 use Rattle.schedule.specs.KeptNotes.{entry_of}
 use Rattle.schedule.specs.Noted.{Noted, noted_of}
-use Rattle.schedule.specs.declared.log.Entry.{Entry}
+use Rattle.schedule.specs.declared.log.LogEntry.{LogEntry}
 use Rattle.schedule.specs.declared.log.Log.{Log}
 
 -- its notes
-abbrev pub entries_of : Log → List Entry
+abbrev pub entries_of : Log → List LogEntry
 entries_of l = map (entry_of l.bytes.items l.replies.items) l.notes.items
 
 -- what it says

@@ -10,8 +10,8 @@ use Rattle.records.specs.Told.{Told, Posted, Complained, Received, heard}
 use Rattle.schedule.specs.Groups.{Group}
 use Rattle.schedule.specs.declared.log.Post.{Post}
 use Rattle.schedule.specs.Posts.{posts_with}
-use Rattle.schedule.specs.declared.log.Entry.{Entry}
-use Rattle.schedule.specs.declared.log.Entry.TheVariants as entry
+use Rattle.schedule.specs.declared.log.LogEntry.{LogEntry}
+use Rattle.schedule.specs.declared.log.LogEntry.TheVariants as entry
 
 -- what the link was told and gave, newest first; the groups of the events so far, newest first; the marks before the first event; the
 -- accepted posts, oldest first
@@ -52,7 +52,7 @@ abbrev pub with_end : Noted → Noted
 with_end n = record n { history = heard incoming.End n.history }
 
 -- what a note says of the link and of the marks
-abbrev pub with_note : Entry → Noted → Noted
+abbrev pub with_note : LogEntry → Noted → Noted
 with_note (entry.Begun event) n = record n { groups = (event, []) ∷ n.groups }
 with_note (entry.Posted to r true) n = with_told (Posted to r true) (with_mark (Issued r to) n)
 with_note (entry.Posted to r false) n = with_told (Posted to r false) n
@@ -64,11 +64,11 @@ with_note (entry.Faulted e cause) n = with_mark (Fault e cause) n
 with_note (entry.Took who now call reply) n = with_mark (Took who now call (answer_of reply)) n
 
 -- one note
-abbrev pub with_entry : Entry → Noted → Noted
+abbrev pub with_entry : LogEntry → Noted → Noted
 with_entry e n = record (with_note e n) { posts = posts_with e n.posts }
 
 -- all notes, oldest first
-abbrev pub all_noted : List Entry → Noted → Noted
+abbrev pub all_noted : List LogEntry → Noted → Noted
 all_noted [] n = n
 all_noted (e ∷ entries) n = all_noted entries (with_entry e n)
 
@@ -76,6 +76,6 @@ abbrev pub nothing_noted : Noted
 nothing_noted = record { history = []; groups = []; first = []; posts = [] }
 
 -- what the log says; with the End where the link has ended
-abbrev pub noted_of : Bool → List Entry → Noted
+abbrev pub noted_of : Bool → List LogEntry → Noted
 noted_of false entries = all_noted entries nothing_noted
 noted_of true entries = with_end (all_noted entries nothing_noted)

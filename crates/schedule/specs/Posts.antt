@@ -1,11 +1,11 @@
 -- The requests that drivers accepted, among the notes of a run.
 use Rattle.std.specs.Prelude.{List, [], ◌∷◌, ◌++◌, true, false}
-use Rattle.schedule.specs.declared.log.Entry.{Entry}
-use Rattle.schedule.specs.declared.log.Entry.TheVariants as entry
+use Rattle.schedule.specs.declared.log.LogEntry.{LogEntry}
+use Rattle.schedule.specs.declared.log.LogEntry.TheVariants as entry
 use Rattle.schedule.specs.declared.log.Post.{Post}
 
 -- the accepted post that a note is, if it is one
-abbrev pub post_of : Entry → List Post
+abbrev pub post_of : LogEntry → List Post
 post_of (entry.Posted to r true) = record { to = to; request = r } ∷ []
 post_of (entry.Posted to r false) = []
 post_of (entry.Begun event) = []
@@ -16,7 +16,7 @@ post_of (entry.Faulted e cause) = []
 post_of (entry.Took who now call reply) = []
 
 -- the accepted posts after a note, those before it first
-abbrev pub posts_with : Entry → List Post → List Post
+abbrev pub posts_with : LogEntry → List Post → List Post
 posts_with (entry.Posted to r true) posts = posts ++ record { to = to; request = r } ∷ []
 posts_with (entry.Posted to r false) posts = posts
 posts_with (entry.Begun event) posts = posts
@@ -27,6 +27,6 @@ posts_with (entry.Faulted e cause) posts = posts
 posts_with (entry.Took who now call reply) posts = posts
 
 -- those among these notes, in their order
-abbrev pub posts_in : List Entry → List Post
+abbrev pub posts_in : List LogEntry → List Post
 posts_in [] = []
 posts_in (e ∷ entries) = post_of e ++ posts_in entries

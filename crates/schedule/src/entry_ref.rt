@@ -1,12 +1,12 @@
 //! A note, as it is read.
 
 use crate::Event;
+use compact_message::{IncomingRef, RequestRef};
 use message::endpoint::Endpoint;
 use records::marks::Cause;
 use tree::{Call, Reply, Who};
-use trimmed::{IncomingRef, RequestRef};
 
-/// One note, borrowed: what the variants say, [`Entry`](crate::log::Entry) has.
+/// One note, borrowed: what the variants say, [`Entry`](crate::log::LogEntry) has.
 #[derive(Clone, Copy)]
 pub enum EntryRef<'l> {
     Begun(&'l Event<'l>),

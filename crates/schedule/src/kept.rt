@@ -2,24 +2,23 @@
 //! the replies to calls.
 
 ghost use Rattle.std.specs.Prelude.{◌≡◌, ◌+◌, ◌≤◌, ◌++◌, length, vec_len, vec_capacity};
-ghost use Rattle.schedule.specs.KeptNotes.{Grows, IsMessageWithin, IsPlaceWithin, IsWithin};
-ghost use Rattle.schedule.specs.KeptNotes.{entry_of, message_of, part_of, post_at, request_at};
+ghost use Rattle.schedule.specs.KeptNotes.{Grows, IsMessageWithin, IsPlaceWithin, IsWithin, entry_of, message_of, part_of, post_at, request_at};
 ghost use Rattle.schedule.specs.Entries.{entry_in};
-ghost use Rattle.trimmed.specs.Padded.{incoming_of, request_of};
+ghost use Rattle.compact_message.specs.Padded.{incoming_of, request_of};
 
 use crate::Event;
 use crate::entry_ref::EntryRef;
 use crate::log::Post;
+use compact_message::{IncomingRef, ReplyHead, ReplyRef, RequestHead, RequestRef, trimmed};
 use message::endpoint::Endpoint;
 use message::{BlockRequest, Incoming};
 use records::marks::Cause;
 use std::mem::size_of;
 use tree::{Call, Reply, Who};
-use trimmed::{IncomingRef, ReplyHead, ReplyRef, RequestHead, RequestRef, trimmed};
 
 /// Where bytes stand among all bytes that are kept.
 #[derive(Clone, Copy)]
-pub struct Place {
+pub struct ByteRange {
     pub start: usize,
     pub len: usize,
 }
@@ -29,13 +28,13 @@ pub struct Place {
 pub struct KeptRequest {
     pub to: Endpoint,
     pub head: RequestHead,
-    pub place: Place,
+    pub place: ByteRange,
 }
 
 /// A message that the server took.
 #[derive(Clone, Copy)]
 pub enum KeptMessage {
-    Reply(ReplyHead, Place),
+    Reply(ReplyHead, ByteRange),
     Started(Endpoint),
     GaveUp,
     Flush,
@@ -57,7 +56,7 @@ pub enum Kept<'a> {
 const _: () = prove!(size_of::<Kept>() <= 80);
 
 /// Puts bytes behind the others, which has room for them: where they stand.
-fn put(all: &mut Vec<u8>, bytes: &[u8]) -> Place
+fn put(all: &mut Vec<u8>, bytes: &[u8]) -> ByteRange
     requires { vec_len all.old + length bytes.now ≤ vec_capacity all.old }
     ensures all { all.new.items ≡ all.old.items ++ bytes.now }
     ensures place { part_of all.new.items result ≡ bytes.now }
@@ -66,7 +65,7 @@ fn put(all: &mut Vec<u8>, bytes: &[u8]) -> Place
 {
     let start = all.len();
     let _ = all.extend_from_slice(bytes);
-    Place {
+    ByteRange {
         start,
         len: bytes.len(),
     }
@@ -111,7 +110,7 @@ pub fn keep_message(all: &mut Vec<u8>, message: &Incoming) -> KeptMessage
 }
 
 /// The bytes at a place.
-fn part<'l>(all: &'l [u8], place: &Place) -> &'l [u8]
+fn part<'l>(all: &'l [u8], place: &ByteRange) -> &'l [u8]
     requires { IsPlaceWithin (length all.now) place.now }
     ensures { result.now ≡ part_of all.now place.now }
 {

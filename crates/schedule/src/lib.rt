@@ -23,7 +23,7 @@ ghost use Rattle.schedule.specs.Laws.{BeginningKeeps, GroupsStay, RefusedForOne,
 
 pub use arrived::Arrived;
 pub use entry_ref::EntryRef;
-pub use log::{Entry, Log};
+pub use log::{Log, LogEntry};
 pub use mark::RunMark;
 use message::BlockReply;
 use tree::{Call, Who};

@@ -14,7 +14,7 @@ use tree::{Call, Reply, Who};
 
 /// One note, as contracts see it; [`EntryRef`] is read, and what is kept takes less memory.
 #[derive(Drop)]
-pub enum Entry<'a> {
+pub enum LogEntry<'a> {
     /// An event begins.
     Begun(Event<'a>),
     /// The server posted a request; it was accepted, or refused.
@@ -60,7 +60,7 @@ const ROOM_FOR_BYTES: usize = 147456;
 impl<'a> Log<'a> {
     ghost use Rattle.std.specs.Prelude.{◌<◌, ◌≤◌, ◌+◌, false, true, IfOk, slice_get, slice_index_or};
     ghost use Rattle.std.specs.Bool.{OnTrue};
-    ghost use Rattle.schedule.specs.declared.log.Entry.TheVariants.{Begun, Posted, Complained, Received, Handed, Faulted, Took};
+    ghost use Rattle.schedule.specs.declared.log.LogEntry.TheVariants.{Begun, Posted, Complained, Received, Handed, Faulted, Took};
     ghost use Rattle.schedule.specs.Entries.{entry_in};
     ghost use Rattle.schedule.specs.Noted.{nothing_noted, with_entry, with_end};
     ghost use Rattle.schedule.specs.LogView.{said, entries_of, room_in};

@@ -1,8 +1,8 @@
 //! The flusher's thread.
 
 use crate::service::Shared;
+use board::counting::parameters::ServiceParameters;
 use board::counting::recorder::Recorder;
-use board::counting::room::Room;
 use file_server::FileServer;
 use gate::bell::Bell;
 use gate::{Gate, Point};
@@ -38,7 +38,7 @@ pub(crate) struct Flusher {
 impl Flusher {
     /// Starts it over what the sessions of a service share. Where no memory or no thread was found, it lets go of all.
     pub(crate) fn start<
-        N: Room + Send + Sync + 'static,
+        N: ServiceParameters + Send + Sync + 'static,
         R: Threads + Wait + Copy + Send + Sync + 'static,
         L: Recorder<N> + Send + 'static,
         S: FileServer<L> + Send + 'static,
@@ -67,7 +67,7 @@ impl Flusher {
 }
 
 /// Has the server take a Flush at each turn that the gate passes, until it is to end.
-fn flush_on<N: Room, R: Wait + Copy, L: Recorder<N>, S: FileServer<L>, G: Gate>(
+fn flush_on<N: ServiceParameters, R: Wait + Copy, L: Recorder<N>, S: FileServer<L>, G: Gate>(
     rt: &R,
     shared: &Shared<N, R, L, S>,
     gate: &G,

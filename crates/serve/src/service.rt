@@ -16,8 +16,8 @@ use crate::flusher::Flusher;
 use crate::session::Session;
 use crate::stopping::{StopRefusal, image_of};
 use board::Board;
+use board::counting::parameters::ServiceParameters;
 use board::counting::recorder::Recorder;
-use board::counting::room::Room;
 use driver_threads::running::Running;
 use file_server::FileServer;
 use gate::Gate;
@@ -42,12 +42,12 @@ fn step_aside(times: u32) {
 
 /// What the sessions of a service share: the server under its lock, and the handle by which they wait for it.
 #[derive(Drop)]
-pub struct Shared<N: Room, R: Wait + Copy, L: Recorder<N>, S: FileServer<L>> {
+pub struct Shared<N: ServiceParameters, R: Wait + Copy, L: Recorder<N>, S: FileServer<L>> {
     pub(crate) rt: R,
     pub(crate) server: Mutex<Locked<N, L, S>>,
 }
 
-impl<N: Room, R: Wait + Copy, L: Recorder<N>, S: FileServer<L>> Shared<N, R, L, S> {
+impl<N: ServiceParameters, R: Wait + Copy, L: Recorder<N>, S: FileServer<L>> Shared<N, R, L, S> {
     /// The server takes a Flush. It may wait for the calls of sessions.
     pub(crate) fn flush(&self) {
         self.server.lock(&self.rt).flush();
@@ -73,7 +73,7 @@ impl<N: Room, R: Wait + Copy, L: Recorder<N>, S: FileServer<L>> Shared<N, R, L, 
 /// Where it is let go without `stop`, all its threads are told to end, and end by themselves. A session may outlive it, but a call that
 /// needs a driver then waits for ever.
 #[derive(Drop)]
-pub struct Service<N: Room, R: Wait + Copy, L: Recorder<N>, S: FileServer<L>> {
+pub struct Service<N: ServiceParameters, R: Wait + Copy, L: Recorder<N>, S: FileServer<L>> {
     rt: R,
     board: Arc<Board>,
     shared: Arc<Shared<N, R, L, S>>,
@@ -85,7 +85,7 @@ pub struct Service<N: Room, R: Wait + Copy, L: Recorder<N>, S: FileServer<L>> {
 }
 
 impl<
-    N: Room + Send + Sync + 'static,
+    N: ServiceParameters + Send + Sync + 'static,
     R: Threads + Wait + Copy + Send + Sync + 'static,
     L: Recorder<N> + Send + 'static,
     S: FileServer<L> + Send + 'static,
@@ -103,7 +103,7 @@ impl<
         gate: Arc<G>,
     ) -> Result<Service<N, R, L, S>, AllocError>
         requires board { arc_value board ≡ N.table }
-        requires held { IsHeld N.Room L.Link S.Serve.serving S.line S.is_ready S.knows L.runs_on L.marks server }
+        requires held { IsHeld N.ServiceParameters L.Link S.Serve.serving S.line S.is_ready S.knows L.runs_on L.marks server }
         requires none_absorbed { S.absorbed server ≡ 0 }
     {
         match shared_with_flusher(alloc, rt, server, gate) {
@@ -125,7 +125,7 @@ impl<
 
 /// What the sessions of a service of this server share, and its flusher.
 fn shared_with_flusher<
-    N: Room + Send + Sync + 'static,
+    N: ServiceParameters + Send + Sync + 'static,
     R: Threads + Wait + Copy + Send + Sync + 'static,
     L: Recorder<N> + Send + 'static,
     S: FileServer<L> + Send + 'static,
@@ -136,7 +136,7 @@ fn shared_with_flusher<
     server: S,
     gate: Arc<G>,
 ) -> Result<(Arc<Shared<N, R, L, S>>, Flusher), AllocError>
-    requires held { IsHeld N.Room L.Link S.Serve.serving S.line S.is_ready S.knows L.runs_on L.marks server }
+    requires held { IsHeld N.ServiceParameters L.Link S.Serve.serving S.line S.is_ready S.knows L.runs_on L.marks server }
     requires none_absorbed { S.absorbed server ≡ 0 }
 {
     let shared = Arc::new(
@@ -150,7 +150,12 @@ fn shared_with_flusher<
     Ok((shared, flusher))
 }
 
-impl<N: Room, R: Threads + Wait + Copy, L: Recorder<N>, S: FileServer<L>> Service<N, R, L, S> {
+impl<N: ServiceParameters, R: Threads + Wait + Copy, L: Recorder<N>, S: FileServer<L>> Service<
+    N,
+    R,
+    L,
+    S,
+> {
     /// A session for this user and group, with the lowest number that is free. It has seen the whole record, and made no call. It may wait
     /// for the calls of other sessions.
     ///

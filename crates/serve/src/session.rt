@@ -14,8 +14,8 @@ ghost use Rattle.shared_server.specs.Descriptors.{leaves_open};
 ghost use Rattle.shared_server.specs.Held.{HasEnded, HoldsIfTrue, IsCutAtEnd, IsEioOnceGivenUp, IsGuaranteed, IsSound};
 
 use crate::service::Shared;
+use board::counting::parameters::ServiceParameters;
 use board::counting::recorder::Recorder;
-use board::counting::room::Room;
 use board::{Board, Device, Seat};
 use file_server::{Ending, FileServer};
 use shared_server::left_open::{LeftOpen, is_cut};
@@ -28,7 +28,7 @@ use tree::{Call, MAX_DESCRIPTORS, Outcome, Reply, Who};
 /// What the sessions of a service share is a type parameter, so that what waits for nobody needs no handle that may wait. A session that is
 /// let go without `end` keeps its number.
 #[derive(Drop)]
-pub struct Session<N: Room, S> {
+pub struct Session<N: ServiceParameters, S> {
     pub(crate) board: Arc<Board>,
     pub(crate) seat: Seat,
     pub(crate) who: Who,
@@ -40,7 +40,7 @@ pub struct Session<N: Room, S> {
     pub(crate) of: PhantomData<N>,
 }
 
-impl<N: Room, S> Model for Session<N, S> {
+impl<N: ServiceParameters, S> Model for Session<N, S> {
     ghost use Rattle.std.specs.Prelude.{◌≡◌, ◌<◌, Some};
     ghost use Rattle.serve.specs.Counts.{Counts};
     ghost use Rattle.std.specs.Arc.{arc_value};
@@ -56,7 +56,7 @@ impl<N: Room, S> Model for Session<N, S> {
         × (s.who.session < 64) × Counts s.seen s.seat.view.seen × AreLeftOpen s.left_open s.seat.view.mine };
 }
 
-impl<N: Room, S> Session<N, S> {
+impl<N: ServiceParameters, S> Session<N, S> {
     /// Its number among the sessions of the service, 0 to 63.
     pub fn number(&self) -> u8
         ensures number { result ≡ self.now.knows.number }
@@ -94,7 +94,10 @@ impl<N: Room, S> Session<N, S> {
     }
 }
 
-impl<N: Room, R: Wait + Copy, L: Recorder<N>, S: FileServer<L>> Session<N, Shared<N, R, L, S>> {
+impl<N: ServiceParameters, R: Wait + Copy, L: Recorder<N>, S: FileServer<L>> Session<
+    N,
+    Shared<N, R, L, S>,
+> {
     /// Makes a call of the session's user and group. It may wait for the calls of other sessions. The session has then seen the record up
     /// to this call: an answer is its last mark; a cut, which comes once the link to the drivers has ended, leaves none.
     #[inline(always)]

@@ -5,7 +5,7 @@ ghost use Rattle.media.specs.Contents.{IsWhole};
 ghost use Rattle.driver_threads.specs.Confined.{IsImageOutside, KeepsOutside};
 ghost use Rattle.serve.specs.Stopping.{IsImageOf, IsLeftAfter, IsNoImageOf, no_image_name, stop_refusal_number};
 
-use board::counting::room::Room;
+use board::counting::parameters::ServiceParameters;
 use media::Media;
 use shared_server::locked::LastSync;
 use std::fmt;
@@ -86,7 +86,7 @@ fn has_whole_sectors(media: &Media)
 /// The image of the media that a service leaves whose last sync went so, or why there is none of a synced volume.
 ///
 /// It takes no memory: the media become the image.
-pub(crate) fn image_of<N: Room, S>(
+pub(crate) fn image_of<N: ServiceParameters, S>(
     how: LastSync,
     media: Option<Media>,
 ) -> Result<Vec<u8>, StopRefusal<S>>

@@ -16,7 +16,7 @@ use Rattle.reissue.specs.declared.link.Link.{Ghosts as LinkWords}
 use Rattle.file_server.specs.Over.{AbsorbsOver, Stands, Hears}
 use Rattle.file_server.proofs.Leaving.{took_either}
 use Rattle.file_server.proofs.Standing.{serves_same, message_stands}
-use Rattle.board.specs.declared.counting.room.Room.{Ghosts as RoomWords}
+use Rattle.board.specs.declared.counting.parameters.ServiceParameters.{Ghosts as RoomWords}
 use Rattle.shared_server.specs.Recorder.{SameServer}
 use Rattle.shared_server.specs.Held.{IsHeld}
 use Rattle.shared_server.proofs.HeldLaws.{Kept, true_before}

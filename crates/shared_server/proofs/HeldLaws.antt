@@ -31,13 +31,13 @@ use Rattle.records.specs.ServerCall.{Serving, Outcome, Replied, Cut, with_outcom
 use Rattle.records.specs.Session.{SessionCallKeeps, went_on}
 use Rattle.reissue.specs.declared.link.Link.{Ghosts as LinkWords}
 use Rattle.reissue.specs.Calls.{Truth}
-use Rattle.file_server.specs.Over.{CallsOver, Stands, outcome_of}
+use Rattle.file_server.specs.Over.{CallSpecification, Stands, outcome_of}
 use Rattle.file_server.specs.Leaving.{IsEndLast}
 use Rattle.file_server.proofs.Leaving.{cut_leaves, took_either}
 use Rattle.file_server.proofs.Standing.{serves_same, same_stands}
 use Rattle.board.specs.View.{View, SeatState, session_for, is_used}
 use Rattle.board.specs.Steps.{SessionLearns, SessionIsNew}
-use Rattle.board.specs.declared.counting.room.Room.{Ghosts as RoomWords}
+use Rattle.board.specs.declared.counting.parameters.ServiceParameters.{Ghosts as RoomWords}
 use Rattle.shared_server.specs.Recorder.{SameServer}
 use Rattle.shared_server.specs.Descriptors.{is_done, succeeded}
 use Rattle.shared_server.specs.declared.refusal.SessionRefusal.{SessionRefusal}
@@ -55,7 +55,7 @@ pub record Kept {N S L : Type 0} (room : RoomWords N) (link : LinkWords L) (serv
 -- a call, and what was done at the link then: an answer was counted
 pub record Called {N S L : Type 0} (room : RoomWords N) (link : LinkWords L) (serving : S → Serving) (line : S → L) (is_ready : S → Type 0)
     (runs_on : L → Policy → List DriverState → Type 0) (who : Who) (now : ℕ) (call : Call) (outcome : Outcome) (old mid new : S) : Type 0 where
-  pub calls : CallsOver (serving old) (serving mid) (link.truth (line old)) (link.truth (line mid)) who now call outcome
+  pub calls : CallSpecification (serving old) (serving mid) (link.truth (line old)) (link.truth (line mid)) who now call outcome
   pub ready : is_ready mid
   pub goes : link.goes_on (line old) (line mid)
   pub same : SameServer link serving line is_ready runs_on mid new
@@ -77,7 +77,7 @@ gave_up_with who now call Cut marks = refl
 -- a call that was cut gave no device up
 went_cut : {S L : Type 0} (serving : S → Serving) (truth : L → Truth) (old mid : S) (l m : L) (who : Who) (now : ℕ) (call : Call)
     (v : Opening) (t : Tree) (marks : List Mark) (b : Bool) → (serving old).ended ≡ b
-    → (c : CallsOver (serving old) (serving mid) (truth l) (truth m) who now call Cut)
+    → (c : CallSpecification (serving old) (serving mid) (truth l) (truth m) who now call Cut)
     → IsEndLast (serving mid).told → Stands (serving old) (truth l) v t marks → (gave_up marks ≡ true → went_on marks ≡ true)
     → gave_up (marks_after c.keeps.acts marks) ≡ true → went_on (marks_after c.keeps.acts marks) ≡ true
 went_cut serving truth old mid l m who now call v t marks true is c last stood answered gone =
@@ -89,7 +89,7 @@ went_cut serving truth old mid l m who now call v t marks false is c last stood 
 -- the same of any call that is a cut
 went_if_cut : {S L : Type 0} (serving : S → Serving) (truth : L → Truth) (old mid : S) (l m : L) (who : Who) (now : ℕ) (call : Call)
     (outcome : Outcome) (v : Opening) (t : Tree) (marks : List Mark)
-    → (c : CallsOver (serving old) (serving mid) (truth l) (truth m) who now call outcome)
+    → (c : CallSpecification (serving old) (serving mid) (truth l) (truth m) who now call outcome)
     → IsEndLast (serving mid).told → Stands (serving old) (truth l) v t marks → (gave_up marks ≡ true → went_on marks ≡ true)
     → outcome ≡ Cut → gave_up (marks_after c.keeps.acts marks) ≡ true → went_on (marks_after c.keeps.acts marks) ≡ true
 went_if_cut serving truth old mid l m who now call (Replied answer) v t marks c last stood answered cut = cc
@@ -99,7 +99,7 @@ went_if_cut serving truth old mid l m who now call Cut v t marks c last stood an
 -- a call that was cut found no device given up, unless an earlier one did
 kept_by_cut : {S L : Type 0} (serving : S → Serving) (truth : L → Truth) (old mid : S) (l m : L) (who : Who) (now : ℕ) (call : Call)
     (v : Opening) (t : Tree) (marks : List Mark) (b : Bool) → (serving old).ended ≡ b
-    → (c : CallsOver (serving old) (serving mid) (truth l) (truth m) who now call Cut)
+    → (c : CallSpecification (serving old) (serving mid) (truth l) (truth m) who now call Cut)
     → IsEndLast (serving mid).told → Stands (serving old) (truth l) v t marks → ((serving old).ended ≡ true → gave_up marks ≡ false)
     → gave_up (marks_after c.keeps.acts marks) ≡ false
 kept_by_cut serving truth old mid l m who now call v t marks true is c last stood either =
@@ -110,7 +110,7 @@ kept_by_cut serving truth old mid l m who now call v t marks false is c last sto
 -- the same of any call that is a cut
 pub kept_if_cut : {S L : Type 0} (serving : S → Serving) (truth : L → Truth) (old mid : S) (l m : L) (who : Who) (now : ℕ) (call : Call)
     (outcome : Outcome) (v : Opening) (t : Tree) (marks : List Mark)
-    → (c : CallsOver (serving old) (serving mid) (truth l) (truth m) who now call outcome)
+    → (c : CallSpecification (serving old) (serving mid) (truth l) (truth m) who now call outcome)
     → IsEndLast (serving mid).told → Stands (serving old) (truth l) v t marks → ((serving old).ended ≡ true → gave_up marks ≡ false)
     → outcome ≡ Cut → gave_up (marks_after c.keeps.acts marks) ≡ false
 kept_if_cut serving truth old mid l m who now call (Replied answer) v t marks c last stood either cut = cc
@@ -172,7 +172,7 @@ adds_call room link serving line is_ready knows runs_on record_in who now call r
 pub ends_called : {N S L : Type 0} (room : RoomWords N) (link : LinkWords L) (serving : S → Serving) (line : S → L) (is_ready : S → Type 0)
     (knows : Call → Type 0) (runs_on : L → Policy → List DriverState → Type 0) (record_in : L → List Mark)
     (who : Who) (now : ℕ) (call : Call) (outcome : Outcome) (old mid : S) → ((s : S) → (serving s).told ≡ link.history (line s))
-    → CallsOver (serving old) (serving mid) (link.truth (line old)) (link.truth (line mid)) who now call outcome
+    → CallSpecification (serving old) (serving mid) (link.truth (line old)) (link.truth (line mid)) who now call outcome
     → IsHeld room link serving line is_ready knows runs_on record_in old → (serving mid).ended ≡ took_end (link.history (line mid))
 ends_called room link serving line is_ready knows runs_on record_in who now call outcome old mid tells c held =
     let before : (serving old).ended ≡ took_end (serving old).told = held.ends ∙ ap took_end (sym (tells old)) in

@@ -22,9 +22,9 @@ use Rattle.records.specs.Legal.{IsLegal, IsLegalTook, tree_after}
 use Rattle.records.proofs.Legality.{synced_is_held}
 use Rattle.records.specs.ServerCall.{Serving, Outcome, Replied, Cut, with_outcome}
 use Rattle.reissue.specs.declared.link.Link.{Ghosts as LinkWords}
-use Rattle.file_server.specs.Over.{CallsOver}
+use Rattle.file_server.specs.Over.{CallSpecification}
 use Rattle.file_server.specs.Leaving.{IsEndLast}
-use Rattle.board.specs.declared.counting.room.Room.{Ghosts as RoomWords}
+use Rattle.board.specs.declared.counting.parameters.ServiceParameters.{Ghosts as RoomWords}
 use Rattle.board.specs.Keeper.{begins_itself, begins_before, begins_further}
 use Rattle.shared_server.specs.Descriptors.{is_done, was_cut, succeeded}
 use Rattle.shared_server.specs.Held.{IsHeld}
@@ -137,7 +137,7 @@ last_of : {N S L : Type 0} (room : RoomWords N) (link : LinkWords L) (serving : 
     (knows : Call → Type 0) (runs_on : L → Policy → List DriverState → Type 0) (record_in : L → List Mark)
     (old mid : S) (outcome : Outcome) (how : SyncEnd) → Kept room link serving line runs_on record_in
     → IsHeld room link serving line is_ready knows runs_on record_in old
-    → CallsOver (serving old) (serving mid) (link.truth (line old)) (link.truth (line mid)) syncer 0 Sync outcome
+    → CallSpecification (serving old) (serving mid) (link.truth (line old)) (link.truth (line mid)) syncer 0 Sync outcome
     → sync_end (was_cut outcome) (succeeded outcome) ≡ how
     → IsLastLine link room.geometry room.opening (record_in (line old)) how (line mid)
 last_of room link serving line is_ready knows runs_on record_in old mid outcome how kept held c is =
@@ -169,7 +169,7 @@ pub last_line : {N S L : Type 0} (room : RoomWords N) (link : LinkWords L) (serv
     (knows : Call → Type 0) (runs_on : L → Policy → List DriverState → Type 0) (record_in : L → List Mark)
     (old mid : S) (l : L) (outcome : Outcome) (how : SyncEnd) → line old ≡ l → Kept room link serving line runs_on record_in
     → IsHeld room link serving line is_ready knows runs_on record_in old
-    → CallsOver (serving old) (serving mid) (link.truth (line old)) (link.truth (line mid)) syncer 0 Sync outcome
+    → CallSpecification (serving old) (serving mid) (link.truth (line old)) (link.truth (line mid)) syncer 0 Sync outcome
     → sync_end (was_cut outcome) (succeeded outcome) ≡ how
     → IsLastLine link room.geometry room.opening (record_in l) how (line mid)
 last_line {L = L} room link serving line is_ready knows runs_on record_in old mid l outcome how same kept held c is =

@@ -22,7 +22,7 @@ use Rattle.reissue.specs.declared.link.Link.{Ghosts as LinkWords}
 use Rattle.reissue.specs.Calls.{Truth}
 use Rattle.file_server.specs.Over.{Stands}
 use Rattle.board.specs.View.{View, session_for}
-use Rattle.board.specs.declared.counting.room.Room.{Ghosts as RoomWords}
+use Rattle.board.specs.declared.counting.parameters.ServiceParameters.{Ghosts as RoomWords}
 use Rattle.shared_server.specs.declared.refusal.SessionRefusal.{SessionRefusal}
 use Rattle.shared_server.specs.declared.refusal.SessionRefusal.TheVariants.{TooMany, Stopped, OutOfMemory}
 use Rattle.board.specs.Keeper.{AreAllUsed, IsLowestFree, IsOneFree}

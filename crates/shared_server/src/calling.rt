@@ -8,15 +8,15 @@ ghost use Rattle.shared_server.specs.Held.{AddsCall, HoldsIfTrue, IsEioOnceGiven
 
 use crate::sharing::{count_call, show};
 use board::Seat;
+use board::counting::parameters::ServiceParameters;
 use board::counting::recorder::Recorder;
-use board::counting::room::Room;
 use file_server::{Ending, FileServer};
 use tree::{Call, Outcome, Reply, Who};
 
 /// A call of the session that has this seat, which has then seen the whole record. An answer is a mark of it, the last; a cut isn't. No
 /// other call is made meanwhile, and no number is given to a session or freed. The reply goes to `reply`, and to `tally` how many counted
 /// marks the record has, modulo 2^64. The server stands with its record as before.
-pub fn make_call<N: Room, L: Recorder<N>, S: FileServer<L>>(
+pub fn make_call<N: ServiceParameters, L: Recorder<N>, S: FileServer<L>>(
     server: &mut S,
     seat: &mut Seat,
     who: Who,
@@ -25,9 +25,9 @@ pub fn make_call<N: Room, L: Recorder<N>, S: FileServer<L>>(
     reply: &mut Reply,
     tally: &mut u64,
 ) -> Ending
-    requires held { IsHeld N.Room L.Link S.Serve.serving S.line S.is_ready S.knows L.runs_on L.marks server.old }
+    requires held { IsHeld N.ServiceParameters L.Link S.Serve.serving S.line S.is_ready S.knows L.runs_on L.marks server.old }
     requires seat { (seat.old.table ≡ N.table) × (seat.old.view.number ≡ Some who.session) }
-    ensures held { IsHeld N.Room L.Link S.Serve.serving S.line S.is_ready S.knows L.runs_on L.marks server.new }
+    ensures held { IsHeld N.ServiceParameters L.Link S.Serve.serving S.line S.is_ready S.knows L.runs_on L.marks server.new }
     ensures absorbed { S.absorbed server.new ≡ S.absorbed server.old }
     ensures seat { (seat.new.table ≡ N.table) × (seat.new.view.number ≡ Some who.session) }
     ensures call { IsServedCall N.geometry N.opening who now call.now seat.old.view (outcome_of (outcome_in result reply.new)) seat.new.view }

@@ -6,13 +6,13 @@ ghost use Rattle.records.specs.Opening.{Opening};
 ghost use Rattle.shared_server.specs.Recorder.{SameServer};
 ghost use Rattle.shared_server.specs.Held.{IsHeld};
 
+use board::counting::parameters::ServiceParameters;
 use board::counting::recorder::Recorder;
-use board::counting::room::Room;
 use file_server::FileServer;
 use message::Incoming;
 
 // The Flush is noted at the server's link.
-fn note_flush<N: Room, L: Recorder<N>, S: FileServer<L>>(server: &mut S)
+fn note_flush<N: ServiceParameters, L: Recorder<N>, S: FileServer<L>>(server: &mut S)
     ensures same { SameServer L.Link S.Serve.serving S.line S.is_ready L.runs_on server.old server.new }
     ensures truth { (v : Opening) (older : List Mark) → L.truth (S.line server.old) v older
         → L.truth (S.line server.new) v (Flush ∷ older) }
@@ -24,10 +24,10 @@ fn note_flush<N: Room, L: Recorder<N>, S: FileServer<L>>(server: &mut S)
 }
 
 /// The server takes a Flush, which is a mark of the record. It stands with its record as before, and the numbers of sessions stay.
-pub fn take_flush<N: Room, L: Recorder<N>, S: FileServer<L>>(server: &mut S)
-    requires held { IsHeld N.Room L.Link S.Serve.serving S.line S.is_ready S.knows L.runs_on L.marks server.old }
+pub fn take_flush<N: ServiceParameters, L: Recorder<N>, S: FileServer<L>>(server: &mut S)
+    requires held { IsHeld N.ServiceParameters L.Link S.Serve.serving S.line S.is_ready S.knows L.runs_on L.marks server.old }
     requires few { S.absorbed server.old < 2 ^ 48 }
-    ensures held { IsHeld N.Room L.Link S.Serve.serving S.line S.is_ready S.knows L.runs_on L.marks server.new }
+    ensures held { IsHeld N.ServiceParameters L.Link S.Serve.serving S.line S.is_ready S.knows L.runs_on L.marks server.new }
     ensures absorbed { S.absorbed server.new ≤ S.absorbed server.old + 1 }
     ensures numbers { L.numbers (S.line server.new) ≡ L.numbers (S.line server.old) }
 {

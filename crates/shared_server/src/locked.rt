@@ -20,8 +20,8 @@ use crate::left_open::{is_cut, was_done};
 use crate::refusal::SessionRefusal;
 use crate::sharing::{admit, release, show};
 use board::Seat;
+use board::counting::parameters::ServiceParameters;
 use board::counting::recorder::Recorder;
-use board::counting::room::Room;
 use file_server::{Ending, FileServer};
 use std::marker::{Model, PhantomData};
 use tree::{Call, Outcome, Reply, Who};
@@ -42,7 +42,7 @@ pub enum LastSync {
 
 /// What lies under the lock of a service: its server, whose link keeps the record. Contracts see the link.
 #[derive(Drop)]
-pub struct Locked<N: Room, L: Recorder<N>, S: FileServer<L>> {
+pub struct Locked<N: ServiceParameters, L: Recorder<N>, S: FileServer<L>> {
     server: S,
     // How many Flushes it took between two calls, at least.
     flushes: u64,
@@ -50,7 +50,7 @@ pub struct Locked<N: Room, L: Recorder<N>, S: FileServer<L>> {
     over: PhantomData<L>,
 }
 
-impl<N: Room, L: Recorder<N>, S: FileServer<L>> Model for Locked<N, L, S> {
+impl<N: ServiceParameters, L: Recorder<N>, S: FileServer<L>> Model for Locked<N, L, S> {
     ghost use Rattle.std.specs.Prelude.{◌≤◌};
     ghost use Rattle.shared_server.specs.Held.{IsHeld as IsHeldFor};
 
@@ -58,14 +58,14 @@ impl<N: Room, L: Recorder<N>, S: FileServer<L>> Model for Locked<N, L, S> {
 
     ghost view = { λ d. S.line d.server };
 
-    ghost invariant = { λ d. IsHeldFor N.Room L.Link S.Serve.serving S.line S.is_ready S.knows L.runs_on L.marks d.server
+    ghost invariant = { λ d. IsHeldFor N.ServiceParameters L.Link S.Serve.serving S.line S.is_ready S.knows L.runs_on L.marks d.server
         × (S.absorbed d.server ≤ d.flushes) };
 }
 
-impl<N: Room, L: Recorder<N>, S: FileServer<L>> Locked<N, L, S> {
+impl<N: ServiceParameters, L: Recorder<N>, S: FileServer<L>> Locked<N, L, S> {
     /// A server over the service's volume, which stands with its record.
     pub fn new(server: S) -> Locked<N, L, S>
-        requires held { IsHeld N.Room L.Link S.Serve.serving S.line S.is_ready S.knows L.runs_on L.marks server }
+        requires held { IsHeld N.ServiceParameters L.Link S.Serve.serving S.line S.is_ready S.knows L.runs_on L.marks server }
         requires none_absorbed { S.absorbed server ≡ 0 }
         ensures { result ≡ S.line server }
     {

@@ -13,14 +13,14 @@ ghost use Rattle.shared_server.specs.Recorder.{SameServer};
 
 use crate::refusal::SessionRefusal;
 use board::Seat;
+use board::counting::parameters::ServiceParameters;
 use board::counting::recorder::Recorder;
-use board::counting::room::Room;
 use file_server::FileServer;
 use tree::{Call, Reply, Who};
 
 /// A call of the caller's session was answered. The caller has then seen the whole record, its call last. Gives how many counted marks
 /// it has, modulo 2^64.
-pub fn count_call<N: Room, L: Recorder<N>, S: FileServer<L>>(
+pub fn count_call<N: ServiceParameters, L: Recorder<N>, S: FileServer<L>>(
     server: &mut S,
     caller: &mut Seat,
     who: Who,
@@ -45,7 +45,10 @@ pub fn count_call<N: Room, L: Recorder<N>, S: FileServer<L>>(
 }
 
 /// The caller has then seen the whole record. Gives how many counted marks it has, modulo 2^64.
-pub fn show<N: Room, L: Recorder<N>, S: FileServer<L>>(server: &mut S, caller: &mut Seat) -> u64
+pub fn show<N: ServiceParameters, L: Recorder<N>, S: FileServer<L>>(
+    server: &mut S,
+    caller: &mut Seat,
+) -> u64
     requires { caller.old.table ≡ N.table }
     ensures same { SameServer L.Link S.Serve.serving S.line S.is_ready L.runs_on server.old server.new }
     ensures absorbed { S.absorbed server.new ≡ S.absorbed server.old }
@@ -63,7 +66,7 @@ pub fn show<N: Room, L: Recorder<N>, S: FileServer<L>>(server: &mut S, caller: &
 
 /// A seat for a new session, with the lowest number that is free: 1 TooMany where 64 are in use, 2 Stopped where a take gave End. A refusal
 /// changes nothing.
-pub fn admit<N: Room, L: Recorder<N>, S: FileServer<L>>(
+pub fn admit<N: ServiceParameters, L: Recorder<N>, S: FileServer<L>>(
     server: &mut S,
 ) -> Result<(u8, Seat, u64), SessionRefusal>
     ensures same { SameServer L.Link S.Serve.serving S.line S.is_ready L.runs_on server.old server.new }
@@ -89,7 +92,11 @@ pub fn admit<N: Room, L: Recorder<N>, S: FileServer<L>>(
 }
 
 /// A session ends: its number is free again.
-pub fn release<N: Room, L: Recorder<N>, S: FileServer<L>>(server: &mut S, number: u8, caller: Seat)
+pub fn release<N: ServiceParameters, L: Recorder<N>, S: FileServer<L>>(
+    server: &mut S,
+    number: u8,
+    caller: Seat,
+)
     requires { (caller.table ≡ N.table) × (caller.view.number ≡ Some number) × (number < 64) }
     ensures same { SameServer L.Link S.Serve.serving S.line S.is_ready L.runs_on server.old server.new }
     ensures absorbed { S.absorbed server.new ≡ S.absorbed server.old }

@@ -17,7 +17,7 @@ use Rattle.simulation.specs.Inputs.{HasEvent, HasSchedule}
 use Rattle.simulation.specs.Shown.{Shows, is_giving_up, output_text}
 use Rattle.simulation.specs.Simulated.{IsRefusedAs, ShowsRun, text_of}
 use Rattle.simulation.specs.declared.inputs.File.{File}
-use Rattle.simulation.specs.declared.show.Status.{Status}
+use Rattle.simulation.specs.declared.show.SimulationStatus.{SimulationStatus}
 
 -- the text of marks that stand elsewhere is that of the marks
 same_text : (shown : List MarkRef) (t : Transcript) → map mark_of shown ≡ reverse t.marks → transcript_text mark_of shown t.unanswered ≡ text_of t
@@ -46,7 +46,7 @@ same_giving_up shown t are =
     any_of_shown shown ∙ ap (list_any is_giving_up) are
     ∙ sym (list_any-IsPermutation is_giving_up t.marks (reverse t.marks) (IsPermutation-reverse t.marks)) ∙ some_giving_up t.marks
 
-module _ (t : Transcript) (status : Status) (out_old out_new err_old err_new : Option (List ℕ)) where
+module _ (t : Transcript) (status : SimulationStatus) (out_old out_new err_old err_new : Option (List ℕ)) where
   -- the lent marks were shown
   pub run_is_shown : (shown : List MarkRef) → map mark_of shown ≡ reverse t.marks
       → Shows (transcript_text mark_of shown t.unanswered) (list_any (λ m. is_giving_up (mark_of m)) shown) status out_old out_new err_old err_new
@@ -56,12 +56,12 @@ module _ (t : Transcript) (status : Status) (out_old out_new err_old err_new : O
       (subst (λ (l : List ℕ). Shows l (list_any (λ m. is_giving_up (mark_of m)) shown) status out_old out_new err_old err_new) (same_text shown t are) shows)
 
 -- there was no memory for the marks: nothing of the text went out
-pub run_is_not_shown : (t : Transcript) (status : Status) (out err_old err_new : Option (List ℕ)) → IsRefusedAs (output_text OutOfMemory) status err_old err_new
+pub run_is_not_shown : (t : Transcript) (status : SimulationStatus) (out err_old err_new : Option (List ℕ)) → IsRefusedAs (output_text OutOfMemory) status err_old err_new
     → ShowsRun t status out out err_old err_new
 run_is_not_shown t status out err_old err_new (told, is, tells) =
     let some : 0 < length (text_of t) =
     omega (arith, length-append (marks_text (λ (m : Mark). m) (reverse t.marks)) (unanswered_text t.unanswered), unanswered_some t.unanswered) in
-    subst (λ (s : Status). ShowsRun t s out out err_old err_new) (sym is) (nothing_written out (text_of t) some, (OutOfMemory, tells))
+    subst (λ (s : SimulationStatus). ShowsRun t s out out err_old err_new) (sym is) (nothing_written out (text_of t) some, (OutOfMemory, tells))
 
 -- a schedule of some lines has an event
 pub has_an_event : (file : File) (lines : List Line) → HasSchedule file (map line_event lines) → 0 < length lines → HasEvent file

@@ -5,11 +5,11 @@ use Rattle.records.specs.Marks.{Mark, GaveUp}
 use Rattle.output.specs.Output.{AppendsPart, Tells}
 use Rattle.output.specs.declared.OutputRefusal.{OutputRefusal}
 use Rattle.output.specs.declared.OutputRefusal.TheVariants as output
-use Rattle.simulation.specs.declared.show.Status.{Status}
-use Rattle.simulation.specs.declared.show.Status.TheVariants.{Done, Refused, GivenUp}
+use Rattle.simulation.specs.declared.show.SimulationStatus.{SimulationStatus}
+use Rattle.simulation.specs.declared.show.SimulationStatus.TheVariants.{Done, Refused, GivenUp}
 
 -- the status of the process
-abbrev pub status_number : Status → ℕ
+abbrev pub status_number : SimulationStatus → ℕ
 status_number Done = 0
 status_number (Refused told) = 1
 status_number GivenUp = 3
@@ -26,7 +26,7 @@ output_text output.NotWritten = codes "cannot write standard output"
 
 -- the transcript was written, and nothing was said; the status says whether the device was given up. Or a part of it was written, and a line
 -- was to say why not all.
-abbrev pub Shows : List ℕ → Bool → Status → Option (List ℕ) → Option (List ℕ) → Option (List ℕ) → Option (List ℕ) → Type 0
+abbrev pub Shows : List ℕ → Bool → SimulationStatus → Option (List ℕ) → Option (List ℕ) → Option (List ℕ) → Option (List ℕ) → Type 0
 Shows text gave_up Done out_old out_new err_old err_new = (gave_up ≡ false) × Appends out_old out_new text × (err_new ≡ err_old)
 Shows text gave_up GivenUp out_old out_new err_old err_new = (gave_up ≡ true) × Appends out_old out_new text × (err_new ≡ err_old)
 Shows text gave_up (Refused told) out_old out_new err_old err_new =

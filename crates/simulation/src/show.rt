@@ -16,7 +16,7 @@ use std::io::Write;
 
 /// How a run ended.
 #[derive(Clone, Copy, Debug, PartialEq, Eq)]
-pub enum Status {
+pub enum SimulationStatus {
     /// The transcript was written.
     Done,
     /// Nothing was run, or not all of the transcript was written. A line was to say why.
@@ -25,15 +25,15 @@ pub enum Status {
     GivenUp,
 }
 
-impl Status {
+impl SimulationStatus {
     /// The status of the process: 0, 1 or 3.
     pub fn number(self) -> u8
         ensures { result ≡ status_number self }
     {
         match self {
-            Status::Done => 0,
-            Status::Refused(_) => 1,
-            Status::GivenUp => 3,
+            SimulationStatus::Done => 0,
+            SimulationStatus::Refused(_) => 1,
+            SimulationStatus::GivenUp => 3,
         }
     }
 }
@@ -54,11 +54,15 @@ impl fmt::Display for NotShown {
 }
 
 /// Says on `err` why nothing was run.
-pub fn refuse<T: fmt::Display, E: Write>(alloc: Global, refusal: &T, err: &mut E) -> Status
-    ensures told { (told : Told) × (result ≡ Status.Refused told) × Tells (T.output refusal.now) told (E.contents err.old)
+pub fn refuse<T: fmt::Display, E: Write>(
+    alloc: Global,
+    refusal: &T,
+    err: &mut E,
+) -> SimulationStatus
+    ensures told { (told : Told) × (result ≡ SimulationStatus.Refused told) × Tells (T.output refusal.now) told (E.contents err.old)
         (E.contents err.new) }
 {
-    Status::Refused(tell(alloc, err, refusal))
+    SimulationStatus::Refused(tell(alloc, err, refusal))
 }
 
 /// Whether the device was given up.
@@ -83,13 +87,13 @@ pub fn show<M: AsMark, W: Write, E: Write>(
     unanswered: u64,
     out: &mut W,
     err: &mut E,
-) -> Status
+) -> SimulationStatus
     ensures { Shows (transcript_text M.mark marks.now unanswered) (list_any (λ m. is_giving_up (M.mark m)) marks.now) result
         (W.contents out.old) (W.contents out.new) (E.contents err.old) (E.contents err.new) }
 {
     match write_transcript(alloc, out, marks, unanswered) {
-        Ok(()) if gave_up(marks) => Status::GivenUp,
-        Ok(()) => Status::Done,
-        Err(refusal) => Status::Refused(tell(alloc, err, &NotShown(refusal))),
+        Ok(()) if gave_up(marks) => SimulationStatus::GivenUp,
+        Ok(()) => SimulationStatus::Done,
+        Err(refusal) => SimulationStatus::Refused(tell(alloc, err, &NotShown(refusal))),
     }
 }

@@ -5,13 +5,13 @@ ghost use Rattle.transcript.specs.ShownTranscript.{transcript_of};
 ghost use Rattle.simulation.specs.Simulated.{Runs, ShowsRun, Simulates};
 
 use crate::inputs::{File, InputRefusal, read_inputs};
-use crate::show::{NotShown, Status, refuse, show};
-use inline::local::LocalDriver;
+use crate::show::{NotShown, SimulationStatus, refuse, show};
 use output::OutputRefusal;
 use reincarnate::policy::Setup;
 use schedule::Event;
 use std::alloc::Global;
 use std::io::Write;
+use synchronous_driver::local::LocalDriver;
 use transcript::Transcript;
 use world::World;
 
@@ -29,7 +29,7 @@ pub fn simulate<D: LocalDriver, W: Write, E: Write>(
     supply: Vec<D>,
     out: &mut W,
     err: &mut E,
-) -> Status
+) -> SimulationStatus
     ensures { Simulates image.entry schedule.entry setup.now (map D.state supply.items) (out.new ≡ out.old) result
         (W.contents out.old) (W.contents out.new) (E.contents err.old) (E.contents err.new) }
 {
@@ -52,7 +52,7 @@ fn run<D: LocalDriver, W: Write, E: Write>(
     supply: Vec<D>,
     out: &mut W,
     err: &mut E,
-) -> Status
+) -> SimulationStatus
     requires few { length events.now < 2 ^ 32 }
     ensures { Runs image.now setup.now (map D.state supply.items) events.now (out.new ≡ out.old) result
         (W.contents out.old) (W.contents out.new) (E.contents err.old) (E.contents err.new) }
@@ -69,7 +69,7 @@ fn show_run<D: LocalDriver, W: Write, E: Write>(
     transcript: &Transcript<'_, D>,
     out: &mut W,
     err: &mut E,
-) -> Status
+) -> SimulationStatus
     ensures { ShowsRun (transcript_of D.state transcript.now) result (W.contents out.old) (W.contents out.new) (E.contents err.old)
         (E.contents err.new) }
 {

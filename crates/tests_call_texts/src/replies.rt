@@ -5,7 +5,7 @@ use reply_text::text::{OutcomeText, ReplyText};
 use std::alloc::{AllocError, Global};
 use std::test::Fail;
 use tests_texts::is_told;
-use tree::{Attributes, Entry, LinkTarget, OpenFlags, Outcome, Reply, Room};
+use tree::{Attributes, Entry, LinkTarget, OpenFlags, Outcome, Reply, Statfs};
 
 /// Each error with its number and its name.
 static ERRORS: [(Errno, &str); 19] = [
@@ -58,7 +58,7 @@ fn plain_replies_are_written(alloc: Global) -> Result<(), Fail> {
         mtime: 51,
         ctime: u32::MAX,
     };
-    let room = Room {
+    let room = Statfs {
         block_size: 1024,
         zones: 58,
         free_zones: 53,

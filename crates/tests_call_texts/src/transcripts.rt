@@ -1,4 +1,5 @@
 //! Transcripts, line by line.
+use compact_message::{ReplyRef, RequestRef};
 use errno::Errno;
 use message::endpoint::Endpoint;
 use message::{BlockReply, BlockRequest, Kind};
@@ -11,7 +12,6 @@ use std::io::{self, ErrorKind, Write};
 use std::test::Fail;
 use tests_texts::{are_told, is_told, row_is_told};
 use tree::{Attributes, Call, Reply, Who};
-use trimmed::{ReplyRef, RequestRef};
 
 /// Driver 1 of this generation.
 fn driver(generation: u32) -> Endpoint {

@@ -5,7 +5,7 @@ ghost use Rattle.std.specs.Arc.{arc_value};
 
 use crate::watch::Watch;
 use bdev::{BlockDriver, Driver};
-use board::counting::room::Room;
+use board::counting::parameters::ServiceParameters;
 use board::{Board, Seat};
 use channel_link::link::ChannelLink;
 use driver_threads::running::{Running, start_drivers};
@@ -81,7 +81,7 @@ pub(crate) fn filled_up(alloc: Global, drivers: Vec<Driver>) -> Result<Vec<Drive
 }
 
 // The threads are stopped, or let go; the media's bytes after a stop.
-fn ended<N: Room, R: Threads + Copy>(
+fn ended<N: ServiceParameters, R: Threads + Copy>(
     alloc: Global,
     rt: R,
     running: Running<N>,
@@ -95,7 +95,7 @@ fn ended<N: Room, R: Threads + Copy>(
 
 // The caller picks the volume: the first sectors of the media.
 fn play_on<
-    N: Room + Send + Sync + 'static,
+    N: ServiceParameters + Send + Sync + 'static,
     R: Threads + Wait + Abort + Copy + Send + Sync + 'static,
     D: BlockDriver + 'static,
     P: Plan<R>,

@@ -1,16 +1,16 @@
 //! What blocks give, and when they are read and written.
 ghost use Rattle.std.specs.Prelude.{◌≡◌};
 ghost use Rattle.cache.specs.Calls.{IsReady};
-ghost use Rattle.stored.specs.World.{stored_caching};
+ghost use Rattle.cached_blocks.specs.World.{stored_caching};
 
 use crate::caches::{Given, cache_over, is_done};
+use block_store::words::{clear, read_byte, write_bytes};
+use block_store::{Blocks, Cut};
+use cached_blocks::{Caches, Stored};
 use fixtures::lists::started;
 use reissue::Link;
 use std::alloc::Global;
 use std::test::Fail;
-use store::words::{clear, read_byte, write_bytes};
-use store::{Blocks, Cut};
-use stored::{Caches, Stored};
 
 /// What is done with blocks.
 enum Step {

@@ -1,8 +1,8 @@
 //! Errors as text: each is told by its name, and an ended call by the name of why it ended.
+use block_store::{Cut, Halt};
 use cache::CacheRefusal;
 use reissue::{BeginRefusal, LinkRefusal};
 use std::test::Fail;
-use store::{Cut, Halt};
 use tests_texts::are_told;
 
 /// Why a request isn't begun.

@@ -3,8 +3,8 @@ ghost use Rattle.std.specs.List.{AllByRecursion};
 ghost use Rattle.ninep.specs.Fields.{Fits};
 ghost use Rattle.ninep.specs.Replies.{reply_fields};
 
-use ninep::entries::{Entry, push_entry};
-use ninep::reply::{Attributes, Held, Qid, Reply, Room};
+use ninep::entries::{ReaddirEntry, push_entry};
+use ninep::reply::{Attributes, Held, Qid, Reply, StatfsReply};
 use ninep::write_refusal::WriteRefusal;
 use ninep::writing::write;
 use std::alloc::Global;
@@ -154,7 +154,7 @@ fn walks_are_answered(rt: HostRuntime) -> Result<(), Fail> {
 #[test]
 #[tactic(auto, unfolding(ninep::specs::Replies::block_fields, ninep::specs::Replies::file_fields))]
 fn a_room_is_written(rt: HostRuntime) -> Result<(), Fail> {
-    let room = Room {
+    let room = StatfsReply {
         kind: 1,
         block_size: 2,
         blocks: 3,
@@ -227,7 +227,7 @@ fn entries_are_written(rt: HostRuntime) -> Result<(), Fail> {
     let mut out = Vec::new(rt.alloc());
     push_entry(
         &mut out,
-        &Entry {
+        &ReaddirEntry {
             qid: QID,
             next: 1,
             kind: 4,
@@ -241,7 +241,7 @@ fn entries_are_written(rt: HostRuntime) -> Result<(), Fail> {
     };
     push_entry(
         &mut out,
-        &Entry {
+        &ReaddirEntry {
             qid: file,
             next: 258,
             kind: 8,

@@ -1,5 +1,5 @@
 //! Requests: each type by its bytes; and bytes that are no request.
-use ninep::fault::Fault;
+use ninep::fault::MalformedMessage;
 use ninep::reading::read;
 use ninep::request::{Message, Request};
 use std::alloc::Global;
@@ -108,41 +108,44 @@ static REQUESTS: [(&[u8], &str); 28] = [
 ];
 
 /// Bytes that are no request, and the first fault from left to right.
-static FAULTS: [(&[u8], Fault); 15] = [
-    (b"", Fault::Short),
-    (b"\x0b\0\0", Fault::Short),
+static FAULTS: [(&[u8], MalformedMessage); 15] = [
+    (b"", MalformedMessage::Short),
+    (b"\x0b\0\0", MalformedMessage::Short),
     // the size is one too small, one too large, or counts itself alone
-    (b"\x0a\0\0\0\x78\x01\0\x07\0\0\0", Fault::Size),
-    (b"\x0c\0\0\0\x78\x01\0\x07\0\0\0", Fault::Size),
-    (b"\x04\0\0\0", Fault::Short),
-    (b"\x06\0\0\0\x78\x01", Fault::Short),
+    (b"\x0a\0\0\0\x78\x01\0\x07\0\0\0", MalformedMessage::Size),
+    (b"\x0c\0\0\0\x78\x01\0\x07\0\0\0", MalformedMessage::Size),
+    (b"\x04\0\0\0", MalformedMessage::Short),
+    (b"\x06\0\0\0\x78\x01", MalformedMessage::Short),
     // the type of an answer, and one that nothing has
-    (b"\x0b\0\0\0\x79\x01\0\x07\0\0\0", Fault::Unknown),
-    (b"\x07\0\0\0\xff\x01\0", Fault::Unknown),
+    (b"\x0b\0\0\0\x79\x01\0\x07\0\0\0", MalformedMessage::Unknown),
+    (b"\x07\0\0\0\xff\x01\0", MalformedMessage::Unknown),
     // a field is short by a byte, or one stands behind the last
-    (b"\x0a\0\0\0\x78\x01\0\x07\0\0", Fault::Short),
-    (b"\x0c\0\0\0\x78\x01\0\x07\0\0\0\0", Fault::Trailing),
+    (b"\x0a\0\0\0\x78\x01\0\x07\0\0", MalformedMessage::Short),
+    (
+        b"\x0c\0\0\0\x78\x01\0\x07\0\0\0\0",
+        MalformedMessage::Trailing,
+    ),
     // a text, and data, are longer than what is there
     (
         b"\x12\0\0\0\x14\x01\0\x07\0\0\0\x08\0\0\0\x02\0x",
-        Fault::Short,
+        MalformedMessage::Short,
     ),
     (
         b"\x19\0\0\0\x76\x01\0\x07\0\0\0\0\0\0\0\0\0\0\0\x03\0\0\0hi",
-        Fault::Short,
+        MalformedMessage::Short,
     ),
     (
         b"\x19\0\0\0\x76\x01\0\x07\0\0\0\0\0\0\0\0\0\0\0\xff\xff\xff\xffhi",
-        Fault::Short,
+        MalformedMessage::Short,
     ),
     // 17 names are too many, whether or not they are there; of two the second isn't
     (
         b"\x11\0\0\0\x6e\x01\0\x07\0\0\0\x09\0\0\0\x11\0",
-        Fault::ManyNames,
+        MalformedMessage::ManyNames,
     ),
     (
         b"\x14\0\0\0\x6e\x01\0\x07\0\0\0\x09\0\0\0\x02\0\x01\0a",
-        Fault::Short,
+        MalformedMessage::Short,
     ),
 ];
 
@@ -164,7 +167,11 @@ fn requests_are_read(rt: HostRuntime) -> Result<(), Fail> {
 fn no_beginning_is_a_request() -> Result<(), Fail> {
     for (row, (bytes, _)) in REQUESTS.iter().enumerate() {
         for end in 0..bytes.len() {
-            let wanted = if end < 4 { Fault::Short } else { Fault::Size };
+            let wanted = if end < 4 {
+                MalformedMessage::Short
+            } else {
+                MalformedMessage::Size
+            };
             if !matches!(read(&bytes[..end]), Err(fault) if fault == wanted) {
                 return Err(Fail::new(format_args!("row {row}, {end} bytes")));
             }

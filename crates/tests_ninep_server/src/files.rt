@@ -4,7 +4,7 @@ use crate::talk::{Talk, descriptor, done, node, refused};
 use errno::Errno;
 use std::alloc::Global;
 use std::test::Fail;
-use tree::{LinkTarget, MAX_TARGET, Outcome, Reply, Room};
+use tree::{LinkTarget, MAX_TARGET, Outcome, Reply, Statfs};
 
 /// Fid 2 stands on the file `/f`, inode 3.
 fn with_file(alloc: Global) -> Result<Talk, Fail> {
@@ -200,7 +200,7 @@ fn attributes_are_changed(rt: HostRuntime) -> Result<(), Fail> {
 #[test]
 fn the_room_is_told(rt: HostRuntime) -> Result<(), Fail> {
     let mut talk = Talk::attached(rt.alloc())?;
-    talk.gives(Outcome::Reply(Reply::Space(Room {
+    talk.gives(Outcome::Reply(Reply::Space(Statfs {
         block_size: 1024,
         zones: 58,
         free_zones: 54,

@@ -1,8 +1,8 @@
 //! Why a call with a path ends early, as text: the error's name, or the name of why it ended.
+use block_store::{Cut, Halt};
 use errno::Errno;
 use path::Stop;
 use std::test::Fail;
-use store::{Cut, Halt};
 use tests_texts::are_told;
 
 static STOPS: [(Stop, &str); 5] = [

@@ -3,14 +3,14 @@
 ghost use Rattle.std.specs.Prelude.{◌≡◌};
 ghost use Rattle.layout.specs.Places.{IsGeometry};
 
+use block_store::Halt;
+use block_store::memory::Memory;
 use directory::{find, insert, parent, remove, replace, set_parent};
 use inode::inode_table::load;
 use layout::Geometry;
 use path::{Found, NameCache, Path, Stop, find_place, look_up, walk};
 use std::alloc::Global;
 use std::test::Fail;
-use store::Halt;
-use store::memory::Memory;
 use tree::User;
 
 /// The number of the root's inode.

@@ -2,10 +2,10 @@
 
 use crate::images::{CUT_TREE, TREE, volume};
 use crate::volumes::{Call, Seen, Step, UNSOUND};
+use block_store::{Cut, Halt};
 use errno::Errno;
 use path::Stop;
 use std::test::Fail;
-use store::{Cut, Halt};
 use tree::User;
 
 /// User 0 may do all.

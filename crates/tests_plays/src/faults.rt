@@ -1,6 +1,6 @@
 //! What is refused, and which fault is told first.
 use fixtures_plays::plays::HONEST;
-use fixtures_plays::refusals::{Count, Image, Refused, are_first, are_refused};
+use fixtures_plays::refusals::{Count, PlayedImage, Refused, are_first, are_refused};
 use fixtures_plays::texts::are_answered;
 use std::test::Fail;
 
@@ -14,56 +14,62 @@ const BAD: &[u8] = b"user 0 0\n100 stat\n";
 const NONE: &[u8] = &[];
 
 /// The image of a new volume.
-const WHOLE: Image = Image::First(65536);
+const WHOLE: PlayedImage = PlayedImage::First(65536);
 
 /// Files, lines and images.
 static ROWS: [Refused; 33] = [
-    (Image::Unread, 128, &[], HONEST, "cannot read v.img\n"),
-    (Image::Unread, 128, &[None], HONEST, "cannot read v.img\n"),
+    (PlayedImage::Unread, 128, &[], HONEST, "cannot read v.img\n"),
     (
-        Image::Unread,
+        PlayedImage::Unread,
+        128,
+        &[None],
+        HONEST,
+        "cannot read v.img\n",
+    ),
+    (
+        PlayedImage::Unread,
         128,
         &[Some(BAD)],
         HONEST,
         "cannot read v.img\n",
     ),
     (
-        Image::First(0),
+        PlayedImage::First(0),
         128,
         &[Some(BAD), None],
         HONEST,
         "cannot read t.txt\n",
     ),
     (
-        Image::First(0),
+        PlayedImage::First(0),
         128,
         &[None, None],
         HONEST,
         "cannot read s.txt\n",
     ),
     (
-        Image::First(0),
+        PlayedImage::First(0),
         128,
         &[Some(STAT), Some(BAD)],
         HONEST,
         "bad line 2 of t.txt\n",
     ),
     (
-        Image::First(0),
+        PlayedImage::First(0),
         128,
         &[Some(BAD), Some(NONE)],
         HONEST,
         "bad line 2 of s.txt\n",
     ),
     (
-        Image::First(0),
+        PlayedImage::First(0),
         128,
         &[Some(STAT), Some(STAT), Some(b"user 0\n")],
         HONEST,
         "bad line 1 of u.txt\n",
     ),
     (
-        Image::First(0),
+        PlayedImage::First(0),
         128,
         &[Some(STAT), Some(STAT)],
         HONEST,
@@ -121,35 +127,35 @@ static ROWS: [Refused; 33] = [
         "bad line 3 of s.txt\n",
     ),
     (
-        Image::Changed(1048, 0x00),
+        PlayedImage::Changed(1048, 0x00),
         128,
         &[Some(STAT)],
         HONEST,
         "Mount Layout BadMagic\n",
     ),
     (
-        Image::Changed(1053, 0x05),
+        PlayedImage::Changed(1053, 0x05),
         128,
         &[Some(STAT)],
         HONEST,
         "Mount Layout BadBlockSize\n",
     ),
     (
-        Image::Changed(1054, 0x01),
+        PlayedImage::Changed(1054, 0x01),
         128,
         &[Some(STAT)],
         HONEST,
         "Mount Layout BadVersion\n",
     ),
     (
-        Image::Changed(1036, 0x01),
+        PlayedImage::Changed(1036, 0x01),
         128,
         &[Some(STAT)],
         HONEST,
         "Mount Layout BadVersion\n",
     ),
     (
-        Image::Changed(1034, 0x07),
+        PlayedImage::Changed(1034, 0x07),
         128,
         &[Some(STAT)],
         HONEST,
@@ -157,21 +163,21 @@ static ROWS: [Refused; 33] = [
     ),
     // One block more than there are: the last read passes the end, and moves nothing there.
     (
-        Image::Changed(1044, 0x41),
+        PlayedImage::Changed(1044, 0x41),
         128,
         &[Some(STAT)],
         HONEST,
         "Mount Eio\n",
     ),
     (
-        Image::Changed(2048, 0x01),
+        PlayedImage::Changed(2048, 0x01),
         128,
         &[Some(STAT)],
         HONEST,
         "Mount Inconsistent finding 4 at 1\n",
     ),
     (
-        Image::Changed(4097, 0x81),
+        PlayedImage::Changed(4097, 0x81),
         128,
         &[Some(STAT)],
         HONEST,
@@ -179,7 +185,7 @@ static ROWS: [Refused; 33] = [
     ),
     // Zone 7 is marked, and nothing names it.
     (
-        Image::Changed(3072, 0x07),
+        PlayedImage::Changed(3072, 0x07),
         128,
         &[Some(STAT)],
         HONEST,
@@ -187,7 +193,7 @@ static ROWS: [Refused; 33] = [
     ),
     // The root has three links.
     (
-        Image::Changed(4098, 0x03),
+        PlayedImage::Changed(4098, 0x03),
         128,
         &[Some(STAT)],
         HONEST,
@@ -195,23 +201,29 @@ static ROWS: [Refused; 33] = [
     ),
     // Drivers of other media than the image's are told before its superblock.
     (
-        Image::Changed(1048, 0x00),
+        PlayedImage::Changed(1048, 0x00),
         127,
         &[Some(STAT)],
         HONEST,
         "BadSetup\n",
     ),
     // The first 2048 bytes, or the volume's last ones, aren't all there: a read past the end moves nothing, which is a driver's fault.
-    (Image::First(1024), 2, &[Some(STAT)], HONEST, "Mount Eio\n"),
     (
-        Image::First(1023),
+        PlayedImage::First(1024),
+        2,
+        &[Some(STAT)],
+        HONEST,
+        "Mount Eio\n",
+    ),
+    (
+        PlayedImage::First(1023),
         1,
         &[Some(STAT)],
         HONEST,
         "Media NotWholeSectors\n",
     ),
     (
-        Image::First(65024),
+        PlayedImage::First(65024),
         127,
         &[Some(STAT)],
         HONEST,

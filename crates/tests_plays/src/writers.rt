@@ -2,7 +2,7 @@
 use fixtures_plays::writers::{Finished, Narrow, all_come_out, are_finished};
 use output::Told;
 use std::test::Fail;
-use tools::play::Status;
+use tools::play::PlayStatus;
 
 /// A script, and what is printed of it on a new volume.
 pub(crate) const STAT: &[u8] = b"user 0 0\n100 stat /\n";
@@ -14,7 +14,7 @@ pub(crate) const TOLD: &str =
 const CHMOD: &[u8] = b"user 0 0\n100 chmod / 700\n100 stat /\n";
 
 /// A play that was refused, or whose text was cut off, and a line that says so.
-const CUT_OFF: Status = Status::Refused(Told::Whole);
+const CUT_OFF: PlayStatus = PlayStatus::Refused(Told::Whole);
 
 /// What is said of a script whose first line is bad.
 const BAD_LINE: &str = "bad line 1 of s.txt\n";
@@ -70,14 +70,35 @@ static ROOMS: [Narrow; 13] = [
         false,
         STAT,
         (99, 99, 3),
-        Status::Refused(Told::Partly),
+        PlayStatus::Refused(Told::Partly),
         ("", "can"),
         None,
     ),
     // A writer that takes little at a time and goes on gets all of it.
-    (true, STAT, (1, 99, 99), Status::Done, (TOLD, ""), Some("")),
-    (true, STAT, (3, 99, 99), Status::Done, (TOLD, ""), Some("")),
-    (true, STAT, (64, 99, 99), Status::Done, (TOLD, ""), Some("")),
+    (
+        true,
+        STAT,
+        (1, 99, 99),
+        PlayStatus::Done,
+        (TOLD, ""),
+        Some(""),
+    ),
+    (
+        true,
+        STAT,
+        (3, 99, 99),
+        PlayStatus::Done,
+        (TOLD, ""),
+        Some(""),
+    ),
+    (
+        true,
+        STAT,
+        (64, 99, 99),
+        PlayStatus::Done,
+        (TOLD, ""),
+        Some(""),
+    ),
     (true, BAD, (1, 99, 99), CUT_OFF, ("", BAD_LINE), None),
     (true, BAD, (3, 99, 99), CUT_OFF, ("", BAD_LINE), None),
     (true, BAD, (64, 99, 99), CUT_OFF, ("", BAD_LINE), None),
@@ -90,18 +111,18 @@ fn writers_take_some(rt: HostRuntime) -> Result<(), Fail> {
 
 /// Plays that were whole or given up, and whose image was written or not.
 static ROWS: [Finished; 4] = [
-    (Status::Done, true, Status::Done, ""),
-    (Status::GivenUp, true, Status::GivenUp, ""),
+    (PlayStatus::Done, true, PlayStatus::Done, ""),
+    (PlayStatus::GivenUp, true, PlayStatus::GivenUp, ""),
     (
-        Status::Done,
+        PlayStatus::Done,
         false,
-        Status::Refused(Told::Whole),
+        PlayStatus::Refused(Told::Whole),
         "cannot write w.img\n",
     ),
     (
-        Status::GivenUp,
+        PlayStatus::GivenUp,
         false,
-        Status::Refused(Told::Whole),
+        PlayStatus::Refused(Told::Whole),
         "cannot write w.img\n",
     ),
 ];

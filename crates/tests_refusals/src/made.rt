@@ -3,6 +3,7 @@
 
 use crate::trials::{Trial, each_refused};
 use cache::{Cache, CacheRefusal};
+use cached_blocks::Stored;
 use fixtures::frames::VOLUME;
 use fixtures::lists::{driver, started};
 use fixtures::supply_of;
@@ -10,8 +11,6 @@ use fsck::{OutOfMemory, Verdict, check};
 use media::{Media, MediaRefusal};
 use message::{BlockReply, Incoming};
 use modeldisk::ScriptedDriver;
-use mounting::MountRefusal;
-use mounting::mounted::mount;
 use new_volume::{MkfsRefusal, mkfs};
 use reincarnate::policy::Policy;
 use reincarnate::{Reincarnation, SupplyRefusal};
@@ -19,8 +18,9 @@ use reissue::Transfers;
 use reissue::list_link::ListLink;
 use std::alloc::{AllocError, Global};
 use std::test::Fail;
-use stored::Stored;
 use vfs::Server;
+use volume_mount::MountRefusal;
+use volume_mount::mounted::mount;
 
 /// A new volume of 64 blocks and 32 inodes, and its bytes.
 #[derive(Drop)]

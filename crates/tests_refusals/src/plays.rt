@@ -16,9 +16,9 @@ use std::sync::{Arc, Wait};
 use std::test::Fail;
 use std::thread::Threads;
 use std::time::Clock;
-use tools::play::{Image, play};
-use volume_tools::make::{Wanted, make};
-use volume_tools::verify::verify;
+use tools::play::{ImageFile, play};
+use volume_commands::make::{Wanted, make};
+use volume_commands::verify::verify;
 
 /// A script that is played on the volume in an image; what is written of it where no memory is refused, and the image that it leaves then.
 #[derive(Drop)]
@@ -75,7 +75,7 @@ pub(crate) fn play_script<
     err: &mut E,
 ) -> Result<(u8, Option<Vec<u8>>), AllocError> {
     let supply = drivers_for(alloc, 5, false, table_in(image))?;
-    let image = Image {
+    let image = ImageFile {
         name: "v.img",
         bytes: Some(Vec::from_slice(alloc, image)?),
     };

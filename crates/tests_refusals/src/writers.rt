@@ -8,8 +8,8 @@ use std::sync::Wait;
 use std::test::Fail;
 use std::thread::Threads;
 use std::time::Clock;
-use volume_tools::make::make;
-use volume_tools::verify::verify;
+use volume_commands::make::make;
+use volume_commands::verify::verify;
 
 /// A writer that takes up to so many bytes at each of some calls, and is refused at the next, or interrupted.
 #[derive(Drop)]

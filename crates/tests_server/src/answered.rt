@@ -1,17 +1,17 @@
 //! A link that answers the requests of a mount, and servers over it.
 ghost use Rattle.std.specs.Prelude.{IfOk};
-ghost use Rattle.stored.specs.World.{stored_caching};
+ghost use Rattle.cached_blocks.specs.World.{stored_caching};
 ghost use Rattle.vfs.specs.Server.{IsOpen};
 
+use cached_blocks::Stored;
 use fixtures::lists::{driver, started};
 use message::{BlockReply, Incoming};
-use mounting::MountRefusal;
-use mounting::mounted::mount;
 use reissue::link::Link;
 use reissue::list_link::ListLink;
 use std::alloc::{AllocError, Global};
-use stored::Stored;
 use vfs::Server;
+use volume_mount::MountRefusal;
+use volume_mount::mounted::mount;
 
 /// The first driver's answer to this request: all these bytes, 4096 at most, were moved.
 pub(crate) fn gives(id: u64, piece: &[u8]) -> Incoming {

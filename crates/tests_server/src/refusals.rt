@@ -3,11 +3,11 @@ use crate::answered::{mounted_over, reads_of};
 use fixtures::changed;
 use layout::LayoutRefusal;
 use message::Incoming;
-use mounting::MountRefusal;
 use std::alloc::{AllocError, Global};
 use std::test::Fail;
 use tests_texts::is_told;
 use volume::Finding;
+use volume_mount::MountRefusal;
 
 /// A new volume with a byte that is changed, how many of its reads the driver answers once it is started, or that none is started,
 /// whether the device is given up then or the link ends, the frames, and why the mount is refused.

@@ -1,8 +1,9 @@
 //! What is read and written of a volume that was mounted, and why it isn't unmounted.
-ghost use Rattle.stored.specs.World.{stored_caching};
+ghost use Rattle.cached_blocks.specs.World.{stored_caching};
 ghost use Rattle.vfs.specs.Server.{IsOpen};
 
 use crate::answered::{gives, mounted_over, reads_of};
+use cached_blocks::{Caches, Stored};
 use file_server::FileServer;
 use fixtures::lists::{moved, told};
 use fixtures::new_volume;
@@ -12,7 +13,6 @@ use reissue::list_link::ListLink;
 use reply_text::text::OutcomeText;
 use std::alloc::{AllocError, Global};
 use std::test::Fail;
-use stored::{Caches, Stored};
 use tests_texts::{are_told, is_told};
 use tree::{Call, OpenFlags, Reply, Who};
 use vfs::Server;

@@ -2,16 +2,16 @@
 
 ghost use Rattle.std.specs.Prelude.{◌≡◌};
 ghost use Rattle.layout.specs.Places.{IsGeometry};
-ghost use Rattle.store.specs.Volume.{IsOn};
+ghost use Rattle.block_store.specs.Volume.{IsOn};
 
 use bitflags::Flags;
+use block_store::memory::Memory;
+use block_store::{Blocks, Cut};
 use client_calls::{NameCache, body};
 use descriptors::Descriptors;
 use errno::Errno;
 use layout::Geometry;
 use std::alloc::{AllocError, Global};
-use store::memory::Memory;
-use store::{Blocks, Cut};
 use tree::{Call, OpenFlags, Reply, Who};
 
 /// Does a call at 60.

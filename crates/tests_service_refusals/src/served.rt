@@ -1,15 +1,15 @@
 //! Sessions that are asked for where memory is refused, and a service that is stopped where none is granted.
 
+use board::counting::parameters::ServiceParameters;
 use board::counting::recorder::Recorder;
-use board::counting::room::Room;
 use file_server::FileServer;
 use fixtures::gates::Ticking;
 use fixtures::orders::{refuse, was_refused};
 use fixtures::{new_volume, patient};
-use launch::program::Program;
-use launch::start::serve;
 use modeldisk::supply::{drivers_for, table_in};
 use serve::service::Service;
+use service_start::program::Program;
+use service_start::start::serve;
 use shared_server::refusal::SessionRefusal;
 use std::alloc::Global;
 use std::sync::{Arc, Wait};
@@ -29,7 +29,10 @@ impl<R: Threads + Wait + Copy + Send + Sync + 'static> Program<R> for Asks {
 
     ghost gives = { λ program geometry opening output. Unit {0} };
 
-    fn run<N: Room, L: Recorder<N>, S: FileServer<L>>(self, service: Service<N, R, L, S>) -> bool
+    fn run<N: ServiceParameters, L: Recorder<N>, S: FileServer<L>>(
+        self,
+        service: Service<N, R, L, S>,
+    ) -> bool
         ensures { Unit {0} }
     {
         for request in 1..=MOST {
@@ -46,7 +49,7 @@ impl<R: Threads + Wait + Copy + Send + Sync + 'static> Program<R> for Asks {
 impl Asks {
     /// Asks for a session with this request refused: whether it was made, with number 0, where no request was refused. None where it was
     /// refused or made otherwise.
-    fn asks<N: Room, R: Threads + Wait + Copy, L: Recorder<N>, S: FileServer<L>>(
+    fn asks<N: ServiceParameters, R: Threads + Wait + Copy, L: Recorder<N>, S: FileServer<L>>(
         &self,
         service: &Service<N, R, L, S>,
         request: u32,
@@ -85,7 +88,7 @@ impl<R: Threads + Wait + Copy + Send + Sync + 'static> Program<R> for Stops {
 
     ghost gives = { λ program geometry opening output. Unit {0} };
 
-    fn run<N: Room, L: Recorder<N>, S: FileServer<L>>(
+    fn run<N: ServiceParameters, L: Recorder<N>, S: FileServer<L>>(
         self,
         service: Service<N, R, L, S>,
     ) -> Option<Vec<u8>>

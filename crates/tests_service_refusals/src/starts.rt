@@ -2,25 +2,25 @@
 //! are made with memory.
 
 use crate::without::make;
+use board::counting::parameters::ServiceParameters;
 use board::counting::recorder::Recorder;
-use board::counting::room::Room;
 use call_text::scripts::reading::read_script;
 use call_text::scripts::timed::TimedCall;
 use file_server::FileServer;
 use fixtures::gates::Ticking;
 use fixtures::orders::{MOST, is_last, refuse, was_refused};
 use fixtures::{new_volume, patient};
-use launch::StartRefusal;
-use launch::program::Program;
-use launch::start::serve;
 use modeldisk::supply::{drivers_for, table_in};
 use serve::service::Service;
+use service_start::program::Program;
+use service_start::start::serve;
 use std::alloc::{AllocError, Global};
 use std::sync::{Arc, Wait};
 use std::test::Fail;
 use std::thread::Threads;
 use std::time::Clock;
 use tree::Outcome;
+use volume_mount::StartRefusal;
 
 /// Makes calls in a session of a service, with memory: from here on no request is refused.
 #[derive(Drop)]
@@ -35,7 +35,7 @@ impl<R: Threads + Wait + Copy + Send + Sync + 'static> Program<R> for Calls<'_> 
 
     ghost gives = { λ program geometry opening output. Unit {0} };
 
-    fn run<N: Room, L: Recorder<N>, S: FileServer<L>>(
+    fn run<N: ServiceParameters, L: Recorder<N>, S: FileServer<L>>(
         self,
         service: Service<N, R, L, S>,
     ) -> Option<Vec<Outcome>>
@@ -49,7 +49,7 @@ impl<R: Threads + Wait + Copy + Send + Sync + 'static> Program<R> for Calls<'_> 
 }
 
 /// Makes calls in a session of a service, and adds what each comes to; nothing where there is no session or no room for it.
-fn make_in<N: Room, R: Threads + Wait + Copy, L: Recorder<N>, S: FileServer<L>>(
+fn make_in<N: ServiceParameters, R: Threads + Wait + Copy, L: Recorder<N>, S: FileServer<L>>(
     service: &Service<N, R, L, S>,
     calls: &[TimedCall<'_>],
     outcomes: &mut Vec<Outcome>,

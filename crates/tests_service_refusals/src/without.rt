@@ -1,7 +1,7 @@
 //! Calls of a service after its opening, while there is no memory: none but read and readdir takes any.
 
+use board::counting::parameters::ServiceParameters;
 use board::counting::recorder::Recorder;
-use board::counting::room::Room;
 use call_text::scripts::reading::read_script;
 use call_text::scripts::timed::TimedCall;
 use errno::Errno;
@@ -9,11 +9,11 @@ use file_server::FileServer;
 use fixtures::gates::Ticking;
 use fixtures::orders::{refuse, was_refused};
 use fixtures::{new_volume, patient};
-use launch::program::Program;
-use launch::start::serve;
 use modeldisk::supply::{drivers_for, table_in};
 use serve::service::{Service, Shared};
 use serve::session::Session;
+use service_start::program::Program;
+use service_start::start::serve;
 use std::alloc::{AllocError, Global};
 use std::env;
 use std::sync::{Arc, Wait};
@@ -115,7 +115,7 @@ struct Calls<'c> {
 }
 
 /// Makes calls, and adds what each comes to; nothing where there is no room for it.
-pub(crate) fn make<N: Room, R: Wait + Copy, L: Recorder<N>, S: FileServer<L>>(
+pub(crate) fn make<N: ServiceParameters, R: Wait + Copy, L: Recorder<N>, S: FileServer<L>>(
     session: &mut Session<N, Shared<N, R, L, S>>,
     calls: &[TimedCall<'_>],
     outcomes: &mut Vec<Outcome>,
@@ -133,7 +133,7 @@ impl<R: Threads + Wait + Copy + Send + Sync + 'static> Program<R> for Calls<'_> 
 
     ghost gives = { λ program geometry opening output. Unit {0} };
 
-    fn run<N: Room, L: Recorder<N>, S: FileServer<L>>(
+    fn run<N: ServiceParameters, L: Recorder<N>, S: FileServer<L>>(
         self,
         service: Service<N, R, L, S>,
     ) -> Option<Vec<Outcome>>
@@ -147,7 +147,7 @@ impl<R: Threads + Wait + Copy + Send + Sync + 'static> Program<R> for Calls<'_> 
 
 impl Calls<'_> {
     /// Makes the calls in a session of a service, and adds what each comes to.
-    fn make_in<N: Room, R: Threads + Wait + Copy, L: Recorder<N>, S: FileServer<L>>(
+    fn make_in<N: ServiceParameters, R: Threads + Wait + Copy, L: Recorder<N>, S: FileServer<L>>(
         &self,
         service: &Service<N, R, L, S>,
         outcomes: &mut Vec<Outcome>,
@@ -162,7 +162,7 @@ impl Calls<'_> {
     }
 
     /// Makes all of them without memory.
-    fn make_without<N: Room, R: Wait + Copy, L: Recorder<N>, S: FileServer<L>>(
+    fn make_without<N: ServiceParameters, R: Wait + Copy, L: Recorder<N>, S: FileServer<L>>(
         &self,
         session: &mut Session<N, Shared<N, R, L, S>>,
         outcomes: &mut Vec<Outcome>,

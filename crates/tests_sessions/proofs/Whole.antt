@@ -14,10 +14,10 @@ use Rattle.volume.specs.Holds.{Holds}
 use Rattle.records.specs.Opening.{contents_at}
 use Rattle.records.specs.Legal.{IsAtFirst}
 use Rattle.media.specs.Contents.{sectors_of}
-use Rattle.mounting.specs.declared.refusal.StartRefusal.{StartRefusal}
-use Rattle.mounting.specs.Starting.{opening_of, place_in}
-use Rattle.mounting.proofs.Starts.{many_sectors}
-use Rattle.mounting.proofs.Volumes.{byte_at}
+use Rattle.volume_mount.specs.declared.refusal.StartRefusal.{StartRefusal}
+use Rattle.volume_mount.specs.Starting.{opening_of, place_in}
+use Rattle.volume_mount.proofs.Starts.{many_sectors}
+use Rattle.volume_mount.proofs.Volumes.{byte_at}
 
 -- the volume that is the whole image holds the tree that the check found
 pub at_first : (image : List ℕ) (range : ℕ × ℕ) (g : Geometry) (tree : Tree) → place_in (sectors_of image) 0 ≡ Ok range

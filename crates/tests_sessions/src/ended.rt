@@ -4,12 +4,12 @@ ghost use Rattle.layout.specs.Places.{IsGeometry};
 ghost use Rattle.tree.specs.Tree.{Tree};
 ghost use Rattle.records.specs.Opening.{contents_at};
 ghost use Rattle.records.specs.Legal.{IsAtFirst};
-ghost use Rattle.mounting.specs.Starting.{opening_of};
+ghost use Rattle.volume_mount.specs.Starting.{opening_of};
 ghost use Rattle.board.specs.View.{IsKeeper, opener};
 ghost use Rattle.true_replies.specs.Events.{opening_media};
 
-use board::counting::Noting;
-use board::counting::room::Room;
+use board::counting::RecordingLink;
+use board::counting::parameters::ServiceParameters;
 use board::{Board, Seat};
 use driver_threads::running::start_drivers;
 use fixtures::gates::Yielding;
@@ -17,21 +17,24 @@ use fixtures::{new_volume, supply_of};
 use fixtures_sessions::services::asked_and_stopped;
 use fixtures_sessions::silent::Silent;
 use fsck::{Verdict, check};
-use launch::opened::over;
 use layout::Geometry;
 use modeldisk::ScriptedDriver;
-use mounting::{Prepared, prepare};
 use reincarnate::Reincarnation;
 use reincarnate::policy::{Policy, Setup};
+use service_start::opened::over;
 use std::alloc::{AllocError, Global};
 use std::marker::Brand;
 use std::sync::{Arc, Wait};
 use std::test::Fail;
 use std::thread::Threads;
 use tests_texts::is_told;
+use volume_mount::{Prepared, prepare};
 
 /// On the volume in an image a session calls, another one is asked for, and the service is stopped. The image.
-fn ask_and_stop<N: Room + Send + Sync + 'static, R: Threads + Wait + Copy + Send + Sync + 'static>(
+fn ask_and_stop<
+    N: ServiceParameters + Send + Sync + 'static,
+    R: Threads + Wait + Copy + Send + Sync + 'static,
+>(
     alloc: Global,
     rt: R,
     board: Board,
@@ -56,7 +59,7 @@ fn ask_and_stop<N: Room + Send + Sync + 'static, R: Threads + Wait + Copy + Send
     let counted = Arc::try_clone(&board)?;
     let gate = Arc::new(alloc, Yielding)?;
     let asked = Arc::try_clone(&gate)?;
-    let noting = Noting::<N, Silent>::new(alloc, Silent::new(alloc)?, counted, seat)?;
+    let noting = RecordingLink::<N, Silent>::new(alloc, Silent::new(alloc)?, counted, seat)?;
     let (link, running) = start_drivers::<N, ScriptedDriver, Yielding, R>(
         alloc,
         rt,

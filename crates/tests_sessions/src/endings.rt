@@ -1,16 +1,16 @@
 //! The ends of services: the threads behind one end, whatever their drivers do, and what was written is left.
 
+use board::counting::parameters::ServiceParameters;
 use board::counting::recorder::Recorder;
-use board::counting::room::Room;
 use file_server::FileServer;
 use fixtures::{ROOT, new_volume};
 use fixtures_sessions::callers::{Caller, told};
 use fixtures_sessions::stage::Stage;
 use fixtures_sessions::watch::{Holds, is_alone, is_reached};
 use fsck::{Verdict, check};
-use launch::program::Program;
 use modeldisk::{Fault, FaultKind};
 use serve::service::Service;
+use service_start::program::Program;
 use std::alloc::Global;
 use std::sync::{Arc, Wait};
 use std::test::*;
@@ -64,11 +64,12 @@ fn lets_go_later<R: Threads + Wait + Clock + Copy + Send + Sync + 'static>(
 }
 
 /// A session changes the root, and ends, after the first driver was held. A line for each answer.
-fn changed_by<N: Room, R: Threads + Wait + Clock + Copy, L: Recorder<N>, S: FileServer<L>>(
-    stage: &Stage<R>,
-    ending: Ending,
-    service: &Service<N, R, L, S>,
-) -> Option<String> {
+fn changed_by<
+    N: ServiceParameters,
+    R: Threads + Wait + Clock + Copy,
+    L: Recorder<N>,
+    S: FileServer<L>,
+>(stage: &Stage<R>, ending: Ending, service: &Service<N, R, L, S>) -> Option<String> {
     let mut lines = String::new(stage.alloc);
     let mut session = service.session(0, 0).ok()?;
     change(&mut session, &mut lines);
@@ -80,7 +81,7 @@ fn changed_by<N: Room, R: Threads + Wait + Clock + Copy, L: Recorder<N>, S: File
 }
 
 /// A session changes the root, and the service ends so. A line for each answer, and the image, or no bytes where the service was let go.
-fn end<N: Room, R: Threads + Wait + Clock + Copy, L: Recorder<N>, S: FileServer<L>>(
+fn end<N: ServiceParameters, R: Threads + Wait + Clock + Copy, L: Recorder<N>, S: FileServer<L>>(
     stage: &Stage<R>,
     ending: Ending,
     service: Service<N, R, L, S>,
@@ -109,7 +110,7 @@ impl<R: Threads + Wait + Clock + Copy + Send + Sync + 'static> Program<R> for En
 
     ghost gives = { λ program geometry opening output. Unit {0} };
 
-    fn run<N: Room, L: Recorder<N>, S: FileServer<L>>(
+    fn run<N: ServiceParameters, L: Recorder<N>, S: FileServer<L>>(
         self,
         service: Service<N, R, L, S>,
     ) -> Option<(String, Vec<u8>)>

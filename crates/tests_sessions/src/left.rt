@@ -1,16 +1,16 @@
 //! A service that is stopped while a session is left.
 
+use board::counting::parameters::ServiceParameters;
 use board::counting::recorder::Recorder;
-use board::counting::room::Room;
 use file_server::FileServer;
 use fixtures::new_volume;
 use fixtures_sessions::callers::told;
 use fixtures_sessions::stage::Stage;
 use fixtures_sessions::watch::Holds;
 use fsck::{Verdict, check};
-use launch::program::Program;
 use serve::service::Service;
 use serve::stopping::StopRefusal;
+use service_start::program::Program;
 use std::alloc::Global;
 use std::sync::Wait;
 use std::test::*;
@@ -31,7 +31,7 @@ impl<R: Threads + Wait + Clock + Copy + Send + Sync + 'static> Program<R> for St
 
     ghost gives = { λ program geometry opening output. Unit {0} };
 
-    fn run<N: Room, L: Recorder<N>, S: FileServer<L>>(
+    fn run<N: ServiceParameters, L: Recorder<N>, S: FileServer<L>>(
         self,
         service: Service<N, R, L, S>,
     ) -> Option<(String, Vec<u8>)>

@@ -1,15 +1,15 @@
 //! What is done with a service on the small volume.
 
+use board::counting::parameters::ServiceParameters;
 use board::counting::recorder::Recorder;
-use board::counting::room::Room;
 use file_server::FileServer;
 use fixtures::gates::HoldsFlusher;
 use fixtures::{MOUNT_READS, patient, supply_at};
 use fixtures_sessions::services::{many, stopped, two_in_turn};
-use launch::program::Program;
-use launch::start::serve;
 use modeldisk::FaultKind;
 use serve::service::Service;
+use service_start::program::Program;
+use service_start::start::serve;
 use std::alloc::{AllocError, Global};
 use std::sync::{Arc, Wait};
 use std::thread::Threads;
@@ -47,7 +47,7 @@ impl<R: Threads + Wait + Copy + Send + Sync + 'static> Program<R> for Does {
 
     ghost gives = { λ program geometry opening output. Unit {0} };
 
-    fn run<N: Room, L: Recorder<N>, S: FileServer<L>>(
+    fn run<N: ServiceParameters, L: Recorder<N>, S: FileServer<L>>(
         self,
         service: Service<N, R, L, S>,
     ) -> Option<Came>

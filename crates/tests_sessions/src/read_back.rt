@@ -1,16 +1,16 @@
 //! What one session writes while its driver dies, another one reads, and a further service.
 
+use board::counting::parameters::ServiceParameters;
 use board::counting::recorder::Recorder;
-use board::counting::room::Room;
 use file_server::FileServer;
 use fixtures::{MOUNT_READS, new_volume};
 use fixtures_sessions::callers::{Caller, told};
 use fixtures_sessions::stage::Stage;
 use fixtures_sessions::watch::{Holds, Watch};
 use fsck::{Verdict, check};
-use launch::program::Program;
 use modeldisk::{Fault, FaultKind};
 use serve::service::Service;
+use service_start::program::Program;
 use std::alloc::Global;
 use std::sync::{Arc, Wait};
 use std::test::*;
@@ -78,7 +78,7 @@ impl<R: Threads + Wait + Clock + Copy + Send + Sync + 'static> Program<R> for Wr
 
     ghost gives = { λ program geometry opening output. Unit {0} };
 
-    fn run<N: Room, L: Recorder<N>, S: FileServer<L>>(
+    fn run<N: ServiceParameters, L: Recorder<N>, S: FileServer<L>>(
         self,
         service: Service<N, R, L, S>,
     ) -> Option<Came>
@@ -99,7 +99,7 @@ impl<R: Threads + Wait + Clock + Copy + Send + Sync + 'static> Program<R> for Wr
 
 impl<R: Clock + Copy> WritesAndReads<R> {
     /// Calls in two sessions of a service, which then end. Whether both gave the same number of marks, and whether the driver had died.
-    fn calls_in<N: Room, L: Recorder<N>, S: FileServer<L>>(
+    fn calls_in<N: ServiceParameters, L: Recorder<N>, S: FileServer<L>>(
         &self,
         service: &Service<N, R, L, S>,
         lines: &mut String,
@@ -127,7 +127,7 @@ impl<R: Threads + Wait + Clock + Copy + Send + Sync + 'static> Program<R> for Re
 
     ghost gives = { λ program geometry opening output. Unit {0} };
 
-    fn run<N: Room, L: Recorder<N>, S: FileServer<L>>(
+    fn run<N: ServiceParameters, L: Recorder<N>, S: FileServer<L>>(
         self,
         service: Service<N, R, L, S>,
     ) -> Option<String>

@@ -6,34 +6,34 @@ ghost use Rattle.std.specs.Prelude.{◌≡◌, ◌≤◌, ◌^◌, [], true, map
 ghost use Rattle.std.specs.Arc.{arc_value};
 ghost use Rattle.records.specs.Opening.{contents_at};
 ghost use Rattle.records.specs.Mount.{is_frame_count};
-ghost use Rattle.mounting.specs.Laws.{sizes_in};
-ghost use Rattle.mounting.specs.Starting.{opening_of, IsPrepared};
+ghost use Rattle.volume_mount.specs.Laws.{sizes_in};
+ghost use Rattle.volume_mount.specs.Starting.{opening_of, IsPrepared};
 ghost use Rattle.true_replies.specs.Events.{opening_media};
 ghost use Rattle.board.specs.View.{IsKeeper, opener};
 
 use crate::many::{has_all, write_all};
 use crate::no_wait::{Looked, look_meanwhile};
 use bdev::BlockDriver;
+use board::counting::parameters::ServiceParameters;
 use board::counting::recorder::Recorder;
-use board::counting::room::Room;
 use board::{Board, Seat};
 use driver_threads::running::Running;
 use file_server::FileServer;
-use fixtures_sessions::noting::Noting;
+use fixtures_sessions::recording_driver::RecordingDriver;
 use fixtures_sessions::services::two_in_threads;
 use fixtures_sessions::stage::{LATE, Stage, patient};
 use fixtures_sessions::watch::Watch;
-use launch::opened::mounted;
-use launch::start::counted_drivers;
 use modeldisk::Fault;
-use mounting::{Prepared, prepare};
 use reincarnate::policy::Setup;
 use serve::service::Service;
+use service_start::opened::mounted;
+use service_start::start::counted_drivers;
 use std::marker::Brand;
 use std::sync::{Arc, Wait};
 use std::test::Fail;
 use std::thread::Threads;
 use std::time::Clock;
+use volume_mount::{Prepared, prepare};
 
 /// What sessions do, each in a thread of its own.
 #[derive(Clone, Copy, PartialEq, Eq)]
@@ -61,7 +61,7 @@ pub(crate) enum Came {
 
 /// It is done in sessions of a service: what came of it. None where a session or memory was wanting.
 fn came_of<
-    N: Room + Send + Sync,
+    N: ServiceParameters + Send + Sync,
     R: Threads + Wait + Clock + Copy + Send + Sync + 'static,
     L: Recorder<N> + Send,
     S: FileServer<L> + Send,
@@ -82,7 +82,7 @@ fn came_of<
 
 /// It is done, and the service is stopped: what came of it, and the image. None where a session, memory or an image was wanting.
 fn done<
-    N: Room + Send + Sync,
+    N: ServiceParameters + Send + Sync,
     R: Threads + Wait + Clock + Copy + Send + Sync + 'static,
     L: Recorder<N> + Send,
     S: FileServer<L> + Send,
@@ -94,7 +94,7 @@ fn done<
 
 /// Mounts the volume over this link, does it on the service of it, and stops the service: what came of it, and the image that is left.
 fn mount_and_do<
-    N: Room + Send + Sync + 'static,
+    N: ServiceParameters + Send + Sync + 'static,
     R: Threads + Wait + Clock + Copy + Send + Sync + 'static,
     L: Recorder<N> + Send + 'static,
 >(
@@ -129,7 +129,7 @@ fn mount_and_do<
 
 // The caller picks `N` from what it hands over.
 fn start_and_do<
-    N: Room + Send + Sync + 'static,
+    N: ServiceParameters + Send + Sync + 'static,
     R: Threads + Wait + Clock + Copy + Send + Sync + 'static,
 >(
     stage: &Stage<R>,
@@ -137,19 +137,19 @@ fn start_and_do<
     seat: Seat,
     prepared: Prepared,
     setup: &Setup,
-    supply: Vec<Noting<R>>,
+    supply: Vec<RecordingDriver<R>>,
     what: What,
 ) -> Result<(Came, Vec<u8>), Fail>
     requires board { board ≡ N.table }
     requires seat { IsKeeper N.table seat × (seat.view ≡ opener) }
     requires opening { N.opening ≡ opening_of N.opening.media setup.now.minor prepared.range }
     requires geometry { N.geometry ≡ sizes_in (contents_at N.opening) }
-    requires prepared { IsPrepared N.opening.media setup.now (map ⟦<Noting<R> as BlockDriver>⟧.state supply.items) prepared.range }
+    requires prepared { IsPrepared N.opening.media setup.now (map ⟦<RecordingDriver<R> as BlockDriver>⟧.state supply.items) prepared.range }
     requires contents { prepared.media ≡ opening_media N.opening }
 {
     let Prepared { media, range } = prepared;
     let asked = Arc::try_clone(&stage.gate)?;
-    let (board, link, running) = counted_drivers::<N, R, Noting<R>, Watch<R>>(
+    let (board, link, running) = counted_drivers::<N, R, RecordingDriver<R>, Watch<R>>(
         stage.alloc,
         stage.rt,
         board,

@@ -1,14 +1,14 @@
 //! Drivers and a flusher that are held run beside the server: it goes on without them.
 
+use board::counting::parameters::ServiceParameters;
 use board::counting::recorder::Recorder;
-use board::counting::room::Room;
 use file_server::FileServer;
 use fixtures::{ROOT, new_volume};
 use fixtures_sessions::callers::{Caller, told};
 use fixtures_sessions::stage::Stage;
 use fixtures_sessions::watch::{Holds, Watch};
-use launch::program::Program;
 use serve::service::Service;
+use service_start::program::Program;
 use std::alloc::Global;
 use std::process::Abort;
 use std::sync::{Arc, Wait};
@@ -105,7 +105,7 @@ impl<R: Threads + Wait + Clock + Copy + Send + Sync + 'static> Program<R> for He
 
     ghost gives = { λ program geometry opening output. Unit {0} };
 
-    fn run<N: Room, L: Recorder<N>, S: FileServer<L>>(
+    fn run<N: ServiceParameters, L: Recorder<N>, S: FileServer<L>>(
         self,
         service: Service<N, R, L, S>,
     ) -> Option<Came>
@@ -125,7 +125,7 @@ impl<R: Threads + Wait + Clock + Copy + Send + Sync + 'static> Program<R> for He
 
 impl<R: Clock + Copy> Held<R> {
     /// Calls in a session of a service, which then ends. Whether who was held had passed before, and whether it passed then.
-    fn calls_in<N: Room, L: Recorder<N>, S: FileServer<L>>(
+    fn calls_in<N: ServiceParameters, L: Recorder<N>, S: FileServer<L>>(
         &self,
         service: &Service<N, R, L, S>,
         lines: &mut String,

@@ -1,8 +1,8 @@
 //! Sixty-four sessions write files of their own, in threads of their own, while drivers die.
 
 use crate::at_once::{Came, What, at_once};
+use board::counting::parameters::ServiceParameters;
 use board::counting::recorder::Recorder;
-use board::counting::room::Room;
 use file_server::FileServer;
 use fixtures_sessions::callers::Caller;
 use fixtures_sessions::stage::Stage;
@@ -103,7 +103,7 @@ fn has_bytes<C: Caller>(session: &mut C, number: u8) -> bool {
 }
 
 /// A session writes its file, and ends. Whether all was done.
-fn writes<N: Room, R: Threads + Wait + Copy, L: Recorder<N>, S: FileServer<L>>(
+fn writes<N: ServiceParameters, R: Threads + Wait + Copy, L: Recorder<N>, S: FileServer<L>>(
     number: u8,
     mut session: Session<N, Shared<N, R, L, S>>,
 ) -> bool {
@@ -113,7 +113,7 @@ fn writes<N: Room, R: Threads + Wait + Copy, L: Recorder<N>, S: FileServer<L>>(
 }
 
 /// As many sessions as there are numbers, with their numbers.
-fn sessions<N: Room, R: Threads + Wait + Copy, L: Recorder<N>, S: FileServer<L>>(
+fn sessions<N: ServiceParameters, R: Threads + Wait + Copy, L: Recorder<N>, S: FileServer<L>>(
     alloc: Global,
     service: &Service<N, R, L, S>,
 ) -> Option<Vec<(u8, Session<N, Shared<N, R, L, S>>)>> {
@@ -126,7 +126,7 @@ fn sessions<N: Room, R: Threads + Wait + Copy, L: Recorder<N>, S: FileServer<L>>
 
 /// Each session writes its file in a thread of its own. Whether all was done by each.
 pub(crate) fn write_all<
-    N: Room + Send + Sync,
+    N: ServiceParameters + Send + Sync,
     R: Threads + Wait + Copy + Send + Sync,
     L: Recorder<N> + Send,
     S: FileServer<L> + Send,
@@ -142,9 +142,12 @@ pub(crate) fn write_all<
 }
 
 /// One session reads all files, and ends. Whether each has its bytes.
-pub(crate) fn has_all<N: Room, R: Threads + Wait + Copy, L: Recorder<N>, S: FileServer<L>>(
-    service: &Service<N, R, L, S>,
-) -> Option<bool> {
+pub(crate) fn has_all<
+    N: ServiceParameters,
+    R: Threads + Wait + Copy,
+    L: Recorder<N>,
+    S: FileServer<L>,
+>(service: &Service<N, R, L, S>) -> Option<bool> {
     let mut session = service.session(0, 0).ok()?;
     let mut is_right = true;
     for number in 0..SESSIONS {

@@ -3,8 +3,8 @@
 ghost use Rattle.std.specs.Prelude.{◌≡◌};
 
 use crate::at_once::{Came, What, at_once};
+use board::counting::parameters::ServiceParameters;
 use board::counting::recorder::Recorder;
-use board::counting::room::Room;
 use board::{Board, Device, Seat};
 use file_server::FileServer;
 use fixtures::{MOUNT_READS, ROOT, new_volume};
@@ -30,7 +30,7 @@ fn felt(board: &Board, seat: &mut Seat) -> (u64, u32, (u32, u32))
 }
 
 /// Two sessions meet: how many marks each has seen then, and whether the device was given up. It is handed nothing that may wait.
-fn looked_at<N: Room, S>(one: &mut Session<N, S>, two: &mut Session<N, S>) -> Looked {
+fn looked_at<N: ServiceParameters, S>(one: &mut Session<N, S>, two: &mut Session<N, S>) -> Looked {
     one.meet(two);
     (one.seen(), two.seen(), one.device())
 }
@@ -39,7 +39,7 @@ fn looked_at<N: Room, S>(one: &mut Session<N, S>, two: &mut Session<N, S>) -> Lo
 pub(crate) type Looked = (u64, u64, Device);
 
 /// A session asks for the root, and ends.
-fn calls<N: Room, R: Threads + Wait + Copy, L: Recorder<N>, S: FileServer<L>>(
+fn calls<N: ServiceParameters, R: Threads + Wait + Copy, L: Recorder<N>, S: FileServer<L>>(
     alloc: Global,
     mut session: Session<N, Shared<N, R, L, S>>,
 ) -> String {
@@ -50,7 +50,7 @@ fn calls<N: Room, R: Threads + Wait + Copy, L: Recorder<N>, S: FileServer<L>>(
 }
 
 /// Two sessions look while a driver is held, which is then let go, and end.
-fn look<N: Room, R: Threads + Wait + Clock + Copy, L: Recorder<N>, S: FileServer<L>>(
+fn look<N: ServiceParameters, R: Threads + Wait + Clock + Copy, L: Recorder<N>, S: FileServer<L>>(
     gate: &Watch<R>,
     mut one: Session<N, Shared<N, R, L, S>>,
     mut two: Session<N, Shared<N, R, L, S>>,
@@ -69,7 +69,7 @@ fn look<N: Room, R: Threads + Wait + Clock + Copy, L: Recorder<N>, S: FileServer
 }
 
 /// Two sessions of user 0.
-fn two_sessions<N: Room, R: Threads + Wait + Copy, L: Recorder<N>, S: FileServer<L>>(
+fn two_sessions<N: ServiceParameters, R: Threads + Wait + Copy, L: Recorder<N>, S: FileServer<L>>(
     service: &Service<N, R, L, S>,
 ) -> Option<
     (
@@ -85,7 +85,7 @@ fn two_sessions<N: Room, R: Threads + Wait + Copy, L: Recorder<N>, S: FileServer
 /// One session calls while drivers are held, and two others look meanwhile; all three end. What the first is answered, and what the others
 /// saw, if the call was held then.
 pub(crate) fn look_meanwhile<
-    N: Room + Send + Sync,
+    N: ServiceParameters + Send + Sync,
     R: Threads + Wait + Clock + Copy + Send + Sync,
     L: Recorder<N> + Send,
     S: FileServer<L> + Send,

@@ -4,30 +4,45 @@ use crate::writers::{Writer, taker, writer_of};
 use output::Told;
 use std::alloc::Global;
 use std::test::Fail;
-use volume_tools::make::{Status, Wanted, finish, make};
+use volume_commands::make::{CommandStatus, Wanted, finish, make};
 
 /// What `make` writes on standard output and on standard error, the status, and how long the image is, if there is one.
-type Said = (&'static str, &'static str, Status, Option<u64>);
+type Said = (&'static str, &'static str, CommandStatus, Option<u64>);
 
 /// It was refused, and the line on standard error says why.
-const REFUSED: Status = Status::Refused(Told::Whole);
+const REFUSED: CommandStatus = CommandStatus::Refused(Told::Whole);
 
 /// Blocks, bytes of a block and inodes, the time, and what is said of such a volume.
 static VOLUMES: [((u32, u32, u32), u32, Said); 10] = [
     (
         (64, 1024, 32),
         50,
-        ("first 6 zones 58 free 57\n", "", Status::Done, Some(65536)),
+        (
+            "first 6 zones 58 free 57\n",
+            "",
+            CommandStatus::Done,
+            Some(65536),
+        ),
     ),
     (
         (64, 2048, 32),
         50,
-        ("first 5 zones 59 free 58\n", "", Status::Done, Some(131072)),
+        (
+            "first 5 zones 59 free 58\n",
+            "",
+            CommandStatus::Done,
+            Some(131072),
+        ),
     ),
     (
         (6, 1024, 16),
         50,
-        ("first 5 zones 1 free 0\n", "", Status::Done, Some(6144)),
+        (
+            "first 5 zones 1 free 0\n",
+            "",
+            CommandStatus::Done,
+            Some(6144),
+        ),
     ),
     // of the most bytes: two blocks in front, one of each map, and one of inodes
     (
@@ -36,7 +51,7 @@ static VOLUMES: [((u32, u32, u32), u32, Said); 10] = [
         (
             "first 5 zones 16379 free 16378\n",
             "",
-            Status::Done,
+            CommandStatus::Done,
             Some(67108864),
         ),
     ),
@@ -61,7 +76,12 @@ static FAILING: [(u32, Said); 6] = [
     (4, ("first 6 zones 58 fre", UNWRITTEN, REFUSED, None)),
     (
         5,
-        ("first 6 zones 58 free 57\n", "", Status::Done, Some(65536)),
+        (
+            "first 6 zones 58 free 57\n",
+            "",
+            CommandStatus::Done,
+            Some(65536),
+        ),
     ),
 ];
 

@@ -6,7 +6,7 @@ use std::alloc::Global;
 use std::process::Abort;
 use std::str;
 use std::test::Fail;
-use volume_tools::verify::{Verified, verify};
+use volume_commands::verify::{Verified, verify};
 
 /// What a file holds.
 enum File {

@@ -93,7 +93,7 @@ mfssim v.img --version : status 0
 ";
 
 /// What words of `mfs` say that are taken.
-fn of_calls(alloc: Global, words: &mfs::Words<'_>) -> Result<String, AllocError> {
+fn of_calls(alloc: Global, words: &mfs::MfsWords<'_>) -> Result<String, AllocError> {
     let scripts = words.scripts.join(alloc, " ")?;
     let out = words.out.unwrap_or("none");
     let model = if words.model { " model" } else { "" };
@@ -104,7 +104,7 @@ fn of_calls(alloc: Global, words: &mfs::Words<'_>) -> Result<String, AllocError>
 }
 
 /// What words of `mfssim` say that are taken.
-fn of_schedules(alloc: Global, words: &mfssim::Words<'_>) -> Result<String, AllocError> {
+fn of_schedules(alloc: Global, words: &mfssim::MfssimWords<'_>) -> Result<String, AllocError> {
     format!(in alloc;
         "{} {} minor {} spares {}",
         words.image, words.schedule, words.minor, words.spares
@@ -112,7 +112,7 @@ fn of_schedules(alloc: Global, words: &mfssim::Words<'_>) -> Result<String, Allo
 }
 
 /// What words of `mkmfs` say that are taken.
-fn of_volume(alloc: Global, words: &mkmfs::Words<'_>) -> Result<String, AllocError> {
+fn of_volume(alloc: Global, words: &mkmfs::MkmfsWords<'_>) -> Result<String, AllocError> {
     format!(in alloc;
         "{} blocks {} inodes {} of {} at {}",
         words.image, words.blocks, words.inodes, words.block_size, words.now

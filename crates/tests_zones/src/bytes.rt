@@ -2,8 +2,8 @@
 
 use crate::calls::{Call, DONE};
 use crate::images::{EMPTY, SMALL, volume};
+use block_store::Halt;
 use std::test::Fail;
-use store::Halt;
 
 #[test]
 fn many_pages_at_once(rt: HostRuntime) -> Result<(), Fail> {

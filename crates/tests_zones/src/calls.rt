@@ -1,6 +1,6 @@
 //! Calls on a volume, and what each is to give.
 
-use store::Halt;
+use block_store::Halt;
 
 /// A field of inode 1.
 #[derive(Clone, Copy)]
@@ -49,7 +49,7 @@ pub enum Call<'a> {
 }
 
 /// What a call gives: a number, which is 0 where it gives none; or none, where it isn't so, or can't be tried.
-pub type Answer = Result<Option<u32>, Halt>;
+pub type CallResult = Result<Option<u32>, Halt>;
 
 /// A call, and the number or the halt that it is to give.
 pub type Step<'a> = (Call<'a>, Result<u32, Halt>);
@@ -61,7 +61,7 @@ pub const SIZE: Call<'static> = Call::Field(Field::Size);
 pub const DONE: Result<u32, Halt> = Ok(0);
 
 /// Whether a call gave what it was to give.
-pub fn is_wanted(got: Answer, wanted: Result<u32, Halt>) -> bool {
+pub fn is_wanted(got: CallResult, wanted: Result<u32, Halt>) -> bool {
     match (got, wanted) {
         (Ok(Some(got)), Ok(wanted)) => got == wanted,
         (Err(got), Err(wanted)) => got == wanted,

@@ -3,12 +3,14 @@
 
 ghost use Rattle.std.specs.Prelude.{◌≡◌, IfOk};
 ghost use Rattle.layout.specs.Places.{IsGeometry};
-ghost use Rattle.store.specs.Volume.{IsOn};
+ghost use Rattle.block_store.specs.Volume.{IsOn};
 ghost use Rattle.cache.specs.Calls.{IsReady};
-ghost use Rattle.stored.specs.World.{stored_caching};
+ghost use Rattle.cached_blocks.specs.World.{stored_caching};
 
 use bitmap::{Map, count_free, lowest_free};
+use block_store::{Blocks, Halt};
 use cache::{Cache, CacheRefusal};
+use cached_blocks::Stored;
 use file::file_pages::changing::set_size;
 use file::file_pages::reading::read_at;
 use file::file_room::need;
@@ -21,8 +23,6 @@ use reissue::list_link::ListLink;
 use reissue::{Link, Transfers};
 use std::alloc::{AllocError, Global};
 use std::test::Fail;
-use store::{Blocks, Halt};
-use stored::Stored;
 
 /// The superblock of a volume of 64 blocks of 1024 bytes with 32 inodes.
 const SUPERBLOCK: &[u8] =

@@ -6,9 +6,9 @@ use crate::images::{
     HOLE, HOLE_LARGE, HOLE_MIDDLE, LARGE, MIDDLE, MIDDLE_PAGES, Part, SMALL, SMALL_PAGES, Size,
     volume,
 };
+use block_store::Halt;
 use std::alloc::Global;
 use std::test::Fail;
-use store::Halt;
 
 /// Pages, and how many zones they take.
 static TAKEN: [(&[u32], u32); 11] = [

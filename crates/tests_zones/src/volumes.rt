@@ -3,8 +3,10 @@
 ghost use Rattle.std.specs.Prelude.{◌≡◌};
 ghost use Rattle.layout.specs.Places.{IsGeometry};
 
-use crate::calls::{Answer, Call, Field, Step, is_wanted};
+use crate::calls::{Call, CallResult, Field, Step, is_wanted};
 use bitmap::{Map, count_free};
+use block_store::Halt;
+use block_store::memory::Memory;
 use file::file_pages::changing::{set_size, stamp};
 use file::file_pages::reading::read_at;
 use file::file_room::{has_room, need};
@@ -12,8 +14,6 @@ use file::write_at;
 use inode::inode_table::load;
 use layout::Geometry;
 use std::test::Fail;
-use store::Halt;
-use store::memory::Memory;
 use zone::cutting::detach_from;
 use zone::pages::attach;
 use zone::places::{lookup, lookup_row};
@@ -50,7 +50,7 @@ impl Volume {
     }
 
     /// Makes a call.
-    fn call(&mut self, call: &Call) -> Answer {
+    fn call(&mut self, call: &Call) -> CallResult {
         match call {
             Call::Free => self.free(),
             Call::Attach(inode, pages) => self.attach(*inode, pages),
@@ -70,13 +70,13 @@ impl Volume {
     }
 
     /// How many zones are free.
-    fn free(&mut self) -> Answer {
+    fn free(&mut self) -> CallResult {
         let count = count_free(&mut self.blocks, &self.geometry, Map::Zones)?;
         Ok(Some(count))
     }
 
     /// Attaches pages of an inode.
-    fn attach(&mut self, inode: u32, pages: &[u32]) -> Answer {
+    fn attach(&mut self, inode: u32, pages: &[u32]) -> CallResult {
         for page in pages {
             self.attach_page(inode, *page)?;
         }
@@ -89,7 +89,7 @@ impl Volume {
     }
 
     /// Lets go the pages of an inode from one on.
-    fn detach(&mut self, inode: u32, page: u32) -> Answer {
+    fn detach(&mut self, inode: u32, page: u32) -> CallResult {
         detach_from(&mut self.blocks, &self.geometry, inode, page)?;
         Ok(Some(0))
     }
@@ -101,7 +101,7 @@ impl Volume {
     }
 
     /// How many these zones are, if they are those of pages side by side, where up to four are asked for.
-    fn has_row(&mut self, page: u32, zones: &[u32]) -> Answer {
+    fn has_row(&mut self, page: u32, zones: &[u32]) -> CallResult {
         let inode = load(&mut self.blocks, &self.geometry, 1)?;
         let mut into = [1; 4];
         let count = lookup_row(&mut self.blocks, &self.geometry, &inode, page, &mut into)?;
@@ -112,7 +112,7 @@ impl Volume {
     }
 
     /// Whether each of these pages has a data zone of 1024 bytes, which are zeros.
-    fn are_blank(&mut self, pages: &[u32]) -> Answer {
+    fn are_blank(&mut self, pages: &[u32]) -> CallResult {
         for page in pages {
             if !self.is_blank(*page)? {
                 return Ok(None);
@@ -135,7 +135,7 @@ impl Volume {
     }
 
     /// Whether each of these pages is a hole.
-    fn are_holes(&mut self, pages: &[u32]) -> Answer {
+    fn are_holes(&mut self, pages: &[u32]) -> CallResult {
         for page in pages {
             if self.zone(*page)? != 0 {
                 return Ok(None);
@@ -145,7 +145,7 @@ impl Volume {
     }
 
     /// Reads into so many bytes of a slice of 0x2e: how many came, if it has these bytes then.
-    fn read(&mut self, at: u32, room: usize, left: &[u8]) -> Answer {
+    fn read(&mut self, at: u32, room: usize, left: &[u8]) -> CallResult {
         let inode = load(&mut self.blocks, &self.geometry, 1)?;
         let mut into = [0x2e; 18432];
         let room = room.min(18432);
@@ -163,7 +163,7 @@ impl Volume {
     }
 
     /// Writes bytes; none, or past the greatest size, isn't tried.
-    fn write(&mut self, at: u32, bytes: &[u8]) -> Answer {
+    fn write(&mut self, at: u32, bytes: &[u8]) -> CallResult {
         if bytes.is_empty() || at > 2147483647 || bytes.len() > (2147483647 - at) as usize {
             return Ok(None);
         }
@@ -172,7 +172,7 @@ impl Volume {
     }
 
     /// Makes the file that long.
-    fn resize(&mut self, size: u32) -> Answer {
+    fn resize(&mut self, size: u32) -> CallResult {
         if size > 2147483647 {
             return Ok(None);
         }
@@ -181,13 +181,13 @@ impl Volume {
     }
 
     /// Sets the times.
-    fn stamp(&mut self, now: u32) -> Answer {
+    fn stamp(&mut self, now: u32) -> CallResult {
         stamp(&mut self.blocks, &self.geometry, 1, now)?;
         Ok(Some(0))
     }
 
     /// A field of inode 1.
-    fn field(&mut self, field: &Field) -> Answer {
+    fn field(&mut self, field: &Field) -> CallResult {
         let inode = load(&mut self.blocks, &self.geometry, 1)?;
         Ok(match field {
             Field::Mode => Some(u32::from(inode.mode)),
@@ -201,7 +201,7 @@ impl Volume {
     }
 
     /// How many zones more inode 1 takes for pages.
-    fn need(&mut self, first: u32, count: u32) -> Answer {
+    fn need(&mut self, first: u32, count: u32) -> CallResult {
         if first > 2097152 || count > 2097152 - first {
             return Ok(None);
         }
@@ -210,7 +210,7 @@ impl Volume {
     }
 
     /// Whether there are zones enough for so many bytes.
-    fn room(&mut self, at: u32, count: u32) -> Answer {
+    fn room(&mut self, at: u32, count: u32) -> CallResult {
         if count == 0 || at > 2147483647 || count > 2147483647 - at {
             return Ok(None);
         }

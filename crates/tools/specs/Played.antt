@@ -6,10 +6,10 @@ use Rattle.std.specs.List.{list_any}
 use Rattle.layout.specs.declared.Geometry.{Geometry}
 use Rattle.bdev.specs.DriverState.{DriverState}
 use Rattle.reincarnate.specs.declared.policy.Setup.{Setup}
-use Rattle.mounting.specs.StartupRefusals.{start_refusal_text}
-use Rattle.mounting.specs.Starting.{opening_of}
-use Rattle.launch.specs.Ran.{IsNotStarted, IsStartable}
-use Rattle.launch.specs.Spent.{IsSpent}
+use Rattle.volume_mount.specs.StartupRefusals.{start_refusal_text}
+use Rattle.volume_mount.specs.Starting.{opening_of}
+use Rattle.service_start.specs.Ran.{IsNotStarted, IsStartable}
+use Rattle.service_start.specs.Spent.{IsSpent}
 use Rattle.call_text.specs.declared.scripts.timed.TimedCall.{TimedCall}
 use Rattle.call_text.specs.declared.scripts.script_files.File.{File}
 use Rattle.call_text.specs.declared.scripts.script_files.FileRefusal.{FileRefusal}
@@ -21,18 +21,18 @@ use Rattle.tools.specs.Made.{has_eio}
 use Rattle.tools.specs.Served.{AreServed, IsUnserved, service_text}
 use Rattle.tools.specs.Status.{is_given_up}
 use Rattle.shared_server.specs.declared.locked.LastSync.{LastSync}
-use Rattle.tools.specs.declared.play.Image.{Image}
+use Rattle.tools.specs.declared.play.ImageFile.{ImageFile}
 use Rattle.tools.specs.declared.play.PlayRefusal.{PlayRefusal}
 use Rattle.tools.specs.declared.play.PlayRefusal.TheVariants.{Files, Start, Service, OutOfMemory, NotWritten}
 
 -- a service starts on the volume of these sizes, which lies in this range of the image
-pub record IsStarted (image : Image) (setup : Setup) (supply : List DriverState) (bytes : Vec ℕ) (g : Geometry)
+pub record IsStarted (image : ImageFile) (setup : Setup) (supply : List DriverState) (bytes : Vec ℕ) (g : Geometry)
     (range : ℕ × ℕ) : Type 0 where
   pub read : image.bytes ≡ Some bytes
   pub startable : IsStartable bytes.items setup supply g range
 
 -- a service starts on some volume in the image
-abbrev pub IsStartedFor : Image → Setup → List DriverState → Type 0
+abbrev pub IsStartedFor : ImageFile → Setup → List DriverState → Type 0
 IsStartedFor image setup supply =
     (bytes : Vec ℕ) × (g : Geometry) × (range : ℕ × ℕ) × IsStarted image setup supply bytes g range
 
@@ -42,7 +42,7 @@ gave_up played last = list_any has_eio played || is_given_up last
 
 -- The files' scripts were played on the volume in the image, for which a service starts, each in a session of its own; then the service was
 -- stopped, which left this image. A call was cut only once the link to the drivers had received 2^40 messages, and so the last sync.
-pub record IsPlayed (image : Image) (scripts : List File) (setup : Setup) (supply : List DriverState) (played : List Played) (gave : Bool)
+pub record IsPlayed (image : ImageFile) (scripts : List File) (setup : Setup) (supply : List DriverState) (played : List Played) (gave : Bool)
     (left : List ℕ) : Type 0 where
   pub bytes : Vec ℕ
   pub sizes : Geometry
@@ -61,7 +61,7 @@ AreUnread (Some bytes) name scripts refusal = files.IsRefused scripts refusal
 
 -- why nothing is told of what came of scripts, in the order in which faults are looked for; where the service is refused calls may have
 -- been made
-abbrev pub IsUnplayed : Image → List File → Setup → List DriverState → PlayRefusal → Type 0
+abbrev pub IsUnplayed : ImageFile → List File → Setup → List DriverState → PlayRefusal → Type 0
 IsUnplayed image scripts setup supply (Files refusal) = AreUnread image.bytes image.name scripts refusal
 IsUnplayed image scripts setup supply (Start refusal) =
     ((bytes : Vec ℕ) × (image.bytes ≡ Some bytes) × IsNotStarted bytes.items setup supply refusal)
@@ -73,7 +73,7 @@ IsUnplayed image scripts setup supply OutOfMemory = ⊥
 IsUnplayed image scripts setup supply NotWritten = ⊥
 
 -- the scripts were played, of the text of their sessions this went out, and this image was left
-abbrev pub IsShown : Image → List File → Setup → List DriverState → Bool → (List ℕ → Type 0) → Option (List ℕ) → Type 0
+abbrev pub IsShown : ImageFile → List File → Setup → List DriverState → Bool → (List ℕ → Type 0) → Option (List ℕ) → Type 0
 IsShown image scripts setup supply gave WentOut left =
     (played : List Played) × (bytes : List ℕ) × IsPlayed image scripts setup supply played gave bytes × WentOut (sessions_text played)
     × (left ≡ Some bytes)
@@ -86,7 +86,7 @@ is_of_output _ = false
 
 -- nothing went out, and no image was left: nothing was played, or memory ended once calls were made; or the scripts were played, a part of
 -- their sessions' text went out, and the image was left
-abbrev pub IsCutShort : Image → List File → Setup → List DriverState → PlayRefusal → Type 0 → (List ℕ → Type 0) → Option (List ℕ) → Type 0
+abbrev pub IsCutShort : ImageFile → List File → Setup → List DriverState → PlayRefusal → Type 0 → (List ℕ → Type 0) → Option (List ℕ) → Type 0
 IsCutShort image scripts setup supply refusal Nothing Part left =
     (Nothing × (left ≡ None) × IsUnplayed image scripts setup supply refusal)
     ⊎ ((is_of_output refusal ≡ true) × ((gave : Bool) × IsShown image scripts setup supply gave Part left))

@@ -1,23 +1,23 @@
 -- How a play ends, as a number.
 use Rattle.std.specs.Prelude.{ℕ, Bool, true, false}
-use Rattle.tools.specs.declared.play.Status.{Status}
-use Rattle.tools.specs.declared.play.Status.TheVariants.{Done, Refused, GivenUp}
+use Rattle.tools.specs.declared.play.PlayStatus.{PlayStatus}
+use Rattle.tools.specs.declared.play.PlayStatus.TheVariants.{Done, Refused, GivenUp}
 use Rattle.shared_server.specs.declared.locked.LastSync.{LastSync}
 use Rattle.shared_server.specs.declared.locked.LastSync.TheVariants as last
 
 -- the status of the process
-abbrev pub status_number : Status → ℕ
+abbrev pub status_number : PlayStatus → ℕ
 status_number Done = 0
 status_number (Refused told) = 1
 status_number GivenUp = 3
 
 -- whether it says that the device was given up
-abbrev pub gave_of : Status → Bool
+abbrev pub gave_of : PlayStatus → Bool
 gave_of GivenUp = true
 gave_of _ = false
 
 -- whether all went out
-abbrev pub IsWhole : Status → Type 0
+abbrev pub IsWhole : PlayStatus → Type 0
 IsWhole (Refused told) = ⊥
 IsWhole _ = Unit {0}
 

@@ -8,7 +8,7 @@ ghost use Rattle.reply_text.specs.Answers.{sessions_text};
 ghost use Rattle.output.specs.Output.{AppendsPart, Tells};
 ghost use Rattle.tools.specs.Played.{AreUnread, IsPlayed, IsUnplayed, IsShown, IsCutShort, gave_up, is_of_output, refusal_text};
 ghost use Rattle.tools.specs.Refusals.{refusal_of};
-ghost use Rattle.volume_tools.specs.Making.{unwritten_text};
+ghost use Rattle.volume_commands.specs.Making.{unwritten_text};
 ghost use Rattle.tools.specs.Status.{status_number, gave_of, is_given_up, IsWhole};
 ghost use Rattle.call_text.specs.Said.{said};
 ghost use Rattle.call_text.specs.Files.{AreScripts};
@@ -19,7 +19,6 @@ use bdev::BlockDriver;
 use call_text::scripts::script::Script;
 use call_text::scripts::script_files::{File, FileRefusal, read_scripts};
 use gate::Gate;
-use mounting::StartRefusal;
 use output::{OutputRefusal, Told, tell, write_text};
 use reincarnate::policy::Setup;
 use reply_text::answers::{Played, write_sessions};
@@ -29,11 +28,12 @@ use std::fmt;
 use std::io::Write;
 use std::sync::{Arc, Wait};
 use std::thread::Threads;
-use volume_tools::make;
+use volume_commands::make;
+use volume_mount::StartRefusal;
 
 /// The file of an image, and its bytes if it could be read.
 #[derive(Drop)]
-pub struct Image<'n> {
+pub struct ImageFile<'n> {
     /// The name as it was given.
     pub name: &'n str,
     /// All its bytes; none where it couldn't be read.
@@ -42,7 +42,7 @@ pub struct Image<'n> {
 
 /// How a play ended.
 #[derive(Clone, Copy, Debug, PartialEq, Eq)]
-pub enum Status {
+pub enum PlayStatus {
     /// Each call was made, and all of the text was written.
     Done,
     /// Nothing was written of what came of the scripts, or not all. A line was to say why.
@@ -51,15 +51,15 @@ pub enum Status {
     GivenUp,
 }
 
-impl Status {
+impl PlayStatus {
     /// The status of the process: 0, 1 or 3.
     pub fn number(self) -> u8
         ensures { result ≡ status_number self }
     {
         match self {
-            Status::Done => 0,
-            Status::Refused(_) => 1,
-            Status::GivenUp => 3,
+            PlayStatus::Done => 0,
+            PlayStatus::Refused(_) => 1,
+            PlayStatus::GivenUp => 3,
         }
     }
 }
@@ -68,7 +68,7 @@ impl Status {
 #[derive(Debug, PartialEq, Eq, Drop)]
 pub struct Ended {
     /// How it ended.
-    pub status: Status,
+    pub status: PlayStatus,
     /// The bytes of the image as the media stand after the last sync, also where not all of the text was written; none where nothing is
     /// told of what came of the scripts.
     pub image: Option<Vec<u8>>,
@@ -120,7 +120,7 @@ pub fn play<
 >(
     alloc: Global,
     rt: R,
-    image: Image<'_>,
+    image: ImageFile<'_>,
     scripts: &[File<'_, '_>],
     setup: &Setup,
     supply: Vec<D>,
@@ -130,7 +130,7 @@ pub fn play<
 ) -> Ended
     ensures whole { IsWhole result.status → IsShown image.entry scripts.now setup.now (map D.state supply.items) (gave_of result.status)
         (Appends (W.contents out.old) (W.contents out.new)) (option_map (λ bytes. bytes.items) result.image) × (err.new ≡ err.old) }
-    ensures refused { (told : Told) → result.status ≡ Status.Refused told → (refusal : PlayRefusal)
+    ensures refused { (told : Told) → result.status ≡ PlayStatus.Refused told → (refusal : PlayRefusal)
         × Tells (Some (refusal_text refusal)) told (E.contents err.old) (E.contents err.new)
         × IsCutShort image.entry scripts.now setup.now (map D.state supply.items) refusal (out.new ≡ out.old)
         (AppendsPart (W.contents out.old) (W.contents out.new)) (option_map (λ bytes. bytes.items) result.image) }
@@ -139,7 +139,7 @@ pub fn play<
         Ok(came) => came,
         Err(refusal) => {
             return Ended {
-                status: Status::Refused(tell(alloc, err, &refusal)),
+                status: PlayStatus::Refused(tell(alloc, err, &refusal)),
                 image: None,
             };
         }
@@ -154,18 +154,18 @@ pub fn play<
 /// How a play ended whose image was to be written to the file of this name: it was written, or it wasn't, and then a line on `err` says so.
 pub fn finish<E: Write>(
     alloc: Global,
-    played: Status,
+    played: PlayStatus,
     name: &str,
     written: bool,
     err: &mut E,
-) -> Status
+) -> PlayStatus
     ensures written { OnTrue written ((result ≡ played) × (err.new ≡ err.old)) }
-    ensures unwritten { OnFalse written ((told : Told) × (result ≡ Status.Refused told)
+    ensures unwritten { OnFalse written ((told : Told) × (result ≡ PlayStatus.Refused told)
         × Tells (Some (unwritten_text name.now)) told (E.contents err.old) (E.contents err.new)) }
 {
     match make::finish(alloc, name, written, err) {
-        make::Status::Done => played,
-        make::Status::Refused(told) => Status::Refused(told),
+        make::CommandStatus::Done => played,
+        make::CommandStatus::Refused(told) => PlayStatus::Refused(told),
     }
 }
 
@@ -178,7 +178,7 @@ fn run<
 >(
     alloc: Global,
     rt: R,
-    image: Image<'n>,
+    image: ImageFile<'n>,
     scripts: &[File<'n, '_>],
     setup: &Setup,
     supply: Vec<D>,
@@ -202,13 +202,13 @@ fn run<
 /// The bytes of the image, and the scripts that the files hold.
 fn read<'n, 'b>(
     alloc: Global,
-    image: Image<'n>,
+    image: ImageFile<'n>,
     scripts: &[File<'n, 'b>],
 ) -> Result<(Vec<u8>, Vec<Script<'b>>), FileRefusal<'n>>
     ensures ok { IfOk result (λ read. (image.entry.bytes ≡ Some read.0) × AreScripts scripts.now (map said read.1.items)) }
     ensures err { IfErr result (AreUnread image.entry.bytes image.entry.name scripts.now) }
 {
-    let Image { name, bytes } = image;
+    let ImageFile { name, bytes } = image;
     let Some(bytes) = bytes else {
         return Err(FileRefusal::CannotRead(name));
     };
@@ -219,16 +219,16 @@ fn read<'n, 'b>(
 }
 
 /// Writes the answers. How the play ended.
-fn show<W: Write, E: Write>(alloc: Global, came: &Came, out: &mut W, err: &mut E) -> Status
+fn show<W: Write, E: Write>(alloc: Global, came: &Came, out: &mut W, err: &mut E) -> PlayStatus
     ensures whole { IsWhole result → (gave_of result ≡ gave_up came.now.sessions.items came.now.last_sync)
         × Appends (W.contents out.old) (W.contents out.new) (sessions_text came.now.sessions.items) × (err.new ≡ err.old) }
-    ensures refused { (told : Told) → result ≡ Status.Refused told → (refusal : PlayRefusal)
+    ensures refused { (told : Told) → result ≡ PlayStatus.Refused told → (refusal : PlayRefusal)
         × Tells (Some (refusal_text refusal)) told (E.contents err.old) (E.contents err.new) × (is_of_output refusal ≡ true)
         × AppendsPart (W.contents out.old) (W.contents out.new) (sessions_text came.now.sessions.items) }
 {
     match write_answers(alloc, out, came.sessions.as_slice()) {
         Ok(()) => status_of(was_given_up(came)),
-        Err(refusal) => Status::Refused(tell(alloc, err, &told_as(refusal))),
+        Err(refusal) => PlayStatus::Refused(tell(alloc, err, &told_as(refusal))),
     }
 }
 
@@ -284,13 +284,13 @@ fn told_as<'n>(refusal: OutputRefusal) -> PlayRefusal<'n>
 }
 
 /// The status of a play that was written whole.
-fn status_of(given_up: bool) -> Status
-    ensures status { result ≡ (if given_up then Status.GivenUp else Status.Done) }
+fn status_of(given_up: bool) -> PlayStatus
+    ensures status { result ≡ (if given_up then PlayStatus.GivenUp else PlayStatus.Done) }
     ensures given_up { gave_of result ≡ given_up }
 {
     if given_up {
-        Status::GivenUp
+        PlayStatus::GivenUp
     } else {
-        Status::Done
+        PlayStatus::Done
     }
 }

@@ -2,8 +2,8 @@
 use Rattle.std.proofs.Common.{◌≡◌, List, [], ◌∷◌, ◌++◌, refl, ap}
 use Rattle.std.specs.Prelude.{map}
 use Rattle.bdev.specs.DriverState.{DriverState}
-use Rattle.run_link.specs.UnitView.{slot_of}
-use Rattle.run_link.specs.declared.unit.Unit.{Unit as Driven}
+use Rattle.simulated_link.specs.UnitView.{slot_of}
+use Rattle.simulated_link.specs.declared.unit.Unit.{Unit as Driven}
 
 -- those before the last one, and the last one, are those of the transcript
 pub drivers_stand : {D : Type 0} (state : D → DriverState) (older : List (Driven D)) (current : Driven D)

@@ -9,9 +9,9 @@ use Rattle.cache.specs.Calls.{frame_count}
 use Rattle.schedule.specs.Headline as schedule
 use Rattle.schedule.specs.Noted.{marks_in}
 use Rattle.schedule.specs.LogView.{said}
-use Rattle.run_link.specs.Disks.{Disks}
-use Rattle.run_link.specs.DisksView.{disks_of}
-use Rattle.stored.specs.declared.Stored.{Stored}
+use Rattle.simulated_link.specs.Disks.{Disks}
+use Rattle.simulated_link.specs.DisksView.{disks_of}
+use Rattle.cached_blocks.specs.declared.Stored.{Stored}
 use Rattle.vfs.specs.declared.server.Server.{Server}
 use Rattle.vfs.specs.OverLink.{line_of}
 use Rattle.transcript.specs.declared.run_transcript.Transcript.{Transcript}

@@ -5,20 +5,20 @@ ghost use Rattle.records.specs.Marks.{Mark};
 ghost use Rattle.records.specs.Told.{received};
 ghost use Rattle.schedule.specs.Entries.{entry_in};
 ghost use Rattle.schedule.specs.Noted.{Noted, marks_in, with_entry};
-ghost use Rattle.heard.specs.Heard.{IsHeard};
+ghost use Rattle.trace_digest.specs.Heard.{IsHeard};
 ghost use Rattle.transcript.specs.Leaves.{Leaves};
-ghost use Rattle.trimmed.specs.Padded.{incoming_of};
+ghost use Rattle.compact_message.specs.Padded.{incoming_of};
 
-use heard::Heard;
+use compact_message::IncomingRef;
 use records::marks::Cause;
 use reply_text::mark::MarkRef;
 use schedule::EntryRef;
 use std::alloc::AllocError;
-use trimmed::IncomingRef;
+use trace_digest::TraceDigest;
 
 /// The mark that a note leaves, if it leaves one. An error: no memory was found, and what was heard is as it was.
 pub fn mark_of_note<'l>(
-    heard: &mut Heard,
+    heard: &mut TraceDigest,
     entry: EntryRef<'l>,
 ) -> Result<Option<MarkRef<'l>>, AllocError>
     ensures left { IfOk result (λ left. (n : Noted) → IsHeard heard.old (marks_in n)
@@ -48,7 +48,7 @@ pub fn mark_of_note<'l>(
 }
 
 /// The mark that a message leaves: a reply leaves one if it counts, and an End leaves none.
-fn mark_of_message<'l>(heard: &mut Heard, message: IncomingRef<'l>) -> Option<MarkRef<'l>>
+fn mark_of_message<'l>(heard: &mut TraceDigest, message: IncomingRef<'l>) -> Option<MarkRef<'l>>
     ensures { (marks : List Mark) → IsHeard heard.old marks
         → Leaves heard.new marks (received (incoming_of message.entry) marks) result }
 {

@@ -1,14 +1,14 @@
 //! What a run came to.
 
 use crate::shown::shown_marks;
+use cached_blocks::Stored;
 use file_server::FileServer;
-use inline::local::LocalDriver;
 use reply_text::mark::MarkRef;
-use run_link::RunLink;
-use run_link::unit::Unit;
 use schedule::Sent;
+use simulated_link::RunLink;
+use simulated_link::unit::Unit;
 use std::alloc::{AllocError, Global};
-use stored::Stored;
+use synchronous_driver::local::LocalDriver;
 use vfs::Server;
 
 /// What a run came to: its record, the replies that drivers sent, the drivers and the server as they stand, and the calls that wait.

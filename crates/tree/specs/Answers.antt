@@ -4,7 +4,7 @@ use Rattle.layout.specs.declared.Geometry.{Geometry}
 use Rattle.errno.specs.declared.Errno.{Errno}
 use Rattle.errno.specs.declared.Errno.TheVariants.{ENOSPC}
 use Rattle.tree.specs.declared.Attributes.{Attributes}
-use Rattle.tree.specs.declared.Room.{Room}
+use Rattle.tree.specs.declared.Statfs.{Statfs}
 use Rattle.tree.specs.declared.Entry.{Entry}
 use Rattle.tree.specs.declared.LinkTarget.{LinkTarget}
 use Rattle.tree.specs.declared.Reply.{Reply}
@@ -23,7 +23,7 @@ pub data Answer : Type 0 where
   position : ℕ → Answer
   node_is : Attributes → Answer
   names_are : NameMap → Answer
-  room_is : Room → Answer
+  room_is : Statfs → Answer
 
 -- an entry of a reply, as definitions have it
 abbrev pub entry_of : Entry → Name × ℕ

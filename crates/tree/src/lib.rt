@@ -294,7 +294,7 @@ pub struct Attributes {
 
 /// What statfs tells of a volume.
 #[derive(Clone, Copy, Debug, PartialEq, Eq)]
-pub struct Room {
+pub struct Statfs {
     /// Bytes of a block, and of a zone.
     pub block_size: u32,
     /// How many data zones there are.
@@ -342,7 +342,7 @@ pub enum Reply {
     /// The names of readdir.
     Names(Vec<Entry>),
     /// The room of statfs.
-    Space(Room),
+    Space(Statfs),
     /// The target of readlink.
     Target(LinkTarget),
 }

@@ -18,7 +18,7 @@ use Rattle.records.specs.ServerCall.{Serving, Serves, AbsorbKeeps}
 use Rattle.reissue.specs.Agrees.{Agrees}
 use Rattle.reissue.specs.Moves.{state_after}
 use Rattle.reissue.proofs.TableRules.{at_rest}
-use Rattle.cache.specs.Calls.{Caching, Runs, Serves as Stays, HandsOver}
+use Rattle.cache.specs.Calls.{AbstractCache, Runs, Serves as Stays, HandsOver}
 use Rattle.cache.specs.Laws.{LeadsBy}
 use Rattle.cache.specs.Frames.{frames_of}
 use Rattle.cache.proofs.Runs.{true_before}
@@ -28,7 +28,7 @@ use Rattle.file_server.specs.Over.{AbsorbsOver}
 use Rattle.vfs.specs.Serving.{IsServer, server_of}
 use Rattle.vfs.proofs.Keeping.{tree_acts, legal_acts, gone_acts, view_of, covers_of}
 
-module _ (g : Geometry) (a b : Caching) (n k : ℕ) (many : k ≡ n) (f : Files) (m : Incoming) (sized : a.size ≡ g.block_size) (some : 0 < g.block_size)
+module _ (g : Geometry) (a b : AbstractCache) (n k : ℕ) (many : k ≡ n) (f : Files) (m : Incoming) (sized : a.size ≡ g.block_size) (some : 0 < g.block_size)
     (ends : a.ended ≡ took_end a.told) (h : HandsOver m a b) where
   abbrev x : Runs (Some m) a b (λ w v. Stays a b w v)
   x = h.runs

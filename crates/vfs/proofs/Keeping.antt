@@ -26,19 +26,19 @@ use Rattle.reissue.specs.Agrees.{Agrees}
 use Rattle.reissue.specs.Moves.{state_after}
 use Rattle.reissue.proofs.TableRules.{at_rest}
 use Rattle.reissue.proofs.Taking.{agrees_took}
-use Rattle.cache.specs.Calls.{Caching, Runs}
+use Rattle.cache.specs.Calls.{AbstractCache, Runs}
 use Rattle.cache.specs.Laws.{LeadsBy}
 use Rattle.cache.specs.Frames.{CacheAgrees, frames_of, view}
 use Rattle.cache.proofs.Runs.{true_before}
 use Rattle.cache.proofs.Leading.{leads_by}
 use Rattle.cache.proofs.ReadingBack.{frames_read_back}
-use Rattle.stored.specs.World.{Leads, Sees}
+use Rattle.cached_blocks.specs.World.{Leads, Sees}
 use Rattle.flusher.proofs.Flushing.{synced}
 use Rattle.cache.specs.Edits.{AllClean}
 use Rattle.descriptors.specs.Files.{Files, HasFiles}
 use Rattle.client_calls.specs.Calls.{IsDone, DoesCall, is_busy}
 use Rattle.records.specs.Opening.{Opening, contents_at}
-use Rattle.file_server.specs.Over.{CallsOver}
+use Rattle.file_server.specs.Over.{CallSpecification}
 use Rattle.vfs.specs.Serving.{IsServer, server_of}
 use Rattle.vfs.specs.UnmountingLaws.{UnmountsOver}
 
@@ -112,19 +112,19 @@ same_reply : (a b : Answer) → Replied a ≡ Replied b → a ≡ b
 same_reply a b e = cc
 
 -- a cache's slots at some record
-pub view_of : (g : Geometry) → 0 < g.block_size → (c : Caching) → c.size ≡ g.block_size → (image : Contents) (marks : List Mark)
+pub view_of : (g : Geometry) → 0 < g.block_size → (c : AbstractCache) → c.size ≡ g.block_size → (image : Contents) (marks : List Mark)
     → server_view g (frames_of c.size c.held) image marks ≡ view c.size c.held (state_after image marks)
 view_of g some c e image marks = ap (λ n. server_view g (frames_of n c.held) image marks) e ∙ (frames_read_back g c.held image marks some).0
     ∙ sym (ap (λ n. view n c.held (state_after image marks)) e)
 
-pub covers_of : (g : Geometry) → 0 < g.block_size → (c : Caching) → c.size ≡ g.block_size → (image : Contents) (marks : List Mark)
+pub covers_of : (g : Geometry) → 0 < g.block_size → (c : AbstractCache) → c.size ≡ g.block_size → (image : Contents) (marks : List Mark)
     → CacheAgrees c.size c.held (state_after image marks) → IsCovered g (frames_of c.size c.held) marks
 covers_of g some c e image marks k = subst (λ n. IsCovered g (frames_of n c.held) marks) (sym e)
     ((frames_read_back g c.held image marks some).1 (subst (λ n. CacheAgrees n c.held (state_after image marks)) e k))
 
 -- ---- a call over a cache
 
-module _ (g : Geometry) (a b : Caching) (n m : ℕ) (many : m ≡ n) (p q : Files)
+module _ (g : Geometry) (a b : AbstractCache) (n m : ℕ) (many : m ≡ n) (p q : Files)
     (sized : a.size ≡ g.block_size) (some : 0 < g.block_size) (ends : a.ended ≡ took_end a.told) (x : Leads a b) where
   abbrev s : Serving
   s = server_of g a n p
@@ -296,7 +296,7 @@ module _ (g : Geometry) (a b : Caching) (n m : ℕ) (many : m ≡ n) (p q : File
     pub answered : CallKeeps s who now call (Replied answer) t
     answered = answered_by
 
-    pub calls_answered : CallsOver s t a.truth b.truth who now call (Replied answer)
+    pub calls_answered : CallSpecification s t a.truth b.truth who now call (Replied answer)
     calls_answered = record { keeps = answered_by; truth = heard }
 
   -- an unmount
@@ -446,8 +446,8 @@ module _ (g : Geometry) (a b : Caching) (n m : ℕ) (many : m ≡ n) (p q : File
     pub was_eio : b.ended ≡ false → b.table.given_up ≡ true → CallKeeps s who now call (Replied (refused EIO)) t
     was_eio live gone = was_eio_by live gone
 
-    pub calls_cut : b.ended ≡ true → CallsOver s t a.truth b.truth who now call Cut
+    pub calls_cut : b.ended ≡ true → CallSpecification s t a.truth b.truth who now call Cut
     calls_cut end = record { keeps = was_cut_by end; truth = heard }
 
-    pub calls_eio : b.ended ≡ false → b.table.given_up ≡ true → CallsOver s t a.truth b.truth who now call (Replied (refused EIO))
+    pub calls_eio : b.ended ≡ false → b.table.given_up ≡ true → CallSpecification s t a.truth b.truth who now call (Replied (refused EIO))
     calls_eio live gone = record { keeps = was_eio_by live gone; truth = heard }

@@ -4,9 +4,9 @@ use Rattle.layout.specs.declared.Geometry.{Geometry}
 use Rattle.volume.specs.Reading.{Disk}
 use Rattle.records.specs.Unmount.{unmounting_of}
 use Rattle.records.specs.Unmount as legal
-use Rattle.cache.specs.Calls.{Caching, IsLive}
+use Rattle.cache.specs.Calls.{AbstractCache, IsLive}
 use Rattle.cache.specs.Edits.{AllClean}
-use Rattle.stored.specs.World.{Leads, Sees}
+use Rattle.cached_blocks.specs.World.{Leads, Sees}
 use Rattle.descriptors.specs.Files.{Files}
 use Rattle.client_calls.specs.Calls.{is_busy}
 use Rattle.vfs.specs.Serving.{MayServe, server_of}
@@ -14,21 +14,21 @@ use Rattle.vfs.specs.UnmountingLaws.{UnmountsOver}
 use Rattle.vfs.proofs.Ending.{none, false_true}
 use Rattle.vfs.proofs.Keeping.{unmounts}
 
-is_live : (a : Caching) (busy : Bool) → IsLive a → unmounting_of a.ended a.table.given_up busy ≡ unmounting_of false false busy
+is_live : (a : AbstractCache) (busy : Bool) → IsLive a → unmounting_of a.ended a.table.given_up busy ≡ unmounting_of false false busy
 is_live a busy l = ap (λ (z : Bool). unmounting_of z a.table.given_up busy) l.not_ended ∙ ap (λ (z : Bool). unmounting_of false z busy) l.not_given_up
 
 busy_no_success : legal.Busy ≡ legal.Unmounted → ⊥
 busy_no_success same = cc
 
 -- some file is open
-pub busy_at_once : (g : Geometry) (a : Caching) (n : ℕ) (f : Files) → MayServe g a → ((d e : Disk) → Sees a a d e → e ≡ d) → IsLive a → is_busy f ≡ true
+pub busy_at_once : (g : Geometry) (a : AbstractCache) (n : ℕ) (f : Files) → MayServe g a → ((d e : Disk) → Sees a a d e → e ≡ d) → IsLive a → is_busy f ≡ true
     → UnmountsOver (server_of g a n f) (server_of g a n f) a.truth a.truth legal.Busy
 busy_at_once g a n f may same l busy =
     unmounts g a a n n refl f f may.size may.geometry.sized may.ends (none a may.ready) refl same (λ z. refl) (λ z. refl) legal.Busy (λ z. refl)
     (sym (is_live a (is_busy f) l ∙ ap (λ (z : Bool). unmounting_of false false z) busy)) (λ z. absurd (busy_no_success z))
 
 -- all is written
-pub unmounted : (g : Geometry) (a b : Caching) (n m : ℕ) → m ≡ n → (f : Files) → MayServe g a → IsLive a → is_busy f ≡ false → (x : Leads a b)
+pub unmounted : (g : Geometry) (a b : AbstractCache) (n m : ℕ) → m ≡ n → (f : Files) → MayServe g a → IsLive a → is_busy f ≡ false → (x : Leads a b)
     → ((d e : Disk) → Sees a b d e → e ≡ d) → IsLive b → AllClean b.held → UnmountsOver (server_of g a n f) (server_of g b m f) a.truth b.truth legal.Unmounted
 unmounted g a b n m many f may l idle x same k all =
     unmounts g a b n m many f f may.size may.geometry.sized may.ends x refl same

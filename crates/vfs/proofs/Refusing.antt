@@ -4,10 +4,10 @@ use Rattle.layout.specs.declared.Geometry.{Geometry}
 use Rattle.volume.specs.Reading.{Disk}
 use Rattle.records.specs.Unmount.{unmounting_of}
 use Rattle.records.specs.Unmount as legal
-use Rattle.cache.specs.Calls.{Caching, IsLive, IsWhyCut}
-use Rattle.store.specs.declared.Cut.{Cut as Why}
-use Rattle.store.specs.declared.Cut.TheVariants.{Eio, LinkEnded}
-use Rattle.stored.specs.World.{Leads, Sees}
+use Rattle.cache.specs.Calls.{AbstractCache, IsLive, IsWhyCut}
+use Rattle.block_store.specs.declared.Cut.{Cut as Why}
+use Rattle.block_store.specs.declared.Cut.TheVariants.{Eio, LinkEnded}
+use Rattle.cached_blocks.specs.World.{Leads, Sees}
 use Rattle.descriptors.specs.Files.{Files}
 use Rattle.client_calls.specs.Calls.{is_busy}
 use Rattle.vfs.specs.declared.unmounting.UnmountRefusal.{UnmountRefusal}
@@ -19,7 +19,7 @@ use Rattle.vfs.proofs.Ending.{none, false_true}
 use Rattle.vfs.proofs.Keeping.{unmounts}
 
 -- which it is
-pub is_cut : (a : Caching) (why : Why) (busy : Bool) → IsWhyCut a why → in_words (refused_by why) ≡ unmounting_of a.ended a.table.given_up busy
+pub is_cut : (a : AbstractCache) (why : Why) (busy : Bool) → IsWhyCut a why → in_words (refused_by why) ≡ unmounting_of a.ended a.table.given_up busy
 is_cut a LinkEnded busy h = sym (ap (λ (z : Bool). unmounting_of z a.table.given_up busy) h)
 is_cut a Eio busy h = sym (ap (λ (z : Bool). unmounting_of z a.table.given_up busy) h.0 ∙ ap (λ (z : Bool). unmounting_of false z busy) h.1)
 
@@ -30,14 +30,14 @@ no_success refusal.Eio same = cc
 no_success refusal.Busy same = cc
 
 -- it is refused where it is asked
-pub refused_at_once : (g : Geometry) (a : Caching) (n : ℕ) (f : Files) → MayServe g a → ((d e : Disk) → Sees a a d e → e ≡ d) → (why : Why) (r : UnmountRefusal)
+pub refused_at_once : (g : Geometry) (a : AbstractCache) (n : ℕ) (f : Files) → MayServe g a → ((d e : Disk) → Sees a a d e → e ≡ d) → (why : Why) (r : UnmountRefusal)
     → r ≡ refused_by why → IsWhyCut a why → UnmountsOver (server_of g a n f) (server_of g a n f) a.truth a.truth (in_words r)
 refused_at_once g a n f may same why r e h =
     unmounts g a a n n refl f f may.size may.geometry.sized may.ends (none a may.ready) refl same (λ z. refl) (λ z. refl) (in_words r) (λ z. refl)
     (ap in_words e ∙ is_cut a why (is_busy f) h) (λ z. absurd (no_success r z))
 
 -- it is refused while it writes
-pub refused_later : (g : Geometry) (a b : Caching) (n m : ℕ) → m ≡ n → (f : Files) → MayServe g a → IsLive a → is_busy f ≡ false → (x : Leads a b)
+pub refused_later : (g : Geometry) (a b : AbstractCache) (n m : ℕ) → m ≡ n → (f : Files) → MayServe g a → IsLive a → is_busy f ≡ false → (x : Leads a b)
     → ((d e : Disk) → Sees a b d e → e ≡ d) → (why : Why) (r : UnmountRefusal) → r ≡ refused_by why → IsWhyCut b why
     → UnmountsOver (server_of g a n f) (server_of g b m f) a.truth b.truth (in_words r)
 refused_later g a b n m many f may l idle x same why r e h =

@@ -7,64 +7,64 @@ use Rattle.tree.specs.declared.Who.{Who}
 use Rattle.tree.specs.declared.Call.{Call}
 use Rattle.tree.specs.Answers.{Answer, refused}
 use Rattle.volume.specs.Reading.{Disk}
-use Rattle.store.specs.declared.Cut.{Cut as Why}
+use Rattle.block_store.specs.declared.Cut.{Cut as Why}
 use Rattle.records.specs.Legal.{is_sync, is_success}
 use Rattle.records.specs.ServerCall.{Replied}
 use Rattle.records.specs.Unmount as legal
-use Rattle.cache.specs.Calls.{Caching, HandsOver, IsLive, IsWhyCut}
+use Rattle.cache.specs.Calls.{AbstractCache, HandsOver, IsLive, IsWhyCut}
 use Rattle.cache.specs.Edits.{AllClean}
-use Rattle.stored.specs.World.{Leads, Sees}
+use Rattle.cached_blocks.specs.World.{Leads, Sees}
 use Rattle.descriptors.specs.Files.{Files}
 use Rattle.client_calls.specs.Calls.{DoesCall, is_busy}
-use Rattle.file_server.specs.Over.{AbsorbsOver, CallsOver, outcome_of}
+use Rattle.file_server.specs.Over.{AbsorbsOver, CallSpecification, outcome_of}
 use Rattle.vfs.specs.Serving.{MayServe, Spends, server_of}
 use Rattle.vfs.specs.Outcomes.{stopped}
 use Rattle.vfs.specs.UnmountingLaws.{UnmountsOver}
 
 -- a call that is cut off, or answered EIO, where it begins
-abbrev pub StoppedKeeps : (B : Type 0) → (B → Caching) → Type 0
+abbrev pub StoppedKeeps : (B : Type 0) → (B → AbstractCache) → Type 0
 StoppedKeeps B caching =
     (g : Geometry) (a : B) (n : ℕ) (f : Files) (who : Who) (now : ℕ) (call : Call) (why : Why) → MayServe g (caching a) → IsWhyCut (caching a) why
-    → CallsOver (server_of g (caching a) n f) (server_of g (caching a) n f) (caching a).truth (caching a).truth who now call (outcome_of (stopped why))
+    → CallSpecification (server_of g (caching a) n f) (server_of g (caching a) n f) (caching a).truth (caching a).truth who now call (outcome_of (stopped why))
 
 -- a call that is cut off, or answered EIO, on its way: whatever open files it leaves
-abbrev pub CutKeeps : (B : Type 0) → (B → Caching) → Type 0
+abbrev pub CutKeeps : (B : Type 0) → (B → AbstractCache) → Type 0
 CutKeeps B caching =
     (g : Geometry) (a b : B) (n : ℕ) (f h : Files) (who : Who) (now : ℕ) (call : Call) (why : Why) → MayServe g (caching a) → IsLive (caching a)
     → Leads (caching a) (caching b) → IsWhyCut (caching b) why
-    → CallsOver (server_of g (caching a) n f) (server_of g (caching b) n h) (caching a).truth (caching b).truth who now call (outcome_of (stopped why))
+    → CallSpecification (server_of g (caching a) n f) (server_of g (caching b) n h) (caching a).truth (caching b).truth who now call (outcome_of (stopped why))
 
 -- a call that is answered: it does to what would be read back what the tree's call does
-abbrev pub AnsweredKeeps : (B : Type 0) → (B → Caching) → Type 0
+abbrev pub AnsweredKeeps : (B : Type 0) → (B → AbstractCache) → Type 0
 AnsweredKeeps B caching =
     (g : Geometry) (a b : B) (n : ℕ) (f h : Files) (who : Who) (now : ℕ) (call : Call) (answer : Answer) → MayServe g (caching a)
     → Leads (caching a) (caching b) → IsLive (caching b) → answer ≢ refused EIO → (IsTrue (is_sync call) → IsTrue (is_success answer) → AllClean (caching b).held)
     → ((d e : Disk) → Sees (caching a) (caching b) d e → DoesCall g who now call answer f h d e)
-    → CallsOver (server_of g (caching a) n f) (server_of g (caching b) n h) (caching a).truth (caching b).truth who now call (Replied answer)
+    → CallSpecification (server_of g (caching a) n f) (server_of g (caching b) n h) (caching a).truth (caching b).truth who now call (Replied answer)
 
 -- what a call spends
-abbrev pub CallSpends : (B : Type 0) → (B → Caching) → Type 0
+abbrev pub CallSpends : (B : Type 0) → (B → AbstractCache) → Type 0
 CallSpends B caching = (a b : B) → Leads (caching a) (caching b) → Spends 0 (caching a) (caching b)
 
 -- a message that is handed over
-abbrev pub HandedKeeps : (B : Type 0) → (B → Caching) → Type 0
+abbrev pub HandedKeeps : (B : Type 0) → (B → AbstractCache) → Type 0
 HandedKeeps B caching =
     (g : Geometry) (a b : B) (n : ℕ) (f : Files) (m : Incoming) → MayServe g (caching a) → HandsOver m (caching a) (caching b)
     → AbsorbsOver (server_of g (caching a) n f) (server_of g (caching b) n f) (caching a).truth (caching b).truth m
 
 -- what it spends
-abbrev pub HandedSpends : (B : Type 0) → (B → Caching) → Type 0
+abbrev pub HandedSpends : (B : Type 0) → (B → AbstractCache) → Type 0
 HandedSpends B caching = (m : Incoming) (a b : B) → HandsOver m (caching a) (caching b) → Spends 1 (caching a) (caching b)
 
 -- an unmount where a file is open
-abbrev pub BusyKeeps : (B : Type 0) → (B → Caching) → Type 0
+abbrev pub BusyKeeps : (B : Type 0) → (B → AbstractCache) → Type 0
 BusyKeeps B caching =
     (g : Geometry) (a : B) (n : ℕ) (f : Files) → MayServe g (caching a) → IsLive (caching a) → is_busy f ≡ true
     → ((d e : Disk) → Sees (caching a) (caching a) d e → e ≡ d)
     → UnmountsOver (server_of g (caching a) n f) (server_of g (caching a) n f) (caching a).truth (caching a).truth legal.Busy
 
 -- an unmount that is done: what would be read back stays as it was
-abbrev pub UnmountedKeeps : (B : Type 0) → (B → Caching) → Type 0
+abbrev pub UnmountedKeeps : (B : Type 0) → (B → AbstractCache) → Type 0
 UnmountedKeeps B caching =
     (g : Geometry) (a b : B) (n : ℕ) (f : Files) → MayServe g (caching a) → IsLive (caching a) → is_busy f ≡ false → Leads (caching a) (caching b)
     → ((d e : Disk) → Sees (caching a) (caching b) d e → e ≡ d) → IsLive (caching b) → AllClean (caching b).held

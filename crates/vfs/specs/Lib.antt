@@ -9,4 +9,3 @@ pub mod Server
 pub mod OverLink
 pub mod LineLaws
 pub mod Unmounting
-pub use Rattle.client_calls.specs as client_calls

@@ -2,8 +2,8 @@
 use Rattle.std.proofs.Common.{◌≡◌, ◌≤◌, ℕ, ◌+◌, min, Bool, List, cond, true, false, refl, sym, ap, ◌∙◌, arith}
 use Rattle.records.specs.Told.{Told, took_end}
 use Rattle.reissue.specs.declared.link.Link.{Ghosts as LinkWords}
-use Rattle.stored.specs.declared.Stored.{Stored}
-use Rattle.stored.proofs.Links.{ready_over}
+use Rattle.cached_blocks.specs.declared.Stored.{Stored}
+use Rattle.cached_blocks.proofs.Links.{ready_over}
 use Rattle.file_server.specs.Over.{SameServing}
 use Rattle.vfs.specs.declared.server.Server.{Server}
 use Rattle.vfs.specs.OverLink.{IsReadyOver, caching_of, line_of, serving_over, with_line}

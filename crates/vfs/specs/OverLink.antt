@@ -4,9 +4,9 @@ use Rattle.records.specs.ServerCall.{Serving}
 use Rattle.reissue.specs.declared.link.Link.{Ghosts as LinkWords}
 use Rattle.reissue.specs.declared.transfers.Transfers.{Transfers}
 use Rattle.reissue.specs.Transfers.{link_of}
-use Rattle.cache.specs.Calls.{Caching, IsIdle, frame_count, messages_left}
-use Rattle.stored.specs.declared.Stored.{Stored}
-use Rattle.stored.specs.World.{stored_caching, with_stored_link}
+use Rattle.cache.specs.Calls.{AbstractCache, IsIdle, frame_count, messages_left}
+use Rattle.cached_blocks.specs.declared.Stored.{Stored}
+use Rattle.cached_blocks.specs.World.{stored_caching, with_stored_link}
 use Rattle.vfs.specs.declared.server.Server.{Server}
 use Rattle.vfs.specs.Server.{IsOpen, serving}
 
@@ -23,7 +23,7 @@ abbrev pub with_line : {L : Type 0} → Server (Stored L) → L → Server (Stor
 with_line s link = record s { blocks = with_stored_link s.blocks link }
 
 -- its cache
-abbrev pub caching_of : {L : Type 0} → LinkWords L → Server (Stored L) → Caching
+abbrev pub caching_of : {L : Type 0} → LinkWords L → Server (Stored L) → AbstractCache
 caching_of words s = stored_caching words s.blocks
 
 -- a server as contracts see it
@@ -31,7 +31,7 @@ abbrev pub serving_over : {L : Type 0} → LinkWords L → Server (Stored L) →
 serving_over words s = serving (stored_caching words) (λ b. frame_count b.cache) s
 
 -- ids are left for the messages that may still come, one for each, besides those for what was handed over
-pub record HasIds (c : Caching) (absorbed : ℕ) : Type 0 where
+pub record HasIds (c : AbstractCache) (absorbed : ℕ) : Type 0 where
   pub enough : c.table.ids + messages_left c ≤ 2 ^ 59 + absorbed + length c.table.pending
 
 -- it may take calls and messages

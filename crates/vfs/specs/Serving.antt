@@ -11,26 +11,26 @@ use Rattle.records.specs.ServerCall.{Serving}
 use Rattle.reissue.specs.Agrees.{Agrees}
 use Rattle.reissue.specs.Moves.{state_after}
 use Rattle.reissue.specs.Rules.{outbox_of}
-use Rattle.cache.specs.Calls.{Caching, IsReady, messages_left}
+use Rattle.cache.specs.Calls.{AbstractCache, IsReady, messages_left}
 use Rattle.cache.specs.Frames.{CacheAgrees, frames_of}
 use Rattle.descriptors.specs.Files.{Files, HasFiles}
 use Rattle.client_calls.specs.Calls.{is_busy}
 
 -- calls may be made, on a cache for a volume of this geometry
-pub record MayServe (g : Geometry) (c : Caching) : Type 0 where
+pub record MayServe (g : Geometry) (c : AbstractCache) : Type 0 where
   pub geometry : IsGeometry g
   pub ready : IsReady c
   pub size : c.size ≡ g.block_size
   pub ends : c.ended ≡ took_end c.told
 
 -- what a server's fields say: its table of the record, its slots of the disk, its open files of the tree
-pub record IsServer (g : Geometry) (c : Caching) (f : Files) (image : Contents) (tree : Tree) (marks : List Mark) : Type 0 where
+pub record IsServer (g : Geometry) (c : AbstractCache) (f : Files) (image : Contents) (tree : Tree) (marks : List Mark) : Type 0 where
   pub table : Agrees c.table marks
   pub slots : HasTrueReplies image marks → CacheAgrees c.size c.held (state_after image marks)
   pub files : HasTrueReplies image marks → c.ended ≡ false → gave_up marks ≡ false → HasFiles f (tree_after g tree marks)
 
 -- a server over a cache of so many frames, with these open files
-abbrev pub server_of : Geometry → Caching → ℕ → Files → Serving
+abbrev pub server_of : Geometry → AbstractCache → ℕ → Files → Serving
 server_of g c frames f = record {
   geometry = g;
   minor = c.minor;
@@ -44,6 +44,6 @@ server_of g c frames f = record {
 }
 
 -- Messages were taken from those that were left, and each spent an id at most, as did those that were handed over.
-pub record Spends (handed : ℕ) (old new : Caching) : Type 0 where
+pub record Spends (handed : ℕ) (old new : AbstractCache) : Type 0 where
   pub left : messages_left new ≤ messages_left old
   pub ids : new.table.ids + messages_left new + length old.table.pending ≤ old.table.ids + messages_left old + length new.table.pending + handed

@@ -2,9 +2,9 @@
 use Rattle.std.specs.Prelude.{ℕ, Result, Ok, Err}
 use Rattle.records.specs.Unmount.{Unmounting}
 use Rattle.records.specs.Unmount as legal
-use Rattle.cache.specs.Calls.{Caching}
-use Rattle.store.specs.declared.Cut.{Cut}
-use Rattle.store.specs.declared.Cut.TheVariants as cut
+use Rattle.cache.specs.Calls.{AbstractCache}
+use Rattle.block_store.specs.declared.Cut.{Cut}
+use Rattle.block_store.specs.declared.Cut.TheVariants as cut
 use Rattle.vfs.specs.UnmountingLaws.{UnmountsOver}
 use Rattle.vfs.specs.declared.server.Server.{Server}
 use Rattle.vfs.specs.declared.unmounting.UnmountRefusal.{UnmountRefusal}
@@ -34,6 +34,6 @@ unmounting_as (Ok u) = legal.Unmounted
 unmounting_as (Err refusal) = in_words refusal
 
 -- unmounting a server over the blocks of a cache
-abbrev pub Unmounts : {B : Type 0} → (B → Caching) → (B → ℕ) → Server B → Server B → Unmounting → Type 0
+abbrev pub Unmounts : {B : Type 0} → (B → AbstractCache) → (B → ℕ) → Server B → Server B → Unmounting → Type 0
 Unmounts caching frame_count old new result =
     UnmountsOver (serving caching frame_count old) (serving caching frame_count new) (caching old.blocks).truth (caching new.blocks).truth result

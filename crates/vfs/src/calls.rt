@@ -2,18 +2,18 @@
 
 ghost use Rattle.std.specs.Prelude.{◌≡◌, false};
 ghost use Rattle.descriptors.specs.Table.{files_of};
-ghost use Rattle.file_server.specs.Over.{CallsOver, outcome_in, outcome_of};
+ghost use Rattle.file_server.specs.Over.{CallSpecification, outcome_in, outcome_of};
 ghost use Rattle.vfs.specs.Outcomes.{OnAnswered, stopped};
 ghost use Rattle.vfs.specs.Serving.{MayServe, Spends, server_of};
 
+use block_store::Cut;
+use cached_blocks::Caches;
 use client_calls::{NameCache, body};
 use descriptors::Descriptors;
 use errno::Errno;
 use file_server::Ending;
 use layout::Geometry;
 use std::alloc::Global;
-use store::Cut;
-use stored::Caches;
 use tree::{Call, Reply, Who};
 
 /// How a call that is cut off ends, and its reply.
@@ -47,7 +47,7 @@ pub fn answer<B: Caches>(
 ) -> Ending
     requires may { MayServe geometry.now (B.caching blocks.old) }
     ensures may { MayServe geometry.now (B.caching blocks.new) }
-    ensures calls { CallsOver (server_of geometry.now (B.caching blocks.old) (B.frame_count blocks.old) (files_of opens.old))
+    ensures calls { CallSpecification (server_of geometry.now (B.caching blocks.old) (B.frame_count blocks.old) (files_of opens.old))
         (server_of geometry.now (B.caching blocks.new) (B.frame_count blocks.new) (files_of opens.new))
         (B.caching blocks.old).truth (B.caching blocks.new).truth who now call.now (outcome_of (outcome_in result reply.new)) }
     ensures goes { B.goes_on blocks.old blocks.new }

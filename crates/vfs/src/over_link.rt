@@ -3,10 +3,10 @@
 ghost use Rattle.vfs.specs.OverLink.{IsIdleOver, IsReadyOver, line_of as link_there, with_line as with_link_there};
 
 use crate::server::Server;
+use cached_blocks::Stored;
 use file_server::{Ending, FileServer};
 use message::Incoming;
 use reissue::Link;
-use stored::Stored;
 use tree::{Call, Reply, Who};
 
 impl<L: Link + Drop> FileServer<L> for Server<Stored<L>> {

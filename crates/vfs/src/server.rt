@@ -3,6 +3,7 @@
 ghost use Rattle.std.specs.Prelude.{◌≡◌, ◌≢◌, ◌<◌, ◌+◌, ◌^◌, false};
 
 use crate::answer;
+use cached_blocks::Caches;
 use client_calls::NameCache;
 use descriptors::Descriptors;
 use file_server::Ending;
@@ -10,7 +11,6 @@ use layout::Geometry;
 use message::Incoming;
 use records::legal::Serve;
 use std::alloc::Global;
-use stored::Caches;
 use tree::{Call, Reply, Who};
 
 /// A file server of one volume, over blocks that have a cache, and the memory that it takes for answers of read and readdir.
@@ -50,7 +50,7 @@ impl<B> Server<B> {
 
 impl<B: Caches> Server<B> {
     ghost use Rattle.cache.specs.Calls.{IsIdle};
-    ghost use Rattle.stored.specs.Cached.{MayAbsorb};
+    ghost use Rattle.cached_blocks.specs.Cached.{MayAbsorb};
     ghost use Rattle.file_server.specs.Over.{outcome_in, outcome_of};
     ghost use Rattle.vfs.specs.Outcomes.{OnAnswered};
     ghost use Rattle.vfs.specs.Serving.{Spends};

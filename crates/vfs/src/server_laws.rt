@@ -3,7 +3,7 @@
 
 ghost use Rattle.vfs.specs.Laws.{AnsweredKeeps, CutKeeps, StoppedKeeps, HandedKeeps, BusyKeeps, UnmountedKeeps, CallSpends, HandedSpends};
 
-use stored::Caches;
+use cached_blocks::Caches;
 
 /// A call keeps what a server promises, over blocks that have a cache: one that is cut off where it begins, one that is cut off on its
 /// way, and one that is answered, where the blocks say that the tree's call was done and, where it syncs, that each frame is clean. Each

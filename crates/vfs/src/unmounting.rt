@@ -4,8 +4,8 @@ ghost use Rattle.std.specs.Prelude.{◌≡◌, OnOk, false};
 ghost use Rattle.vfs.specs.Unmounting.{refused_by, unmount_refusal_number};
 
 use crate::server::Server;
-use store::Cut;
-use stored::Caches;
+use block_store::Cut;
+use cached_blocks::Caches;
 use thiserror::Error;
 
 /// Why a volume isn't unmounted. Where several hold when it is asked, the least is answered, and nothing was done.

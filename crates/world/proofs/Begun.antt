@@ -26,11 +26,11 @@ use Rattle.media.specs.Places.{volume_place}
 use Rattle.records.specs.Opening.{volume_bytes}
 use Rattle.fsck.specs.declared.verdict.Clean.{Clean}
 use Rattle.schedule.specs.Refusals.{HasVolume, IsGoodSetup, media_refusal_of, verdict_in}
-use Rattle.mounting.specs.declared.refusal.StartRefusal.{StartRefusal}
-use Rattle.mounting.specs.declared.refusal.StartRefusal.TheVariants as start
-use Rattle.mounting.specs.Starting as starting
-use Rattle.mounting.specs.Starting.{is_same_range, is_ready_for, opening_of, IsWellSetUp}
-use Rattle.mounting.proofs.Starts.{same_range}
+use Rattle.volume_mount.specs.declared.refusal.StartRefusal.{StartRefusal}
+use Rattle.volume_mount.specs.declared.refusal.StartRefusal.TheVariants as start
+use Rattle.volume_mount.specs.Starting as starting
+use Rattle.volume_mount.specs.Starting.{is_same_range, is_ready_for, opening_of, IsWellSetUp}
+use Rattle.volume_mount.proofs.Starts.{same_range}
 use Rattle.world.specs.declared.run_refusal.RunRefusal.{RunRefusal}
 use Rattle.world.specs.declared.run_refusal.RunRefusal.TheVariants.{Media, Partition, NotClean, BadSetup, NoDriver, OutOfMemory}
 use Rattle.world.specs.Beginning.{range_of, place_or_none, start_on, setup_refusal_of, IsBegun, IsChecked, IsNotBegun, IsNotSetUp}

@@ -18,14 +18,14 @@ use Rattle.schedule.specs.declared.Event.{Event}
 use Rattle.schedule.specs.Calls.{taken}
 use Rattle.schedule.specs.Headline.{Transcript, RepliesHold}
 use Rattle.schedule.specs.Noted.{marks_in}
-use Rattle.run_link.specs.Scene.{Scene}
+use Rattle.simulated_link.specs.Scene.{Scene}
 use Rattle.schedule.specs.declared.arrived.Arrived.{Arrived}
-use Rattle.run_link.specs.StateView.{RunState, RunTruth, IsSpent, work_left}
-use Rattle.run_link.specs.Laws.{IsSound, MediaHeld}
-use Rattle.run_link.specs.Waiting.{arrival_of}
-use Rattle.run_link.specs.Moments.{Doing, Resting, Answering}
-use Rattle.run_link.proofs.Guarantee.{media_held}
-use Rattle.run_link.proofs.Needing.{runs_end_needing}
+use Rattle.simulated_link.specs.StateView.{RunState, RunTruth, IsSpent, work_left}
+use Rattle.simulated_link.specs.Laws.{IsSound, MediaHeld}
+use Rattle.simulated_link.specs.Waiting.{arrival_of}
+use Rattle.simulated_link.specs.Moments.{Doing, Resting, Answering}
+use Rattle.simulated_link.proofs.Guarantee.{media_held}
+use Rattle.simulated_link.proofs.Needing.{runs_end_needing}
 use Rattle.file_server.specs.Over.{Stands}
 use Rattle.world.specs.Runs.{moment, RunsOn, StandsAfter, EndsAs}
 use Rattle.world.specs.Ends.{RunStands, RunsOut}

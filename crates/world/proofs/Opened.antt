@@ -8,8 +8,8 @@ use Rattle.reincarnate.specs.Watch.{Watch, new_watch}
 use Rattle.records.specs.Told.{took_end}
 use Rattle.schedule.specs.declared.Event.{Event}
 use Rattle.schedule.specs.Noted.{Noted}
-use Rattle.run_link.specs.Scene.{Scene}
-use Rattle.run_link.specs.StateView.{RunState, IsOpened, left_of, unless_told, work_left}
+use Rattle.simulated_link.specs.Scene.{Scene}
+use Rattle.simulated_link.specs.StateView.{RunState, IsOpened, left_of, unless_told, work_left}
 use Rattle.reincarnate.specs.declared.SupplyRefusal.{SupplyRefusal}
 use Rattle.reincarnate.specs.Supply.{ReincarnationState, NewAnswers}
 use Rattle.world.specs.Starts.{IsBeforeFirst}

@@ -3,7 +3,7 @@ use Rattle.std.proofs.Common.{List, refl, sym, subst}
 use Rattle.records.specs.Marks.{Mark}
 use Rattle.records.specs.Opening.{contents_at}
 use Rattle.schedule.specs.Headline.{RepliesHold}
-use Rattle.run_link.specs.Laws.{MediaHeld}
+use Rattle.simulated_link.specs.Laws.{MediaHeld}
 use Rattle.transcript.proofs.Image.{image_shows}
 use Rattle.world.specs.Shows.{RunsAreShown}
 

@@ -12,9 +12,9 @@ use Rattle.records.specs.Marks.{Started}
 use Rattle.records.specs.Opening.{Opening, Range, contents_at}
 use Rattle.records.specs.Open.{IsWellFormed}
 use Rattle.records.specs.ServerCall.{Serving}
-use Rattle.inline.specs.Inline.{IsReady}
+use Rattle.synchronous_driver.specs.Inline.{IsReady}
 use Rattle.true_replies.specs.Events.{IsOnMedia}
-use Rattle.mounting.specs.Starting.{opening_of}
+use Rattle.volume_mount.specs.Starting.{opening_of}
 use Rattle.reissue.specs.declared.link.Link.{Ghosts as LinkWords}
 use Rattle.schedule.specs.declared.Event.{Event}
 use Rattle.schedule.specs.declared.Sent.{Sent}
@@ -22,21 +22,21 @@ use Rattle.schedule.specs.Groups.{Each}
 use Rattle.schedule.specs.Justified.{Justified}
 use Rattle.schedule.specs.Headline.{Transcript}
 use Rattle.schedule.specs.Noted.{marks_in}
-use Rattle.run_link.specs.declared.run.RunLink.{RunLink}
-use Rattle.run_link.specs.StateView.{RunState, IsOpened}
-use Rattle.run_link.specs.Moments.{Doing, Resting, Hearing, Answering, Moment, Runs, Needs}
-use Rattle.justified.specs.Steady.{drivers_of}
-use Rattle.justified.specs.Whole.{IsUnused, IsAtEnd, IsWhole as IsWholeRun}
-use Rattle.justified.proofs.WholeLaws.{runs_are_whole}
+use Rattle.simulated_link.specs.declared.run.RunLink.{RunLink}
+use Rattle.simulated_link.specs.StateView.{RunState, IsOpened}
+use Rattle.simulated_link.specs.Moments.{Doing, Resting, Hearing, Answering, Moment, Runs, Needs}
+use Rattle.conformance.specs.Steady.{drivers_of}
+use Rattle.conformance.specs.Whole.{IsUnused, IsAtEnd, IsWhole as IsWholeRun}
+use Rattle.conformance.proofs.WholeLaws.{runs_are_whole}
 use Rattle.file_server.specs.Over.{Hears}
 use Rattle.world.specs.Ends.{RunHolds, RunStands, EndsIn}
 use Rattle.world.specs.Starts.{at_first}
 use Rattle.world.specs.Runs.{moment}
 use Rattle.world.specs.Shows.{Shows}
 use Rattle.world.proofs.RunShowing.{runs_are_shown}
-use Rattle.stored.specs.declared.Stored.{Stored}
-use Rattle.mounting.specs.vfs.declared.server.Server.{Server}
-use Rattle.mounting.specs.vfs.OverLink.{line_of, serving_over}
+use Rattle.cached_blocks.specs.declared.Stored.{Stored}
+use Rattle.vfs.specs.declared.server.Server.{Server}
+use Rattle.vfs.specs.OverLink.{line_of, serving_over}
 use Rattle.world.specs.declared.run_refusal.RunRefusal.TheVariants.{OutOfMemory}
 use Rattle.world.specs.Beginning.{IsBegun, IsNotBegun, range_of}
 use Rattle.transcript.specs.ShownTranscript.{frames_in}

@@ -13,16 +13,16 @@ use Rattle.records.specs.Told.{received, took_end}
 use Rattle.records.specs.Acts.{Absorbed, told_of, marks_after, owed_after_message, IsAtRest}
 use Rattle.records.specs.ServerCall.{Serving, Serves, Outcome, Replied, Cut as WasCutOff}
 use Rattle.reissue.specs.Calls.{Truth}
-use Rattle.run_link.specs.Kept.{with_next}
+use Rattle.simulated_link.specs.Kept.{with_next}
 use Rattle.schedule.specs.declared.arrived.Arrived.{Arrived}
-use Rattle.run_link.specs.StateView.{RunState, RunTruth, GoesOn, Asides, HandsEvent, HandsNone, HandsOwed, HandsNothing, Answers, HandsOut, work_left}
-use Rattle.run_link.specs.Laws.{LeadsOn, IsToldOfEnd}
-use Rattle.run_link.specs.Waiting.{arrival_of, HasCalls}
-use Rattle.run_link.specs.Moments.{Doing, Resting, Hearing, Answering, record_of, Step, Runs, Starts, Then}
-use Rattle.run_link.proofs.Leading.{leads_stays, leads_joins, servers_lead_on, asides_lead_on, calls_lead_on, answers_lead_on}
-use Rattle.run_link.proofs.Waits.{servers_hand_none, asides_hand_none, one_is_handed_out, it_is_answered}
-use Rattle.run_link.proofs.Running.{history_of, goes_told_of_end, quiet_next, runs_join, runs_at, servers_end_rightly}
-use Rattle.file_server.specs.Over.{SameServing, Hears, AbsorbsOver, CallsOver}
+use Rattle.simulated_link.specs.StateView.{RunState, RunTruth, GoesOn, Asides, HandsEvent, HandsNone, HandsOwed, HandsNothing, Answers, HandsOut, work_left}
+use Rattle.simulated_link.specs.Laws.{LeadsOn, IsToldOfEnd}
+use Rattle.simulated_link.specs.Waiting.{arrival_of, HasCalls}
+use Rattle.simulated_link.specs.Moments.{Doing, Resting, Hearing, Answering, record_of, Step, Runs, Starts, Then}
+use Rattle.simulated_link.proofs.Leading.{leads_stays, leads_joins, servers_lead_on, asides_lead_on, calls_lead_on, answers_lead_on}
+use Rattle.simulated_link.proofs.Waits.{servers_hand_none, asides_hand_none, one_is_handed_out, it_is_answered}
+use Rattle.simulated_link.proofs.Running.{history_of, goes_told_of_end, quiet_next, runs_join, runs_at, servers_end_rightly}
+use Rattle.file_server.specs.Over.{SameServing, Hears, AbsorbsOver, CallSpecification}
 use Rattle.file_server.proofs.Standing.{serves_same}
 use Rattle.world.specs.declared.run_loop.course.Course.TheVariants.{More, Cut}
 use Rattle.world.specs.Runs.{moment, RunsOn, StandsAfter, Awaits, Notes, IsLive, IsIdle, IsNext, RunsOne, AnswersTo, doing_of}
@@ -192,8 +192,8 @@ handed_one s t u was noted is b m a r message absorbs on w idle first last =
 
 -- a call is the one that arrived
 pub of_call : (s t : Serving) (was is : Truth) (asked arrived : Arrived) (outcome : Outcome) → asked ≡ arrived
-    → CallsOver s t was is asked.who asked.now asked.call outcome → CallsOver s t was is arrived.who arrived.now arrived.call outcome
-of_call s t was is asked arrived outcome same calls = subst (λ (x : Arrived). CallsOver s t was is x.who x.now x.call outcome) same calls
+    → CallSpecification s t was is asked.who asked.now asked.call outcome → CallSpecification s t was is arrived.who arrived.now arrived.call outcome
+of_call s t was is asked arrived outcome same calls = subst (λ (x : Arrived). CallSpecification s t was is x.who x.now x.call outcome) same calls
 
 -- an answer is noted at the link that was lent
 noted_there : (s t : Serving) (was is : Truth) (b a : RunState) (arrived : Arrived) (reply : Reply) (r : Result (Unit {0}) AllocError) → SameServing s t
@@ -217,11 +217,11 @@ not_cut : (answer : Answer) → ◌≡◌ (Replied answer) WasCutOff → ⊥
 not_cut answer h = cc
 
 answered_ended : (s t : Serving) (was is : Truth) (arrived : Arrived) (reply : Reply)
-    → CallsOver s t was is arrived.who arrived.now arrived.call (Replied (answer_of reply)) → t.ended ≡ false
+    → CallSpecification s t was is arrived.who arrived.now arrived.call (Replied (answer_of reply)) → t.ended ≡ false
 answered_ended s t was is arrived reply calls = is_false t.ended (λ over. not_cut (answer_of reply) (calls.keeps.cut.1 over))
 
 pub answered_over : (s t : Serving) (was is : Truth) (b a : RunState) (arrived : Arrived) (reply : Reply)
-    → CallsOver s t was is arrived.who arrived.now arrived.call (Replied (answer_of reply)) → GoesOn b a → IsLive (Answering arrived) s b
+    → CallSpecification s t was is arrived.who arrived.now arrived.call (Replied (answer_of reply)) → GoesOn b a → IsLive (Answering arrived) s b
     → s.told ≡ history_of b → t.told ≡ history_of a → a.over ≡ false
 answered_over s t was is b a arrived reply calls on handed first last =
     over_is_ended s t b a (told_of calls.keeps.acts) handed.told_of_end (goes_told_of_end b a on handed.told_of_end)
@@ -230,7 +230,7 @@ answered_over s t was is b a arrived reply calls on handed first last =
 
 -- a call was answered, and its answer noted
 pub answered : (s t u : Serving) (was is after : Truth) (b m a : RunState) (arrived : Arrived) (reply : Reply)
-    → CallsOver s t was is arrived.who arrived.now arrived.call (Replied (answer_of reply)) → GoesOn b m → Notes t u is after m a arrived reply
+    → CallSpecification s t was is arrived.who arrived.now arrived.call (Replied (answer_of reply)) → GoesOn b m → Notes t u is after m a arrived reply
     → IsLive (Answering arrived) s b → IsGuarantee was b → s.told ≡ history_of b → t.told ≡ history_of m → RunsOn s u was after b a (Answering arrived) Resting
 answered s t u was is after b m a arrived reply calls on n live guarantees first last = record {
   geometry = n.same.geometry ∙ calls.keeps.leads.geometry;
@@ -259,7 +259,7 @@ answered s t u was is after b m a arrived reply calls on n live guarantees first
 }
 
 pub answered_to : (s t u : Serving) (was is after : Truth) (b m a : RunState) (arrived : Arrived) (reply : Reply)
-    → CallsOver s t was is arrived.who arrived.now arrived.call (Replied (answer_of reply)) → GoesOn b m → Notes t u is after m a arrived reply
+    → CallSpecification s t was is arrived.who arrived.now arrived.call (Replied (answer_of reply)) → GoesOn b m → Notes t u is after m a arrived reply
     → IsLive (Answering arrived) s b → s.told ≡ history_of b → t.told ≡ history_of m → u.told ≡ history_of a → AnswersTo More arrived u a
 answered_to s t u was is after b m a arrived reply calls on n live first last then =
     let over : m.over ≡ false = answered_over s t was is b m arrived reply calls on live first last in
@@ -273,7 +273,7 @@ answered_to s t u was is after b m a arrived reply calls on n live first last th
     }
 
 -- a call was cut
-pub cut_off : (s t : Serving) (was is : Truth) (b a : RunState) (arrived : Arrived) → CallsOver s t was is arrived.who arrived.now arrived.call WasCutOff
+pub cut_off : (s t : Serving) (was is : Truth) (b a : RunState) (arrived : Arrived) → CallSpecification s t was is arrived.who arrived.now arrived.call WasCutOff
     → GoesOn b a → IsLive (Answering arrived) s b → IsGuarantee was b → s.told ≡ history_of b → t.told ≡ history_of a
     → RunsOn s t was is b a (Answering arrived) (Answering arrived)
 cut_off s t was is b a arrived calls on live guarantees first last = record {
@@ -292,7 +292,7 @@ cut_off s t was is b a arrived calls on live guarantees first last = record {
   };
 }
 
-pub cut_to : (s t : Serving) (was is : Truth) (b a : RunState) (arrived : Arrived) → CallsOver s t was is arrived.who arrived.now arrived.call WasCutOff
+pub cut_to : (s t : Serving) (was is : Truth) (b a : RunState) (arrived : Arrived) → CallSpecification s t was is arrived.who arrived.now arrived.call WasCutOff
     → GoesOn b a → IsLive (Answering arrived) s b → s.told ≡ history_of b → t.told ≡ history_of a → AnswersTo Cut arrived t a
 cut_to s t was is b a arrived calls on live first last =
     let ended : t.ended ≡ true = calls.keeps.cut.0 refl in

@@ -19,12 +19,12 @@ use Rattle.schedule.specs.Groups.{schedule_of}
 use Rattle.schedule.specs.Calls.{arrived, taken}
 use Rattle.schedule.specs.Noted.{Noted, marks_in}
 use Rattle.schedule.specs.declared.arrived.Arrived.{Arrived}
-use Rattle.run_link.specs.StateView.{RunState, GoesOn, work_left}
-use Rattle.run_link.specs.Laws.{IsSound, LeadsOn, IsToldOfEnd}
-use Rattle.run_link.specs.Waiting.{arrival_of, HasCalls}
-use Rattle.run_link.specs.Moments.{Resting}
-use Rattle.run_link.proofs.Leading.{servers_lead_on}
-use Rattle.run_link.proofs.Running.{history_of, none_told}
+use Rattle.simulated_link.specs.StateView.{RunState, GoesOn, work_left}
+use Rattle.simulated_link.specs.Laws.{IsSound, LeadsOn, IsToldOfEnd}
+use Rattle.simulated_link.specs.Waiting.{arrival_of, HasCalls}
+use Rattle.simulated_link.specs.Moments.{Resting}
+use Rattle.simulated_link.proofs.Leading.{servers_lead_on}
+use Rattle.simulated_link.proofs.Running.{history_of, none_told}
 use Rattle.file_server.specs.Over.{AbsorbsOver, Stands}
 use Rattle.world.proofs.Standing.{absorbed_live}
 use Rattle.world.specs.Runs.{IsIdle, moment}

@@ -12,14 +12,14 @@ use Rattle.records.specs.Told.{Told, Posted, Complained, Received, received, too
 use Rattle.records.specs.Acts.{Act, Began, Absorbed, AtLink, Outbox, told_of, marks_after, outbox_after, owed_after_message, IsAtRest}
 use Rattle.records.specs.ServerCall.{Serving, Serves, Outcome, Rules}
 use Rattle.reissue.specs.Calls.{Truth}
-use Rattle.schedule.specs.declared.log.Entry.TheVariants as entry
+use Rattle.schedule.specs.declared.log.LogEntry.TheVariants as entry
 use Rattle.schedule.specs.declared.arrived.Arrived.{Arrived}
-use Rattle.run_link.specs.StateView.{RunState, noting, paid, RunsEvent, GoesOn, Asides, HandsEvent, HandsNone, HandsOwed, HandsOut}
-use Rattle.run_link.specs.Laws.{IsToldOfEnd}
-use Rattle.run_link.specs.Moments.{Doing, Resting, Hearing, Answering, Moment, record_of, Step, Settles, Brings, BringsNone, Pays, HandsCall, Replies, Runs, Starts, Then}
-use Rattle.run_link.proofs.MovingLaws.{message_history}
-use Rattle.run_link.proofs.Running.{history_of, next_record, next_history, handed_record, Reaches, acts_run, acts_after, ActsAfter, marks_after_message}
-use Rattle.file_server.specs.Over.{AbsorbsOver, CallsOver}
+use Rattle.simulated_link.specs.StateView.{RunState, noting, paid, RunsEvent, GoesOn, Asides, HandsEvent, HandsNone, HandsOwed, HandsOut}
+use Rattle.simulated_link.specs.Laws.{IsToldOfEnd}
+use Rattle.simulated_link.specs.Moments.{Doing, Resting, Hearing, Answering, Moment, record_of, Step, Settles, Brings, BringsNone, Pays, HandsCall, Replies, Runs, Starts, Then}
+use Rattle.simulated_link.proofs.MovingLaws.{message_history}
+use Rattle.simulated_link.proofs.Running.{history_of, next_record, next_history, handed_record, Reaches, acts_run, acts_after, ActsAfter, marks_after_message}
+use Rattle.file_server.specs.Over.{AbsorbsOver, CallSpecification}
 use Rattle.world.specs.Runs.{moment, IsNext, doing_of}
 
 -- a message handed over is no take
@@ -148,12 +148,12 @@ pub record CallRuns (s t : Serving) (b a : RunState) (call : Arrived) (marks : L
   pub record_is : record_of a ≡ marks
 
 pub call_history : (s t : Serving) (was is : Truth) (b a : RunState) (call : Arrived) (outcome : Outcome)
-    (calls : CallsOver s t was is call.who call.now call.call outcome) → s.told ≡ history_of b → t.told ≡ history_of a
+    (calls : CallSpecification s t was is call.who call.now call.call outcome) → s.told ≡ history_of b → t.told ≡ history_of a
     → history_of a ≡ told_of calls.keeps.acts ++ history_of b
 call_history s t was is b a call outcome calls first last = knows_more s t b a (told_of calls.keeps.acts) first last calls.keeps.leads.told
 
 pub call_runs : (s t : Serving) (was is : Truth) (b a : RunState) (call : Arrived) (outcome : Outcome) (v : Opening) (tree : Tree) (marks : List Mark)
-    (calls : CallsOver s t was is call.who call.now call.call outcome) → GoesOn b a → IsToldOfEnd b → s.told ≡ history_of b → t.told ≡ history_of a
+    (calls : CallSpecification s t was is call.who call.now call.call outcome) → GoesOn b a → IsToldOfEnd b → s.told ≡ history_of b → t.told ≡ history_of a
     → record_of b ≡ marks → Serves s (contents_at v) tree marks → CallRuns s t b a call (marks_after calls.keeps.acts marks)
 call_runs s t was is b a call outcome v tree marks calls on told first last noted serves =
     let rules : Rules s calls.keeps.acts t marks = calls.keeps.rules (contents_at v) tree marks serves.agrees in

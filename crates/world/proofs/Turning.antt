@@ -4,9 +4,9 @@ use Rattle.std.specs.Prelude.{Option, Some, None, length}
 use Rattle.records.specs.ServerCall.{Serving}
 use Rattle.reissue.specs.Calls.{Truth}
 use Rattle.schedule.specs.declared.arrived.Arrived.{Arrived}
-use Rattle.run_link.specs.StateView.{RunState, HandsOut, work_left}
-use Rattle.run_link.specs.Moments.{Resting, Answering}
-use Rattle.run_link.proofs.Leading.{calls_lead_on}
+use Rattle.simulated_link.specs.StateView.{RunState, HandsOut, work_left}
+use Rattle.simulated_link.specs.Moments.{Resting, Answering}
+use Rattle.simulated_link.proofs.Leading.{calls_lead_on}
 use Rattle.world.specs.declared.run_loop.course.Course.{Course}
 use Rattle.world.specs.declared.run_loop.course.Course.TheVariants.{More, Done, Cut}
 use Rattle.world.specs.Runs.{RunsOn, IsLive, IsIdle, IsNext, RunsOne, AnswersTo, GoesFurther, IsDone, IsCut, ComesTo, EndsAs, doing_of, doing_after}

@@ -14,8 +14,8 @@ use Rattle.records.specs.Opening.{Range, volume_bytes, volume_in}
 use Rattle.records.specs.Legal.{IsAtFirst}
 use Rattle.schedule.specs.Refusals.{Start, Refusal, NoPlace, IsGoodSetup, IsRefusedFor, IsAccepted, media_refusal_of, start_of}
 use Rattle.fsck.specs.declared.verdict.Clean.{Clean}
-use Rattle.mounting.specs.declared.refusal.StartRefusal.{StartRefusal}
-use Rattle.mounting.specs.declared.refusal.StartRefusal.TheVariants as start
+use Rattle.volume_mount.specs.declared.refusal.StartRefusal.{StartRefusal}
+use Rattle.volume_mount.specs.declared.refusal.StartRefusal.TheVariants as start
 use Rattle.world.specs.declared.run_refusal.RunRefusal.{RunRefusal}
 use Rattle.world.specs.declared.run_refusal.RunRefusal.TheVariants.{Media, Partition, NotClean, BadSetup, NoDriver, OutOfMemory}
 use Rattle.world.specs.Reasons.{no_place, reason_of}

@@ -11,11 +11,11 @@ use Rattle.schedule.specs.Groups.{schedule_of}
 use Rattle.schedule.specs.Calls.{Arrival, arrived, taken}
 use Rattle.schedule.specs.Headline.{Transcript, RepliesHold}
 use Rattle.schedule.specs.Noted.{marks_in}
-use Rattle.run_link.specs.Scene.{Scene}
-use Rattle.run_link.specs.StateView.{RunState, IsSpent}
-use Rattle.run_link.specs.Laws.{MediaHeld}
-use Rattle.run_link.specs.Waiting.{arrival_of}
-use Rattle.run_link.specs.Moments.{Doing, Resting, Hearing, Answering, Moment, Runs, Needs}
+use Rattle.simulated_link.specs.Scene.{Scene}
+use Rattle.simulated_link.specs.StateView.{RunState, IsSpent}
+use Rattle.simulated_link.specs.Laws.{MediaHeld}
+use Rattle.simulated_link.specs.Waiting.{arrival_of}
+use Rattle.simulated_link.specs.Moments.{Doing, Resting, Hearing, Answering, Moment, Runs, Needs}
 use Rattle.file_server.specs.Over.{Stands}
 use Rattle.world.specs.Runs.{moment, out_in}
 

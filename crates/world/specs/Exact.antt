@@ -9,12 +9,12 @@ use Rattle.schedule.specs.declared.Event.{Event}
 use Rattle.schedule.specs.Calls.{Arrival}
 use Rattle.schedule.specs.Headline.{Transcript}
 use Rattle.schedule.specs.Noted.{marks_in}
-use Rattle.run_link.specs.StateView.{RunState, IsOpened, IsSpent}
-use Rattle.run_link.specs.Waiting.{arrival_of}
-use Rattle.run_link.specs.Moments.{Moment, Resting, Runs, Needs}
+use Rattle.simulated_link.specs.StateView.{RunState, IsOpened, IsSpent}
+use Rattle.simulated_link.specs.Waiting.{arrival_of}
+use Rattle.simulated_link.specs.Moments.{Moment, Resting, Runs, Needs}
 use Rattle.world.specs.Runs.{out_in}
 use Rattle.world.specs.Starts.{at_first}
-use Rattle.justified.specs.Steady.{drivers_of}
+use Rattle.conformance.specs.Steady.{drivers_of}
 
 -- the media that hold an image, on which no driver was started
 abbrev pub media_with : List ℕ → MediaState

@@ -8,13 +8,13 @@ use Rattle.records.specs.Marks.{Mark, Took}
 use Rattle.records.specs.Opening.{Opening}
 use Rattle.records.specs.ServerCall.{Serving}
 use Rattle.reissue.specs.Calls.{Truth}
-use Rattle.run_link.specs.Kept.{with_next}
+use Rattle.simulated_link.specs.Kept.{with_next}
 use Rattle.schedule.specs.Calls.{Arrival}
 use Rattle.schedule.specs.declared.arrived.Arrived.{Arrived}
-use Rattle.run_link.specs.StateView.{RunState, IsSpent, Asides, Answers, work_left}
-use Rattle.run_link.specs.Laws.{LeadsOn, IsToldOfEnd}
-use Rattle.run_link.specs.Waiting.{HasCalls, arrival_of}
-use Rattle.run_link.specs.Moments.{Doing, Resting, Hearing, Answering, Moment, Runs}
+use Rattle.simulated_link.specs.StateView.{RunState, IsSpent, Asides, Answers, work_left}
+use Rattle.simulated_link.specs.Laws.{LeadsOn, IsToldOfEnd}
+use Rattle.simulated_link.specs.Waiting.{HasCalls, arrival_of}
+use Rattle.simulated_link.specs.Moments.{Doing, Resting, Hearing, Answering, Moment, Runs}
 use Rattle.file_server.specs.Over.{Stands, SameServing}
 use Rattle.world.specs.declared.run_loop.course.Course.{Course}
 use Rattle.world.specs.declared.run_loop.course.Course.TheVariants.{More, Done, Cut}

@@ -4,11 +4,11 @@ use Rattle.layout.specs.declared.Geometry.{Geometry}
 use Rattle.records.specs.Mount.{OpenKeeps}
 use Rattle.reissue.specs.declared.link.Link.{Ghosts as LinkWords}
 use Rattle.schedule.specs.declared.Event.{Event}
-use Rattle.run_link.specs.StateView.{RunState}
+use Rattle.simulated_link.specs.StateView.{RunState}
 use Rattle.world.specs.Starts.{IsBeforeFirst, RunsAll}
-use Rattle.stored.specs.declared.Stored.{Stored}
-use Rattle.mounting.specs.vfs.declared.server.Server.{Server}
-use Rattle.mounting.specs.vfs.OverLink.{line_of, serving_over}
+use Rattle.cached_blocks.specs.declared.Stored.{Stored}
+use Rattle.vfs.specs.declared.server.Server.{Server}
+use Rattle.vfs.specs.OverLink.{line_of, serving_over}
 
 -- A server that was opened over this link, with so many frames, has run the schedule out; so many calls are left.
 pub record RunsFrom {L : Type 0} (words : LinkWords L) (run : L → RunState) (link : L) (minor : ℕ) (g : Geometry) (frames : ℕ) (s : Server (Stored L)) (unanswered : ℕ) : Type 0 where

@@ -9,7 +9,7 @@ use Rattle.media.specs.Contents.{IsWhole, sectors_of}
 use Rattle.true_replies.specs.Events.{IsOnMedia}
 use Rattle.schedule.specs.Headline.{Transcript, RepliesHold, MediaHold}
 use Rattle.schedule.specs.Noted.{marks_in}
-use Rattle.run_link.specs.Scene.{Scene}
+use Rattle.simulated_link.specs.Scene.{Scene}
 use Rattle.world.specs.Ends.{RunHolds}
 
 -- the transcript is of this run: its marks, the server's frames, and the bytes of the media, which are as many sectors as were handed in

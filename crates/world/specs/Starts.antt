@@ -10,9 +10,9 @@ use Rattle.reissue.specs.Calls.{Truth}
 use Rattle.schedule.specs.Groups.{schedule_of}
 use Rattle.schedule.specs.Calls.{Arrival, arrived, taken}
 use Rattle.schedule.specs.Noted.{marks_in}
-use Rattle.run_link.specs.StateView.{RunState, IsSpent, first_noted}
-use Rattle.run_link.specs.Waiting.{arrival_of}
-use Rattle.run_link.specs.Moments.{Doing, Resting, Moment}
+use Rattle.simulated_link.specs.StateView.{RunState, IsSpent, first_noted}
+use Rattle.simulated_link.specs.Waiting.{arrival_of}
+use Rattle.simulated_link.specs.Moments.{Doing, Resting, Moment}
 use Rattle.file_server.specs.Over.{Hears}
 use Rattle.world.specs.Runs.{moment, out_in}
 use Rattle.world.specs.Ends.{EndsIn, RunStands}

@@ -4,19 +4,19 @@ ghost use Rattle.std.specs.Prelude.{◌≡◌, ◌≤◌, ◌<◌, ◌^◌, ◌�
 ghost use Rattle.reincarnate.specs.Watch.{driver, new_watch};
 ghost use Rattle.records.specs.Marks.{Started};
 ghost use Rattle.records.specs.Opening.{Opening};
-ghost use Rattle.inline.specs.Inline.{IsReady};
+ghost use Rattle.synchronous_driver.specs.Inline.{IsReady};
 ghost use Rattle.true_replies.specs.Events.{IsOnMedia, opening_media};
 ghost use Rattle.schedule.specs.LogView.{room_in};
-ghost use Rattle.run_link.specs.StateView.{IsOpened, RunTruth, run_of};
+ghost use Rattle.simulated_link.specs.StateView.{IsOpened, RunTruth, run_of};
 ghost use Rattle.world.specs.ServerRuns.{IsFresh};
 
-use inline::local::LocalDriver;
 use media::Media;
 use reincarnate::Reincarnation;
 use reincarnate::policy::Setup;
-use run_link::RunLink;
 use schedule::Event;
+use simulated_link::RunLink;
 use std::alloc::{AllocError, Global};
+use synchronous_driver::local::LocalDriver;
 
 /// The link of a run before its first event, on these media, with these drivers. An error: no memory was found.
 pub fn link_of<'a, D: LocalDriver>(

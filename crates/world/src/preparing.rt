@@ -6,21 +6,21 @@ ghost use Rattle.tree.specs.Tree.{Tree};
 ghost use Rattle.media.specs.Contents.{sectors_of};
 ghost use Rattle.bdev.specs.Promises.{IsDriver};
 ghost use Rattle.media.specs.Places.{volume_place as place_by};
-ghost use Rattle.inline.specs.Inline.{IsReady};
+ghost use Rattle.synchronous_driver.specs.Inline.{IsReady};
 ghost use Rattle.true_replies.specs.Events.{IsOnMedia, opening_media};
-ghost use Rattle.mounting.specs.Starting.{opening_of};
+ghost use Rattle.volume_mount.specs.Starting.{opening_of};
 ghost use Rattle.schedule.specs.Refusals.{IsGoodSetup, media_refusal_of};
 ghost use Rattle.world.specs.Beginning.{IsBegun, IsChecked, IsNoMedia, IsNoPlace, IsNotBegun, IsNotSetUp, range_of, setup_refusal_of};
 
 use crate::run_refusal::RunRefusal;
 use fsck::{Clean, Verdict, check};
-use inline::local::LocalDriver;
 use media::partition::volume_place;
 use media::{Media, MediaRefusal, SECTOR};
-use mounting::StartRefusal;
-use mounting::prepared::check_setup;
 use reincarnate::policy::Setup;
 use std::alloc::Global;
+use synchronous_driver::local::LocalDriver;
+use volume_mount::StartRefusal;
+use volume_mount::prepared::check_setup;
 
 /// What a run starts on: media on which no driver was started, and the volume on them, which was checked.
 #[derive(Drop)]

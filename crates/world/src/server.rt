@@ -3,17 +3,17 @@
 ghost use Rattle.std.specs.Prelude.{◌≡◌, ◌≤◌, ◌<◌, ◌+◌, ◌^◌, IfOk, false};
 ghost use Rattle.layout.specs.Places.{IsGeometry};
 ghost use Rattle.records.specs.Told.{took_end};
-ghost use Rattle.run_link.specs.StateView.{work_left};
+ghost use Rattle.simulated_link.specs.StateView.{work_left};
 ghost use Rattle.world.specs.Starts.{IsBeforeFirst};
 ghost use Rattle.world.specs.ServerRuns.{RunsFrom};
 
 use crate::run_loop::WorldLink;
 use crate::run_loop::run::run_all;
+use cached_blocks::Stored;
 use fsck::Clean;
-use mounting::Server;
-use mounting::mounted::open;
 use std::alloc::{AllocError, Global};
-use stored::Stored;
+use vfs::Server;
+use volume_mount::mounted::open;
 
 /// A server is opened over this link, which has noted the first start alone, and runs the schedule out: the server then, and how many
 /// calls have no answer. An error: no memory was found.

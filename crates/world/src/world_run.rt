@@ -10,11 +10,11 @@ use crate::link::link_of;
 use crate::server::run_over;
 use crate::{RunRefusal, prepare_run};
 use file_server::FileServer;
-use inline::local::LocalDriver;
 use media::Media;
 use reincarnate::policy::Setup;
 use schedule::Event;
 use std::alloc::Global;
+use synchronous_driver::local::LocalDriver;
 use transcript::Transcript;
 
 /// Media are whole sectors.

@@ -22,7 +22,7 @@ use Rattle.zone.proofs.Agree.{marked_on}
 use Rattle.zone.proofs.Composite.{same_inodes}
 use Rattle.zone.proofs.Keeps.{weaker}
 use Rattle.zone.proofs.Files.{nodes_change_at}
-use Rattle.store.specs.Volume.{SameHead}
+use Rattle.block_store.specs.Volume.{SameHead}
 use Rattle.zone.specs.Pages.{MayRelease, Releases}
 use Rattle.zone.specs.CutFiles.{IsLastAt, IsFull, IsLastFrom, cut_at, MayDetach, LetGo, DetachesFrom}
 use Rattle.zone.proofs.ZoneInodes.{inode_is}

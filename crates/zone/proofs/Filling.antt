@@ -18,8 +18,8 @@ use Rattle.volume.specs.Nodes.{word, slot, number, is_marked}
 use Rattle.volume.specs.Places.{zone_at, has_number}
 use Rattle.volume.specs.Holds.{ZonesAgree}
 use Rattle.volume.proofs.Volumes.{numbers_sized}
-use Rattle.store.specs.Rows.{with_bytes}
-use Rattle.store.proofs.Rows.{row_new, row_old}
+use Rattle.block_store.specs.Rows.{with_bytes}
+use Rattle.block_store.proofs.Rows.{row_new, row_old}
 use Rattle.zone.specs.ZoneSteps.{first_places, slot_of, above, beside, bit_of, Links, Unlinks, IsSoundBut, IsBare, marked_in}
 use Rattle.zone.specs.Raw.{Takes, SetsInode, SetsBlock}
 use Rattle.zone.specs.Missing.{missing}

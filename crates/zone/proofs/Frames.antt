@@ -10,12 +10,12 @@ use Rattle.volume.specs.Pieces.{pieces}
 use Rattle.volume.specs.Nodes.{number}
 use Rattle.layout.specs.Bytes.{u32_at}
 use Rattle.tree.specs.Space.{numbers_in_zone}
-use Rattle.store.specs.Rows.{with_bytes, written, cleared}
-use Rattle.store.specs.Volume.{Alters}
+use Rattle.block_store.specs.Rows.{with_bytes, written, cleared}
+use Rattle.block_store.specs.Volume.{Alters}
 use Rattle.zone.specs.PlaceParts.{IsLastNumber}
 use Rattle.zone.specs.Words.{IsLastWord}
-use Rattle.store.specs.Regions.{with_zone}
-use Rattle.store.proofs.Alone.{in_zone}
+use Rattle.block_store.specs.Regions.{with_zone}
+use Rattle.block_store.proofs.Alone.{in_zone}
 
 -- the bounds of a data zone
 pub zone_bounds : (g : Geometry) (z : ℕ) → IsTrue (is_data_zone g z) → (g.first_zone ≤ z) × (z < g.zones)

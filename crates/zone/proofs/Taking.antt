@@ -10,13 +10,13 @@ use Rattle.volume.specs.Pieces.{Pieces, pieces}
 use Rattle.volume.specs.Nodes.{slot, number}
 use Rattle.bitmap.specs.Numbers.{IsLowestFree}
 use Rattle.inode.specs.Table.{with_inode}
-use Rattle.store.specs.Volume.{Alters}
+use Rattle.block_store.specs.Volume.{Alters}
 use Rattle.zone.specs.ZoneSteps.{bit_of}
-use Rattle.store.specs.Regions.{with_zone}
+use Rattle.block_store.specs.Regions.{with_zone}
 use Rattle.zone.specs.PlaceParts.{IsLastNumber, with_number}
 use Rattle.zone.specs.Parts.{with_mark, with_fresh, with_slot}
 use Rattle.zone.specs.Steps.{MarksZone, TakesZone, HasRoom, HoldsSlot, HoldsNumber, DropsSlot, DropsNumber}
-use Rattle.store.proofs.Ending.{alters_over, alters_read}
+use Rattle.block_store.proofs.Ending.{alters_over, alters_read}
 
 -- pieces with a bit of the zone map
 abbrev with_bit : Pieces → ℕ → Pieces

@@ -10,7 +10,7 @@ use Rattle.volume.specs.Pieces.{Pieces, pieces}
 use Rattle.volume.specs.Nodes.{file_of, is_marked, nodes_of}
 use Rattle.volume.specs.Places.{zone_at, has_number}
 use Rattle.zone.specs.ZoneSteps.{SameInodes, IsSoundBut, node_from}
-use Rattle.store.specs.Volume.{SameHead}
+use Rattle.block_store.specs.Volume.{SameHead}
 
 -- the last place of a level that has a zone
 pub record IsLastAt (g : Geometry) (v : Pieces) (i : Inode) (l k : ℕ) : Type 0 where

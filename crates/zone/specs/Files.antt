@@ -8,7 +8,7 @@ use Rattle.volume.specs.Nodes.{file_of, nodes_of}
 use Rattle.volume.specs.Places.{zone_at}
 use Rattle.zone.specs.ZoneSteps.{with_page, node_from}
 use Rattle.zone.specs.Composite.{Attached}
-use Rattle.store.specs.Volume.{SameHead}
+use Rattle.block_store.specs.Volume.{SameHead}
 use Rattle.zone.specs.Pages.{MayHold}
 
 -- Page p of inode n lies in zone z, where it may be held; the nodes change at n alone, whose file holds the page.

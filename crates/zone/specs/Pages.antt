@@ -10,7 +10,7 @@ use Rattle.volume.specs.Nodes.{is_marked}
 use Rattle.volume.specs.Places.{zone_at}
 use Rattle.zone.specs.ZoneSteps.{first_places, IsBare, IsSoundBut, marked_in}
 use Rattle.zone.specs.Missing.{missing}
-use Rattle.store.specs.Volume.{SameHead}
+use Rattle.block_store.specs.Volume.{SameHead}
 use Rattle.zone.specs.Composite.{Attached, Detached}
 
 -- how many places a level has

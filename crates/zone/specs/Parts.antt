@@ -3,7 +3,7 @@ use Rattle.std.specs.Prelude.{ℕ, Bool, true, slice_set}
 use Rattle.layout.specs.declared.Geometry.{Geometry}
 use Rattle.tree.specs.Sums.{put}
 use Rattle.volume.specs.Pieces.{Pieces}
-use Rattle.store.specs.Regions.{with_zone}
+use Rattle.block_store.specs.Regions.{with_zone}
 use Rattle.zone.specs.ZoneSteps.{bit_of}
 
 -- pieces in which slot s of inode n is x

@@ -6,8 +6,8 @@ use Rattle.tree.specs.Space.{numbers_in_zone}
 use Rattle.volume.specs.declared.Inode.{Inode}
 use Rattle.volume.specs.Pieces.{Pieces}
 use Rattle.volume.specs.Nodes.{number, page_zone}
-use Rattle.store.specs.Rows.{with_bytes}
-use Rattle.store.specs.Regions.{with_zone}
+use Rattle.block_store.specs.Rows.{with_bytes}
+use Rattle.block_store.specs.Regions.{with_zone}
 use Rattle.zone.specs.ZoneSteps.{IsBare}
 
 -- pieces in which number j of a block is x

@@ -5,7 +5,7 @@ use Rattle.tree.specs.Space.{data_zones}
 use Rattle.volume.specs.Reading.{Disk, is_inode, is_data_zone}
 use Rattle.volume.specs.Pieces.{Pieces, pieces}
 use Rattle.volume.specs.Nodes.{slot, number}
-use Rattle.store.specs.Volume.{Alters}
+use Rattle.block_store.specs.Volume.{Alters}
 use Rattle.zone.specs.ZoneSteps.{bit_of, marked_in}
 use Rattle.zone.specs.PlaceParts.{with_number}
 use Rattle.zone.specs.Parts.{with_mark, with_fresh, with_slot}

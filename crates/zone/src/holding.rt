@@ -4,17 +4,17 @@ ghost use Rattle.std.specs.Prelude.{◌≡◌, ◌<◌, ◌≤◌, ◌+◌, ◌-
 ghost use Rattle.volume.specs.Reading.{is_inode};
 ghost use Rattle.volume.specs.Places.{zone_at};
 ghost use Rattle.volume.specs.Pieces.{pieces};
-ghost use Rattle.store.specs.World.{Turns, Reads};
-ghost use Rattle.store.specs.Halts.{Ends, IsHalt};
-ghost use Rattle.store.specs.Volume.{IsOn};
+ghost use Rattle.block_store.specs.World.{Turns, Reads};
+ghost use Rattle.block_store.specs.Halts.{Ends, IsHalt};
+ghost use Rattle.block_store.specs.Volume.{IsOn};
 ghost use Rattle.zone.specs.Pages.{MayHold, HoldsPlace, MayRelease, Releases};
 
 use crate::numbers::numbers_in_zone;
 use crate::places::{find, first_places, slot_of};
 use crate::steps::{drop_in_block, drop_slot, hold_number, hold_slot};
+use block_store::{Blocks, Halt};
 use inode::inode_table::load;
 use layout::Geometry;
-use store::{Blocks, Halt};
 
 /// The zone of a place, where it and the blocks on the way to it get one if they have none: the blocks first, so that at no time
 /// a zone hangs below a place that has none.

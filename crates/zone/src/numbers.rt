@@ -6,17 +6,17 @@ ghost use Rattle.layout.specs.Bytes.{u32_at};
 ghost use Rattle.volume.specs.Pieces.{pieces};
 ghost use Rattle.volume.specs.Nodes.{number};
 ghost use Rattle.volume.specs.Reading.{is_data_zone};
-ghost use Rattle.store.specs.World.{Turns, Reads};
-ghost use Rattle.store.specs.Rows.{with_bytes};
-ghost use Rattle.store.specs.Halts.{Ends, IsHalt};
-ghost use Rattle.store.specs.Volume.{IsOn, Alters};
-ghost use Rattle.store.specs.Regions.{with_zone};
+ghost use Rattle.block_store.specs.World.{Turns, Reads};
+ghost use Rattle.block_store.specs.Rows.{with_bytes};
+ghost use Rattle.block_store.specs.Halts.{Ends, IsHalt};
+ghost use Rattle.block_store.specs.Volume.{IsOn, Alters};
+ghost use Rattle.block_store.specs.Regions.{with_zone};
 ghost use Rattle.zone.specs.PlaceParts.{with_number, HasNumbers, IsLastNumber};
 ghost use Rattle.zone.specs.Words.{HasWords, IsLastWord};
 
+use block_store::words::{clear, read_u32, write_bytes, write_u32};
+use block_store::{Blocks, Cut, Halt};
 use layout::{Geometry, u32_at};
-use store::words::{clear, read_u32, write_bytes, write_u32};
-use store::{Blocks, Cut, Halt};
 
 /// How many numbers an indirect block holds: 256, 512 or 1024.
 pub fn numbers_in_zone(geometry: &Geometry) -> u32

@@ -2,15 +2,15 @@
 
 ghost use Rattle.std.specs.Prelude.{IfErr};
 ghost use Rattle.volume.specs.Pieces.{pieces};
-ghost use Rattle.store.specs.World.{Turns};
-ghost use Rattle.store.specs.Halts.{Ends, IsHalt};
-ghost use Rattle.store.specs.Volume.{IsOn};
+ghost use Rattle.block_store.specs.World.{Turns};
+ghost use Rattle.block_store.specs.Halts.{Ends, IsHalt};
+ghost use Rattle.block_store.specs.Volume.{IsOn};
 ghost use Rattle.zone.specs.Pages.{MayHold};
 ghost use Rattle.zone.specs.Files.{AttachesPage};
 
 use crate::holding::hold;
+use block_store::{Blocks, Halt};
 use layout::Geometry;
-use store::{Blocks, Halt};
 
 /// The zone of a page, which gets one if it has none, and so do the indirect blocks on the way to it. A zone that it gets is
 /// filled with zeros before its number is put anywhere. Unsound only where the rules are broken, fewer zones are free than the page

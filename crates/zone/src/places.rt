@@ -6,14 +6,14 @@ ghost use Rattle.std.specs.Prelude.{◌≡◌, ◌<◌, ◌≤◌, ◌+◌, ◌-
 ghost use Rattle.volume.specs.Pieces.{pieces};
 ghost use Rattle.volume.specs.Nodes.{page_zone};
 ghost use Rattle.volume.specs.Places.{zone_at};
-ghost use Rattle.store.specs.World.{Reads};
-ghost use Rattle.store.specs.Volume.{IsOn};
+ghost use Rattle.block_store.specs.World.{Reads};
+ghost use Rattle.block_store.specs.Volume.{IsOn};
 ghost use Rattle.zone.specs.ZoneSteps.{first_places, slot_of};
 ghost use Rattle.zone.specs.PlaceParts.{HasZones, row_left};
 
 use crate::numbers::{number, numbers, numbers_in_zone};
+use block_store::{Blocks, Cut};
 use layout::Geometry;
-use store::{Blocks, Cut};
 use volume::Inode;
 
 /// How many places of a level stand in the inode itself.

@@ -7,19 +7,18 @@ ghost use Rattle.std.specs.Prelude.{◌≡◌, ◌<◌, ◌↔◌, IfErr, IsErrO
 ghost use Rattle.tree.specs.Space.{numbers_in_zone};
 ghost use Rattle.volume.specs.Pieces.{pieces};
 ghost use Rattle.volume.specs.Reading.{is_data_zone};
-ghost use Rattle.store.specs.World.{Turns};
-ghost use Rattle.store.specs.Halts.{Ends, IsHalt};
-ghost use Rattle.store.specs.Volume.{IsOn, Alters};
+ghost use Rattle.block_store.specs.World.{Turns};
+ghost use Rattle.block_store.specs.Halts.{Ends, IsHalt};
+ghost use Rattle.block_store.specs.Volume.{IsOn, Alters};
 ghost use Rattle.zone.specs.PlaceParts.{IsLastNumber};
 ghost use Rattle.zone.specs.Parts.{with_mark};
-ghost use Rattle.zone.specs.Steps.{MarksZone, TakesZone, HasRoom, HoldsSlot, MayHoldSlot, HoldsNumber, MayHoldNumber, DropsSlot};
-ghost use Rattle.zone.specs.Steps.{MayDropSlot, DropsNumber, MayDropNumber};
+ghost use Rattle.zone.specs.Steps.{MarksZone, TakesZone, HasRoom, HoldsSlot, MayHoldSlot, HoldsNumber, MayHoldNumber, DropsSlot, MayDropSlot, DropsNumber, MayDropNumber};
 
 use crate::numbers::{clear_zone, is_data_zone, last_number, number, set_number};
 use bitmap::{Map, clear, lowest_free, set};
+use block_store::{Blocks, Halt};
 use inode::inode_table::{load, store};
 use layout::Geometry;
-use store::{Blocks, Halt};
 
 /// Marks the lowest free zone.
 fn mark_free<B: Blocks>(blocks: &mut B, geometry: &Geometry) -> Result<u32, Halt>

@@ -2,21 +2,21 @@
 
 ghost use Rattle.std.specs.Prelude.{◌≡◌, ◌≤◌, ◌<◌, ◌+◌, length, IfSome};
 ghost use Rattle.layout.specs.Places.{IsGeometry};
-ghost use Rattle.store.specs.Volume.{IsOn};
+ghost use Rattle.block_store.specs.Volume.{IsOn};
 ghost use Rattle.cache.specs.Calls.{IsReady};
-ghost use Rattle.stored.specs.World.{stored_caching};
+ghost use Rattle.cached_blocks.specs.World.{stored_caching};
 
+use block_store::memory::Memory;
+use block_store::words::clear;
+use block_store::{Blocks, Halt};
 use cache::Cache;
+use cached_blocks::Stored;
 use file::write_at;
 use inode::inode_table::store;
 use layout::Geometry;
 use reissue::list_link::ListLink;
 use reissue::{Link, Transfers};
 use std::alloc::Global;
-use store::memory::Memory;
-use store::words::clear;
-use store::{Blocks, Halt};
-use stored::Stored;
 use volume::Inode;
 
 /// An empty file.

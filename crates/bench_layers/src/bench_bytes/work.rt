@@ -1,13 +1,13 @@
 //! The work that is measured. Each piece tells how many bytes it moved, or 0 where a call ended early.
 
 ghost use Rattle.std.specs.Prelude.{◌≡◌, ◌≤◌, ◌<◌, ◌+◌, length};
-ghost use Rattle.store.specs.Volume.{IsOn};
+ghost use Rattle.block_store.specs.Volume.{IsOn};
 
+use block_store::Blocks;
 use file::file_pages::reading::read_at;
 use file::write_at;
 use inode::inode_table::load;
 use layout::Geometry;
-use store::Blocks;
 
 /// How often work is done in a row.
 pub(crate) const TIMES: u32 = 50;

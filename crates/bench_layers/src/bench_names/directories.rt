@@ -5,9 +5,9 @@ ghost use Rattle.layout.specs.Places.{IsGeometry};
 
 use crate::bench_names::scans::{NAMES, name_of};
 use crate::sizes::place_of;
+use block_store::memory::Memory;
 use layout::Geometry;
 use std::alloc::{AllocError, Global};
-use store::memory::Memory;
 use volume::Inode;
 
 /// A directory, its zones one after the other from the first data zone on, and behind them its single indirect block.

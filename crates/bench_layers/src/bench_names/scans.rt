@@ -1,12 +1,12 @@
 //! Look-ups, and plain scans, of as many names as the directory has.
 
 ghost use Rattle.std.specs.Prelude.{◌<◌, length};
-ghost use Rattle.store.specs.Volume.{IsOn};
+ghost use Rattle.block_store.specs.Volume.{IsOn};
 
 use crate::bench_names::directories::Directory;
+use block_store::Blocks;
 use directory::find;
 use layout::Geometry;
-use store::Blocks;
 use volume::Inode;
 
 /// How many names the directory has.

@@ -2,16 +2,16 @@
 
 ghost use Rattle.std.specs.Prelude.{◌≡◌};
 ghost use Rattle.layout.specs.Places.{IsGeometry};
-ghost use Rattle.store.specs.Volume.{IsOn};
+ghost use Rattle.block_store.specs.Volume.{IsOn};
 
 use crate::bench_names::directories::{SIZE, put};
 use crate::bench_names::scans::{NAMES, name_of};
 use crate::sizes::place_of;
+use block_store::Blocks;
+use block_store::memory::Memory;
 use inode::inode_table::store;
 use layout::Geometry;
 use std::alloc::{AllocError, Global};
-use store::Blocks;
-use store::memory::Memory;
 use volume::Inode;
 
 /// How many directories there are: inode 1 is the first, and the file's inode stands behind the last.

@@ -2,8 +2,8 @@
 
 use crate::bench_calls::work::{Caller, at_start, copies, measure, once, repeat, rewind};
 use bench_layers::timing::{say, tell};
+use board::counting::parameters::ServiceParameters;
 use board::counting::recorder::Recorder;
-use board::counting::room::Room;
 use file_server::FileServer;
 use serve::service::{Service, Shared};
 use serve::session::Session;
@@ -16,7 +16,7 @@ use tree::{Call, OpenFlags};
 
 /// Measures calls in a session of user 0, and in eight.
 pub(crate) fn measure_all<
-    N: Room + Send + Sync,
+    N: ServiceParameters + Send + Sync,
     R: Threads + Wait + Copy + Send + Sync,
     L: Recorder<N> + Send,
     S: FileServer<L> + Send,
@@ -40,7 +40,7 @@ const SESSIONS: u32 = 8;
 const CALLS: u32 = 40000;
 
 /// Asks for the root so many times, and ends the session; how many calls were done.
-fn ask<N: Room, R: Threads + Wait + Copy, L: Recorder<N>, S: FileServer<L>>(
+fn ask<N: ServiceParameters, R: Threads + Wait + Copy, L: Recorder<N>, S: FileServer<L>>(
     mut session: Session<N, Shared<N, R, L, S>>,
 ) -> u32 {
     let done = repeat(&mut session, CALLS, &[Call::Stat { path: b"/" }]);
@@ -50,7 +50,7 @@ fn ask<N: Room, R: Threads + Wait + Copy, L: Recorder<N>, S: FileServer<L>>(
 
 /// Measures so many sessions, each of which asks for the root in a thread of its own.
 fn in_threads<
-    N: Room + Send + Sync,
+    N: ServiceParameters + Send + Sync,
     R: Threads + Wait + Copy + Send + Sync,
     L: Recorder<N> + Send,
     S: FileServer<L> + Send,

@@ -1,8 +1,8 @@
 //! Work that is measured: calls, made again and again.
 
 use bench_layers::timing::{copy, micros_since, tell};
+use board::counting::parameters::ServiceParameters;
 use board::counting::recorder::Recorder;
-use board::counting::room::Room;
 use file_server::FileServer;
 use serve::service::Shared;
 use serve::session::Session;
@@ -17,7 +17,7 @@ pub(crate) trait Caller {
     fn make(&mut self, call: &Call<'_>) -> bool;
 }
 
-impl<N: Room, R: Wait + Copy, L: Recorder<N>, S: FileServer<L>> Caller
+impl<N: ServiceParameters, R: Wait + Copy, L: Recorder<N>, S: FileServer<L>> Caller
     for Session<N, Shared<N, R, L, S>> {
     fn make(&mut self, call: &Call<'_>) -> bool {
         !matches!(

@@ -6,7 +6,7 @@ ghost use Rattle.cache.specs.Calls.{caching, IsReady};
 use crate::bench_frames::BLOCKS;
 use crate::bench_frames::work::{By, driver, fetch_again, fetch_run, write_run};
 use bench_layers::timing::{say, tell};
-use board::counting::room::Room;
+use board::counting::parameters::ServiceParameters;
 use board::{Board, Seat};
 use cache::Cache;
 use driver_threads::running::start_drivers;
@@ -72,7 +72,10 @@ fn measure_over<L: Link + Drop>(
 }
 
 /// Starts a driver of media with these bytes in a thread of its own, measures a cache over it, and ends it.
-fn measure_on<N: Room + Send + Sync + 'static, R: Threads + Wait + Copy + Send + Sync + 'static>(
+fn measure_on<
+    N: ServiceParameters + Send + Sync + 'static,
+    R: Threads + Wait + Copy + Send + Sync + 'static,
+>(
     rt: &HostRuntime,
     waits: R,
     image: &[u8],

@@ -1,4 +1,4 @@
-use Rattle.store.proofs.Turns.{turns_then, on_ok}
+use Rattle.block_store.proofs.Turns.{turns_then, on_ok}
 use Rattle.bitmap.proofs.Maps.{was_put}
 use Rattle.bitmap.proofs.put.Goals as goal
 

@@ -5,7 +5,7 @@ ghost use Rattle.std.specs.Arc.{arc_value};
 ghost use Rattle.records.specs.Marks.{gave_up};
 ghost use Rattle.board.specs.View.{IsKeeper, is_used};
 
-use crate::counting::room::Room;
+use crate::counting::parameters::ServiceParameters;
 use crate::{Board, Seat};
 use message::endpoint::Endpoint;
 use message::{BlockRequest, Incoming};
@@ -15,7 +15,7 @@ use tree::{Call, Reply, Who};
 
 /// The record's seat of the board, and which numbers sessions have.
 #[derive(Drop)]
-pub struct Keeper<N: Room> {
+pub struct Keeper<N: ServiceParameters> {
     board: Arc<Board>,
     seat: Seat,
     used: [bool; 64],
@@ -26,7 +26,7 @@ pub struct Keeper<N: Room> {
     ghost numbers: { (n : ℕ) → n < 64 → slice_index_or used n false ≡ is_used n seat.view.used },
 }
 
-impl<N: Room> Keeper<N> {
+impl<N: ServiceParameters> Keeper<N> {
     ghost use Rattle.std.specs.Prelude.{◌≢◌, ◌↔◌, ◌∷◌, [], List, Some, IfSome, IfNone};
     ghost use Rattle.tree.specs.Answers.{answer_of};
     ghost use Rattle.records.specs.Marks.{Mark, Took, Issued, IsBeginning};

@@ -13,14 +13,14 @@ ghost use Rattle.board.specs.Recorder.{SameLink};
 ghost use Rattle.file_server.specs.Leaving.{IsEndLast};
 
 use crate::Seat;
-use crate::counting::room::Room;
+use crate::counting::parameters::ServiceParameters;
 use crate::counting::steady::Supplied;
 use tree::{Call, Reply, Who};
 
 /// A link that keeps the record of a service on the service's board, and gives its sessions their numbers.
 ///
 /// Contracts see two things more of it: `marks` is the record, and `numbers` are the numbers that sessions have.
-pub trait Recorder<N: Room>: Supplied + Drop {
+pub trait Recorder<N: ServiceParameters>: Supplied + Drop {
     ghost marks: { Self → List Mark };
 
     ghost numbers: { Self → List ℕ };

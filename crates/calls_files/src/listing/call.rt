@@ -6,19 +6,19 @@ ghost use Rattle.tree.specs.FileCalls.{readdir};
 ghost use Rattle.tree.specs.Answers.{answer_of, refused};
 ghost use Rattle.descriptors.specs.Files.{HasFiles};
 ghost use Rattle.descriptors.specs.Table.{files_of};
-ghost use Rattle.store.specs.World.{Turns};
-ghost use Rattle.store.specs.Volume.{IsOn};
-ghost use Rattle.store.specs.Halts.{IsHalt};
+ghost use Rattle.block_store.specs.World.{Turns};
+ghost use Rattle.block_store.specs.Volume.{IsOn};
+ghost use Rattle.block_store.specs.Halts.{IsHalt};
 ghost use Rattle.calls_attributes.specs.Does.{MeetsOrLacks};
 ghost use Rattle.calls_files.specs.Refusals.{why_unlisted};
 
 use crate::listing::gather::entries_of;
+use block_store::{Blocks, Halt};
 use calls_attributes::found::{Found, find, is_directory};
 use descriptors::Descriptors;
 use errno::Errno;
 use layout::Geometry;
 use std::alloc::Global;
-use store::{Blocks, Halt};
 use tree::Reply;
 
 /// Why the names of an open file can't be listed, if they can't.

@@ -1,9 +1,9 @@
 //! The names of a directory, entry by entry.
 
 ghost use Rattle.std.specs.Prelude.{◌≡◌, ◌≤◌, ◌+◌, ◌*◌, IfErr, IfOk, OnOk, map};
-ghost use Rattle.store.specs.Halts.{Ends, IsHalt};
-ghost use Rattle.store.specs.Volume.{IsOn};
-ghost use Rattle.store.specs.World.{Reads};
+ghost use Rattle.block_store.specs.Halts.{Ends, IsHalt};
+ghost use Rattle.block_store.specs.Volume.{IsOn};
+ghost use Rattle.block_store.specs.World.{Reads};
 ghost use Rattle.tree.specs.Answers.{entry_of};
 ghost use Rattle.tree.specs.Names.{with_name};
 ghost use Rattle.volume.specs.Nodes.{directory_of, entry_count_of, entry_inode, entry_name, file_byte};
@@ -11,10 +11,10 @@ ghost use Rattle.volume.specs.Pieces.{pieces};
 ghost use Rattle.calls_files.specs.Numbers.{HasInodes};
 
 use crate::listing::names::NameMap;
+use block_store::{Blocks, Halt};
 use directory::{entry, entry_inode, entry_name};
 use layout::Geometry;
 use std::alloc::{AllocError, Global};
-use store::{Blocks, Halt};
 use tree::Entry;
 use volume::Inode;
 

@@ -2,15 +2,15 @@
 
 ghost use Rattle.std.specs.Prelude.{◌≤◌, IfErr};
 ghost use Rattle.volume.specs.Pieces.{pieces};
-ghost use Rattle.store.specs.World.{Turns};
-ghost use Rattle.store.specs.Halts.{Ends, IsHalt};
-ghost use Rattle.store.specs.Volume.{IsOn};
+ghost use Rattle.block_store.specs.World.{Turns};
+ghost use Rattle.block_store.specs.Halts.{Ends, IsHalt};
+ghost use Rattle.block_store.specs.Volume.{IsOn};
 ghost use Rattle.file.specs.PageChanges.{MayChange, MayResize, Resized, SetsSize, PadsRest, Stamps};
 
 use crate::file_pages::writing::write_page;
+use block_store::{Blocks, Halt};
 use inode::inode_table::{load, store};
 use layout::Geometry;
-use store::{Blocks, Halt};
 use zone::cutting::detach_from;
 use zone::places::lookup;
 

@@ -3,15 +3,15 @@
 ghost use Rattle.std.specs.Prelude.{◌≡◌, ◌<◌, ◌≤◌, ◌+◌, ◌^◌, ℕ, length, slice_index, IfErr, IfOk, OnOk, OnErr};
 ghost use Rattle.volume.specs.Pieces.{pieces};
 ghost use Rattle.volume.specs.Nodes.{file_of, page_byte};
-ghost use Rattle.store.specs.World.{Reads};
-ghost use Rattle.store.specs.Rows.{HasBytes};
-ghost use Rattle.store.specs.Volume.{IsOn};
+ghost use Rattle.block_store.specs.World.{Reads};
+ghost use Rattle.block_store.specs.Rows.{HasBytes};
+ghost use Rattle.block_store.specs.Volume.{IsOn};
 ghost use Rattle.file.specs.Reading.{HasFileBytes, read_count};
 
 use crate::file_pages::rows::find_row;
+use block_store::words::read_bytes;
+use block_store::{Blocks, Cut};
 use layout::Geometry;
-use store::words::read_bytes;
-use store::{Blocks, Cut};
 use volume::Inode;
 use zone::numbers::is_data_zone;
 

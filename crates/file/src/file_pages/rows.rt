@@ -2,12 +2,12 @@
 
 ghost use Rattle.std.specs.Prelude.{◌≡◌, ◌≢◌, ◌<◌, ◌≤◌, ◌+◌, ◌/◌, ◌^◌, ℕ, length, slice_index, IfErr, IfOk};
 ghost use Rattle.volume.specs.Pieces.{pieces};
-ghost use Rattle.store.specs.World.{Reads};
-ghost use Rattle.store.specs.Volume.{IsOn};
+ghost use Rattle.block_store.specs.World.{Reads};
+ghost use Rattle.block_store.specs.Volume.{IsOn};
 ghost use Rattle.zone.specs.PlaceParts.{HasZones};
 
+use block_store::{Blocks, Cut};
 use layout::Geometry;
-use store::{Blocks, Cut};
 use volume::Inode;
 use zone::places::lookup_row;
 

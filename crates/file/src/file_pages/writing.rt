@@ -3,13 +3,13 @@
 ghost use Rattle.std.specs.Prelude.{◌≡◌, ◌≤◌, ◌+◌, ◌↔◌, ℕ, length, IfErr, IsErrOf, false};
 ghost use Rattle.volume.specs.Pieces.{pieces};
 ghost use Rattle.volume.specs.Reading.{is_data_zone};
-ghost use Rattle.store.specs.World.{Turns};
-ghost use Rattle.store.specs.Halts.{Ends, IsHalt};
-ghost use Rattle.store.specs.Volume.{IsOn};
+ghost use Rattle.block_store.specs.World.{Turns};
+ghost use Rattle.block_store.specs.Halts.{Ends, IsHalt};
+ghost use Rattle.block_store.specs.Volume.{IsOn};
 ghost use Rattle.file.specs.Writing.{WritesPage, IsPageZone};
 
+use block_store::{Blocks, Halt};
 use layout::Geometry;
-use store::{Blocks, Halt};
 use zone::numbers::write_zone;
 
 /// Writes these bytes into the zone of a page, from an offset of the page on: the file whose page lies there has them then, up to

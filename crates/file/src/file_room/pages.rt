@@ -3,13 +3,13 @@
 ghost use Rattle.std.specs.Prelude.{◌≡◌, ◌==◌, ◌<◌, ◌≤◌, ◌+◌, ◌-◌, ◌*◌, ◌/◌, ◌%◌, IfOk, IfErr};
 ghost use Rattle.tree.specs.Sums.{one_if};
 ghost use Rattle.volume.specs.Pieces.{pieces};
-ghost use Rattle.store.specs.World.{Reads};
-ghost use Rattle.store.specs.Volume.{IsOn};
+ghost use Rattle.block_store.specs.World.{Reads};
+ghost use Rattle.block_store.specs.Volume.{IsOn};
 ghost use Rattle.zone.specs.Pages.{place_count};
 ghost use Rattle.file.specs.Need.{holes, NeedsAt, NeedsMore};
 
+use block_store::{Blocks, Cut};
 use layout::Geometry;
-use store::{Blocks, Cut};
 use volume::Inode;
 use zone::numbers::numbers_in_zone;
 use zone::places::{find, first_places};

@@ -3,16 +3,16 @@
 ghost use Rattle.std.specs.Prelude.{◌≤◌, ◌<◌, ◌+◌, IfErr, IsTrue};
 ghost use Rattle.volume.specs.Pieces.{pieces};
 ghost use Rattle.volume.specs.Reading.{is_inode};
-ghost use Rattle.store.specs.World.{Reads};
-ghost use Rattle.store.specs.Halts.{Ends, IsHalt};
-ghost use Rattle.store.specs.Volume.{IsOn};
+ghost use Rattle.block_store.specs.World.{Reads};
+ghost use Rattle.block_store.specs.Halts.{Ends, IsHalt};
+ghost use Rattle.block_store.specs.Volume.{IsOn};
 ghost use Rattle.file.specs.Room.{TakesMore, IsRoom, IsRoomBeside};
 
 use crate::file_room::pages::need;
 use bitmap::{Map, count_free};
+use block_store::{Blocks, Halt};
 use inode::inode_table::load;
 use layout::Geometry;
-use store::{Blocks, Halt};
 
 /// How many zones more the file of an inode takes when `count` bytes from a place on are written into it: those of the pages that
 /// they touch and that aren't held yet, and of the indirect blocks on the way to them. Nothing is changed. Unsound only where the

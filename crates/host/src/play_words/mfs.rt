@@ -67,7 +67,7 @@ fn scripts<'a>(alloc: Global) -> Arg<'a> {
 
 /// What the words say.
 #[derive(Drop)]
-pub struct Words<'a> {
+pub struct MfsWords<'a> {
     /// The image's file.
     pub image: &'a str,
     /// The scripts' files, in the order of the words.
@@ -84,10 +84,10 @@ pub struct Words<'a> {
     pub model: bool,
 }
 
-impl<'a> Words<'a> {
+impl<'a> MfsWords<'a> {
     /// What words that were taken say.
-    fn of(alloc: Global, matches: &ArgMatches<'a>) -> Result<Words<'a>, AllocError> {
-        Ok(Words {
+    fn of(alloc: Global, matches: &ArgMatches<'a>) -> Result<MfsWords<'a>, AllocError> {
+        Ok(MfsWords {
             image: matches.get_str("IMAGE").unwrap_or(""),
             scripts: matches.get_strs("SCRIPT").unwrap_or(&[]).to_vec(alloc)?,
             out: matches.get_str("out"),
@@ -100,7 +100,7 @@ impl<'a> Words<'a> {
 }
 
 /// What the words of a line say, or why they aren't taken.
-pub fn read<'a>(alloc: Global, line: &'a [String]) -> Result<Words<'a>, Error> {
+pub fn read<'a>(alloc: Global, line: &'a [String]) -> Result<MfsWords<'a>, Error> {
     let matches = command(alloc)?.try_get_matches_from(line)?;
-    Ok(Words::of(alloc, &matches)?)
+    Ok(MfsWords::of(alloc, &matches)?)
 }

@@ -53,7 +53,7 @@ fn die_every<'a>(alloc: Global) -> Arg<'a> {
 
 /// What the words say.
 #[derive(Drop)]
-pub struct Words<'a> {
+pub struct Mfs9pWords<'a> {
     /// The image's file.
     pub image: &'a str,
     /// The file that the image is written to at each fsync and in the end, if one is named.
@@ -70,10 +70,10 @@ pub struct Words<'a> {
     pub die_every: u32,
 }
 
-impl<'a> Words<'a> {
+impl<'a> Mfs9pWords<'a> {
     /// What words that were taken say.
-    fn of(matches: &ArgMatches<'a>) -> Words<'a> {
-        Words {
+    fn of(matches: &ArgMatches<'a>) -> Mfs9pWords<'a> {
+        Mfs9pWords {
             image: matches.get_str("IMAGE").unwrap_or(""),
             out: matches.get_str("out"),
             minor: matches.get_one::<u8>("minor").unwrap_or(0),
@@ -86,7 +86,7 @@ impl<'a> Words<'a> {
 }
 
 /// What the words of a line say, or why they aren't taken.
-pub fn read<'a>(alloc: Global, line: &'a [String]) -> Result<Words<'a>, Error> {
+pub fn read<'a>(alloc: Global, line: &'a [String]) -> Result<Mfs9pWords<'a>, Error> {
     let matches = command(alloc)?.try_get_matches_from(line)?;
-    Ok(Words::of(&matches))
+    Ok(Mfs9pWords::of(&matches))
 }

@@ -26,7 +26,7 @@ fn schedule<'a>(alloc: Global) -> Arg<'a> {
 
 /// What the words say.
 #[derive(Clone, Copy)]
-pub struct Words<'a> {
+pub struct MfssimWords<'a> {
     /// The image's file.
     pub image: &'a str,
     /// The schedule's file.
@@ -37,10 +37,10 @@ pub struct Words<'a> {
     pub spares: u8,
 }
 
-impl<'a> Words<'a> {
+impl<'a> MfssimWords<'a> {
     /// What words that were taken say.
-    fn of(matches: &ArgMatches<'a>) -> Words<'a> {
-        Words {
+    fn of(matches: &ArgMatches<'a>) -> MfssimWords<'a> {
+        MfssimWords {
             image: matches.get_str("IMAGE").unwrap_or(""),
             schedule: matches.get_str("SCHEDULE").unwrap_or(""),
             minor: matches.get_one::<u8>("minor").unwrap_or(0),
@@ -50,7 +50,7 @@ impl<'a> Words<'a> {
 }
 
 /// What the words of a line say, or why they aren't taken.
-pub fn read<'a>(alloc: Global, line: &'a [String]) -> Result<Words<'a>, Error> {
+pub fn read<'a>(alloc: Global, line: &'a [String]) -> Result<MfssimWords<'a>, Error> {
     let matches = command(alloc)?.try_get_matches_from(line)?;
-    Ok(Words::of(&matches))
+    Ok(MfssimWords::of(&matches))
 }

@@ -26,7 +26,7 @@ fn command<'a>(alloc: Global) -> Result<Command<'a>, AllocError> {
 
 /// What the words say.
 #[derive(Clone, Copy)]
-pub struct Words<'a> {
+pub struct MfmigWords<'a> {
     /// The old volume's file.
     pub old: &'a str,
     /// The new volume's file.
@@ -35,10 +35,10 @@ pub struct Words<'a> {
     pub blocks: u32,
 }
 
-impl<'a> Words<'a> {
+impl<'a> MfmigWords<'a> {
     /// What words that were taken say.
-    fn of(matches: &ArgMatches<'a>) -> Words<'a> {
-        Words {
+    fn of(matches: &ArgMatches<'a>) -> MfmigWords<'a> {
+        MfmigWords {
             old: matches.get_str("OLD").unwrap_or(""),
             new: matches.get_str("NEW").unwrap_or(""),
             blocks: matches.get_one::<u32>("blocks").unwrap_or(0),
@@ -47,7 +47,7 @@ impl<'a> Words<'a> {
 }
 
 /// What the words of a line say, or why they aren't taken.
-pub fn read<'a>(alloc: Global, line: &'a [String]) -> Result<Words<'a>, Error> {
+pub fn read<'a>(alloc: Global, line: &'a [String]) -> Result<MfmigWords<'a>, Error> {
     let matches = command(alloc)?.try_get_matches_from(line)?;
-    Ok(Words::of(&matches))
+    Ok(MfmigWords::of(&matches))
 }

@@ -24,17 +24,17 @@ fn minor<'a>(alloc: Global) -> Arg<'a> {
 
 /// What the words say.
 #[derive(Clone, Copy)]
-pub struct Words<'a> {
+pub struct MfsckWords<'a> {
     /// The image's file.
     pub image: &'a str,
     /// Where the volume lies: 0 is the whole image.
     pub minor: u8,
 }
 
-impl<'a> Words<'a> {
+impl<'a> MfsckWords<'a> {
     /// What words that were taken say.
-    fn of(matches: &ArgMatches<'a>) -> Words<'a> {
-        Words {
+    fn of(matches: &ArgMatches<'a>) -> MfsckWords<'a> {
+        MfsckWords {
             image: matches.get_str("IMAGE").unwrap_or(""),
             minor: matches.get_one::<u8>("minor").unwrap_or(0),
         }
@@ -42,7 +42,7 @@ impl<'a> Words<'a> {
 }
 
 /// What the words of a line say, or why they aren't taken.
-pub fn read<'a>(alloc: Global, line: &'a [String]) -> Result<Words<'a>, Error> {
+pub fn read<'a>(alloc: Global, line: &'a [String]) -> Result<MfsckWords<'a>, Error> {
     let matches = command(alloc)?.try_get_matches_from(line)?;
-    Ok(Words::of(&matches))
+    Ok(MfsckWords::of(&matches))
 }

@@ -49,7 +49,7 @@ fn with_default<'a>(
 
 /// What the words say.
 #[derive(Clone, Copy)]
-pub struct Words<'a> {
+pub struct MkmfsWords<'a> {
     /// The image's file.
     pub image: &'a str,
     /// How many blocks the volume has.
@@ -62,11 +62,11 @@ pub struct Words<'a> {
     pub now: u32,
 }
 
-impl<'a> Words<'a> {
+impl<'a> MkmfsWords<'a> {
     /// What words that were taken say.
-    fn of(matches: &ArgMatches<'a>) -> Words<'a> {
+    fn of(matches: &ArgMatches<'a>) -> MkmfsWords<'a> {
         let number = |name| matches.get_one::<u32>(name).unwrap_or(0);
-        Words {
+        MkmfsWords {
             image: matches.get_str("IMAGE").unwrap_or(""),
             blocks: number("blocks"),
             block_size: number("block-size"),
@@ -77,7 +77,7 @@ impl<'a> Words<'a> {
 }
 
 /// What the words of a line say, or why they aren't taken.
-pub fn read<'a>(alloc: Global, line: &'a [String]) -> Result<Words<'a>, Error> {
+pub fn read<'a>(alloc: Global, line: &'a [String]) -> Result<MkmfsWords<'a>, Error> {
     let matches = command(alloc)?.try_get_matches_from(line)?;
-    Ok(Words::of(&matches))
+    Ok(MkmfsWords::of(&matches))
 }

@@ -2,7 +2,7 @@
 
 ghost use Rattle.std.specs.Prelude.{◌<◌, ◌^◌, length};
 
-use crate::compared::places::{Place, misheld};
+use crate::compared::places::{ChangedByte, misheld};
 use bdev::{BlockDriver, Driver};
 use fixtures::{new_volume, whole};
 use fsck::{Verdict, check};
@@ -15,7 +15,7 @@ use std::alloc::{AllocError, Global};
 use std::test::Fail;
 
 /// The size of blocks, the parts of a schedule, what the media hold afterwards, and whether all was synced, so that the volume is clean.
-pub type Left = (usize, &'static [&'static str], &'static [Place], bool);
+pub type Left = (usize, &'static [&'static str], &'static [ChangedByte], bool);
 
 /// The bytes of the media after a run.
 fn bytes_after<D: BlockDriver>(

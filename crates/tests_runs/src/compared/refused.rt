@@ -15,10 +15,10 @@ use std::test::Fail;
 pub type Refused = (u32, usize, u8, &'static [(u32, bool)], RunRefusal);
 
 /// The first byte of a new volume that is changed, the new one, and how many bytes the file has. A file that can't be read has none.
-pub type Image = Option<(usize, u8, usize)>;
+pub type ImageByte = Option<(usize, u8, usize)>;
 
 /// The image, the schedule, the setup's frames and minor, and the line that is told first.
-pub type Told = (Image, Option<&'static [u8]>, usize, u8, &'static str);
+pub type Told = (ImageByte, Option<&'static [u8]>, usize, u8, &'static str);
 
 /// Why a run without events isn't begun on an image, with these drivers in boxes.
 fn refusal_of(

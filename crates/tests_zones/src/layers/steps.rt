@@ -1,12 +1,12 @@
 //! What is done with a volume, and what comes of it.
-ghost use Rattle.store.specs.Volume.{IsOn};
+ghost use Rattle.block_store.specs.Volume.{IsOn};
 
 use crate::layers::tables::{OTHER, ROOT};
 use bitmap::{Map, clear, count_free, lowest_free, search, set};
+use block_store::{Blocks, Halt};
 use inode::inode_table::{load, store};
 use layout::Geometry;
 use step_count::Steps;
-use store::{Blocks, Halt};
 use volume::Inode;
 
 /// What is done.

@@ -4,9 +4,9 @@ use crate::layers::images::{Image, image_of, put};
 use crate::layers::steps::Step;
 use crate::layers::volumes::{Sizes, Volume};
 use bitmap::Map;
+use block_store::{Cut, Halt};
 use std::alloc::Global;
 use std::test::Fail;
-use store::{Cut, Halt};
 use volume::Inode;
 
 /// The root of a fresh volume made at time 50, in zone 6.

@@ -4,9 +4,9 @@ ghost use Rattle.std.specs.Prelude.{◌≡◌};
 ghost use Rattle.layout.specs.Places.{IsGeometry};
 
 use crate::layers::steps::{Step, does};
+use block_store::Halt;
+use block_store::memory::Memory;
 use layout::Geometry;
-use store::Halt;
-use store::memory::Memory;
 
 /// The sizes of a volume.
 pub(crate) enum Sizes {

@@ -3,11 +3,11 @@
 ghost use Rattle.std.specs.Prelude.{◌≡◌};
 
 use crate::layers::images::image_of;
+use block_store::memory::Memory;
+use block_store::words::{clear, read_byte, read_bytes, read_u32, write_bytes, write_u32};
+use block_store::{Blocks, Cut};
 use std::alloc::Global;
 use std::test::Fail;
-use store::memory::Memory;
-use store::words::{clear, read_byte, read_bytes, read_u32, write_bytes, write_u32};
-use store::{Blocks, Cut};
 
 /// Reads and writes in block 1, and clears it: a byte, a number that was written, half of it, and five bytes.
 fn words<B: Blocks>(blocks: &mut B) -> Result<(u8, u32, u32, [u8; 5]), Cut>

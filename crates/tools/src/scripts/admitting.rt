@@ -9,8 +9,8 @@ ghost use Rattle.tools.specs.Admitted.{IsAdmittedFor};
 
 use crate::scripts::script_session::ScriptSession;
 use crate::scripts::turns::Turn;
+use board::counting::parameters::ServiceParameters;
 use board::counting::recorder::Recorder;
-use board::counting::room::Room;
 use call_text::scripts::script::Script;
 use file_server::FileServer;
 use serve::service::Service;
@@ -22,7 +22,7 @@ use std::thread::Threads;
 /// A session for the script's user and group, and its calls. It is refused as the service's session is.
 pub fn admit<
     's,
-    N: Room + Send + Sync,
+    N: ServiceParameters + Send + Sync,
     R: Threads + Wait + Copy + Send + Sync,
     L: Recorder<N> + Send,
     S: FileServer<L> + Send,
@@ -45,7 +45,7 @@ pub fn admit<
 /// A session for each script, in their order: all are made before a call is. The first that is refused is told.
 pub fn admit_all<
     's,
-    N: Room + Send + Sync,
+    N: ServiceParameters + Send + Sync,
     R: Threads + Wait + Copy + Send + Sync,
     L: Recorder<N> + Send,
     S: FileServer<L> + Send,

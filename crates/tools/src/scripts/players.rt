@@ -13,8 +13,8 @@ ghost use Rattle.tools.specs.Served.{AreServed, IsUnservedBy, service_text};
 use crate::scripts::admitting::admit_all;
 use crate::scripts::script_session::ScriptSession;
 use crate::scripts::turns::play_together;
+use board::counting::parameters::ServiceParameters;
 use board::counting::recorder::Recorder;
-use board::counting::room::Room;
 use call_text::scripts::script::Script;
 use file_server::FileServer;
 use reply_text::answers::Played;
@@ -61,7 +61,7 @@ pub struct Came {
 /// Plays scripts on a service at one time, each in a session and a thread of its own, and stops the service. The service's refusal of a
 /// session is told as it is.
 pub fn play_on<
-    N: Room + Send + Sync,
+    N: ServiceParameters + Send + Sync,
     R: Threads + Wait + Copy + Send + Sync,
     L: Recorder<N> + Send,
     S: FileServer<L> + Send,
@@ -89,7 +89,7 @@ pub fn play_on<
 /// Plays scripts, each in a session and a thread of its own; all sessions are made before a call is. What came of them, and the last
 /// session, which goes on.
 fn play_all<
-    N: Room + Send + Sync,
+    N: ServiceParameters + Send + Sync,
     R: Threads + Wait + Copy + Send + Sync,
     L: Recorder<N> + Send,
     S: FileServer<L> + Send,
@@ -114,7 +114,7 @@ fn play_all<
 }
 
 /// Stops a service once this session has ended, if there was one. What came of its last sync, and the image as the media stand.
-fn stop<N: Room, R: Threads + Wait + Copy, L: Recorder<N>, S: FileServer<L>>(
+fn stop<N: ServiceParameters, R: Threads + Wait + Copy, L: Recorder<N>, S: FileServer<L>>(
     service: Service<N, R, L, S>,
     last: Option<ScriptSession<N, R, L, S>>,
 ) -> Result<(LastSync, Vec<u8>), NoImage>

@@ -3,8 +3,8 @@
 ghost use Rattle.std.specs.Prelude.{◌≡◌};
 
 use crate::scripts::client::Client;
+use board::counting::parameters::ServiceParameters;
 use board::counting::recorder::Recorder;
-use board::counting::room::Room;
 use file_server::FileServer;
 use serve::service::Shared;
 use serve::session::Session;
@@ -13,11 +13,16 @@ use tree::{Call, Outcome};
 
 /// A session of a service, in which a script is played.
 #[derive(Drop)]
-pub struct ScriptSession<N: Room, R: Wait + Copy, L: Recorder<N>, S: FileServer<L>>(
+pub struct ScriptSession<N: ServiceParameters, R: Wait + Copy, L: Recorder<N>, S: FileServer<L>>(
     pub(crate) Session<N, Shared<N, R, L, S>>,
 );
 
-impl<N: Room, R: Wait + Copy, L: Recorder<N>, S: FileServer<L>> ScriptSession<N, R, L, S> {
+impl<N: ServiceParameters, R: Wait + Copy, L: Recorder<N>, S: FileServer<L>> ScriptSession<
+    N,
+    R,
+    L,
+    S,
+> {
     /// The session itself.
     pub fn session(self) -> Session<N, Shared<N, R, L, S>>
         ensures { result ≡ self.0 }
@@ -28,7 +33,7 @@ impl<N: Room, R: Wait + Copy, L: Recorder<N>, S: FileServer<L>> ScriptSession<N,
 }
 
 impl<
-    N: Room + Send + Sync,
+    N: ServiceParameters + Send + Sync,
     R: Wait + Copy + Send + Sync,
     L: Recorder<N> + Send,
     S: FileServer<L> + Send,

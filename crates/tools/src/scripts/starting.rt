@@ -7,42 +7,41 @@ ghost use Rattle.std.specs.Prelude.{◌≡◌, ◌≢◌, ◌≤◌, ◌^◌, []
 ghost use Rattle.std.specs.Arc.{arc_value};
 ghost use Rattle.records.specs.Opening.{contents_at};
 ghost use Rattle.records.specs.Mount.{is_frame_count};
-ghost use Rattle.mounting.specs.Laws.{sizes_in};
-ghost use Rattle.mounting.specs.Starting.{opening_of, IsPrepared};
+ghost use Rattle.volume_mount.specs.Laws.{sizes_in};
+ghost use Rattle.volume_mount.specs.Starting.{opening_of, IsPrepared};
 ghost use Rattle.true_replies.specs.Events.{opening_media};
 ghost use Rattle.board.specs.View.{IsKeeper, opener};
 ghost use Rattle.call_text.specs.Said.{said};
-ghost use Rattle.launch.specs.Stopped.{IsMountedTruly, IsStopped};
-ghost use Rattle.launch.specs.Ran.{HasRun, IsNotStarted};
-ghost use Rattle.launch.specs.Spent.{IsSpent};
+ghost use Rattle.service_start.specs.Stopped.{IsMountedTruly, IsStopped};
+ghost use Rattle.service_start.specs.Ran.{HasRun, IsNotStarted};
+ghost use Rattle.service_start.specs.Spent.{IsSpent};
 ghost use Rattle.shared_server.specs.Held.{HasEnded};
 ghost use Rattle.tools.specs.Served.{AreServed, IsUnserved, IsUnservedBy};
 
 use crate::scripts::players::{Came, ServiceRefusal, play_on};
 use bdev::BlockDriver;
+use board::counting::parameters::ServiceParameters;
 use board::counting::recorder::Recorder;
-use board::counting::room::Room;
 use board::{Board, Seat};
 use call_text::scripts::script::Script;
 use driver_threads::running::Running;
 use gate::Gate;
-use launch::StartRefusal;
-use launch::ending::cut_once_spent;
-use launch::opened::refusal_of;
-use launch::start::counted_drivers;
-use mounting::mounted::mount;
-use mounting::{Prepared, prepare};
 use reincarnate::policy::Setup;
 use serve::service::Service;
+use service_start::ending::cut_once_spent;
+use service_start::opened::refusal_of;
+use service_start::start::counted_drivers;
 use std::alloc::Global;
 use std::marker::Brand;
 use std::sync::{Arc, Wait};
 use std::thread::Threads;
+use volume_mount::mounted::mount;
+use volume_mount::{Prepared, StartRefusal, prepare};
 
-/// Mounts the volume over this link, plays scripts on the service of it, and stops the service. It is refused as `launch::opened::mounted`
+/// Mounts the volume over this link, plays scripts on the service of it, and stops the service. It is refused as `service_start::opened::mounted`
 /// is, and then nothing is played.
 fn mount_and_play<
-    N: Room + Send + Sync + 'static,
+    N: ServiceParameters + Send + Sync + 'static,
     R: Threads + Wait + Copy + Send + Sync + 'static,
     L: Recorder<N> + Send + 'static,
     G: Gate + 'static,
@@ -86,7 +85,7 @@ fn mount_and_play<
 
 // The caller picks `N` from what it hands over.
 fn start_and_play<
-    N: Room + Send + Sync + 'static,
+    N: ServiceParameters + Send + Sync + 'static,
     R: Threads + Wait + Copy + Send + Sync + 'static,
     D: BlockDriver + 'static,
     G: Gate + 'static,
@@ -142,7 +141,7 @@ fn start_and_play<
 /// Starts a service on the volume in an image, whose threads ask this gate, plays scripts at one time, each in a session and a thread of
 /// its own, and stops the service.
 ///
-/// The service is refused as `launch::start::serve` refuses it, and then nothing is played; of a service that started no image may come. A
+/// The service is refused as `service_start::start::serve` refuses it, and then nothing is played; of a service that started no image may come. A
 /// call is told as cut, or the last sync, only once the link to the drivers had received 2^40 messages.
 pub fn play_scripts<
     R: Threads + Wait + Copy + Send + Sync + 'static,

@@ -5,17 +5,17 @@ ghost use Rattle.records.specs.Opening.{Opening};
 ghost use Rattle.records.specs.Marks.{Mark, Took};
 ghost use Rattle.tree.specs.Answers.{answer_of};
 ghost use Rattle.schedule.specs.LogView.{said, room_in};
-ghost use Rattle.run_link.specs.StageView.{scene_of};
-ghost use Rattle.run_link.specs.Kept.{with_next};
-ghost use Rattle.run_link.specs.StateView.{run_of, RunTruth, Asides, Answers, HandsOut, left_of, starving};
+ghost use Rattle.simulated_link.specs.StageView.{scene_of};
+ghost use Rattle.simulated_link.specs.Kept.{with_next};
+ghost use Rattle.simulated_link.specs.StateView.{run_of, RunTruth, Asides, Answers, HandsOut, left_of, starving};
 
-use inline::local::LocalDriver;
 use message::Incoming;
-use run_link::RunLink;
-use run_link::room::make_room;
 use schedule::Arrived;
 use schedule::queue::take_first;
+use simulated_link::RunLink;
+use simulated_link::room::make_room;
 use std::alloc::AllocError;
+use synchronous_driver::local::LocalDriver;
 use tree::Reply;
 
 /// Runs the next event between two calls, or tells that a complaint gave the device up, if that is owed: the message that the server

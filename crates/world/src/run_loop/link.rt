@@ -4,17 +4,17 @@ ghost use Rattle.std.specs.Prelude.{◌≡◌, ◌⊎◌, ◌↔◌, ◌≤◌, 
 ghost use Rattle.records.specs.Marks.{Mark, Took};
 ghost use Rattle.records.specs.Opening.{Opening};
 ghost use Rattle.tree.specs.Answers.{answer_of};
-ghost use Rattle.run_link.specs.Kept.{with_next};
-ghost use Rattle.run_link.specs.StateView.{RunState, RunTruth, GoesOn, Asides, HandsOut, Answers, starving};
+ghost use Rattle.simulated_link.specs.Kept.{with_next};
+ghost use Rattle.simulated_link.specs.StateView.{RunState, RunTruth, GoesOn, Asides, HandsOut, Answers, starving};
 ghost use Rattle.schedule.specs.declared.arrived.Arrived.{Arrived as OfCall};
 
 use crate::run_loop::aside;
-use inline::local::LocalDriver;
 use message::Incoming;
 use reissue::Link;
-use run_link::RunLink;
 use schedule::Arrived;
+use simulated_link::RunLink;
 use std::alloc::AllocError;
+use synchronous_driver::local::LocalDriver;
 use tree::Reply;
 
 /// A link that a schedule moves, as contracts see it: `run` is the run as it stands, with its schedule, the calls that wait, and what was
@@ -100,7 +100,7 @@ pub trait WorldLink: Ran + Drop {
 }
 
 impl<'a, D: LocalDriver> Ran for RunLink<'a, D> {
-    ghost use Rattle.run_link.specs.StateView.{run_of};
+    ghost use Rattle.simulated_link.specs.StateView.{run_of};
     ghost use Rattle.std.specs.Prelude.{refl};
 
     ghost run = { λ l. run_of D.state l };

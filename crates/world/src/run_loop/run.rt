@@ -2,7 +2,7 @@
 
 ghost use Rattle.std.specs.Prelude.{◌≡◌, ◌≤◌, ◌<◌, ◌+◌, ◌^◌, true, false, IfOk, OnErr};
 ghost use Rattle.tree.specs.declared.Call.{Call};
-ghost use Rattle.run_link.specs.StateView.{work_left};
+ghost use Rattle.simulated_link.specs.StateView.{work_left};
 ghost use Rattle.world.specs.Starts.{IsBeforeFirst, RunsAll};
 
 use crate::run_loop::WorldLink;

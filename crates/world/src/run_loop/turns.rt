@@ -1,10 +1,10 @@
 //! Turns between two calls, until nothing is left to do or a call is cut.
 
 ghost use Rattle.std.specs.Prelude.{◌≡◌, ◌⊎◌, ◌≤◌, ◌<◌, ◌+◌, ◌^◌, length, if◌then◌else◌, IfOk, IfSome, OnOk, OnErr, None, option_map, true, false};
-ghost use Rattle.run_link.specs.StateView.{work_left, HandsOut, IsSpent};
-ghost use Rattle.run_link.specs.Moments.{Resting, Answering};
+ghost use Rattle.simulated_link.specs.StateView.{work_left, HandsOut, IsSpent};
+ghost use Rattle.simulated_link.specs.Moments.{Resting, Answering};
 ghost use Rattle.tree.specs.declared.Call.{Call};
-ghost use Rattle.run_link.specs.Laws.{IsSound};
+ghost use Rattle.simulated_link.specs.Laws.{IsSound};
 ghost use Rattle.world.specs.Runs.{RunsOn, Awaits, Notes, IsLive, IsIdle, IsNext, RunsOne, AnswersTo, ComesTo, EndsAs, doing_of, doing_after};
 ghost use Rattle.world.specs.Ends.{RunsOut};
 

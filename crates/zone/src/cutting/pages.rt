@@ -4,9 +4,9 @@ ghost use Rattle.std.specs.Prelude.{◌≡◌, ◌<◌, ◌≤◌, ◌+◌, ◌-
 ghost use Rattle.layout.specs.Places.{IsGeometry};
 ghost use Rattle.volume.specs.Pieces.{pieces};
 ghost use Rattle.volume.specs.Reading.{is_inode};
-ghost use Rattle.store.specs.World.{Turns, Reads};
-ghost use Rattle.store.specs.Halts.{Ends, IsHalt};
-ghost use Rattle.store.specs.Volume.{IsOn};
+ghost use Rattle.block_store.specs.World.{Turns, Reads};
+ghost use Rattle.block_store.specs.Halts.{Ends, IsHalt};
+ghost use Rattle.block_store.specs.Volume.{IsOn};
 ghost use Rattle.zone.specs.Pages.{place_count, child_at};
 ghost use Rattle.zone.specs.CutFiles.{IsLastAt, IsFull, IsLastHeld, IsLastFrom, MayDetach, DetachesFrom};
 ghost use Rattle.zone.specs.Slots.{IsLastSlot};
@@ -14,9 +14,9 @@ ghost use Rattle.zone.specs.Slots.{IsLastSlot};
 use crate::holding::release;
 use crate::numbers::{last_number, numbers_in_zone};
 use crate::places::{find, first_places};
+use block_store::{Blocks, Halt};
 use inode::inode_table::load;
 use layout::Geometry;
-use store::{Blocks, Halt};
 use volume::Inode;
 
 /// The last slot of an inode that isn't 0.

@@ -1,6 +1,6 @@
 use Rattle.std.proofs.Common.{◌≡◌, ◌+◌, ◌*◌, ap, sym, ◌∙◌, arith}
 use Rattle.volume.specs.Pieces.{pieces}
-use Rattle.store.proofs.Turns.{reads_none, reads_then, if_cut}
+use Rattle.block_store.proofs.Turns.{reads_none, reads_then, if_cut}
 use Rattle.bitmap.specs.Numbers.{count_free_in}
 use Rattle.bitmap.specs.Maps.{numbers_in, last_number, reach}
 use Rattle.bitmap.proofs.Blocks.{words_more}

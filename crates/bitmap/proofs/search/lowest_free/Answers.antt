@@ -1,6 +1,6 @@
 use Rattle.std.proofs.Common.{◌+◌, ◌*◌, subst, arith}
 use Rattle.volume.specs.Pieces.{pieces}
-use Rattle.store.proofs.Turns.{reads_then, if_cut}
+use Rattle.block_store.proofs.Turns.{reads_then, if_cut}
 use Rattle.bitmap.specs.Numbers.{IsLowestFree}
 use Rattle.bitmap.specs.Maps.{numbers_in, last_number, reach}
 use Rattle.bitmap.proofs.Counting.{all_on, lowest_on}

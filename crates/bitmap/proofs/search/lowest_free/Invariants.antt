@@ -1,7 +1,7 @@
 use Rattle.std.proofs.Common.{◌≤◌, ◌+◌, ◌*◌}
 use Rattle.std.specs.Prelude.{min}
 use Rattle.volume.specs.Pieces.{pieces}
-use Rattle.store.specs.World.{Reads}
+use Rattle.block_store.specs.World.{Reads}
 use Rattle.bitmap.specs.Numbers.{AllIn, words_for}
 use Rattle.bitmap.specs.Maps.{numbers_in, last_number, reach}
 use Rattle.bitmap.proofs.search.lowest_free.Given as goal

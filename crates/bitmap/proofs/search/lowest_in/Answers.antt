@@ -1,7 +1,7 @@
 use Rattle.std.specs.Prelude.{slice_index}
 use Rattle.volume.specs.Reading.{bit_in}
 use Rattle.volume.specs.Pieces.{pieces}
-use Rattle.store.proofs.Turns.{turns_as, turns_seen}
+use Rattle.block_store.proofs.Turns.{turns_as, turns_seen}
 use Rattle.bitmap.specs.Maps.{numbers_in}
 use Rattle.bitmap.proofs.Blocks.{in_block, lowest_moved, none_moved}
 use Rattle.bitmap.proofs.search.lowest_in.Goals as goal

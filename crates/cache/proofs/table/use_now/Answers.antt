@@ -10,5 +10,5 @@ returns-else-touch-clause-ranked c =
     let keys = c.args.winners.now.keys.items in
     rank_set items new keys _ c.args.at _ c.number.result c.index-items-at.result
     (but_used items c.args.uses.now.numbers.items new keys c.args.at c.if-touch.ensures.others c.requires.others)
-    (slice_get_read items _ c.args.at c.index-items-at.result refl c.requires.at c.index-items-at.is) c.number.ensures.number c.turn-key.ensures
+    (slice_get_read items _ c.args.at c.index-items-at.result refl c.requires.at c.index-items-at.is) c.number.ensures.number c.eviction_rank-key.ensures
     c.set.ensures

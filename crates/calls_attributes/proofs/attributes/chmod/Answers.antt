@@ -1,7 +1,7 @@
 use Rattle.std.proofs.Common.{rules, ◌<◌, ◌≤◌, ◌∙◌, sym, ap, arith}
 use Rattle.std.specs.Prelude.{not}
-use Rattle.store.proofs.Turns.{turns_as, turns_none, turns_then}
-use Rattle.store.proofs.Ending.{ends_exit}
+use Rattle.block_store.proofs.Turns.{turns_as, turns_none, turns_then}
+use Rattle.block_store.proofs.Ending.{ends_exit}
 use Rattle.calls_attributes.proofs.Effects.{volume_of, walk_refused, right_refused, is_number}
 use Rattle.calls_attributes.proofs.Calls.{found_ok, found_err, chmod_mode_refused, chmod_is, chmod_done, other_user, with_mode}
 use Rattle.calls_attributes.proofs.attributes.chmod.Goals as goal

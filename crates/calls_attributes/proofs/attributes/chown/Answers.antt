@@ -1,8 +1,8 @@
 use Rattle.std.proofs.Common.{rules, ap, arith}
 use Rattle.std.specs.Prelude.{not, ◌==◌}
 use Rattle.std.proofs.lemmas.Bool.{eq-eqb, ne_eqb}
-use Rattle.store.proofs.Turns.{turns_as, turns_then}
-use Rattle.store.proofs.Ending.{ends_exit}
+use Rattle.block_store.proofs.Turns.{turns_as, turns_then}
+use Rattle.block_store.proofs.Ending.{ends_exit}
 use Rattle.calls_attributes.proofs.Effects.{walk_refused, right_refused, is_number}
 use Rattle.calls_attributes.proofs.Calls.{found_ok, found_err, chown_done, with_owner}
 use Rattle.calls_attributes.proofs.attributes.chown.Goals as goal

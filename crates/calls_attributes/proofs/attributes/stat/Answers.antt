@@ -1,6 +1,6 @@
 use Rattle.std.proofs.Common.{rules, ◌<◌}
 use Rattle.tree.specs.Walk.{walk}
-use Rattle.store.proofs.Turns.{turns_as}
+use Rattle.block_store.proofs.Turns.{turns_as}
 use Rattle.calls_attributes.proofs.Calls.{found_ok, found_err, stat_refused, stat_done, small_number}
 use Rattle.calls_attributes.proofs.attributes.stat.Goals as goal
 

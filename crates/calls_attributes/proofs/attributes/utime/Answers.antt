@@ -1,7 +1,7 @@
 use Rattle.std.proofs.Common.{◌∙◌, sym, ap, arith}
 use Rattle.std.specs.Prelude.{not}
-use Rattle.store.proofs.Turns.{turns_as, turns_then}
-use Rattle.store.proofs.Ending.{ends_exit}
+use Rattle.block_store.proofs.Turns.{turns_as, turns_then}
+use Rattle.block_store.proofs.Ending.{ends_exit}
 use Rattle.calls_attributes.proofs.Effects.{walk_refused, right_refused, is_number}
 use Rattle.calls_attributes.proofs.Calls.{found_ok, found_err, utime_done, other_user, with_times}
 use Rattle.calls_attributes.proofs.attributes.utime.Goals as goal

@@ -4,7 +4,7 @@ use Rattle.volume.specs.Reading.{is_inode}
 use Rattle.descriptors.specs.Table.{files_of}
 use Rattle.descriptors.specs.Made.{shown}
 use Rattle.tree.specs.declared.OpenFlags.{OpenFlags}
-use Rattle.store.proofs.Turns.{turns_as}
+use Rattle.block_store.proofs.Turns.{turns_as}
 use Rattle.calls_attributes.proofs.Exits.{ends_exit}
 use Rattle.calls_attributes.proofs.Looks.{number_held}
 use Rattle.calls_attributes.proofs.found.find.Goals as goal

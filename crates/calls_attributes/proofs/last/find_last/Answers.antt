@@ -1,6 +1,6 @@
 use Rattle.std.proofs.Common.{subst}
-use Rattle.store.proofs.Turns.{reads_then, reads_as}
-use Rattle.store.proofs.Ending.{ends_exit}
+use Rattle.block_store.proofs.Turns.{reads_then, reads_as}
+use Rattle.block_store.proofs.Ending.{ends_exit}
 use Rattle.calls_attributes.specs.Named.{NamesLast, last_walk}
 use Rattle.calls_attributes.proofs.Naming.{its_number, found_node, found_refused}
 use Rattle.calls_attributes.proofs.last.find_last.Goals as goal

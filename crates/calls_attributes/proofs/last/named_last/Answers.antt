@@ -1,5 +1,5 @@
 use Rattle.std.proofs.Common.{sym}
-use Rattle.store.proofs.Turns.{reads_as, ends_as}
+use Rattle.block_store.proofs.Turns.{reads_as, ends_as}
 use Rattle.calls_attributes.proofs.Naming.{last_read}
 use Rattle.calls_attributes.proofs.last.named_last.Goals as goal
 

@@ -1,5 +1,5 @@
 use Rattle.std.proofs.Common.{ap, ◌∙◌, Ok, Err}
-use Rattle.store.proofs.Turns.{reads_as}
+use Rattle.block_store.proofs.Turns.{reads_as}
 use Rattle.calls_attributes.proofs.Naming.{last_there, last_missing, last_refused, last_halted}
 use Rattle.calls_attributes.proofs.last.walk_to_last.Goals as goal
 

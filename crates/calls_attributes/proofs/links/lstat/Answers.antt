@@ -1,5 +1,5 @@
 use Rattle.std.proofs.Common.{rules, ◌<◌, subst}
-use Rattle.store.proofs.Turns.{turns_as}
+use Rattle.block_store.proofs.Turns.{turns_as}
 use Rattle.tree.specs.Answers.{node_is, refused}
 use Rattle.descriptors.specs.Files.{HasFiles}
 use Rattle.calls_attributes.specs.Does.{Does}

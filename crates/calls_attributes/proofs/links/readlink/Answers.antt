@@ -3,7 +3,7 @@ use Rattle.volume.specs.Reading.{Disk}
 use Rattle.volume.specs.Nodes.{file_of, is_link_mode}
 use Rattle.volume.specs.Pieces.{pieces}
 use Rattle.file.specs.Reading.{HasFileBytes}
-use Rattle.store.proofs.Turns.{turns_as, turns_then}
+use Rattle.block_store.proofs.Turns.{turns_as, turns_then}
 use Rattle.calls_attributes.specs.Named.{FindsLast}
 use Rattle.calls_attributes.proofs.ReadlinkCall.{readlink_refused, readlink_plain, readlink_done}
 use Rattle.calls_attributes.proofs.links.readlink.Goals as goal

@@ -1,4 +1,4 @@
-use Rattle.store.proofs.Turns.{turns_as}
+use Rattle.block_store.proofs.Turns.{turns_as}
 use Rattle.descriptors.specs.Table.{files_of}
 use Rattle.calls_attributes.proofs.Looks.{found_none, found_some, said_of, fstat_refused, fstat_done}
 use Rattle.calls_attributes.proofs.open_files.fstat.Goals as goal

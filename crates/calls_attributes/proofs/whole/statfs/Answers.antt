@@ -2,7 +2,7 @@ use Rattle.std.proofs.Common.{ap, ◌∙◌, ◌+◌, rules}
 use Rattle.volume.specs.Reading.{Disk}
 use Rattle.volume.specs.Pieces.{pieces}
 use Rattle.bitmap.specs.Numbers.{count_free_in}
-use Rattle.store.proofs.Turns.{turns_then}
+use Rattle.block_store.proofs.Turns.{turns_then}
 use Rattle.calls_attributes.proofs.Room.{statfs_done}
 use Rattle.calls_attributes.proofs.whole.statfs.Goals as goal
 

@@ -1,6 +1,6 @@
 use Rattle.std.proofs.Common.{Ok, refl}
 use Rattle.tree.specs.Answers.{done}
-use Rattle.store.proofs.Turns.{turns_as}
+use Rattle.block_store.proofs.Turns.{turns_as}
 use Rattle.calls_attributes.proofs.Made.{looked_made}
 use Rattle.calls_attributes.proofs.whole.sync.Goals as goal
 

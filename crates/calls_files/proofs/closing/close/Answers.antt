@@ -1,6 +1,6 @@
 use Rattle.std.proofs.Common.{ap, sym, ◌∙◌, Some}
-use Rattle.store.proofs.Turns.{turns_as, turns_none}
-use Rattle.store.proofs.Ending.{ends_exit}
+use Rattle.block_store.proofs.Turns.{turns_as, turns_none}
+use Rattle.block_store.proofs.Ending.{ends_exit}
 use Rattle.descriptors.specs.Table.{files_of}
 use Rattle.calls_files.proofs.CloseCall.{close_refused, close_last, close_unsound, close_one}
 use Rattle.calls_files.proofs.closing.close.Goals as goal

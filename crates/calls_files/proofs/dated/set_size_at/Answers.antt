@@ -1,4 +1,4 @@
-use Rattle.store.proofs.Turns.{turns_then, ends_as}
+use Rattle.block_store.proofs.Turns.{turns_then, ends_as}
 use Rattle.calls_files.proofs.Stamped.{may_stamp_resized, resized_at}
 use Rattle.calls_files.proofs.dated.set_size_at.Goals as goal
 

@@ -1,6 +1,6 @@
 use Rattle.std.proofs.Common.{refl}
-use Rattle.store.proofs.Turns.{turns_then}
-use Rattle.store.proofs.Ending.{ends_exit, turns_three}
+use Rattle.block_store.proofs.Turns.{turns_then}
+use Rattle.block_store.proofs.Ending.{ends_exit, turns_three}
 use Rattle.calls_files.proofs.Stamped.{may_write, may_stamp, written}
 use Rattle.calls_files.proofs.dated.write_if_room.Goals as goal
 

@@ -2,7 +2,7 @@ use Rattle.std.proofs.Common.{◌≡◌, length, rules}
 use Rattle.volume.specs.Pieces.{pieces}
 use Rattle.volume.specs.Nodes.{file_of}
 use Rattle.file.specs.Reading.{read_count}
-use Rattle.store.proofs.Turns.{turns_as}
+use Rattle.block_store.proofs.Turns.{turns_as}
 use Rattle.calls_files.proofs.ReadBytes.{bytes_are, whole_taken}
 use Rattle.calls_files.proofs.reading.bytes_at.Goals as goal
 

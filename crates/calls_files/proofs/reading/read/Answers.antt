@@ -4,7 +4,7 @@ use Rattle.volume.specs.Pieces.{pieces}
 use Rattle.volume.specs.Nodes.{file_of}
 use Rattle.tree.specs.FileCalls.{bytes_read}
 use Rattle.descriptors.specs.Table.{files_of}
-use Rattle.store.proofs.Turns.{turns_as, turns_then}
+use Rattle.block_store.proofs.Turns.{turns_as, turns_then}
 use Rattle.calls_attributes.proofs.Looks.{found_some, found_none, said_of, none_left, given_ok, too_big}
 use Rattle.calls_files.proofs.ReadCall.{read_closed, read_refused, read_lacks, read_done, size_held}
 use Rattle.calls_files.proofs.reading.read.Goals as goal

@@ -1,7 +1,7 @@
 use Rattle.std.proofs.Common.{sym, ap, ◌∙◌, w64}
 use Rattle.std.proofs.lemmas.Int.{to_z-of_z}
 use Rattle.tree.specs.FileCalls.{seek_place}
-use Rattle.store.proofs.Turns.{turns_as}
+use Rattle.block_store.proofs.Turns.{turns_as}
 use Rattle.descriptors.specs.Table.{files_of}
 use Rattle.calls_files.specs.Seeking.{may_lie}
 use Rattle.calls_attributes.proofs.Looks.{found_some, found_none, said_of, none_left}

@@ -1,6 +1,6 @@
 use Rattle.std.proofs.Common.{sym, ◌∙◌, arith}
-use Rattle.store.proofs.Turns.{turns_as, turns_none, turns_then}
-use Rattle.store.proofs.Ending.{ends_exit}
+use Rattle.block_store.proofs.Turns.{turns_as, turns_none, turns_then}
+use Rattle.block_store.proofs.Ending.{ends_exit}
 use Rattle.calls_attributes.proofs.Effects.{volume_of}
 use Rattle.calls_attributes.proofs.Calls.{found_ok, found_err}
 use Rattle.calls_files.proofs.TruncateCall.{truncate_big, truncate_unwalked, truncate_directory, truncate_barred, truncate_done, may_change_found}

@@ -3,7 +3,7 @@ use Rattle.lemmas.proofs.Lists.{bytes_are_low}
 use Rattle.volume.specs.Pieces.{pieces}
 use Rattle.descriptors.specs.Table.{files_of}
 use Rattle.file.specs.PageChanges.{MayChange}
-use Rattle.store.proofs.Turns.{turns_as, turns_then}
+use Rattle.block_store.proofs.Turns.{turns_as, turns_then}
 use Rattle.calls_attributes.proofs.Exits.{ends_exit}
 use Rattle.calls_attributes.proofs.Looks.{found_some, found_none, said_of}
 use Rattle.calls_files.proofs.WriteCall.{write_closed, write_refused, write_none, write_full, write_done, may_change_held, from_start}

@@ -7,7 +7,7 @@ use Rattle.tree.specs.NameCalls.{mkdir}
 use Rattle.tree.specs.Tree.{Tree}
 use Rattle.volume.specs.Reading.{Disk}
 use Rattle.descriptors.specs.Files.{HasFiles}
-use Rattle.store.proofs.Turns.{turns_as, turns_none, turns_then}
+use Rattle.block_store.proofs.Turns.{turns_as, turns_none, turns_then}
 use Rattle.path.proofs.Ending.{answers_as}
 use Rattle.calls_names.specs.Making.{MakesDirectoryAt, MayMakeDirectoryAt}
 use Rattle.calls_names.specs.Vacant.{FindsNewPlace, FindsNumber, IsNewPlace}

@@ -1,6 +1,6 @@
 use Rattle.std.proofs.Common.{◌<◌, length, arith, rules}
-use Rattle.store.proofs.Ending.{ends_exit, turns_three}
-use Rattle.store.proofs.Turns.{ends_as, turns_as, turns_none, turns_then}
+use Rattle.block_store.proofs.Ending.{ends_exit, turns_three}
+use Rattle.block_store.proofs.Turns.{ends_as, turns_as, turns_none, turns_then}
 use Rattle.calls_names.specs.Making.{MakesDirectoryAt, MayMakeDirectoryAt}
 use Rattle.calls_names.proofs.Putting.{all_done, name_short, to_enter, to_link, to_make}
 use Rattle.calls_names.proofs.directories.put_directory.Goals as goal

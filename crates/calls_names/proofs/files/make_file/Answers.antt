@@ -1,7 +1,7 @@
 use Rattle.std.proofs.Common.{◌∙◌, Bool, Ok, sym, subst}
 use Rattle.errno.specs.declared.Errno.TheVariants.{EACCES, ENOENT}
 use Rattle.volume.specs.Reading.{Disk}
-use Rattle.store.proofs.Turns.{turns_as, turns_none, turns_then}
+use Rattle.block_store.proofs.Turns.{turns_as, turns_none, turns_then}
 use Rattle.path.proofs.Ending.{answers_exit}
 use Rattle.calls_names.specs.Making.{IsFileRefused, MakesFileAt, MakesFileOr, MayMakeAt}
 use Rattle.calls_names.proofs.Ending.{answers_halted}

@@ -1,7 +1,7 @@
 use Rattle.std.proofs.Common.{◌<◌, length, arith, rules}
 use Rattle.tree.specs.Changes.{empty_file, new_node}
-use Rattle.store.proofs.Ending.{ends_exit}
-use Rattle.store.proofs.Turns.{ends_as, turns_as, turns_none, turns_then}
+use Rattle.block_store.proofs.Ending.{ends_exit}
+use Rattle.block_store.proofs.Turns.{ends_as, turns_as, turns_none, turns_then}
 use Rattle.calls_names.specs.Making.{MakesFileAt, MayMakeAt}
 use Rattle.calls_names.proofs.Putting.{file_done, file_small, file_stands, may_enter, may_make_file, name_short}
 use Rattle.calls_names.proofs.files.put_file.Goals as goal

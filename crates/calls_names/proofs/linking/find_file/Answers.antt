@@ -1,8 +1,8 @@
 use Rattle.std.proofs.Common.{◌≡◌, ◌<◌, ◌≤◌, ◌∙◌, true, false, rules, sym, subst}
 use Rattle.tree.specs.Tree.{most_links}
 use Rattle.volume.specs.Nodes.{is_directory_mode}
-use Rattle.store.proofs.Turns.{reads_as, reads_then}
-use Rattle.store.proofs.Ending.{ends_exit}
+use Rattle.block_store.proofs.Turns.{reads_as, reads_then}
+use Rattle.block_store.proofs.Ending.{ends_exit}
 use Rattle.calls_attributes.specs.Named.{LeadsTo}
 use Rattle.calls_names.proofs.Asking.{file_found, file_has_links, file_is_directory, file_not_walked, number_of_file, volume_named}
 use Rattle.calls_names.proofs.linking.find_file.Goals as goal

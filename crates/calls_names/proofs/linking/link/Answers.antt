@@ -4,8 +4,8 @@ use Rattle.std.specs.List.{All}
 use Rattle.std.proofs.lemmas.List.Elements.{All-from_get_or}
 use Rattle.tree.specs.Names.{is_name}
 use Rattle.tree.specs.Walk.{read_path}
-use Rattle.store.proofs.Turns.{turns_as, turns_none, turns_then}
-use Rattle.store.proofs.Ending.{ends_exit, turns_three}
+use Rattle.block_store.proofs.Turns.{turns_as, turns_none, turns_then}
+use Rattle.block_store.proofs.Ending.{ends_exit, turns_three}
 use Rattle.calls_names.specs.declared.linking.Free.{Free}
 use Rattle.calls_names.specs.Linking.{FindsFile, FindsFree, IsLast}
 use Rattle.calls_names.proofs.Both.{reads_both}

@@ -3,8 +3,8 @@ use Rattle.std.specs.List.{All}
 use Rattle.std.proofs.lemmas.List.Elements.{All-from_get_or}
 use Rattle.std.specs.Prelude.{Ok}
 use Rattle.tree.specs.Walk.{has_last_name, read_path}
-use Rattle.store.proofs.Turns.{reads_as, reads_then}
-use Rattle.store.proofs.Ending.{ends_exit}
+use Rattle.block_store.proofs.Turns.{reads_as, reads_then}
+use Rattle.block_store.proofs.Ending.{ends_exit}
 use Rattle.calls_names.specs.Names.{MeansPlace}
 use Rattle.calls_names.proofs.Meaning.{has_bytes, its_number, name_found, no_name, not_walked, not_writable}
 use Rattle.calls_names.proofs.named.find_name.Goals as goal

@@ -1,5 +1,5 @@
 use Rattle.std.proofs.Common.{ap, Err, ◌∙◌}
-use Rattle.store.proofs.Turns.{turns_as}
+use Rattle.block_store.proofs.Turns.{turns_as}
 use Rattle.calls_names.proofs.Meaning.{place_meant, place_refused, place_halted}
 use Rattle.calls_names.proofs.named.place_of.Goals as goal
 

@@ -6,11 +6,11 @@ use Rattle.errno.specs.declared.Errno.{Errno}
 use Rattle.tree.specs.Answers.{answer_of, refused}
 use Rattle.tree.specs.FileCalls.{open_path}
 use Rattle.calls_attributes.specs.Does.{Does, IsHeld}
-use Rattle.store.specs.declared.Halt.{Halt}
-use Rattle.store.specs.Halts.{Ends}
+use Rattle.block_store.specs.declared.Halt.{Halt}
+use Rattle.block_store.specs.Halts.{Ends}
 use Rattle.descriptors.specs.Files.{HasFiles}
 use Rattle.descriptors.specs.Table.{files_of}
-use Rattle.store.proofs.Turns.{turns_as, turns_none}
+use Rattle.block_store.proofs.Turns.{turns_as, turns_none}
 use Rattle.path.specs.declared.stop.Stop.{Stop}
 use Rattle.path.specs.Stops.{Answers}
 use Rattle.calls_names.specs.Opening.{IsPut, Readies, open_named}

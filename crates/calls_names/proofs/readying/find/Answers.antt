@@ -1,7 +1,7 @@
 use Rattle.std.proofs.Common.{Err, List, Ok, sym, subst, ◌∙◌}
 use Rattle.tree.specs.Names.{Name}
 use Rattle.volume.specs.Pieces.{pieces}
-use Rattle.store.proofs.Turns.{reads_as, reads_then}
+use Rattle.block_store.proofs.Turns.{reads_as, reads_then}
 use Rattle.zone.proofs.ZoneInodes.{inode_is}
 use Rattle.path.specs.declared.place.Found.{Found}
 use Rattle.path.specs.Places.{Finds}

@@ -6,7 +6,7 @@ use Rattle.tree.specs.Tree.{Tree, is_link_at}
 use Rattle.tree.specs.Walk.{is_there, open_look_up, read_path}
 use Rattle.volume.specs.Holds.{HoldsVolume}
 use Rattle.volume.specs.Reading.{Disk}
-use Rattle.store.proofs.Turns.{turns_as, turns_none, turns_then}
+use Rattle.block_store.proofs.Turns.{turns_as, turns_none, turns_then}
 use Rattle.path.specs.declared.place.Found.{Found}
 use Rattle.path.specs.Stops.{Answers}
 use Rattle.path.proofs.Ending.{answers_as, answers_exit}

@@ -1,7 +1,7 @@
 use Rattle.std.proofs.Common.{◌<◌, ◌^◌, sym, subst, ◌∙◌, arith}
 use Rattle.volume.specs.Pieces.{pieces}
 use Rattle.volume.specs.Reading.{Disk}
-use Rattle.store.proofs.Turns.{turns_as, turns_then}
+use Rattle.block_store.proofs.Turns.{turns_as, turns_then}
 use Rattle.zone.proofs.ZoneInodes.{inode_is}
 use Rattle.file.specs.PageChanges.{MayChange}
 use Rattle.calls_attributes.proofs.Made.{node_there}

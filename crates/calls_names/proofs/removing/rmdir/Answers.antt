@@ -1,8 +1,8 @@
 use Rattle.std.proofs.Common.{◌≡◌, ◌<◌, ◌≤◌, ◌^◌, ◌∙◌, None, length, sym, subst, arith}
 use Rattle.std.specs.Prelude.{IfOk}
 use Rattle.descriptors.specs.Table.{files_of}
-use Rattle.store.proofs.Turns.{turns_as, turns_then}
-use Rattle.store.proofs.Ending.{ends_exit, turns_three}
+use Rattle.block_store.proofs.Turns.{turns_as, turns_then}
+use Rattle.block_store.proofs.Ending.{ends_exit, turns_three}
 use Rattle.calls_names.specs.declared.named.Named.{Named}
 use Rattle.calls_names.specs.Names.{FindsName, why_kept}
 use Rattle.calls_names.proofs.Standing.{may_remove_of}

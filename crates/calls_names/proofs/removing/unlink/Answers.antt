@@ -1,8 +1,8 @@
 use Rattle.std.proofs.Common.{◌≡◌, ◌<◌, ◌^◌, ◌∙◌, true, false, sym, subst, arith}
 use Rattle.volume.specs.Nodes.{is_directory_mode}
 use Rattle.descriptors.specs.Table.{files_of}
-use Rattle.store.proofs.Turns.{turns_as, turns_then}
-use Rattle.store.proofs.Ending.{ends_exit, turns_three}
+use Rattle.block_store.proofs.Turns.{turns_as, turns_then}
+use Rattle.block_store.proofs.Ending.{ends_exit, turns_three}
 use Rattle.calls_names.specs.Names.{FindsName}
 use Rattle.calls_names.proofs.Standing.{may_remove_of, volume_of}
 use Rattle.calls_names.proofs.Unlinking.{may_lose, unlink_of_directory, unlink_refused, unlinked}

@@ -1,6 +1,6 @@
 use Rattle.std.proofs.Common.{◌<◌, length, arith, rules}
-use Rattle.store.proofs.Ending.{ends_exit}
-use Rattle.store.proofs.Turns.{ends_as, turns_as, turns_none, turns_then}
+use Rattle.block_store.proofs.Ending.{ends_exit}
+use Rattle.block_store.proofs.Turns.{ends_as, turns_as, turns_none, turns_then}
 use Rattle.calls_names.specs.Making.{MakesLinkAt, MayMakeAt}
 use Rattle.calls_names.proofs.Putting.{link_done, may_make_link, may_name_link, name_short}
 use Rattle.calls_names.proofs.symlinks.put_link.Goals as goal

@@ -4,7 +4,7 @@ use Rattle.tree.specs.Answers.{done}
 use Rattle.tree.specs.NameCalls.{symlink}
 use Rattle.tree.specs.Tree.{Tree}
 use Rattle.descriptors.specs.Files.{HasFiles}
-use Rattle.store.proofs.Turns.{turns_as}
+use Rattle.block_store.proofs.Turns.{turns_as}
 use Rattle.path.specs.declared.stop.Stop.{Stop}
 use Rattle.calls_names.specs.Stopping.{MeetsOrStops}
 use Rattle.calls_names.proofs.Ending.{halted_ends}

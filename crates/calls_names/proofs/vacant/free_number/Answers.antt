@@ -1,8 +1,8 @@
 use Rattle.std.proofs.Common.{◌<◌, subst, arith, rules}
 use Rattle.volume.specs.Pieces.{pieces}
-use Rattle.store.proofs.Turns.{reads_as, reads_then}
+use Rattle.block_store.proofs.Turns.{reads_as, reads_then}
 use Rattle.file.specs.Room.{IsRoomBeside}
-use Rattle.node_steps.specs.NewNodes.{IsLeastFree}
+use Rattle.inode_operations.specs.NewNodes.{IsLeastFree}
 use Rattle.calls_names.proofs.Ending.{answers_halted}
 use Rattle.calls_names.proofs.Numbers.{directory_number, is_free_for, no_inode, no_zones, not_long}
 use Rattle.calls_names.proofs.vacant.free_number.Goals as goal

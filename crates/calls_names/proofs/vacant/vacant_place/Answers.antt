@@ -3,7 +3,7 @@ use Rattle.std.proofs.lemmas.List.Elements.{All-from_get_or}
 use Rattle.std.specs.List.{All}
 use Rattle.std.specs.Prelude.{not, is_some, ◌||◌}
 use Rattle.tree.specs.Walk.{has_last_name, read_path}
-use Rattle.store.proofs.Turns.{reads_as, reads_none}
+use Rattle.block_store.proofs.Turns.{reads_as, reads_none}
 use Rattle.path.proofs.Ending.{answers_exit}
 use Rattle.calls_names.proofs.Ending.{answers_refused}
 use Rattle.calls_names.proofs.Vacancies.{barred, is_new_place, name_taken, not_read, not_walked, parent_node, parent_there, taken_is}

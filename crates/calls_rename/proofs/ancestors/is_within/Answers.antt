@@ -1,5 +1,5 @@
-use Rattle.store.proofs.Turns.{reads_as, reads_none, reads_then}
-use Rattle.store.proofs.Ending.{ends_exit, reads_three}
+use Rattle.block_store.proofs.Turns.{reads_as, reads_none, reads_then}
+use Rattle.block_store.proofs.Ending.{ends_exit, reads_three}
 use Rattle.calls_rename.proofs.Climbing.{at_first, climbed, reached, at_the_root, too_far, is_one, has_two}
 use Rattle.calls_rename.proofs.ancestors.is_within.Goals as goal
 

@@ -1,5 +1,5 @@
 use Rattle.std.proofs.Common.{◌+◌, ◌-◌}
-use Rattle.store.specs.World.{Reads}
+use Rattle.block_store.specs.World.{Reads}
 use Rattle.calls_rename.proofs.Climbing.{ClimbsTo}
 use Rattle.calls_rename.proofs.ancestors.is_within.Given as goal
 

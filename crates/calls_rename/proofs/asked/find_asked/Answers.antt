@@ -3,7 +3,7 @@ use Rattle.std.specs.List.{All}
 use Rattle.std.specs.Prelude.{Ok}
 use Rattle.std.proofs.lemmas.List.Elements.{All-from_get_or}
 use Rattle.tree.specs.Walk.{has_last_name, read_path}
-use Rattle.store.proofs.Turns.{ends_as, reads_as, turns_as, turns_none}
+use Rattle.block_store.proofs.Turns.{ends_as, reads_as, turns_as, turns_none}
 use Rattle.calls_rename.proofs.Finding.{asked_as_found, named_in_asked, new_not_read, new_unnamed, old_not_read, old_unnamed}
 use Rattle.calls_rename.proofs.asked.find_asked.Goals as goal
 

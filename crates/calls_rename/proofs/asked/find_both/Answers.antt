@@ -1,6 +1,6 @@
 use Rattle.std.proofs.Common.{true, false, subst}
-use Rattle.store.proofs.Turns.{reads_as, reads_then}
-use Rattle.store.proofs.Ending.{ends_exit}
+use Rattle.block_store.proofs.Turns.{reads_as, reads_then}
+use Rattle.block_store.proofs.Ending.{ends_exit}
 use Rattle.calls_names.specs.Names.{MeansPlace}
 use Rattle.calls_names.proofs.Both.{reads_both}
 use Rattle.calls_rename.proofs.Finding.{both_found, its_number, new_not_walked, new_not_writable, old_missing, old_not_walked, old_not_writable}

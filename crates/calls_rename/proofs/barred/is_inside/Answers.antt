@@ -1,4 +1,4 @@
-use Rattle.store.proofs.Turns.{ends_as, reads_as, reads_none}
+use Rattle.block_store.proofs.Turns.{ends_as, reads_as, reads_none}
 use Rattle.calls_rename.proofs.Barring.{asked_inside, file_inside}
 use Rattle.calls_rename.proofs.barred.is_inside.Goals as goal
 

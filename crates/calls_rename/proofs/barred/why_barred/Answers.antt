@@ -1,7 +1,7 @@
 use Rattle.std.proofs.Common.{true, false, subst}
 use Rattle.descriptors.specs.Table.{files_of}
-use Rattle.store.proofs.Turns.{reads_as, reads_then}
-use Rattle.store.proofs.Ending.{ends_exit}
+use Rattle.block_store.proofs.Turns.{reads_as, reads_then}
+use Rattle.block_store.proofs.Ending.{ends_exit}
 use Rattle.calls_rename.specs.Barred.{SaysInside}
 use Rattle.calls_rename.proofs.Standing.{directory_held, number_held}
 use Rattle.calls_rename.proofs.Barring.{at_free_name, at_taken_name, in_itself}

@@ -1,7 +1,7 @@
 use Rattle.std.proofs.Common.{sym, subst}
 use Rattle.descriptors.specs.Table.{files_of}
-use Rattle.store.proofs.Turns.{turns_as}
-use Rattle.node_steps.specs.Leads.{Makes}
+use Rattle.block_store.proofs.Turns.{turns_as}
+use Rattle.inode_operations.specs.Leads.{Makes}
 use Rattle.calls_rename.specs.Carrying.{MayCarry, carried}
 use Rattle.calls_rename.proofs.carrying.carry.Goals as goal
 

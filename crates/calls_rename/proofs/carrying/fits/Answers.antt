@@ -1,6 +1,6 @@
 use Rattle.std.proofs.Common.{◌≡◌, ◌∙◌, true, false, sym}
 use Rattle.std.specs.Prelude.{is_some}
-use Rattle.store.proofs.Turns.{ends_as, reads_as, reads_none}
+use Rattle.block_store.proofs.Turns.{ends_as, reads_as, reads_none}
 use Rattle.calls_rename.proofs.Carried.{can_move, fits_elsewhere, fits_in_place, fits_onto}
 use Rattle.calls_rename.proofs.carrying.fits.Goals as goal
 

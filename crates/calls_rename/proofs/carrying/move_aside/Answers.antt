@@ -1,4 +1,4 @@
-use Rattle.store.proofs.Turns.{ends_as, turns_as}
+use Rattle.block_store.proofs.Turns.{ends_as, turns_as}
 use Rattle.calls_rename.proofs.Carried.{aside_to, aside_within, can_to, can_within, name_short, name_some}
 use Rattle.calls_rename.proofs.carrying.move_aside.Goals as goal
 

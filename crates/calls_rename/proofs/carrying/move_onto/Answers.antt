@@ -1,6 +1,6 @@
 use Rattle.descriptors.specs.Table.{files_of}
-use Rattle.store.proofs.Turns.{ends_as, turns_as, turns_then}
-use Rattle.store.proofs.Ending.{ends_exit}
+use Rattle.block_store.proofs.Turns.{ends_as, turns_as, turns_then}
+use Rattle.block_store.proofs.Ending.{ends_exit}
 use Rattle.calls_rename.proofs.Carried.{can_drop, can_over, name_some, onto_and_dropped}
 use Rattle.calls_rename.proofs.carrying.move_onto.Goals as goal
 

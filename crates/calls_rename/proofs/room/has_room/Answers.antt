@@ -1,7 +1,7 @@
 use Rattle.std.proofs.Common.{◌<◌, rules}
 use mathlib.Core.Logic.{inl, inr}
-use Rattle.store.proofs.Turns.{reads_as, reads_none, reads_then}
-use Rattle.store.proofs.Ending.{ends_cut_exit, ends_exit}
+use Rattle.block_store.proofs.Turns.{reads_as, reads_none, reads_then}
+use Rattle.block_store.proofs.Ending.{ends_cut_exit, ends_exit}
 use Rattle.calls_rename.proofs.Telling.{has_number, no_room, not_past, not_short, room_told}
 use Rattle.calls_rename.proofs.room.has_room.Goals as goal
 

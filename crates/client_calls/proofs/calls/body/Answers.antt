@@ -1,7 +1,7 @@
 use Rattle.std.proofs.Common.{sym, subst, ap, ◌∙◌, Err}
 use Rattle.tree.specs.Answers.{answer_of}
 use Rattle.descriptors.specs.Table.{files_of}
-use Rattle.store.proofs.Turns.{turns_as}
+use Rattle.block_store.proofs.Turns.{turns_as}
 use Rattle.client_calls.proofs.Effects.{call_unsound, unsound_is}
 use Rattle.client_calls.proofs.calls.body.Goals as goal
 

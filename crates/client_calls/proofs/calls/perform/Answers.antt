@@ -8,7 +8,7 @@ use Rattle.tree.specs.FileCalls.{open_path, write, close, dup, read, seek, fstat
 use Rattle.tree.specs.NameCalls.{mkdir, symlink, rename, link, unlink, rmdir}
 use Rattle.tree.specs.Answers.{done}
 use Rattle.descriptors.specs.Table.{files_of}
-use Rattle.store.proofs.Turns.{turns_none, turns_as}
+use Rattle.block_store.proofs.Turns.{turns_none, turns_as}
 use Rattle.client_calls.proofs.Effects.{call_late, kind_meets, kind_meets_or_lacks}
 use Rattle.client_calls.proofs.calls.perform.Goals as goal
 

@@ -1,7 +1,7 @@
 use Rattle.std.proofs.Common.{◌≡◌, ◌<◌, ◌^◌, ◌∙◌, ℕ, List, length, replicate, ap, arith, rules}
 use Rattle.std.specs.Prelude.{slice_index}
 use Rattle.lemmas.proofs.Lists.{zero_at}
-use Rattle.store.specs.Rows.{with_bytes}
+use Rattle.block_store.specs.Rows.{with_bytes}
 use Rattle.directory.proofs.EntryBytes.{is_entry}
 use Rattle.directory.proofs.bytes.entry_bytes.Goals as goal
 

@@ -1,7 +1,7 @@
 use Rattle.std.proofs.Common.{sym, subst}
 use Rattle.volume.specs.Pieces.{pieces}
-use Rattle.store.proofs.Turns.{turns_then, ends_as}
-use Rattle.store.proofs.Ending.{ends_exit, turns_three}
+use Rattle.block_store.proofs.Turns.{turns_then, ends_as}
+use Rattle.block_store.proofs.Ending.{ends_exit, turns_three}
 use Rattle.file.specs.Changing.{MayWriteAt, WritesAt}
 use Rattle.file.proofs.Becoming.{may_change_after}
 use Rattle.directory.proofs.Becoming.{inserted, may_insert, may_change}

@@ -1,8 +1,8 @@
 use Rattle.std.proofs.Common.{subst}
 use Rattle.volume.specs.Nodes.{file_byte, entry_count_of}
 use Rattle.volume.specs.Pieces.{pieces}
-use Rattle.store.proofs.Turns.{reads_then}
-use Rattle.store.proofs.Ending.{ends_cut_exit}
+use Rattle.block_store.proofs.Turns.{reads_then}
+use Rattle.block_store.proofs.Ending.{ends_cut_exit}
 use Rattle.directory.specs.Standing.{StandsAt}
 use Rattle.directory.proofs.Placing.{placed, not_missing}
 use Rattle.directory.proofs.changes.place_of.Goals as goal

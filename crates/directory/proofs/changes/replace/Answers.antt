@@ -2,8 +2,8 @@ use Rattle.std.proofs.Common.{◌≡◌, ◌<◌, ◌^◌, ◌*◌, ◌∙◌, �
 use Rattle.std.specs.Prelude.{slice_index}
 use Rattle.volume.specs.Reading.{u32_in}
 use Rattle.volume.specs.Pieces.{pieces}
-use Rattle.store.proofs.Turns.{turns_as, turns_then, ends_as}
-use Rattle.store.proofs.Ending.{ends_exit, turns_three}
+use Rattle.block_store.proofs.Turns.{turns_as, turns_then, ends_as}
+use Rattle.block_store.proofs.Ending.{ends_exit, turns_three}
 use Rattle.file.specs.Changing.{MayWriteAt, WritesAt}
 use Rattle.file.proofs.Becoming.{may_change_after}
 use Rattle.directory.proofs.Becoming.{may_change}

@@ -2,7 +2,7 @@ use Rattle.std.proofs.Common.{◌≡◌, ◌<◌, ◌^◌, ◌∙◌, ℕ, List,
 use Rattle.std.specs.Prelude.{slice_index}
 use Rattle.volume.specs.Reading.{u32_in}
 use Rattle.volume.specs.Pieces.{pieces}
-use Rattle.store.proofs.Turns.{turns_as, ends_as}
+use Rattle.block_store.proofs.Turns.{turns_as, ends_as}
 use Rattle.directory.proofs.Becoming.{parent_set, may_set_parent}
 use Rattle.directory.proofs.EntryBytes.{number_in_bytes}
 use Rattle.directory.proofs.changes.set_parent.Goals as goal

@@ -1,7 +1,7 @@
 use Rattle.std.proofs.Common.{◌≡◌, rules, false, length}
 use Rattle.std.specs.Prelude.{IsTrue}
 use Rattle.volume.specs.Reading.{is_data_zone}
-use Rattle.store.proofs.Turns.{reads_then, turns_as, if_cut}
+use Rattle.block_store.proofs.Turns.{reads_then, turns_as, if_cut}
 use Rattle.directory.proofs.Pages.{entry_there, entry_missing}
 use Rattle.directory.proofs.look_up.entry.Goals as goal
 

@@ -1,5 +1,5 @@
 use Rattle.std.proofs.Common.{◌/◌, refl, arith}
-use Rattle.store.proofs.Turns.{reads_as, reads_none, reads_then, if_cut}
+use Rattle.block_store.proofs.Turns.{reads_as, reads_none, reads_then, if_cut}
 use Rattle.directory.proofs.Pages.{entries_there}
 use Rattle.directory.proofs.Turning.{from_low, ends_here, goes_back, none_left}
 use Rattle.directory.proofs.look_up.find.Goals as goal

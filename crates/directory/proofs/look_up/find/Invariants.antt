@@ -1,5 +1,5 @@
 use Rattle.std.proofs.Common.{◌≤◌, ◌*◌}
-use Rattle.store.specs.World.{Reads}
+use Rattle.block_store.specs.World.{Reads}
 use Rattle.directory.proofs.Turning.{IsLeft}
 use Rattle.directory.proofs.look_up.find.Given as goal
 

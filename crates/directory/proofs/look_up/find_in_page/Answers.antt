@@ -1,7 +1,7 @@
 use Rattle.std.proofs.Common.{◌≡◌, ◌∙◌, rules, false}
 use Rattle.std.specs.Prelude.{IsTrue}
 use Rattle.volume.specs.Reading.{is_data_zone}
-use Rattle.store.proofs.Turns.{reads_then, turns_as, turns_seen, turns_then, if_cut}
+use Rattle.block_store.proofs.Turns.{reads_then, turns_as, turns_seen, turns_then, if_cut}
 use Rattle.directory.proofs.Pages.{page_missing}
 use Rattle.directory.proofs.Turning.{stands_in_page, none_in_page}
 use Rattle.directory.proofs.look_up.find_in_page.Goals as goal

@@ -1,6 +1,6 @@
 use Rattle.std.proofs.Common.{◌≡◌, ◌∙◌, length, rules}
 use Rattle.volume.specs.Pieces.{pieces}
-use Rattle.store.proofs.Turns.{reads_as, reads_none}
+use Rattle.block_store.proofs.Turns.{reads_as, reads_none}
 use Rattle.directory.proofs.Known.{stands_before, stands_behind, stands_between}
 use Rattle.directory.proofs.look_up.stands_at.Goals as goal
 use Rattle.directory.proofs.look_up.stands_at.Goals.{then-known-lt2-via-then-known-lt2, then-known-lt2-via-else-known-lt2+then-known-inode}

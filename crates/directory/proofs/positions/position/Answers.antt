@@ -2,7 +2,7 @@ use Rattle.std.proofs.Common.{◌≤◌, ◌/◌, subst, arith}
 use Rattle.volume.specs.Nodes.{file_byte}
 use Rattle.volume.specs.Pieces.{pieces}
 use Rattle.directory.specs.Standing.{StandsAt}
-use Rattle.store.proofs.Turns.{reads_none, reads_then, reads_as, if_cut}
+use Rattle.block_store.proofs.Turns.{reads_none, reads_then, reads_as, if_cut}
 use Rattle.directory.proofs.Pages.{entries_there, entries_few}
 use Rattle.directory.proofs.Standing.{none_at_first, none_on, none_up_to, named_behind}
 use Rattle.directory.proofs.positions.position.Goals as goal

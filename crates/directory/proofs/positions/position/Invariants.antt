@@ -1,7 +1,7 @@
 use Rattle.std.proofs.Common.{◌≤◌, ◌-◌, ◌/◌}
 use Rattle.volume.specs.Nodes.{file_byte}
 use Rattle.volume.specs.Pieces.{pieces}
-use Rattle.store.specs.World.{Reads}
+use Rattle.block_store.specs.World.{Reads}
 use Rattle.directory.specs.Standing.{NoneNamed}
 use Rattle.directory.proofs.positions.position.Given as goal
 

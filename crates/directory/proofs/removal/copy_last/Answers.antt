@@ -1,9 +1,9 @@
 use Rattle.std.proofs.Common.{◌≡◌, ◌*◌, ◌-◌, ◌/◌, ◌∙◌, length, rules, sym, subst}
 use Rattle.volume.specs.Pieces.{pieces}
 use Rattle.volume.specs.Nodes.{file_byte}
-use Rattle.store.specs.Rows.{HasBytes}
-use Rattle.store.proofs.Turns.{turns_then}
-use Rattle.store.proofs.Ending.{ends_exit, ends_cut_exit, turns_three}
+use Rattle.block_store.specs.Rows.{HasBytes}
+use Rattle.block_store.proofs.Turns.{turns_then}
+use Rattle.block_store.proofs.Ending.{ends_exit, ends_cut_exit, turns_three}
 use Rattle.file.specs.Changing.{MayWriteAt, WritesAt}
 use Rattle.directory.proofs.Removing.{copied, may_copy}
 use Rattle.directory.proofs.removal.copy_last.Goals as goal

@@ -1,4 +1,4 @@
-use Rattle.store.proofs.Turns.{turns_then, ends_as}
+use Rattle.block_store.proofs.Turns.{turns_then, ends_as}
 use Rattle.directory.proofs.Removing.{dropped, may_cut}
 use Rattle.directory.proofs.removal.drop_entry.Goals as goal
 

@@ -1,7 +1,7 @@
 use Rattle.std.proofs.Common.{sym, subst}
 use Rattle.volume.specs.Pieces.{pieces}
-use Rattle.store.proofs.Turns.{turns_as, turns_then, ends_as}
-use Rattle.store.proofs.Ending.{ends_exit, turns_three}
+use Rattle.block_store.proofs.Turns.{turns_as, turns_then, ends_as}
+use Rattle.block_store.proofs.Ending.{ends_exit, turns_three}
 use Rattle.directory.specs.Removal.{Drops, MayDrop}
 use Rattle.directory.proofs.Removing.{may_drop, may_stamp, removed}
 use Rattle.directory.proofs.removal.remove.Goals as goal

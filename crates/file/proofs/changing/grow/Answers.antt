@@ -1,5 +1,5 @@
 use Rattle.std.proofs.Common.{rules, ◌<◌, ◌≤◌}
-use Rattle.store.proofs.Turns.{turns_as, turns_then, ends_as}
+use Rattle.block_store.proofs.Turns.{turns_as, turns_then, ends_as}
 use Rattle.file.proofs.SoFar.{grows, may_grow, long_enough}
 use Rattle.file.proofs.changing.grow.Goals as goal
 

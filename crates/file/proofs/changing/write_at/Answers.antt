@@ -1,4 +1,4 @@
-use Rattle.store.proofs.Turns.{turns_then, ends_as}
+use Rattle.block_store.proofs.Turns.{turns_then, ends_as}
 use Rattle.file.proofs.SoFar.{writes_at, may_write_inside}
 use Rattle.file.proofs.changing.write_at.Goals as goal
 

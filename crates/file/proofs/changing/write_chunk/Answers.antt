@@ -1,6 +1,6 @@
 use Rattle.std.proofs.Common.{◌/◌}
-use Rattle.store.proofs.Turns.{turns_as, turns_then, ends_as}
-use Rattle.store.proofs.Ending.{ends_exit}
+use Rattle.block_store.proofs.Turns.{turns_as, turns_then, ends_as}
+use Rattle.block_store.proofs.Ending.{ends_exit}
 use Rattle.file.proofs.Chunk.{may_hold, writes_chunk, chunk_zone}
 use Rattle.file.proofs.changing.write_chunk.Goals as goal
 

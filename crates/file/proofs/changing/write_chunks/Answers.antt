@@ -1,6 +1,6 @@
 use Rattle.std.proofs.Common.{rules, ◌<◌, ◌≤◌, length, arith}
-use Rattle.store.proofs.Turns.{turns_as, turns_then, turns_none}
-use Rattle.store.proofs.Ending.{ends_exit}
+use Rattle.block_store.proofs.Turns.{turns_as, turns_then, turns_none}
+use Rattle.block_store.proofs.Ending.{ends_exit}
 use Rattle.file.proofs.SoFar.{so_far_none, may_go_on, goes_on, all_written}
 use Rattle.file.proofs.changing.write_chunks.Goals as goal
 

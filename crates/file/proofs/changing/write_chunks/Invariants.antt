@@ -1,5 +1,5 @@
 use Rattle.std.proofs.Common.{◌≤◌, ◌-◌, length}
-use Rattle.store.specs.World.{Turns}
+use Rattle.block_store.specs.World.{Turns}
 use Rattle.file.proofs.SoFar.{SoFar}
 use Rattle.file.proofs.changing.write_chunks.Given as goal
 

@@ -1,7 +1,7 @@
 use Rattle.std.proofs.Common.{rules, ◌≡◌, ◌<◌, ◌≤◌, ◌+◌, ◌-◌, ◌/◌, ◌%◌, length, ap, arith}
 use Rattle.std.proofs.lemmas.Nat.{mod_below}
-use Rattle.store.proofs.Turns.{turns_as, turns_then, turns_none}
-use Rattle.store.proofs.Ending.{ends_exit}
+use Rattle.block_store.proofs.Turns.{turns_as, turns_then, turns_none}
+use Rattle.block_store.proofs.Ending.{ends_exit}
 use Rattle.file.proofs.Rest.{wide}
 use Rattle.file.proofs.Sizes.{some_pages, index_in_row, next_starts, next_index}
 use Rattle.file.proofs.HeldRow.{row_none, row_zone, row_goes_on, row_written}

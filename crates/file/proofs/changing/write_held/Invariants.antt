@@ -1,6 +1,6 @@
 use Rattle.std.proofs.Common.{◌≡◌, ◌<◌, ◌≤◌, ◌+◌, ◌-◌, ◌/◌, ◌%◌, ℕ, length}
 use Rattle.volume.specs.Pieces.{pieces}
-use Rattle.store.specs.World.{Turns}
+use Rattle.block_store.specs.World.{Turns}
 use Rattle.file.specs.Changing.{IsHeldRow}
 use Rattle.file.proofs.HeldRow.{RowSoFar}
 use Rattle.file.proofs.changing.write_held.Given as goal

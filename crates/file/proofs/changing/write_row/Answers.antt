@@ -1,6 +1,6 @@
 use Rattle.std.proofs.Common.{rules, ◌≡◌, ◌≢◌, ◌<◌, ◌≤◌, ◌*◌, ◌/◌, ℕ, length, take, length-take, ap, arith}
 use Rattle.std.specs.Prelude.{slice_index}
-use Rattle.store.proofs.Ending.{ends_exit, turns_three}
+use Rattle.block_store.proofs.Ending.{ends_exit, turns_three}
 use Rattle.file.proofs.Rest.{wide}
 use Rattle.file.proofs.Sizes.{row_reaches, row_room}
 use Rattle.file.proofs.HeldRow.{row_held, first_written, may_write_first}

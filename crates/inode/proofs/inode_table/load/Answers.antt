@@ -1,7 +1,7 @@
 use Rattle.std.proofs.Common.{sym}
 use Rattle.std.specs.Prelude.{IsTrue}
 use Rattle.volume.specs.Reading.{is_inode}
-use Rattle.store.proofs.Turns.{turns_as, turns_seen}
+use Rattle.block_store.proofs.Turns.{turns_as, turns_seen}
 use Rattle.inode.proofs.Saved.{loaded}
 use Rattle.inode.proofs.inode_table.load.Goals as goal
 

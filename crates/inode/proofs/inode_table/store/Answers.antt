@@ -1,7 +1,7 @@
 use Rattle.std.proofs.Common.{◌≡◌, sym, length, rules}
 use Rattle.std.specs.Prelude.{IsTrue}
 use Rattle.volume.specs.Reading.{is_inode}
-use Rattle.store.proofs.Turns.{turns_as}
+use Rattle.block_store.proofs.Turns.{turns_as}
 use Rattle.inode.proofs.Saved.{saved}
 use Rattle.inode.proofs.inode_table.store.Goals as goal
 

@@ -1,5 +1,5 @@
-use Rattle.store.proofs.Turns.{reads_as, reads_then}
-use Rattle.store.proofs.Ending.{reads_three}
+use Rattle.block_store.proofs.Turns.{reads_as, reads_then}
+use Rattle.block_store.proofs.Ending.{reads_three}
 use Rattle.path.proofs.Ending.{answers_cut, answers_exit}
 use Rattle.path.proofs.Finding.{is_placed, not_entered, not_walked, walks_of}
 use Rattle.path.proofs.Going.{directory_at}

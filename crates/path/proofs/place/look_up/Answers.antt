@@ -1,5 +1,5 @@
 use Rattle.std.proofs.Common.{sym, ◌∙◌}
-use Rattle.store.proofs.Turns.{reads_as}
+use Rattle.block_store.proofs.Turns.{reads_as}
 use Rattle.path.proofs.Ending.{answers_exit}
 use Rattle.path.proofs.Finding.{found_walked, found_placed, found_there, found_missing, walks_of}
 use Rattle.path.proofs.place.look_up.Goals as goal

@@ -4,7 +4,7 @@ use Rattle.tree.specs.Names.{inode_of}
 use Rattle.tree.specs.Walk.{has_last_name, last_part}
 use Rattle.volume.specs.Nodes.{directory_of}
 use Rattle.volume.specs.Pieces.{pieces}
-use Rattle.store.proofs.Turns.{reads_as, if_ok}
+use Rattle.block_store.proofs.Turns.{reads_as, if_ok}
 use Rattle.path.proofs.place.there.Goals as goal
 
 pub returns-clause-reads : goal.returns-clause-reads

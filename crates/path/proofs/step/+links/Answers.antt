@@ -1,11 +1,11 @@
 use Rattle.std.proofs.Common.{◌≡◌, ◌-◌, ℕ, suc, sym, subst, arith, take, inl, inr, List}
 use Rattle.std.specs.Prelude.{Ok, Option, IsTrue, is_some}
 use Rattle.std.proofs.lemmas.Bool.{cases_eq, cond_both}
-use Rattle.store.proofs.Turns.{reads_as, reads_none, reads_then}
+use Rattle.block_store.proofs.Turns.{reads_as, reads_none, reads_then}
 use Rattle.tree.specs.Tree.{Tree}
 use Rattle.tree.specs.Names.{Name}
 use Rattle.tree.specs.Walk.{start_of, begins_with_slash, parts_of}
-use Rattle.store.proofs.Ending.{reads_three}
+use Rattle.block_store.proofs.Ending.{reads_three}
 use Rattle.path.proofs.Going.{dir_is_there}
 use Rattle.path.specs.Walking.{TellsTarget, Arrives}
 use Rattle.path.proofs.Ending.{answers_as, answers_exit}

@@ -2,7 +2,7 @@ use Rattle.std.proofs.Common.{◌≤◌, ◌+◌, ◌*◌, length}
 use Rattle.std.specs.Prelude.{IsTrue, is_some}
 use Rattle.tree.specs.Tree.{Tree}
 use Rattle.volume.specs.Holds.{Holds}
-use Rattle.store.specs.World.{Reads}
+use Rattle.block_store.specs.World.{Reads}
 use Rattle.path.proofs.Arriving.{IsOnWay}
 use Rattle.path.proofs.step.+links.Given as goal
 

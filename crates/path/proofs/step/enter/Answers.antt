@@ -1,7 +1,7 @@
 use Rattle.std.proofs.Common.{◌∙◌, sym, refl}
 use Rattle.volume.specs.Nodes.{node_of}
 use Rattle.volume.specs.Pieces.{pieces}
-use Rattle.store.proofs.Turns.{reads_as}
+use Rattle.block_store.proofs.Turns.{reads_as}
 use Rattle.path.proofs.Entering.{is_held, of_a_file, of_a_closed, of_an_open}
 use Rattle.path.proofs.step.enter.Goals as goal
 

@@ -1,5 +1,5 @@
 use Rattle.std.proofs.Common.{◌≡◌, ◌∙◌, sym}
-use Rattle.store.proofs.Turns.{reads_as, reads_none}
+use Rattle.block_store.proofs.Turns.{reads_as, reads_none}
 use Rattle.directory.proofs.Known.{known_leads}
 use Rattle.volume.specs.Pieces.{pieces}
 use Rattle.path.proofs.step.known.Goals as goal

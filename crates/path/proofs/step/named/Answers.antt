@@ -1,6 +1,6 @@
 use Rattle.std.proofs.Common.{◌≡◌, ◌∙◌, sym, ap}
 use Rattle.std.specs.Prelude.{option_map}
-use Rattle.store.proofs.Turns.{reads_then, if_cut}
+use Rattle.block_store.proofs.Turns.{reads_then, if_cut}
 use Rattle.path.proofs.step.named.Goals as goal
 
 pub returns-in_err-found-clause-reads : goal.returns-in_err-found-clause-reads

@@ -4,7 +4,7 @@ use Rattle.errno.specs.declared.Errno.TheVariants.{ENOENT}
 use Rattle.tree.specs.Refusals.{or_refuse}
 use Rattle.volume.specs.Nodes.{directory_of}
 use Rattle.volume.specs.Pieces.{pieces}
-use Rattle.store.proofs.Turns.{reads_as}
+use Rattle.block_store.proofs.Turns.{reads_as}
 use Rattle.path.proofs.Ending.{answers_halted}
 use Rattle.path.proofs.Going.{has_parent, to_name, to_parent}
 use Rattle.path.proofs.step.next.Goals as goal

@@ -1,7 +1,7 @@
 use Rattle.std.proofs.Common.{ap, sym}
 use Rattle.tree.specs.Refusals.{◌>>=◌}
 use Rattle.tree.specs.Walk.{next}
-use Rattle.store.proofs.Turns.{reads_as, reads_then}
+use Rattle.block_store.proofs.Turns.{reads_as, reads_then}
 use Rattle.path.proofs.Ending.{answers_as, answers_exit}
 use Rattle.path.proofs.Going.{directory_at, stepped}
 use Rattle.path.proofs.step.step.Goals as goal

@@ -1,5 +1,5 @@
 use Rattle.std.specs.Prelude.{Ok, Err}
-use Rattle.store.proofs.Turns.{reads_as}
+use Rattle.block_store.proofs.Turns.{reads_as}
 use Rattle.path.proofs.Ending.{answers_exit}
 use Rattle.path.proofs.Going.{dir_is_there}
 use Rattle.path.proofs.Arriving.{is_walk}

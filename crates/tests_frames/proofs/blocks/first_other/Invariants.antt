@@ -1,6 +1,6 @@
 use Rattle.std.proofs.Common.{◌≡◌}
 use Rattle.cache.specs.Calls.{IsReady}
-use Rattle.stored.specs.World.{stored_caching}
+use Rattle.cached_blocks.specs.World.{stored_caching}
 use Rattle.tests_frames.proofs.blocks.first_other.Given as goal
 
 abbrev pub invariant-loop-step : goal.invariant-loop-step

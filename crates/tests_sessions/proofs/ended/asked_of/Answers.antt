@@ -4,7 +4,7 @@ use Rattle.layout.specs.declared.Geometry.{Geometry}
 use Rattle.fsck.specs.Shown.{HasItsGeometry, TellsWhetherTree}
 use Rattle.layout.proofs.Parsed.{geometry_fits}
 use Rattle.media.specs.Contents.{sectors_of}
-use Rattle.mounting.specs.Starting.{opening_of, place_in}
+use Rattle.volume_mount.specs.Starting.{opening_of, place_in}
 use Rattle.true_replies.specs.Events.{IsOnMedia}
 use Rattle.tests_sessions.proofs.Whole.{at_first}
 use Rattle.tests_sessions.proofs.ended.asked_of.Goals as goal

@@ -1,5 +1,5 @@
 use Rattle.std.specs.Prelude.{[]}
-use Rattle.mounting.specs.Starting.{opening_of}
+use Rattle.volume_mount.specs.Starting.{opening_of}
 use Rattle.reincarnate.specs.Policy.{default_policy}
 use Rattle.tests_sessions.proofs.ended.asked_of.Given as goal
 

@@ -2,7 +2,7 @@ use Rattle.message.specs.declared.BlockRequest.{BlockRequest}
 use Rattle.std.proofs.Common.{◌∷◌, subst}
 use Rattle.records.specs.Marks.{Issued}
 use Rattle.schedule.specs.Noted.{marks_in}
-use Rattle.heard.specs.Heard.{IsHeard}
+use Rattle.trace_digest.specs.Heard.{IsHeard}
 use Rattle.transcript.proofs.Notes.{leaves_one, leaves_message}
 use Rattle.transcript.proofs.marks.mark_of_note.Goals as goal
 

@@ -1,7 +1,7 @@
 use Rattle.std.proofs.Common.{sym, subst}
 use Rattle.volume.specs.Reading.{Disk}
 use Rattle.tree.specs.Answers.{answer_of}
-use Rattle.store.proofs.Turns.{turns_then}
+use Rattle.block_store.proofs.Turns.{turns_then}
 use Rattle.descriptors.specs.Table.{files_of}
 use Rattle.client_calls.specs.Calls.{DoesCall}
 use Rattle.file_server.specs.Over.{outcome_in}

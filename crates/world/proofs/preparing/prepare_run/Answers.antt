@@ -4,8 +4,8 @@ use Rattle.std.proofs.lemmas.List.Folds.{list_all-map}
 use Rattle.layout.specs.Places.{geometry_of}
 use Rattle.layout.proofs.Parsed.{geometry_fits}
 use Rattle.media.specs.Places.{volume_place}
-use Rattle.mounting.specs.Starting.{is_ready_for, opening_of}
-use Rattle.mounting.proofs.Starts.{all_ready, err_is, many_sectors, same_bytes}
+use Rattle.volume_mount.specs.Starting.{is_ready_for, opening_of}
+use Rattle.volume_mount.proofs.Starts.{all_ready, err_is, many_sectors, same_bytes}
 use Rattle.records.specs.Opening.{volume_bytes}
 use Rattle.world.specs.Beginning.{IsNotBegun, range_of}
 use Rattle.world.proofs.Begun.{begun, lies_on, not_clean, not_good, well_set_up}

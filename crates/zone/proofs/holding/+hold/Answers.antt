@@ -1,6 +1,6 @@
 use Rattle.volume.specs.Pieces.{pieces}
-use Rattle.store.proofs.Turns.{turns_none, turns_as, turns_then, ends_as}
-use Rattle.store.proofs.Ending.{ends_exit}
+use Rattle.block_store.proofs.Turns.{turns_none, turns_as, turns_then, ends_as}
+use Rattle.block_store.proofs.Ending.{ends_exit}
 use Rattle.zone.proofs.Filling.{here_above}
 use Rattle.zone.proofs.Held.{slot_held, may_hold_slot, no_place, word_held, may_hold_number}
 use Rattle.zone.proofs.holding.+hold.Goals as goal

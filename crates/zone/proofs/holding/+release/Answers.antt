@@ -1,5 +1,5 @@
-use Rattle.store.proofs.Turns.{turns_as, turns_then, ends_as}
-use Rattle.store.proofs.Ending.{ends_exit, turns_three}
+use Rattle.block_store.proofs.Turns.{turns_as, turns_then, ends_as}
+use Rattle.block_store.proofs.Ending.{ends_exit, turns_three}
 use Rattle.zone.proofs.Held.{slot_released, may_drop_slot, may_drop_number, word_released, word_released_on, may_go_on}
 use Rattle.zone.proofs.holding.+release.Goals as goal
 

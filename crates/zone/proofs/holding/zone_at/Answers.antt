@@ -1,8 +1,8 @@
 use Rattle.std.proofs.Common.{◌∙◌, ap}
 use Rattle.volume.specs.Pieces.{pieces}
 use Rattle.volume.specs.Places.{zone_at}
-use Rattle.store.proofs.Turns.{reads_then}
-use Rattle.store.proofs.Ending.{ends_cut_exit}
+use Rattle.block_store.proofs.Turns.{reads_then}
+use Rattle.block_store.proofs.Ending.{ends_cut_exit}
 use Rattle.zone.proofs.holding.zone_at.Goals as goal
 
 pub returns-clause-reads : goal.returns-clause-reads

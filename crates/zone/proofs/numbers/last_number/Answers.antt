@@ -1,7 +1,7 @@
 use Rattle.std.proofs.Common.{rules}
 use Rattle.std.specs.Prelude.{IsTrue}
 use Rattle.volume.specs.Reading.{is_data_zone}
-use Rattle.store.proofs.Turns.{turns_as, turns_seen}
+use Rattle.block_store.proofs.Turns.{turns_as, turns_seen}
 use Rattle.zone.proofs.Frames.{last_number_is}
 use Rattle.zone.proofs.numbers.last_number.Goals as goal
 

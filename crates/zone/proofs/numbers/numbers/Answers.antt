@@ -1,7 +1,7 @@
 use Rattle.std.proofs.Common.{rules, ◌≡◌, ◌<◌, ℕ, length, false}
 use Rattle.std.specs.Prelude.{IsTrue, slice_index}
 use Rattle.volume.specs.Reading.{is_data_zone}
-use Rattle.store.proofs.Turns.{turns_as, turns_seen, reads_none}
+use Rattle.block_store.proofs.Turns.{turns_as, turns_seen, reads_none}
 use Rattle.zone.proofs.Rows.{numbers_inside, numbers_outside}
 use Rattle.zone.proofs.numbers.numbers.Goals as goal
 

@@ -1,7 +1,7 @@
 use Rattle.std.proofs.Common.{rules}
 use Rattle.std.specs.Prelude.{IsTrue}
 use Rattle.volume.specs.Reading.{is_data_zone}
-use Rattle.store.proofs.Turns.{turns_as}
+use Rattle.block_store.proofs.Turns.{turns_as}
 use Rattle.zone.proofs.Frames.{bytes_written}
 use Rattle.zone.proofs.numbers.write_zone.Goals as goal
 

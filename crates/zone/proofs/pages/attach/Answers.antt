@@ -1,4 +1,4 @@
-use Rattle.store.proofs.Turns.{turns_as, ends_as}
+use Rattle.block_store.proofs.Turns.{turns_as, ends_as}
 use Rattle.zone.proofs.Attaching.{page_attached}
 use Rattle.zone.proofs.pages.attach.Goals as goal
 

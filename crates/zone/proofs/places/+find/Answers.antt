@@ -1,6 +1,6 @@
 use Rattle.volume.specs.Pieces.{pieces}
 use Rattle.volume.proofs.Volumes.{numbers_sized}
-use Rattle.store.proofs.Turns.{reads_then, if_ok}
+use Rattle.block_store.proofs.Turns.{reads_then, if_ok}
 use Rattle.zone.proofs.Levels.{found_outer}
 use Rattle.zone.proofs.places.+find.Goals as goal
 

@@ -1,7 +1,7 @@
 use Rattle.std.proofs.Common.{rules, ◌≡◌, ◌≤◌, ◌+◌, ◌-◌, ◌%◌, length, drop, arith}
 use Rattle.volume.specs.Pieces.{pieces}
 use Rattle.volume.proofs.Volumes.{numbers_sized}
-use Rattle.store.proofs.Turns.{reads_none, reads_then, if_cut}
+use Rattle.block_store.proofs.Turns.{reads_none, reads_then, if_cut}
 use Rattle.zone.proofs.Rows.{direct_row, row_found}
 use Rattle.zone.proofs.places.lookup_row.Goals as goal
 

@@ -1,4 +1,4 @@
-use Rattle.store.proofs.Turns.{turns_then}
+use Rattle.block_store.proofs.Turns.{turns_then}
 use Rattle.zone.proofs.Taking.{dropped_and_last}
 use Rattle.zone.proofs.steps.drop_in_block.Goals as goal
 

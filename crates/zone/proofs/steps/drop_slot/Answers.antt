@@ -1,7 +1,7 @@
 use Rattle.std.proofs.Common.{sym, ap, subst}
 use Rattle.volume.specs.Nodes.{slot}
-use Rattle.store.proofs.Turns.{turns_then, ends_as}
-use Rattle.store.proofs.Ending.{ends_exit, turns_three}
+use Rattle.block_store.proofs.Turns.{turns_then, ends_as}
+use Rattle.block_store.proofs.Ending.{ends_exit, turns_three}
 use Rattle.zone.proofs.Taking.{slot_dropped}
 use Rattle.zone.proofs.steps.drop_slot.Goals as goal
 

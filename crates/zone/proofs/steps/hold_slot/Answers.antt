@@ -1,9 +1,9 @@
 use Rattle.std.proofs.Common.{◌∙◌, sym, ap, subst}
 use Rattle.volume.specs.Pieces.{pieces}
 use Rattle.volume.specs.Nodes.{slot}
-use Rattle.store.proofs.Turns.{turns_then}
+use Rattle.block_store.proofs.Turns.{turns_then}
 use Rattle.zone.specs.Steps.{HasRoom}
-use Rattle.store.proofs.Ending.{ends_exit, turns_three}
+use Rattle.block_store.proofs.Ending.{ends_exit, turns_three}
 use Rattle.zone.proofs.Taking.{slot_filled}
 use Rattle.zone.proofs.steps.hold_slot.Goals as goal
 

@@ -1,4 +1,4 @@
-use Rattle.store.proofs.Turns.{turns_as, turns_then}
+use Rattle.block_store.proofs.Turns.{turns_as, turns_then}
 use Rattle.zone.proofs.Taking.{not_full, zone_marked}
 use Rattle.zone.proofs.steps.mark_free.Goals as goal
 

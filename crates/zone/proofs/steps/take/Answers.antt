@@ -1,5 +1,5 @@
-use Rattle.store.proofs.Turns.{turns_then}
-use Rattle.store.proofs.Ending.{ends_exit}
+use Rattle.block_store.proofs.Turns.{turns_then}
+use Rattle.block_store.proofs.Ending.{ends_exit}
 use Rattle.zone.proofs.Taking.{zone_taken}
 use Rattle.zone.proofs.steps.take.Goals as goal
 

@@ -1,4 +1,4 @@
-use Rattle.store.specs.Volume.{IsOn}
+use Rattle.block_store.specs.Volume.{IsOn}
 use Rattle.bench_layers.proofs.bench_bytes.work.read_again.Given as goal
 
 abbrev pub invariant-loop : goal.invariant-loop

@@ -2,7 +2,7 @@ use Rattle.std.proofs.Common.{◌≡◌, refl, sym, subst, List}
 use Rattle.cache.specs.declared.slot.Slot.{Slot}
 use Rattle.cache.specs.Edits.{IsAt}
 use Rattle.cache.proofs.Held.{in_range, has_one, has_none}
-use Rattle.cache.specs.Calls.{Caching, caching, caching_of, Keeps}
+use Rattle.cache.specs.Calls.{AbstractCache, caching, caching_of, Keeps}
 use Rattle.cache.proofs.Placing.{keeps_none}
 use Rattle.cache.proofs.Flushes.{follows_none}
 use Rattle.cache.proofs.Fetching.{found_there}
@@ -16,7 +16,7 @@ returns-in-Some-clause-keeps g c =
     let s = c.args.self.now in
     let same : caching_of g.L.Link s.transfers s.shape c.touch.new.self.items.items s.ended ≡ caching g.L.Link s =
     λ i. caching_of g.L.Link s.transfers s.shape (c.touch.ensures.items i) s.ended in
-    subst (λ (n : Caching). Keeps (caching g.L.Link s) n) (sym same) (keeps_none _ c.requires.ready)
+    subst (λ (n : AbstractCache). Keeps (caching g.L.Link s) n) (sym same) (keeps_none _ c.requires.ready)
 
 pub returns-in-Some-clause-frame : goal.returns-in-Some-clause-frame
 returns-in-Some-clause-frame g c =

@@ -1,5 +1,5 @@
 use Rattle.std.proofs.Common.{◌≡◌, refl, sym, ap, subst, ◌∙◌, arith, Err}
-use Rattle.cache.specs.Calls.{Caching, caching, caching_of, Keeps}
+use Rattle.cache.specs.Calls.{AbstractCache, caching, caching_of, Keeps}
 use Rattle.cache.specs.declared.slot.Slot.{Slot}
 use Rattle.cache.proofs.Issuing.{issued_at, write_leaves, dirty_parts}
 use Rattle.cache.proofs.Beginning.{longer, refusing, write_one, busy_begun}
@@ -42,7 +42,7 @@ returns-in-Err-clause-keeps g c =
     let old = caching g.L.Link s in
     let same : caching_of g.L.Link c.begin.new.self s.shape s.slots.items.items s.ended ≡ old =
     λ i. caching_of g.L.Link (c.in-Err.ensures.refused i) s.shape s.slots.items.items s.ended in
-    subst (λ (n : Caching). Keeps old n) (sym same) (keeps_none old c.requires.ready)
+    subst (λ (n : AbstractCache). Keeps old n) (sym same) (keeps_none old c.requires.ready)
 
 pub returns-in-Ok-clause-issued : goal.returns-in-Ok-clause-issued
 returns-in-Ok-clause-issued g c =

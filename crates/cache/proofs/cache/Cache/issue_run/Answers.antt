@@ -1,7 +1,7 @@
 use Rattle.std.proofs.Common.{◌≡◌, ℕ, List, refl, sym, subst, arith, Err}
 use Rattle.cache.specs.Slots.{held}
 use Rattle.cache.specs.Runs.{AreGathered}
-use Rattle.cache.specs.Calls.{Caching, caching, caching_of, Keeps}
+use Rattle.cache.specs.Calls.{AbstractCache, caching, caching_of, Keeps}
 use Rattle.cache.proofs.Edits.{leaves_none}
 use Rattle.cache.proofs.Beginning.{refusing, write_many, busy_begun}
 use Rattle.cache.proofs.Placing.{keeps_none}
@@ -39,7 +39,7 @@ returns-in-Err-clause-keeps g c =
     let old = caching g.L.Link s in
     let same : caching_of g.L.Link c.begin_run.new.self s.shape s.slots.items.items s.ended ≡ old =
     λ i. caching_of g.L.Link (c.in-Err.ensures.refused i) s.shape s.slots.items.items s.ended in
-    subst (λ (n : Caching). Keeps old n) (sym same) (keeps_none old c.requires.ready)
+    subst (λ (n : AbstractCache). Keeps old n) (sym same) (keeps_none old c.requires.ready)
 
 pub returns-in-Ok-clause-posts : goal.returns-in-Ok-clause-posts
 returns-in-Ok-clause-posts g c =

@@ -1,5 +1,5 @@
 use Rattle.std.proofs.Common.{◌≡◌, refl, sym, ap, subst, ◌∙◌, None, Ok}
-use Rattle.cache.specs.Calls.{Caching, caching, caching_of, Runs}
+use Rattle.cache.specs.Calls.{AbstractCache, caching, caching_of, Runs}
 use Rattle.cache.specs.Takes.{Takes, ReadsStay}
 use Rattle.reissue.specs.Settlements.{settlement}
 use Rattle.reissue.specs.Transfers.{begun_in}
@@ -30,7 +30,7 @@ returns-clause-runs g c =
     (c.requires.busy l) l.not_ended l.not_given_up refl refl refl s.falls s.room s.closed in
     let new = as_it_ends c.is_end-self.result in
     let both : Runs None old new (λ w v. Takes (Ok (took_of came)) old new w v) =
-    subst (λ (n : Caching). Runs None old n (λ w v. Takes (Ok (took_of came)) old n w v)) (sym same) one in
+    subst (λ (n : AbstractCache). Runs None old n (λ w v. Takes (Ok (took_of came)) old n w v)) (sym same) one in
     let taken : taking c.settle.result c.settle.new.slots.spare.value ≡ took_of came = ap (λ b. taking c.settle.result b.value) e.spare ∙ e.took bytes in
     subst (λ (t : Taking). Runs None old new (λ w v. Takes (Ok t) old new w v)) (sym taken) both
 

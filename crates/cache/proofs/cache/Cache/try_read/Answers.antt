@@ -1,5 +1,5 @@
 use Rattle.std.proofs.Common.{◌≡◌, refl, sym, subst}
-use Rattle.cache.specs.Calls.{Caching, caching, caching_of, Keeps}
+use Rattle.cache.specs.Calls.{AbstractCache, caching, caching_of, Keeps}
 use Rattle.cache.proofs.Beginning.{read_one, read_is_at, busy_begun}
 use Rattle.cache.proofs.Placing.{keeps_none}
 use Rattle.cache.proofs.Flushes.{follows_posts}
@@ -27,7 +27,7 @@ returns-in-Err-clause-keeps g c =
     let old = caching g.L.Link s in
     let same : caching_of g.L.Link c.begin.new.self s.shape s.slots.items.items s.ended ≡ old =
     λ i. caching_of g.L.Link (c.in-Err.ensures.refused i) s.shape s.slots.items.items s.ended in
-    subst (λ (n : Caching). Keeps old n) (sym same) (keeps_none old c.requires.ready)
+    subst (λ (n : AbstractCache). Keeps old n) (sym same) (keeps_none old c.requires.ready)
 
 pub returns-in-Ok-clause-flush : goal.returns-in-Ok-clause-flush
 returns-in-Ok-clause-flush g c =

@@ -2,7 +2,7 @@ use Rattle.std.proofs.Common.{sym, ap, ◌∙◌, Ok, Result}
 use Rattle.std.proofs.lemmas.Bool.{eqb-true}
 use Rattle.cache.specs.declared.settling.Took.{Took}
 use Rattle.cache.specs.Settling.{taking_in}
-use Rattle.store.specs.declared.Cut.{Cut}
+use Rattle.block_store.specs.declared.Cut.{Cut}
 use Rattle.cache.specs.Takes.{is_read_of}
 use Rattle.cache.proofs.Edits.{leaves_none, leaves_then}
 use Rattle.cache.proofs.Placing.{keeps_none, keeps_took, reads_cut, still_reading, reads_done}

@@ -25,7 +25,7 @@ invariant_of-self c =
       room = s.room ∙ sym (length-set items c.args.at _);
       paired = s.paired ∙ sym (length-set items c.args.at _);
       ranked = rank_changed items s.uses.numbers.items s.winners.keys.items _ c.args.at _ c.number.result c.index_mut-slot.result.now _ s.ranked at
-          c.number.ensures.number c.turn-key.ensures c.set.ensures;
+          c.number.ensures.number c.eviction_rank-key.ensures c.set.ensures;
       skipped = none_below_lowered items c.args.at s.search_from _ c.index_mut-slot.result.now _ at
           (c.lowered-self.ensures ∙ ap (lower_of s.search_from) c.dirty_block.ensures) s.skipped;
       opened = open_widened items c.args.at _ _ _ _ c.index_mut-slot.result.now _ at c.widen.ensures.from c.widen.ensures.to s.opened;

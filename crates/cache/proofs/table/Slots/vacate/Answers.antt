@@ -33,7 +33,7 @@ invariant_of-self-2 c =
       room = e.room ∙ s.room ∙ sym (length-set s.items.items c.args.at _);
       paired = s.paired ∙ sym (length-set s.items.items c.args.at _);
       ranked = rank_changed s.items.items s.uses.numbers.items s.winners.keys.items _ c.args.at _ c.number.result c.index_mut-slot.result.now _ s.ranked at
-          c.number.ensures.number c.turn-key.ensures c.set.ensures;
+          c.number.ensures.number c.eviction_rank-key.ensures c.set.ensures;
       skipped = none_below_vacated s.items.items c.args.at s.search_from c.index_mut-slot.result.now _ at refl s.skipped;
       opened = open_kept s.items.items c.args.at _ _ c.index_mut-slot.result.now _ at refl s.opened;
     }

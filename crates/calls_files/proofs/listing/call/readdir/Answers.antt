@@ -4,8 +4,8 @@ use Rattle.volume.specs.Pieces.{pieces}
 use Rattle.volume.specs.Nodes.{directory_of, entry_count_of, file_byte}
 use Rattle.tree.specs.Answers.{answer_of}
 use Rattle.descriptors.specs.Table.{files_of}
-use Rattle.store.proofs.Turns.{turns_as, turns_then}
-use Rattle.store.proofs.Ending.{ends_exit}
+use Rattle.block_store.proofs.Turns.{turns_as, turns_then}
+use Rattle.block_store.proofs.Ending.{ends_exit}
 use Rattle.calls_attributes.proofs.Looks.{found_some, found_none, said_of, none_left, given_ok}
 use Rattle.calls_files.specs.Numbers.{HasInodes}
 use Rattle.calls_files.proofs.Gathering.{numbers_small}

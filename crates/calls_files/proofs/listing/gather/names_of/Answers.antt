@@ -1,8 +1,8 @@
 use Rattle.std.proofs.Common.{◌≡◌, ◌<◌, ◌≤◌, ◌/◌, arith, rules}
 use Rattle.volume.specs.Pieces.{pieces}
 use Rattle.volume.specs.Nodes.{file_byte, entry_count_of}
-use Rattle.store.proofs.Turns.{reads_none, reads_then}
-use Rattle.store.proofs.Ending.{ends_exit}
+use Rattle.block_store.proofs.Turns.{reads_none, reads_then}
+use Rattle.block_store.proofs.Ending.{ends_exit}
 use Rattle.calls_files.proofs.Gathering.{none_yet, one_more, said_ok}
 use Rattle.calls_files.proofs.listing.gather.names_of.Goals as goal
 

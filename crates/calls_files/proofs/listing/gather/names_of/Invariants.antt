@@ -1,7 +1,7 @@
 use Rattle.std.proofs.Common.{◌≡◌, ◌≤◌, ◌-◌, ◌/◌}
 use Rattle.volume.specs.Nodes.{file_byte, names_in}
 use Rattle.volume.specs.Pieces.{pieces}
-use Rattle.store.specs.World.{Reads}
+use Rattle.block_store.specs.World.{Reads}
 use Rattle.calls_files.proofs.listing.gather.names_of.Given as goal
 
 -- the names of the entries so far

@@ -1,7 +1,7 @@
 use Rattle.std.proofs.Common.{◌≡◌, length, rules}
 use Rattle.volume.specs.Pieces.{pieces}
 use Rattle.volume.specs.Nodes.{file_byte}
-use Rattle.store.proofs.Turns.{turns_as, on_ok}
+use Rattle.block_store.proofs.Turns.{turns_as, on_ok}
 use Rattle.calls_files.proofs.Gathering.{entry_put}
 use Rattle.calls_files.proofs.listing.gather.put_entry.Goals as goal
 

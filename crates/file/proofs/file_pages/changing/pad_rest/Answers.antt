@@ -1,7 +1,7 @@
 use Rattle.std.proofs.Common.{rules, ◌≢◌, ◌-◌, ◌/◌, ◌%◌, ◌∙◌, refl, sym}
 use Rattle.volume.specs.Pieces.{pieces}
-use Rattle.store.proofs.Turns.{turns_as, reads_then, ends_as}
-use Rattle.store.proofs.Ending.{turns_three}
+use Rattle.block_store.proofs.Turns.{turns_as, reads_then, ends_as}
+use Rattle.block_store.proofs.Ending.{turns_three}
 use Rattle.file.proofs.Rest.{pads_none, padded_even, padded_hole, part_zero, rest_padded, rest_may}
 use Rattle.file.proofs.file_pages.changing.pad_rest.Goals as goal
 

@@ -1,5 +1,5 @@
-use Rattle.store.proofs.Turns.{ends_as}
-use Rattle.store.proofs.Ending.{turns_three}
+use Rattle.block_store.proofs.Turns.{ends_as}
+use Rattle.block_store.proofs.Ending.{turns_three}
 use Rattle.file.proofs.Resizing.{resizes, may_store}
 use Rattle.file.proofs.file_pages.changing.resize.Goals as goal
 

@@ -1,5 +1,5 @@
 use Rattle.std.proofs.Common.{refl}
-use Rattle.store.proofs.Turns.{turns_then, ends_as}
+use Rattle.block_store.proofs.Turns.{turns_then, ends_as}
 use Rattle.file.proofs.Resizing.{sets_size, fewer}
 use Rattle.file.proofs.file_pages.changing.set_size.Goals as goal
 

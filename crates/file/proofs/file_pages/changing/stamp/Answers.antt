@@ -1,5 +1,5 @@
 use Rattle.volume.specs.Pieces.{pieces}
-use Rattle.store.proofs.Turns.{turns_then, ends_as}
+use Rattle.block_store.proofs.Turns.{turns_then, ends_as}
 use Rattle.zone.proofs.ZoneInodes.{inode_is}
 use Rattle.file.proofs.Resizing.{stamps}
 use Rattle.file.proofs.file_pages.changing.stamp.Goals as goal

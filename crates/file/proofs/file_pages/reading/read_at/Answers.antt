@@ -1,7 +1,7 @@
 use Rattle.std.proofs.Common.{rules, ◌≡◌, ◌≤◌, ◌-◌, length, arith, ◌∙◌}
 use Rattle.volume.specs.Pieces.{pieces}
 use Rattle.volume.specs.Nodes.{file_of}
-use Rattle.store.proofs.Turns.{reads_then, if_cut}
+use Rattle.block_store.proofs.Turns.{reads_then, if_cut}
 use Rattle.file.specs.Reading.{read_count}
 use Rattle.file.proofs.Parts.{index_behind, length_kept}
 use Rattle.file.proofs.Joined.{next_part}

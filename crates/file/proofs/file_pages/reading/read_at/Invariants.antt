@@ -1,7 +1,7 @@
 use Rattle.std.proofs.Common.{◌-◌, ◌≡◌, ◌≤◌, ℕ, length, slice_index}
 use Rattle.volume.specs.Pieces.{pieces}
 use Rattle.volume.specs.Nodes.{file_of}
-use Rattle.store.specs.World.{Reads}
+use Rattle.block_store.specs.World.{Reads}
 use Rattle.file.specs.Reading.{HasFileBytes}
 use Rattle.file.proofs.file_pages.reading.read_at.Given as goal
 

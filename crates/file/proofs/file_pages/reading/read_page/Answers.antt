@@ -1,7 +1,7 @@
 use Rattle.std.proofs.Common.{rules, ◌≡◌, ◌<◌, ℕ, length, slice_index, false, refl}
 use Rattle.std.specs.Prelude.{IsTrue}
 use Rattle.volume.specs.Reading.{is_data_zone}
-use Rattle.store.proofs.Turns.{reads_none, reads_as, on_ok}
+use Rattle.block_store.proofs.Turns.{reads_none, reads_as, on_ok}
 use Rattle.file.proofs.Pages.{bytes_inside, bytes_outside}
 use Rattle.file.proofs.file_pages.reading.read_page.Goals as goal
 

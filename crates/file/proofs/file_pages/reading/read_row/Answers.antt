@@ -1,7 +1,7 @@
 use Rattle.std.proofs.Common.{rules, ◌≡◌, ◌<◌, ◌≤◌, ◌+◌, ◌-◌, ◌/◌, ◌%◌, length, arith, refl, ap, ◌∙◌}
 use Rattle.std.proofs.lemmas.Nat.{mod_below}
 use Rattle.volume.specs.Pieces.{pieces}
-use Rattle.store.proofs.Turns.{reads_as, reads_then, if_cut}
+use Rattle.block_store.proofs.Turns.{reads_as, reads_then, if_cut}
 use Rattle.file.proofs.Parts.{length_kept}
 use Rattle.file.proofs.Rest.{wide}
 use Rattle.file.proofs.Sizes.{row_reaches, row_room, in_row, next_starts, next_index}

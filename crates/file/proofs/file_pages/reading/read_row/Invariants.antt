@@ -1,7 +1,7 @@
 use Rattle.std.proofs.Common.{◌≡◌, ◌<◌, ◌≤◌, ◌+◌, ◌-◌, ◌/◌, ◌%◌, length}
 use Rattle.volume.specs.Pieces.{pieces}
 use Rattle.volume.specs.Nodes.{file_of}
-use Rattle.store.specs.World.{Reads}
+use Rattle.block_store.specs.World.{Reads}
 use Rattle.zone.specs.PlaceParts.{HasZones}
 use Rattle.file.specs.Reading.{HasFileBytes}
 use Rattle.file.proofs.file_pages.reading.read_row.Given as goal

@@ -1,6 +1,6 @@
 use Rattle.std.proofs.Common.{rules, ◌≡◌, ◌≤◌, length, take, drop, length-take, arith}
 use Rattle.volume.specs.Pieces.{pieces}
-use Rattle.store.proofs.Turns.{reads_as, if_ok}
+use Rattle.block_store.proofs.Turns.{reads_as, if_ok}
 use Rattle.file.proofs.Joined.{row_in_front}
 use Rattle.file.proofs.file_pages.rows.find_row.Goals as goal
 

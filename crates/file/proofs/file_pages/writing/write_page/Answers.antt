@@ -1,5 +1,5 @@
 use Rattle.volume.specs.Pieces.{pieces}
-use Rattle.store.proofs.Turns.{turns_as, ends_as}
+use Rattle.block_store.proofs.Turns.{turns_as, ends_as}
 use Rattle.file.proofs.Written.{page_in_zone, writes_page}
 use Rattle.file.proofs.file_pages.writing.write_page.Goals as goal
 

@@ -1,6 +1,6 @@
 use Rattle.volume.specs.Pieces.{pieces}
 use Rattle.volume.proofs.Volumes.{numbers_sized}
-use Rattle.store.proofs.Turns.{reads_as, reads_then, if_cut}
+use Rattle.block_store.proofs.Turns.{reads_as, reads_then, if_cut}
 use Rattle.file.proofs.Needed.{need_near, need_up}
 use Rattle.std.proofs.Common.{arith}
 use Rattle.file.proofs.file_room.pages.+need_at.Goals as goal

@@ -2,7 +2,7 @@ use Rattle.std.proofs.Common.{◌+◌, ◌∙◌, ap, sym, arith}
 use Rattle.std.specs.Prelude.{◌==◌}
 use Rattle.tree.specs.Sums.{one_if}
 use Rattle.volume.specs.Pieces.{pieces}
-use Rattle.store.proofs.Turns.{reads_none, reads_then, if_cut}
+use Rattle.block_store.proofs.Turns.{reads_none, reads_then, if_cut}
 use Rattle.file.proofs.Needed.{holes_none, holes_more}
 use Rattle.file.proofs.file_room.pages.holes.Goals as goal
 

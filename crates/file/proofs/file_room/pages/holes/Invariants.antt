@@ -1,6 +1,6 @@
 use Rattle.std.proofs.Common.{◌≡◌, ◌≤◌, ◌-◌}
 use Rattle.volume.specs.Pieces.{pieces}
-use Rattle.store.specs.World.{Reads}
+use Rattle.block_store.specs.World.{Reads}
 use Rattle.file.specs.Need.{holes}
 use Rattle.file.proofs.file_room.pages.holes.Given as goal
 

@@ -1,6 +1,6 @@
 use Rattle.std.proofs.Common.{arith}
 use Rattle.volume.specs.Pieces.{pieces}
-use Rattle.store.proofs.Turns.{reads_none, reads_as, if_ok}
+use Rattle.block_store.proofs.Turns.{reads_none, reads_as, if_ok}
 use Rattle.file.proofs.Needed.{need_none, need_whole}
 use Rattle.file.proofs.file_room.pages.need.Goals as goal
 

@@ -1,5 +1,5 @@
-use Rattle.store.proofs.Turns.{reads_then}
-use Rattle.store.proofs.Ending.{ends_cut_exit}
+use Rattle.block_store.proofs.Turns.{reads_then}
+use Rattle.block_store.proofs.Ending.{ends_cut_exit}
 use Rattle.file.proofs.Touched.{room_read}
 use Rattle.file.proofs.file_room.room.has_room_beside.Goals as goal
 

@@ -1,5 +1,5 @@
 use Rattle.std.proofs.Common.{[], refl}
-use Rattle.reissue.specs.declared.table.Answer.TheVariants as answer
+use Rattle.reissue.specs.declared.table.AnswerEffect.TheVariants as answer
 use Rattle.reissue.proofs.Messages.{takes_reply, takes_started, takes_flush, takes_gave_up, takes_end}
 use Rattle.reissue.proofs.transfers.Transfers.take_in.Goals as goal
 

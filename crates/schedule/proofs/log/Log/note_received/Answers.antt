@@ -1,6 +1,6 @@
 use Rattle.std.proofs.Common.{refl, arith, ap}
 use Rattle.message.specs.declared.Incoming.{Incoming}
-use Rattle.schedule.specs.declared.log.Entry.TheVariants as entry
+use Rattle.schedule.specs.declared.log.LogEntry.TheVariants as entry
 use Rattle.schedule.proofs.NotedLaws.{has_room}
 use Rattle.schedule.proofs.KeptLaws.{same_ones, said_more, within_more, accepted_same}
 use Rattle.schedule.proofs.log.Log.note_received.Goals as goal

@@ -7,7 +7,7 @@ use Rattle.serve.proofs.session.Session+N+Shared+N+R+L+S.end.Goals as goal
 pub returns-clause-closed : goal.returns-clause-closed
 returns-clause-closed g c = (
   c.close_all.new.self,
-  closed_all g.L.Link g.N.Room.opening _ _ c.close_all.result
+  closed_all g.L.Link g.N.ServiceParameters.opening _ _ c.close_all.result
       c.close_all.ensures.later c.close_all.ensures.bound c.close_all.ensures.closed c.close_all.ensures.cut,
 )
 

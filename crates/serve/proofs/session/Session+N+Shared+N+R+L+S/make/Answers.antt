@@ -23,7 +23,7 @@ pub returns-clause-cut : goal.returns-clause-cut
 returns-clause-cut g c = record {
   line = c.call-ending.new.self;
   kept = sym c.call-ending.ensures.seen;
-  guaranteed = subst (λ (ms : List Mark). g.L.Link.truth c.call-ending.new.self g.N.Room.opening ms) (sym c.call-ending.ensures.seen)
+  guaranteed = subst (λ (ms : List Mark). g.L.Link.truth c.call-ending.new.self g.N.ServiceParameters.opening ms) (sym c.call-ending.ensures.seen)
       c.call-ending.ensures.truth;
   exactly = c.call-ending.ensures.cut;
 }

@@ -10,15 +10,15 @@ pub returns-then-is_cut : goal.returns-then-is_cut
 returns-then-is_cut g c = (
   g.S.FileServer.line c.call-ending.new.self,
   last_line
-      g.N.Room g.L.Link g.S.Serve.serving g.S.FileServer.line g.S.FileServer.is_ready g.S.FileServer.knows
+      g.N.ServiceParameters g.L.Link g.S.Serve.serving g.S.FileServer.line g.S.FileServer.is_ready g.S.FileServer.knows
       g.L.Supplied.runs_on g.L.Recorder.marks
       c.self.inside.server c.call-ending.new.self c.args.self (outcome_of (outcome_in c.call-ending.result c.call-ending.new.reply)) WasCut
       c.self.view_is
       (record {
         tells = g.met.S.FileServer.tells;
-        is_record = λ l older truth. g.met.L.Recorder.is_record l g.N.Room.opening older truth;
-        end_last = λ l older truth. g.met.L.Recorder.end_last l g.N.Room.opening older truth;
-        keeps_on = λ l m goes runs. g.met.L.Supplied.keeps_on l m g.N.Room.policy g.N.Room.supply goes runs;
+        is_record = λ l older truth. g.met.L.Recorder.is_record l g.N.ServiceParameters.opening older truth;
+        end_last = λ l older truth. g.met.L.Recorder.end_last l g.N.ServiceParameters.opening older truth;
+        keeps_on = λ l m goes runs. g.met.L.Supplied.keeps_on l m g.N.ServiceParameters.policy g.N.ServiceParameters.supply goes runs;
       })
       c.self.invariant.0 c.call-ending.ensures.keeps
       (cut_end (outcome_of (outcome_in c.call-ending.result c.call-ending.new.reply)) c.is_cut.result (c.is_cut.ensures ∙ ap (λ (o : Outcome). was_cut (outcome_of o)) c.with-outcome.ensures) c.if-is_cut.true),
@@ -28,15 +28,15 @@ pub returns-then-not-was_done : goal.returns-then-not-was_done
 returns-then-not-was_done g c = (
   g.S.FileServer.line c.call-ending.new.self,
   last_line
-      g.N.Room g.L.Link g.S.Serve.serving g.S.FileServer.line g.S.FileServer.is_ready g.S.FileServer.knows
+      g.N.ServiceParameters g.L.Link g.S.Serve.serving g.S.FileServer.line g.S.FileServer.is_ready g.S.FileServer.knows
       g.L.Supplied.runs_on g.L.Recorder.marks
       c.self.inside.server c.call-ending.new.self c.args.self (outcome_of (outcome_in c.call-ending.result c.call-ending.new.reply)) WasGivenUp
       c.self.view_is
       (record {
         tells = g.met.S.FileServer.tells;
-        is_record = λ l older truth. g.met.L.Recorder.is_record l g.N.Room.opening older truth;
-        end_last = λ l older truth. g.met.L.Recorder.end_last l g.N.Room.opening older truth;
-        keeps_on = λ l m goes runs. g.met.L.Supplied.keeps_on l m g.N.Room.policy g.N.Room.supply goes runs;
+        is_record = λ l older truth. g.met.L.Recorder.is_record l g.N.ServiceParameters.opening older truth;
+        end_last = λ l older truth. g.met.L.Recorder.end_last l g.N.ServiceParameters.opening older truth;
+        keeps_on = λ l m goes runs. g.met.L.Supplied.keeps_on l m g.N.ServiceParameters.policy g.N.ServiceParameters.supply goes runs;
       })
       c.self.invariant.0 c.call-ending.ensures.keeps
       (given_up_end (outcome_of (outcome_in c.call-ending.result c.call-ending.new.reply)) c.is_cut.result c.was_done.result (c.is_cut.ensures ∙ ap (λ (o : Outcome). was_cut (outcome_of o)) c.with-outcome.ensures) c.if-is_cut.false (c.was_done.ensures ∙ ap (λ (o : Outcome). succeeded (outcome_of o)) c.with-outcome.ensures) c.if-not-was_done.true),
@@ -46,15 +46,15 @@ pub returns : goal.returns
 returns g c = (
   g.S.FileServer.line c.call-ending.new.self,
   last_line
-      g.N.Room g.L.Link g.S.Serve.serving g.S.FileServer.line g.S.FileServer.is_ready g.S.FileServer.knows
+      g.N.ServiceParameters g.L.Link g.S.Serve.serving g.S.FileServer.line g.S.FileServer.is_ready g.S.FileServer.knows
       g.L.Supplied.runs_on g.L.Recorder.marks
       c.self.inside.server c.call-ending.new.self c.args.self (outcome_of (outcome_in c.call-ending.result c.call-ending.new.reply)) Went
       c.self.view_is
       (record {
         tells = g.met.S.FileServer.tells;
-        is_record = λ l older truth. g.met.L.Recorder.is_record l g.N.Room.opening older truth;
-        end_last = λ l older truth. g.met.L.Recorder.end_last l g.N.Room.opening older truth;
-        keeps_on = λ l m goes runs. g.met.L.Supplied.keeps_on l m g.N.Room.policy g.N.Room.supply goes runs;
+        is_record = λ l older truth. g.met.L.Recorder.is_record l g.N.ServiceParameters.opening older truth;
+        end_last = λ l older truth. g.met.L.Recorder.end_last l g.N.ServiceParameters.opening older truth;
+        keeps_on = λ l m goes runs. g.met.L.Supplied.keeps_on l m g.N.ServiceParameters.policy g.N.ServiceParameters.supply goes runs;
       })
       c.self.invariant.0 c.call-ending.ensures.keeps
       (went_end (outcome_of (outcome_in c.call-ending.result c.call-ending.new.reply)) c.is_cut.result c.was_done.result (c.is_cut.ensures ∙ ap (λ (o : Outcome). was_cut (outcome_of o)) c.with-outcome.ensures) c.if-is_cut.false (c.was_done.ensures ∙ ap (λ (o : Outcome). succeeded (outcome_of o)) c.with-outcome.ensures) c.if-not-was_done.false),

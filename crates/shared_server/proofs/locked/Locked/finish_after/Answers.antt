@@ -10,7 +10,7 @@ release-requires g c = (c.show.ensures.seat.0, c.show.ensures.seat.1 ∙ c.requi
 pub returns : goal.returns
 returns g c = (
   c.finish.ensures.0,
-  line_from g.L.Link g.N.Room.geometry g.N.Room.opening _ _ (sync_of c.finish.result) c.finish.ensures.0
+  line_from g.L.Link g.N.ServiceParameters.geometry g.N.ServiceParameters.opening _ _ (sync_of c.finish.result) c.finish.ensures.0
       (subst (λ (ms : List Mark). IsBeginning c.args.seat.view.seen ms) (c.show.ensures.seen ∙ sym c.release.ensures.rest.0)
       (c.show.ensures.session c.args.number c.requires.1).beginning)
       c.finish.ensures.1,

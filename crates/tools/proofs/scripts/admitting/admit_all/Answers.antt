@@ -11,7 +11,7 @@ loop-script-preserved g c =
     let turn = c.in_ok-turn.turn in
     let items : new ≡ old ++ turn ∷ [] = search rules in
     record {
-      unplayed = each_more old new turn (λ t. IsUnplayed (Vouched g.L.Link.truth g.N.Room.geometry g.N.Room.opening) t.client.0) items
+      unplayed = each_more old new turn (λ t. IsUnplayed (Vouched g.L.Link.truth g.N.ServiceParameters.geometry g.N.ServiceParameters.opening) t.client.0) items
           c.loop-script.invariant.unplayed c.in_ok-turn.ensures.admitted.0;
       asked = asked_more old new turn (λ s. s.0) c.args.scripts.now c.loop-script.script-index c.script-item.result c.loop-script-test.true
           c.script-item.is items

@@ -1,15 +1,15 @@
 use Rattle.std.proofs.Common.{map}
 use Rattle.std.specs.Prelude.{IfOk}
 use Rattle.call_text.specs.Said.{said}
-use Rattle.launch.proofs.Frames.{frames_fit}
-use Rattle.launch.proofs.Runs.{has_run}
-use Rattle.launch.specs.Spent.{IsSpent}
+use Rattle.service_start.proofs.Frames.{frames_fit}
+use Rattle.service_start.proofs.Runs.{has_run}
+use Rattle.service_start.specs.Spent.{IsSpent}
 use Rattle.tools.proofs.Records.{came_as, unserved_as}
 use Rattle.tools.specs.Served.{AreServed}
 use Rattle.tools.proofs.scripts.starting.start_and_play.Goals as goal
 
 pub mount_and_play-requires-clause-truth : goal.mount_and_play-requires-clause-truth
-mount_and_play-requires-clause-truth g c κs lives = c.in_ok-board.ensures.truth g.N.Room.opening
+mount_and_play-requires-clause-truth g c κs lives = c.in_ok-board.ensures.truth g.N.ServiceParameters.opening
 
 pub mount_and_play-requires-clause-frames : goal.mount_and_play-requires-clause-frames
 mount_and_play-requires-clause-frames g c κs lives =
@@ -17,15 +17,15 @@ mount_and_play-requires-clause-frames g c κs lives =
 
 pub returns-clause-played : goal.returns-clause-played
 returns-clause-played g c =
-    has_run g.N.Room.opening.media c.args.setup.now (map g.D.BlockDriver.state c.args.supply.items) c.args.prepared.range g.N.Room.opening
-    g.N.Room.geometry
+    has_run g.N.ServiceParameters.opening.media c.args.setup.now (map g.D.BlockDriver.state c.args.supply.items) c.args.prepared.range g.N.ServiceParameters.opening
+    g.N.ServiceParameters.geometry
     (λ h v o. IfOk o (λ came. AreServed IsSpent h v (map said c.args.scripts.now) came.sessions.items came.last_sync came.image.items))
     c.mount_and_play.result c.requires.opening c.requires.geometry c.requires.prepared _
-    (came_as _ IsSpent (c.cut_once_spent.ensures.ended g.N.Room.opening) g.N.Room.geometry g.N.Room.opening (map said c.args.scripts.now)
+    (came_as _ IsSpent (c.cut_once_spent.ensures.ended g.N.ServiceParameters.opening) g.N.ServiceParameters.geometry g.N.ServiceParameters.opening (map said c.args.scripts.now)
     c.mount_and_play.result c.mount_and_play.ensures.played)
     c.mount_and_play.ensures.holds
 
 pub returns-clause-unserved : goal.returns-clause-unserved
 returns-clause-unserved g c =
-    unserved_as _ _ g.N.Room.opening IsSpent (c.cut_once_spent.ensures.ended g.N.Room.opening) c.mount_and_play.result
+    unserved_as _ _ g.N.ServiceParameters.opening IsSpent (c.cut_once_spent.ensures.ended g.N.ServiceParameters.opening) c.mount_and_play.result
     c.mount_and_play.ensures.unserved

@@ -1,5 +1,5 @@
 use Rattle.std.proofs.Common.{◌≡◌, ◌++◌, ◌∷◌, [], map, sym, subst}
-use Rattle.run_link.specs.DisksView.{disks_of}
+use Rattle.simulated_link.specs.DisksView.{disks_of}
 use Rattle.vfs.specs.OverLink.{line_of}
 use Rattle.transcript.specs.ShownTranscript.{states_of}
 use Rattle.transcript.proofs.Standing.{drivers_stand}

@@ -1,5 +1,5 @@
 use Rattle.std.proofs.Common.{◌≡◌, sym, ◌∙◌}
-use Rattle.store.proofs.Turns.{turns_then}
+use Rattle.block_store.proofs.Turns.{turns_then}
 use Rattle.descriptors.specs.Table.{files_of}
 use Rattle.vfs.proofs.Letting.{busy_at_once, unmounted}
 use Rattle.vfs.proofs.Refusing.{refused_at_once, refused_later}

@@ -1,7 +1,7 @@
 use Rattle.std.proofs.Common.{◌∙◌, refl}
 use Rattle.message.specs.declared.Incoming.TheVariants as incoming
-use Rattle.run_link.proofs.MovingLaws.{handed_true, owed_heard, true_of, aside_true, quiet_true}
-use Rattle.run_link.proofs.Going.{same_run, hands_event, hands_none, hands_owed, hands_nothing, not_told}
+use Rattle.simulated_link.proofs.MovingLaws.{handed_true, owed_heard, true_of, aside_true, quiet_true}
+use Rattle.simulated_link.proofs.Going.{same_run, hands_event, hands_none, hands_owed, hands_nothing, not_told}
 use Rattle.world.proofs.run_loop.aside.aside.Goals as goal
 
 pub returns-then-link-clause-truth : goal.returns-then-link-clause-truth

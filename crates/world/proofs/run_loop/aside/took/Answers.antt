@@ -1,4 +1,4 @@
-use Rattle.run_link.proofs.MovingLaws.{took_true, true_of}
+use Rattle.simulated_link.proofs.MovingLaws.{took_true, true_of}
 use Rattle.world.proofs.run_loop.aside.took.Goals as goal
 
 pub returns-clause-truth : goal.returns-clause-truth

@@ -1,6 +1,6 @@
 use Rattle.std.proofs.Common.{◌≤◌, ◌+◌}
-use Rattle.run_link.specs.StateView.{work_left}
-use Rattle.run_link.specs.Moments.{Resting}
+use Rattle.simulated_link.specs.StateView.{work_left}
+use Rattle.simulated_link.specs.Moments.{Resting}
 use Rattle.world.specs.Runs.{RunsOn, IsIdle}
 use Rattle.world.proofs.run_loop.turns.turns.Given as goal
 

@@ -1,11 +1,11 @@
 use Rattle.std.proofs.Common.{refl, ap, arith, subst, length, map, ◌∙◌}
 use Rattle.std.specs.Prelude.{All}
-use Rattle.inline.specs.Inline.{IsReady}
+use Rattle.synchronous_driver.specs.Inline.{IsReady}
 use Rattle.world.specs.Beginning.{IsBegun, range_of}
 use Rattle.world.specs.ServerRuns.{IsFresh}
 use Rattle.media.specs.Contents.{MediaState}
-use Rattle.mounting.specs.Starting.{opening_of}
-use Rattle.run_link.specs.StateView.{run_of}
+use Rattle.volume_mount.specs.Starting.{opening_of}
+use Rattle.simulated_link.specs.StateView.{run_of}
 use Rattle.world.proofs.Opened.{little_work, none_ended, small_budget}
 use Rattle.world.proofs.Showing.{all_unused, run_shows, whole_there}
 use Rattle.world.proofs.world_run.World.run.Goals as goal

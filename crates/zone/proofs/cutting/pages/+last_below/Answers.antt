@@ -1,7 +1,7 @@
 use Rattle.volume.specs.Pieces.{pieces}
 use Rattle.volume.proofs.Volumes.{numbers_sized}
-use Rattle.store.proofs.Turns.{reads_then, ends_as}
-use Rattle.store.proofs.Ending.{ends_cut_exit, reads_three}
+use Rattle.block_store.proofs.Turns.{reads_then, ends_as}
+use Rattle.block_store.proofs.Ending.{ends_cut_exit, reads_three}
 use Rattle.zone.proofs.Last.{last_down, bare_down}
 use Rattle.zone.proofs.cutting.pages.+last_below.Goals as goal
 

@@ -1,8 +1,8 @@
 use Rattle.std.proofs.Common.{◌≡◌, rules, arith, subst}
 use Rattle.volume.specs.Pieces.{pieces}
-use Rattle.store.proofs.Turns.{turns_none, turns_as, turns_then}
+use Rattle.block_store.proofs.Turns.{turns_none, turns_as, turns_then}
 use Rattle.zone.specs.CutFiles.{IsLastFrom}
-use Rattle.store.proofs.Ending.{ends_exit, turns_three}
+use Rattle.block_store.proofs.Ending.{ends_exit, turns_three}
 use Rattle.zone.proofs.CuttingLaws.{going_none, still_full, may_release, going_on, gone_all, end_past, found_from, none_from, none_left}
 use Rattle.zone.proofs.cutting.pages.detach_from.Goals as goal
 

@@ -1,5 +1,5 @@
 use Rattle.std.proofs.Common.{◌≤◌}
-use Rattle.store.specs.World.{Turns}
+use Rattle.block_store.specs.World.{Turns}
 use Rattle.zone.proofs.CuttingLaws.{Going}
 use Rattle.zone.proofs.cutting.pages.detach_from.Given as goal
 

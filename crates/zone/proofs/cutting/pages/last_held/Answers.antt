@@ -2,11 +2,11 @@ use Rattle.std.proofs.Common.{sym, subst}
 use Rattle.volume.specs.declared.Inode.{Inode}
 use Rattle.volume.specs.Pieces.{pieces}
 use Rattle.volume.proofs.Volumes.{numbers_sized}
-use Rattle.store.proofs.Turns.{reads_then, reads_as}
+use Rattle.block_store.proofs.Turns.{reads_then, reads_as}
 use Rattle.zone.specs.CutFiles.{IsFull}
 use Rattle.zone.specs.Slots.{IsLastSlot}
 use Rattle.std.specs.Prelude.{Option}
-use Rattle.store.proofs.Ending.{ends_exit}
+use Rattle.block_store.proofs.Ending.{ends_exit}
 use Rattle.zone.proofs.Last.{slot_stands, held_last, none_held}
 use Rattle.zone.proofs.cutting.pages.last_held.Goals as goal
 

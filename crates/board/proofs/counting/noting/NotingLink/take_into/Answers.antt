@@ -1,7 +1,0 @@
-use Rattle.board.specs.Words.{mark_of}
-use Rattle.board.specs.Keeper.{begins_before}
-use Rattle.board.proofs.counting.noting.NotingLink.take_into.Goals as goal
-
-pub returns-then-leaves_mark-clause-goes : goal.returns-then-leaves_mark-clause-goes
-returns-then-leaves_mark-clause-goes g c =
-    (c.take_into.ensures.goes, begins_before (mark_of c.take_into.new.message) _ _ c.note.ensures.record_is, c.note.ensures.numbers)

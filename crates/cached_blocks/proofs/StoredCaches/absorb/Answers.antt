@@ -1,0 +1,29 @@
+use Rattle.std.proofs.Common.{ℕ, Option, ◌∙◌, ap, subst}
+use Rattle.cache.specs.declared.slot.Slot.{Slot}
+use Rattle.flusher.specs.Flushing.{BeginsAll}
+use Rattle.cached_blocks.specs.World.{goes_joins, stored_caching}
+use Rattle.cached_blocks.proofs.Flushes.{hands_then}
+use Rattle.cached_blocks.proofs.StoredCaches.absorb.Goals as goal
+
+pub returns-then-not-last-clause-hands_over : goal.returns-then-not-last-clause-hands_over
+returns-then-not-last-clause-hands_over g c =
+    hands_then c.args.message _ _ _ c.if-not-last.ensures.other c.absorb.ensures.hands_over c.flush_wanted.ensures.keeps c.flush_wanted.ensures.posts
+
+pub returns-then-not-last-clause-goes : goal.returns-then-not-last-clause-goes
+returns-then-not-last-clause-goes g c =
+    goes_joins g.L.Link g.met.L.Link.joins _ _ _ (record { link = c.absorb.ensures.goes; frames = c.absorb.ensures.leaves.count }) c.flush_wanted.ensures.goes
+
+pub returns-else-not-last-clause-goes : goal.returns-else-not-last-clause-goes
+returns-else-not-last-clause-goes g c = record { link = c.absorb.ensures.goes; frames = c.absorb.ensures.leaves.count }
+
+pub returns-then-not-last-clause-silent : goal.returns-then-not-last-clause-silent
+returns-then-not-last-clause-silent g c = λ other unwanted idle.
+    ap (λ s. (stored_caching g.L.Link s).told) (c.flush_wanted.ensures.unasked (c.absorb.ensures.wanted.1 other ∙ unwanted)) ∙ c.absorb.ensures.silent idle
+
+pub returns-else-not-last-clause-silent : goal.returns-else-not-last-clause-silent
+returns-else-not-last-clause-silent g c = λ other unwanted idle. c.absorb.ensures.silent idle
+
+pub returns-then-not-last-clause-flushed : goal.returns-then-not-last-clause-flushed
+returns-then-not-last-clause-flushed g c = λ is live.
+    subst (λ (h : ℕ → Option Slot). BeginsAll 16 h (stored_caching g.L.Link c.flush_wanted.new.self)) (c.absorb.ensures.asked is)
+    ((c.flush_wanted.ensures.flushed (c.absorb.ensures.wanted.0 is)).stuck live)

@@ -1,0 +1,5 @@
+use Rattle.conformance.proofs.PlaceLaws.{runs_keep_places}
+use Rattle.conformance.proofs.issuing_runs.runs_keep_places.Goals as goal
+
+pub returns : goal.returns
+returns c = runs_keep_places

@@ -1,0 +1,6 @@
+use Rattle.conformance.proofs.SteadyLaws.{starts_kept}
+use Rattle.conformance.proofs.SaidLaws.{runs_said}
+use Rattle.conformance.proofs.justified_runs.runs_keep_starts.Goals as goal
+
+pub returns : goal.returns
+returns c drivers minor b a runs calm begun h = runs_said _ (starts_kept drivers) minor b a runs calm begun h

@@ -1,0 +1,35 @@
+use Rattle.std.proofs.Common.{◌<◌, ◌≡◌, ◌≢◌, rules, arith, sym, subst, ◌∙◌}
+use Rattle.volume.specs.Pieces.{pieces}
+use Rattle.descriptors.specs.Table.{files_of}
+use Rattle.block_store.proofs.Turns.{turns_as, turns_then, ends_as}
+use Rattle.inode_operations.specs.Steps.{IsOfNode}
+use Rattle.inode_operations.proofs.Losing.{node_kept, has_link, stays_open, is_nameless, node_gone}
+use Rattle.inode_operations.proofs.ending.lose_node.Goals as goal
+
+pub returns-then-inode-gt0-clause-turns : goal.returns-then-inode-gt0-clause-turns
+returns-then-inode-gt0-clause-turns g c =
+    let a = c.args in
+    let f = files_of a.opens.now in
+    let some : c.in_ok-inode.inode.links ≢ 0 = let l : 0 < c.in_ok-inode.inode.links = search rules in λ e. absurd (omega (arith, l, e)) in
+    turns_as _ _ _ _ _
+    (λ d e p. node_kept a.geometry.now f a.number d e p.0 (has_link a.geometry.now f a.number d c.in_ok-inode.inode p.1 some))
+    c.in_ok-inode.ensures.reads
+
+pub returns-then-is_open-clause-turns : goal.returns-then-is_open-clause-turns
+returns-then-is_open-clause-turns g c =
+    let a = c.args in
+    let f = files_of a.opens.now in
+    turns_as _ _ _ _ _
+    (λ d e p. node_kept a.geometry.now f a.number d e p.0 (stays_open a.geometry.now f a.number d (sym c.is_open.ensures ∙ c.if-is_open.true)))
+    c.in_ok-inode.ensures.reads
+
+pub returns-clause-turns : goal.returns-clause-turns
+returns-clause-turns g c =
+    let a = c.args in
+    let f = files_of a.opens.now in
+    let none : c.in_ok-inode.inode.links ≡ 0 = search rules in
+    turns_then _ g.met.B.Blocks.lawful _ _ _ _ _ _
+    (λ d x e p q. ends_as _ _ _ _ _
+    (λ y frees. node_gone a.geometry.now f a.number d x e p.0 (is_nameless a.geometry.now f a.number d c.in_ok-inode.inode p.1 none (sym c.is_open.ensures ∙ c.if-is_open.false)) frees)
+    (λ of. subst (λ z. IsOfNode a.geometry.now (pieces a.geometry.now z) a.number) (sym p.0) of) q)
+    c.in_ok-inode.ensures.reads c.free_node.ensures.turns

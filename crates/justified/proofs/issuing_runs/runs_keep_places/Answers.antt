@@ -1,5 +1,0 @@
-use Rattle.justified.proofs.PlaceLaws.{runs_keep_places}
-use Rattle.justified.proofs.issuing_runs.runs_keep_places.Goals as goal
-
-pub returns : goal.returns
-returns c = runs_keep_places

@@ -1,5 +1,0 @@
-use Rattle.justified.proofs.RoomLaws.{runs_keep_room}
-use Rattle.justified.proofs.issuing_runs.runs_keep_room.Goals as goal
-
-pub returns : goal.returns
-returns c = runs_keep_room

@@ -1,5 +1,0 @@
-use Rattle.justified.proofs.AfterFaultLaws.{runs_keep_after_fault}
-use Rattle.justified.proofs.justified_runs.runs_keep_after_fault.Goals as goal
-
-pub returns : goal.returns
-returns c = runs_keep_after_fault

@@ -1,5 +1,0 @@
-use Rattle.justified.proofs.FailureLaws.{runs_keep_failures}
-use Rattle.justified.proofs.justified_runs.runs_keep_failures.Goals as goal
-
-pub returns : goal.returns
-returns c = runs_keep_failures

@@ -1,5 +1,0 @@
-use Rattle.justified.proofs.OrderLaws.{runs_keep_order}
-use Rattle.justified.proofs.justified_runs.runs_keep_order.Goals as goal
-
-pub returns : goal.returns
-returns c = runs_keep_order

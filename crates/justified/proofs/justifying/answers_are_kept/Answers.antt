@@ -1,5 +1,0 @@
-use Rattle.justified.proofs.AnswerLaws.{answered_kept}
-use Rattle.justified.proofs.justifying.answers_are_kept.Goals as goal
-
-pub returns : goal.returns
-returns c = answered_kept

@@ -1,5 +1,0 @@
-use Rattle.justified.proofs.justifying.flushes_are_kept.Goals as goal
-use Rattle.justified.proofs.SteadyLaws.{flushes_kept}
-
-pub returns : goal.returns
-returns c = flushes_kept

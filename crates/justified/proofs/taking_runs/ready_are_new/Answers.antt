@@ -1,5 +1,0 @@
-use Rattle.justified.proofs.NewDrivers.{ready_are_new}
-use Rattle.justified.proofs.taking_runs.ready_are_new.Goals as goal
-
-pub returns : goal.returns
-returns c = ready_are_new

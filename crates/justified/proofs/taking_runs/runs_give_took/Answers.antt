@@ -1,5 +1,0 @@
-use Rattle.justified.proofs.TakingLaws.{runs_give_took}
-use Rattle.justified.proofs.taking_runs.runs_give_took.Goals as goal
-
-pub returns : goal.returns
-returns c = runs_give_took

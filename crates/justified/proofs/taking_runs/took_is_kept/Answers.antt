@@ -1,5 +1,0 @@
-use Rattle.justified.proofs.TakingLaws.{took_kept}
-use Rattle.justified.proofs.taking_runs.took_is_kept.Goals as goal
-
-pub returns : goal.returns
-returns c = took_kept

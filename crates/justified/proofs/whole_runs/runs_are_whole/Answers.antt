@@ -1,5 +1,0 @@
-use Rattle.justified.proofs.WholeLaws.{runs_are_whole}
-use Rattle.justified.proofs.whole_runs.runs_are_whole.Goals as goal
-
-pub returns : goal.returns
-returns c = runs_are_whole

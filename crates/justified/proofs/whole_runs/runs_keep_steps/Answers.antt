@@ -1,5 +1,0 @@
-use Rattle.justified.proofs.RunLaws.{runs_keep_steps}
-use Rattle.justified.proofs.whole_runs.runs_keep_steps.Goals as goal
-
-pub returns : goal.returns
-returns c = runs_keep_steps

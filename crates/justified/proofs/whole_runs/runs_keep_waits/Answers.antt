@@ -1,5 +1,0 @@
-use Rattle.justified.proofs.LeavingLaws.{runs_keep_waits}
-use Rattle.justified.proofs.whole_runs.runs_keep_waits.Goals as goal
-
-pub returns : goal.returns
-returns c = runs_keep_waits

@@ -1,5 +1,0 @@
-use Rattle.mounting.proofs.OfImage.{refused_by_image}
-use Rattle.mounting.proofs.laws.refused_by_image.Goals as goal
-
-pub returns : goal.returns
-returns c = refused_by_image

@@ -1,8 +1,0 @@
-use Rattle.node_steps.proofs.CallLawsEnding.{left_is_left, put_is_left}
-use Rattle.node_steps.proofs.call_laws.what_is_left.Goals as goal
-
-pub returns-clause-left : goal.returns-clause-left
-returns-clause-left c = left_is_left
-
-pub returns-clause-put : goal.returns-clause-put
-returns-clause-put c = put_is_left

@@ -1,5 +1,0 @@
-use Rattle.run_link.proofs.Keeping as law
-use Rattle.run_link.proofs.events.laws.events_keep.Goals as goal
-
-pub returns : goal.returns
-returns c = law.events_keep

@@ -1,5 +1,0 @@
-use Rattle.run_link.proofs.Keeping as law
-use Rattle.run_link.proofs.events.laws.opening_keeps.Goals as goal
-
-pub returns : goal.returns
-returns c = law.opening_keeps

@@ -1,0 +1,7 @@
+use Rattle.service_start.proofs.start.serve.Goals as goal
+
+pub start_and_run-requires-clause-prepared : goal.start_and_run-requires-clause-prepared
+start_and_run-requires-clause-prepared g c κs lives = rw (c.in_ok-prepared.ensures.bytes, ← c.deref.ensures.value) c.in_ok-prepared.ensures.ok
+
+pub start_and_run-requires-clause-contents : goal.start_and_run-requires-clause-contents
+start_and_run-requires-clause-contents g c κs lives = rw c.in_ok-prepared.ensures.bytes c.in_ok-prepared.ensures.contents

@@ -1,0 +1,118 @@
+//! A service of the file server over a link, and the threads behind it.
+
+ghost use Rattle.std.specs.Prelude.{◌≡◌, ◌≤◌, ◌^◌, [], true, IfErr, OnOk};
+ghost use Rattle.std.specs.Arc.{arc_value};
+ghost use Rattle.layout.specs.Places.{IsGeometry};
+ghost use Rattle.tree.specs.Tree.{Tree};
+ghost use Rattle.records.specs.Opening.{contents_at};
+ghost use Rattle.records.specs.Legal.{IsAtFirst};
+ghost use Rattle.records.specs.Mount.{is_frame_count};
+ghost use Rattle.volume_mount.specs.Laws.{sizes_in};
+ghost use Rattle.service_start.specs.Stopped.{IsMountedTruly, IsStopped, refusal_of as start_refusal_of};
+
+use board::Board;
+use board::counting::parameters::ServiceParameters;
+use board::counting::recorder::Recorder;
+use cached_blocks::Stored;
+use driver_threads::running::Running;
+use gate::Gate;
+use layout::Geometry;
+use serve::service::Service;
+use std::alloc::{AllocError, Global};
+use std::sync::{Arc, Wait};
+use std::thread::Threads;
+use vfs::Server;
+use volume_mount::mounted::mount;
+use volume_mount::opening::open;
+use volume_mount::{MountRefusal, StartRefusal};
+
+/// A service of a server of all calls, with so many frames, for its volume in a range of the media, over a link that was told nothing yet,
+/// keeps an empty record on the service's board, and runs on the service's drivers under its policy. The link gives at most 2^58 messages.
+/// The volume as it was handed in holds a tree.
+///
+/// Where no memory or no thread was found, the link is let go, and all threads are ended.
+pub fn over<
+    N: ServiceParameters + Send + Sync + 'static,
+    R: Threads + Wait + Copy + Send + Sync + 'static,
+    L: Recorder<N> + Send + 'static,
+    G: Gate + 'static,
+>(
+    alloc: Global,
+    rt: R,
+    board: Arc<Board>,
+    link: L,
+    minor: u8,
+    geometry: Geometry,
+    frames: u32,
+    running: Running<N>,
+    gate: Arc<G>,
+) -> Result<Service<N, R, L, Server<Stored<L>>>, AllocError>
+    requires board { arc_value board ≡ N.table }
+    requires marks { L.marks link ≡ [] }
+    requires told { L.Link.history link ≡ [] }
+    requires geometry { IsGeometry geometry × (geometry ≡ N.geometry) }
+    requires tree { (tree : Tree) × IsAtFirst N.geometry (contents_at N.opening) tree }
+    requires minor { minor ≡ N.opening.minor }
+    requires frames { is_frame_count frames ≡ true }
+    requires budget { L.Link.budget_left link ≤ 2 ^ 58 }
+    requires truth { L.Link.truth link N.opening [] }
+    requires drivers { L.runs_on link N.policy N.supply }
+{
+    match open(alloc, link, minor, geometry, frames) {
+        Ok(server) => Service::over(alloc, rt, board, server, running, gate),
+        Err(_) => {
+            let _ = running.stop(&rt);
+            Err(AllocError)
+        }
+    }
+}
+
+/// The refusal of a mount, as a start has it: memory that is wanting is wanting to the start.
+pub fn refusal_of(refusal: MountRefusal) -> StartRefusal
+    ensures { result ≡ start_refusal_of refusal }
+{
+    match refusal {
+        MountRefusal::OutOfMemory => StartRefusal::OutOfMemory,
+        refusal => StartRefusal::Mount(refusal),
+    }
+}
+
+/// A service of a server of all calls, mounted with so many frames on its volume in a range of the media, over a link as `over` takes it;
+/// it gives at most 2^57 messages. Where its replies were true, the volume then holds a tree.
+///
+/// It is refused as a mount is; and where no memory or no thread was found. The link is let go then, and all threads are ended.
+pub fn mounted<
+    N: ServiceParameters + Send + Sync + 'static,
+    R: Threads + Wait + Copy + Send + Sync + 'static,
+    L: Recorder<N> + Send + 'static,
+    G: Gate + 'static,
+>(
+    alloc: Global,
+    rt: R,
+    board: Arc<Board>,
+    link: L,
+    minor: u8,
+    frames: u32,
+    running: Running<N>,
+    gate: Arc<G>,
+) -> Result<Service<N, R, L, Server<Stored<L>>>, StartRefusal>
+    requires board { arc_value board ≡ N.table }
+    requires marks { L.marks link ≡ [] }
+    requires told { L.Link.history link ≡ [] }
+    requires geometry { N.geometry ≡ sizes_in (contents_at N.opening) }
+    requires minor { minor ≡ N.opening.minor }
+    requires frames { is_frame_count frames ≡ true }
+    requires budget { L.Link.budget_left link ≤ 2 ^ 57 }
+    requires truth { L.Link.truth link N.opening [] }
+    requires drivers { L.runs_on link N.policy N.supply }
+    ensures holds { OnOk result (IsMountedTruly L.truth N.geometry N.opening) }
+    ensures refused { IfErr result (IsStopped N.opening frames) }
+{
+    match mount(alloc, link, minor, frames) {
+        Ok(server) => Ok(Service::over(alloc, rt, board, server, running, gate)?),
+        Err(refusal) => {
+            let _ = running.stop(&rt);
+            Err(refusal_of(refusal))
+        }
+    }
+}

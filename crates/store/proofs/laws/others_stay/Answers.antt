@@ -1,5 +1,0 @@
-use Rattle.store.proofs.Rows.{row_old}
-use Rattle.store.proofs.laws.others_stay.Goals as goal
-
-pub returns : goal.returns
-returns c = row_old

@@ -1,5 +1,0 @@
-use Rattle.store.proofs.Alone.{in_table}
-use Rattle.store.proofs.regions.table_alone.Goals as goal
-
-pub returns : goal.returns
-returns c = λ g d block row geometry low high. in_table g geometry d block row low high

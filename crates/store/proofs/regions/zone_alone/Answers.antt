@@ -1,5 +1,0 @@
-use Rattle.store.proofs.Alone.{in_zone}
-use Rattle.store.proofs.regions.zone_alone.Goals as goal
-
-pub returns : goal.returns
-returns c = λ g d zone row geometry is. in_zone g geometry d zone row is

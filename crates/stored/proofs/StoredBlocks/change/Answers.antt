@@ -1,8 +1,0 @@
-use Rattle.stored.specs.World.{stored_caching, GoesOn}
-use Rattle.stored.proofs.Calls.{turns_changed}
-use Rattle.stored.proofs.StoredBlocks.change.Goals as goal
-
-pub returns-clause-turns : goal.returns-clause-turns
-returns-clause-turns g c = λ block named.
-    turns_changed (stored_caching g.L.Link) (GoesOn g.L.Link) _ _ c.args.frame.block block c.args.from c.args.bytes.now named.0
-    (record { link = c.change.ensures.goes; frames = c.change.ensures.count }) c.change.ensures.runs

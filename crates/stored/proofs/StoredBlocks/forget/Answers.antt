@@ -1,9 +1,0 @@
-use Rattle.stored.specs.World.{stored_caching, GoesOn}
-use Rattle.stored.proofs.Calls.{turns_kept}
-use Rattle.stored.proofs.StoredBlocks.forget.Goals as goal
-
-pub returns : goal.returns
-returns g c = record {
-  turns = turns_kept (stored_caching g.L.Link) (GoesOn g.L.Link) _ _ (record { link = c.forget.ensures.goes; frames = c.forget.ensures.count })
-      c.forget.ensures.keeps;
-}

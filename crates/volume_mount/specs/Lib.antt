@@ -1,0 +1,12 @@
+-- Reading a volume through a link, and mounting it.
+-- How a file server over the frames of a cache is opened and mounted.
+pub mod StartupRefusals
+pub mod Starting
+pub mod Sought
+pub mod Reading
+pub mod Whole
+pub mod Refusals
+pub mod Mounts
+pub mod Laws
+pub mod Opening
+pub mod Mounted

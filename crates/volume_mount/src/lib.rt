@@ -1,0 +1,19 @@
+//! How a file server comes to stand on a volume: what it starts on (media, the volume's place, drivers that are ready), the volume read
+//! through a link and checked, and a server opened on it; or why not.
+#![tactic(auto)]
+
+pub mod checking;
+pub mod laws;
+pub mod mounted;
+pub mod opening;
+pub mod prepared;
+pub mod reading;
+pub mod refusal;
+pub mod sought;
+pub mod whole;
+
+pub use checking::read_volume;
+pub use prepared::{Prepared, prepare};
+pub use reading::{Stop, read_range};
+pub use refusal::StartRefusal;
+pub use whole::{MountRefusal, sizes};
