@@ -3,11 +3,20 @@
 use crate::sparse::{Places, put_all};
 use std::fs::{self, File, OpenFile, OpenOptions};
 use std::io::{self, ErrorKind, Read};
-use std::path::PathBuf;
+use std::os::unix::fs::{MetadataExt, chown};
+use std::path::{Path, PathBuf};
 use std::rt::Files;
 
 /// How many names beside a file are tried for the new one (own).
 const MOST_TRIES: u32 = 100;
+
+/// What a file that is replaced hands on to the new one.
+#[derive(Drop)]
+struct Owned {
+    permissions: fs::Permissions,
+    uid: u32,
+    gid: u32,
+}
 
 /// What is to be in a file: these bytes, and zeros up to a length.
 #[derive(Clone, Copy)]
@@ -26,7 +35,9 @@ pub fn read<R: Files + Alloc>(rt: &R, name: &str) -> io::Result<Vec<u8, R::A>> {
 }
 
 /// Puts bytes in the place of a file, or makes it. They go to a new file beside it, of the same permissions, which takes its name
-/// once it is whole and on the disk. Where that fails, the file of this name is as it was, and the new one is taken away.
+/// once it is whole and on the disk; the folder is flushed behind that, so that the name leads to the new file after a power cut, too.
+/// Where the bytes can't be written the file of this name is as it was, and the new one is taken away; where the folder can't be flushed
+/// the file is the new one, and that is an error, too. The new file is the old one's owner's and group's, where this process may give it away.
 ///
 /// Where the name is a symbolic link, the file that it leads to is replaced. What is there and is no file, as a folder or a device, or
 /// is a file that may not be written, is refused.
@@ -48,7 +59,23 @@ pub fn replace_filled<R: Files + Alloc>(
     };
     let place = place_of(rt, name)?;
     let place = place.as_path().as_str();
-    let old = permissions_of(rt, place)?;
+    let old = owned_of(rt, place)?;
+    let (file, beside) = new_beside(rt, place)?;
+    put(rt, file, beside.as_str(), place, old, &contents)
+}
+
+/// Whether a file of this name could be replaced, or made, now; nothing is changed. The refusals are those of `replace` that come before the
+/// bytes are written: no folder, no file there, a file or a folder that may not be written, no free name beside it.
+pub fn try_replace<R: Files + Alloc>(rt: &R, name: &str) -> io::Result<()> {
+    let place = place_of(rt, name)?;
+    let place = place.as_path().as_str();
+    owned_of(rt, place)?;
+    let (_, beside) = new_beside(rt, place)?;
+    fs::remove_file(rt, beside.as_str())
+}
+
+/// A new file beside the one of this name, and its name.
+fn new_beside<R: Files + Alloc>(rt: &R, place: &str) -> io::Result<(R::File, String<R::A>)> {
     for number in 0..MOST_TRIES {
         let beside = format!(in rt.alloc(); "{place}.new{number}")?;
         match OpenOptions::new()
@@ -56,7 +83,7 @@ pub fn replace_filled<R: Files + Alloc>(
             .create_new(true)
             .open(rt, beside.as_str())
         {
-            Ok(file) => return put(rt, file, beside.as_str(), place, old, &contents),
+            Ok(file) => return Ok((file, beside)),
             Err(error) if error.kind() == ErrorKind::AlreadyExists => {}
             Err(error) => return Err(error),
         }
@@ -75,13 +102,17 @@ fn place_of<R: Files + Alloc>(rt: &R, name: &str) -> io::Result<PathBuf<R::A>> {
     }
 }
 
-/// The permissions of a file that may be written; none where there is no file.
-fn permissions_of<R: Files>(rt: &R, place: &str) -> io::Result<Option<fs::Permissions>> {
+/// The permissions, owner and group of a file that may be written; none where there is no file.
+fn owned_of<R: Files>(rt: &R, place: &str) -> io::Result<Option<Owned>> {
     match OpenOptions::new().write(true).open(rt, place) {
         Ok(file) => {
             let metadata = file.metadata()?;
             if metadata.is_file() {
-                Ok(Some(metadata.permissions()))
+                Ok(Some(Owned {
+                    permissions: metadata.permissions(),
+                    uid: metadata.uid(),
+                    gid: metadata.gid(),
+                }))
             } else {
                 Err(io::Error::from(ErrorKind::InvalidInput))
             }
@@ -97,28 +128,42 @@ fn put<R: Files>(
     file: R::File,
     beside: &str,
     place: &str,
-    old: Option<fs::Permissions>,
+    old: Option<Owned>,
     contents: &Contents<'_>,
 ) -> io::Result<()> {
+    if let Some(old) = &old {
+        // Refused to a process that isn't the owner's and not root's: the file then stays its own.
+        let _ = chown(rt, beside, Some(old.uid), Some(old.gid));
+    }
     let put = match fill::<R>(file, old, contents) {
         Ok(()) => fs::rename(rt, beside, place),
         Err(error) => Err(error),
     };
     if put.is_err() {
         let _ = fs::remove_file(rt, beside);
+        return put;
     }
-    put
+    flush_folder(rt, place)
+}
+
+/// Waits until the disk has the names of the folder in which a file lies.
+fn flush_folder<R: Files>(rt: &R, place: &str) -> io::Result<()> {
+    let folder = match Path::new(place).parent() {
+        Some(folder) if !folder.as_str().is_empty() => folder.as_str(),
+        _ => ".",
+    };
+    File::open(rt, folder)?.sync_all()
 }
 
 /// Writes the bytes to the new file, and waits until the disk has them. Pieces of zeros aren't written: the file has its length first, and
 /// reads as zeros where nothing was written.
 fn fill<R: Files>(
     mut file: R::File,
-    old: Option<fs::Permissions>,
+    old: Option<Owned>,
     contents: &Contents<'_>,
 ) -> io::Result<()> {
-    if let Some(permissions) = old {
-        file.set_permissions(permissions)?;
+    if let Some(old) = old {
+        file.set_permissions(old.permissions)?;
     }
     file.set_len(contents.length)?;
     put_all(&mut Places::new(&mut file), contents.bytes)?;

@@ -5,7 +5,7 @@ use call_text::scripts::script_files::File;
 use gate::paced_gate::Paced;
 use host::command_line::{line_of, status_for};
 use host::play_words::mfs::{MfsWords, read as read_words};
-use host::whole_file::{read, replace};
+use host::whole_file::{read, replace, try_replace};
 use modeldisk::supply::{drivers_for, setup_for, table_in};
 use std::alloc::{AllocError, Global};
 use std::io;
@@ -13,7 +13,7 @@ use std::process::ExitCode;
 use std::rt::Files;
 use std::sync::{Arc, Wait};
 use std::thread::Threads;
-use tools::play::{ImageFile, finish, play};
+use tools::play::{ImageFile, PlayStatus, finish, play};
 
 /// A file of this name, with its bytes if it could be read.
 fn file<'n, 'b>(name: &'n str, bytes: &'b Option<Vec<u8>>) -> File<'n, 'b> {
@@ -90,12 +90,21 @@ fn play_files<W: Threads + Wait + Copy + Send + Sync + 'static>(
     Ok(ExitCode::from(status.number()))
 }
 
+/// The status where the file of this name can't be written, as a line on standard error says: nothing is played then.
+fn unwritable(rt: HostRuntime, name: &str) -> ExitCode {
+    let status = finish(rt.alloc(), PlayStatus::Done, name, false, &mut rt.stderr());
+    ExitCode::from(status.number())
+}
+
 fn main(rt: HostRuntime) -> io::Result<ExitCode> {
     let Some(line) = line_of(&rt)? else {
         return Ok(ExitCode::from(2));
     };
     match read_words(rt.alloc(), line.as_slice()) {
-        Ok(words) => play_files(rt, rt, &words),
+        Ok(words) => match words.out {
+            Some(name) if try_replace(&rt, name).is_err() => Ok(unwritable(rt, name)),
+            _ => play_files(rt, rt, &words),
+        },
         Err(error) => {
             error.print(&rt)?;
             Ok(ExitCode::from(status_for(&error)))

@@ -7,7 +7,7 @@ use crate::image_file::ImageFile;
 use gate::paced_gate::Paced;
 use host::command_line::{line_of, status_for};
 use host::play_words::mfs9p::{Mfs9pWords, read as read_words};
-use host::whole_file::read;
+use host::whole_file::{read, try_replace};
 use modeldisk::supply::table_in;
 use ninep_service::archive::Archive;
 use ninep_service::mortal::{Mortality, mortal_drivers, mortal_setup};
@@ -90,12 +90,21 @@ fn mount_file<W: Threads + Wait + Copy + Send + Sync + 'static>(
     Ok(ExitCode::from(status.number()))
 }
 
+/// The status where the file of this name can't be written, as a line on standard error says: nothing is mounted then.
+fn unwritable(rt: HostRuntime, name: &str) -> ExitCode {
+    let status = finish(rt.alloc(), MountStatus::Done, name, false, &mut rt.stderr());
+    ExitCode::from(status.number())
+}
+
 fn main(rt: HostRuntime) -> io::Result<ExitCode> {
     let Some(line) = line_of(&rt)? else {
         return Ok(ExitCode::from(2));
     };
     match read_words(rt.alloc(), line.as_slice()) {
-        Ok(words) => mount_file(rt, rt, &words),
+        Ok(words) => match words.out {
+            Some(name) if try_replace(&rt, name).is_err() => Ok(unwritable(rt, name)),
+            _ => mount_file(rt, rt, &words),
+        },
         Err(error) => {
             error.print(&rt)?;
             Ok(ExitCode::from(status_for(&error)))
