@@ -6,7 +6,7 @@ pub mod Staying
 pub mod Filling
 pub mod Issuing
 mod Order
-mod Tournament
+mod TournamentLaws
 mod Turns
 mod Choosing
 mod Making

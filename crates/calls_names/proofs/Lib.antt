@@ -17,5 +17,5 @@ pub mod Standing
 pub mod Unlinking
 pub mod Going
 pub mod Both
-pub mod Asking
+pub mod LinkPaths
 pub mod Linked

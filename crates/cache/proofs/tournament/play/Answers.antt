@@ -1,5 +1,5 @@
 use Rattle.std.proofs.Common.{refl, arith}
-use Rattle.cache.proofs.Tournament.{play_begun, play_up, play_done, play_stopped, children_in}
+use Rattle.cache.proofs.TournamentLaws.{play_begun, play_up, play_done, play_stopped, children_in}
 use Rattle.cache.proofs.tournament.play.Goals as goal
 
 pub up-init : goal.up-init

@@ -1,4 +1,4 @@
-use Rattle.cache.proofs.Tournament.{IsPlaying}
+use Rattle.cache.proofs.TournamentLaws.{IsPlaying}
 use Rattle.cache.proofs.tournament.play.Given as goal
 
 abbrev pub invariant-up : goal.invariant-up

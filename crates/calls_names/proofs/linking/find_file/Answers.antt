@@ -4,7 +4,7 @@ use Rattle.volume.specs.Nodes.{is_directory_mode}
 use Rattle.block_store.proofs.Turns.{reads_as, reads_then}
 use Rattle.block_store.proofs.Ending.{ends_exit}
 use Rattle.calls_attributes.specs.Named.{LeadsTo}
-use Rattle.calls_names.proofs.Asking.{file_found, file_has_links, file_is_directory, file_not_walked, number_of_file, volume_named}
+use Rattle.calls_names.proofs.LinkPaths.{file_found, file_has_links, file_is_directory, file_not_walked, number_of_file, volume_named}
 use Rattle.calls_names.proofs.linking.find_file.Goals as goal
 
 pub returns-in_err-number-clause-reads : goal.returns-in_err-number-clause-reads

@@ -3,7 +3,7 @@ use Rattle.std.specs.Prelude.{is_some}
 use Rattle.tree.specs.Walk.{has_last_name}
 use Rattle.block_store.proofs.Turns.{reads_as}
 use Rattle.calls_names.specs.Names.{MeansPlace}
-use Rattle.calls_names.proofs.Asking.{place_barred, place_found, place_not_walked, place_taken, place_unnamed}
+use Rattle.calls_names.proofs.LinkPaths.{place_barred, place_found, place_not_walked, place_taken, place_unnamed}
 use Rattle.calls_names.proofs.linking.find_free.Goals as goal
 
 pub returns-in-Err-clause-reads : goal.returns-in-Err-clause-reads

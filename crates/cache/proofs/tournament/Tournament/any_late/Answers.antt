@@ -1,4 +1,4 @@
-use Rattle.cache.proofs.Tournament.{on_some_late}
+use Rattle.cache.proofs.TournamentLaws.{on_some_late}
 use Rattle.cache.proofs.tournament.Tournament.any_late.Goals as goal
 
 pub returns-clause-some : goal.returns-clause-some

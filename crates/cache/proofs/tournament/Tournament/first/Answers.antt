@@ -1,6 +1,6 @@
 use Rattle.std.proofs.Common.{ℕ, List, ap, ◌∙◌}
 use Rattle.cache.specs.Winners.{winner}
-use Rattle.cache.proofs.Tournament.{root_least}
+use Rattle.cache.proofs.TournamentLaws.{root_least}
 use Rattle.cache.proofs.tournament.Tournament.first.Goals as goal
 
 pub returns : goal.returns

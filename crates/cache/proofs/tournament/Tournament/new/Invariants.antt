@@ -1,5 +1,5 @@
 use Rattle.std.proofs.Common.{◌-◌, ◌+◌}
-use Rattle.cache.proofs.Tournament.{IsMade}
+use Rattle.cache.proofs.TournamentLaws.{IsMade}
 use Rattle.cache.proofs.tournament.Tournament.new.Given as goal
 
 abbrev pub invariant-loop-past : goal.invariant-loop-past

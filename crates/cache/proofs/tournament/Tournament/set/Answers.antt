@@ -1,5 +1,5 @@
 use Rattle.std.proofs.Common.{ap, ◌∙◌}
-use Rattle.cache.proofs.Tournament.{tested_lowered, late_set, one_late}
+use Rattle.cache.proofs.TournamentLaws.{tested_lowered, late_set, one_late}
 use Rattle.cache.proofs.tournament.Tournament.set.Goals as goal
 
 pub invariant_of-self-else-not-stays : goal.invariant_of-self-else-not-stays
