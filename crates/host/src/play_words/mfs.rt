@@ -62,7 +62,7 @@ fn scripts<'a>(alloc: Global) -> Arg<'a> {
         .required(true)
         .num_args(1..)
         .action(ArgAction::Append)
-        .help("The files of scripts, 64 at most; they are played at one time")
+        .help("The files of scripts, 64 at most; all are played at one time")
 }
 
 /// What the words say.

@@ -11,7 +11,7 @@ const MOST_SPARES: u64 = 4095;
 const MOUNTING: &str =
     "Messages of 9P2000.L are read from standard input, and answered on standard output, until the input ends. With socat, and as root:
 
-socat TCP-LISTEN:5640,bind=127.0.0.1,reuseaddr EXEC:\"mfs9p v.img --out v.img\"
+socat -t 60 TCP-LISTEN:5640,bind=127.0.0.1,reuseaddr EXEC:\"mfs9p v.img --out v.img\"
 mount -t 9p -o trans=tcp,port=5640,version=9p2000.L,access=any,msize=65536 127.0.0.1 /mnt
 
 A line `started 1.G` on standard error tells of each driver that takes the place of an earlier one.";
