@@ -1,3 +1,4 @@
 pub mod DriverState
+pub mod Failing
 pub mod Promises
 pub mod Stepping

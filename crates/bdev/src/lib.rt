@@ -5,6 +5,8 @@
 //! moved, each sector by a step that the media accepted.
 #![tactic(auto)]
 
+pub mod failing;
+
 ghost use Rattle.std.specs.Prelude.{◌≡◌};
 ghost use Rattle.bdev.specs.DriverState.{DriverState, range_while_fresh};
 ghost use Rattle.bdev.specs.Promises.{IsDriver, AcceptKeeps, StepKeeps};
