@@ -5,6 +5,7 @@ pub mod MoverLaws
 pub mod SweepLaws
 pub mod FilterLaws
 mod Rows
+pub mod FailLaws
 pub mod FaultLaws
 pub mod HandedLaws
 pub mod Tables

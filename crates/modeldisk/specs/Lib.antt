@@ -2,6 +2,7 @@ pub mod Order
 pub mod Transfer
 pub mod Mover
 pub mod Laws
+pub mod Dying
 pub mod Drivers
 pub mod Faults
 pub mod Script
