@@ -2,13 +2,12 @@
 
 ghost use Rattle.std.specs.Prelude.{◌≡◌, ◌≢◌, [], IfErr, IfOk, map};
 ghost use Rattle.std.specs.Arc.{arc_value};
-ghost use Rattle.records.specs.Opening.{Opening, contents_at};
-ghost use Rattle.volume_mount.specs.Laws.{sizes_in};
+ghost use Rattle.records.specs.Opening.{Opening};
 ghost use Rattle.reincarnate.specs.Policy.{IsAllowed};
 ghost use Rattle.reincarnate.specs.Supply.{new_state};
 ghost use Rattle.true_replies.specs.Events.{opening_media};
 ghost use Rattle.board.specs.View.{IsKeeper, opener};
-ghost use Rattle.volume_mount.specs.Starting.{opening_of, IsPrepared};
+ghost use Rattle.service_start.specs.Started.{IsAtHand};
 ghost use Rattle.service_start.specs.Stopped.{IsStopped};
 ghost use Rattle.service_start.specs.Ran.{HasRun, IsNotStarted};
 
@@ -125,12 +124,7 @@ fn start_and_run<
     gate: Arc<G>,
     program: P,
 ) -> Result<Result<P::Output, StartRefusal>, AllocError>
-    requires board { board ≡ N.table }
-    requires seat { IsKeeper N.table seat × (seat.view ≡ opener) }
-    requires opening { N.opening ≡ opening_of N.opening.media setup.now.minor prepared.range }
-    requires geometry { N.geometry ≡ sizes_in (contents_at N.opening) }
-    requires prepared { IsPrepared N.opening.media setup.now (map D.state supply.items) prepared.range }
-    requires contents { prepared.media ≡ opening_media N.opening }
+    requires { IsAtHand N.ServiceParameters board seat setup.now (map D.state supply.items) prepared.media prepared.range }
     ensures ran { IfOk result (λ came. IfOk came (λ o.
         HasRun N.opening.media setup.now (map D.state supply.items) (λ g opening. P.gives program g opening o))) }
     ensures refused { IfOk result (λ came. IfErr came (IsStopped N.opening setup.now.frames)) }

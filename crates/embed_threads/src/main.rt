@@ -1,0 +1,75 @@
+//! Embeds a file server: two sessions of one service write files at one time.
+#![tactic(auto)]
+
+mod counting;
+
+use crate::counting::CountingDriver;
+use lecternowl::{
+    CallError, Files, OpenFlags, RamDriver, Table, Task, User, mkfs, serve, setup_for,
+};
+use std::alloc::Global;
+use std::io;
+use std::process::ExitCode;
+use std::sync::atomic::{AtomicU64, Ordering};
+use std::sync::{Arc, Wait};
+use std::thread::Threads;
+
+/// Writes these bytes to a file of this path, as this user.
+#[derive(Drop)]
+struct WriteFile {
+    uid: u16,
+    path: &'static [u8],
+    bytes: &'static [u8],
+}
+
+impl Task for WriteFile {
+    type Output = Result<u32, CallError>;
+
+    fn user(&self) -> User {
+        User {
+            uid: self.uid,
+            gid: 0,
+        }
+    }
+
+    fn run<F: Files>(self, session: &mut F) -> Result<u32, CallError> {
+        let fd = session.open(100, self.path, OpenFlags::WRITE | OpenFlags::CREATE, 0o644)?;
+        session.write(101, fd, self.bytes)
+    }
+}
+
+/// Makes a volume, and writes two files on it at one time: what came of each, and whether the driver took requests.
+fn embed<R: Threads + Wait + Copy + Send + Sync + 'static>(
+    alloc: Global,
+    rt: R,
+) -> Option<(Vec<Result<u32, CallError>>, bool)> {
+    let image = mkfs(alloc, 256, 1024, 64, 50).ok()?;
+    let taken = Arc::new(alloc, AtomicU64::new(0)).ok()?;
+    let driver = RamDriver::new(Table::whole((image.len() / 512) as u32));
+    let mut drivers = Vec::new(alloc);
+    drivers
+        .push(CountingDriver::new(driver, Arc::try_clone(&taken).ok()?))
+        .ok()?;
+    let mut tasks = Vec::new(alloc);
+    tasks
+        .push(WriteFile {
+            uid: 0,
+            path: b"/one",
+            bytes: b"first",
+        })
+        .ok()?;
+    tasks
+        .push(WriteFile {
+            uid: 7,
+            path: b"/two",
+            bytes: b"the second",
+        })
+        .ok()?;
+    let came = serve(alloc, rt, image, &setup_for(0), drivers, tasks).ok()?;
+    Some((came.outputs, taken.load(Ordering::SeqCst) > 0))
+}
+
+fn main(rt: HostRuntime) -> io::Result<ExitCode> {
+    println!(rt; "{:?}", embed(rt.alloc(), rt))?;
+    Ok(ExitCode::from(0))
+}
