@@ -2,8 +2,8 @@
 #![tactic(auto)]
 
 use lecternowl::{
-    CallError, DiesAfter, Files, OpenFlags, RamDriver, Table, Task, Verdict, Whence, check, mkfs,
-    serve, setup_for,
+    CallError, DiesAfter, Files, OpenFlags, RamDriver, Task, Verdict, Whence, check, mkfs, serve,
+    setup_for, table_in,
 };
 use std::alloc::Global;
 use std::io;
@@ -38,7 +38,7 @@ fn embed<R: Threads + Wait + Copy + Send + Sync + 'static>(
     rt: R,
 ) -> Option<(Result<bool, CallError>, bool)> {
     let image = mkfs(alloc, 256, 1024, 64, 50).ok()?;
-    let table = Table::whole((image.len() / 512) as u32);
+    let table = table_in(image.as_slice());
     let mut drivers = Vec::new(alloc);
     drivers
         .push(DiesAfter::new(RamDriver::new(table), 100))

@@ -29,7 +29,7 @@ pub trait Served: Drop {
         ensures { IfOk result (λ image. IsImageOutside Self.Session.opening image.items) };
 
     /// Stops the service: how its last sync went, and the image as the media then stand. No image comes while a session is left.
-    fn stop(self, alloc: Global) -> Result<(LastSync, Vec<u8>), NoImage>
+    fn stop(self) -> Result<(LastSync, Vec<u8>), NoImage>
         ensures { IfOk result (λ left. IsLastImage Self.Session.words Self.Session.sizes Self.Session.opening [] (sync_of left.0)
             left.1.items) };
 }

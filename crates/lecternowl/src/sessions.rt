@@ -67,7 +67,7 @@ impl<
         Service::image(self, alloc)
     }
 
-    fn stop(self, alloc: Global) -> Result<(LastSync, Vec<u8>), NoImage> {
-        image_left(Service::stop(self, alloc))
+    fn stop(self) -> Result<(LastSync, Vec<u8>), NoImage> {
+        image_left(Service::stop(self))
     }
 }

@@ -22,7 +22,7 @@ use reincarnate::policy::Setup;
 use serve::service::Service;
 use service_start::ending::cut_once_spent;
 use service_start::opened::mounted_server;
-use service_start::start::counted_drivers;
+use service_start::start::started_link;
 use std::alloc::Global;
 use std::marker::Brand;
 use std::sync::{Arc, Wait};
@@ -88,21 +88,12 @@ fn start_and_do<
     ensures undone { IfOk result (λ o. IfErr o (IsNotDone IsSpent)) }
     ensures refused { IfErr result (IsStopped N.opening setup.now.frames) }
 {
-    let Prepared { media, range } = prepared;
     let Ok(gate) = Arc::new(alloc, Paced::new(rt)) else {
         return Err(StartRefusal::OutOfMemory);
     };
     let asked = Arc::try_clone(&gate)?;
-    let (board, link, running) = counted_drivers::<N, R, D, Paced<R>>(
-        alloc,
-        rt,
-        board,
-        seat,
-        media,
-        range,
-        setup.policy,
-        supply,
-        asked,
+    let (board, link, running) = started_link::<N, R, D, Paced<R>>(
+        alloc, rt, board, seat, prepared, setup, supply, asked,
     )?;
     cut_once_spent::<N, R>();
     mount_and_do(

@@ -101,7 +101,7 @@ pub(crate) fn do_all<R: Threads + Sync, S: Served, T: Task>(
     let Ok(outputs) = run_each(rt, turns) else {
         return Err(ServeRefusal::NoSession(SessionRefusal::OutOfMemory));
     };
-    match service.stop(alloc) {
+    match service.stop() {
         Ok((last_sync, image)) => Ok(Came {
             outputs,
             last_sync,

@@ -21,7 +21,7 @@ use reincarnate::policy::Setup;
 use serve::service::Service;
 use serve::stopping::NoImage;
 use service_start::opened::mounted_server;
-use service_start::start::counted_drivers;
+use service_start::start::started_link;
 use std::alloc::Global;
 use std::io::{BufRead, Write};
 use std::marker::Brand;
@@ -98,18 +98,9 @@ fn start_and_answer<
         (O.contents came.streams.output) streams.archive came.streams.archive came.answered came.image.items))) }
     ensures refused { IfErr result (IsStopped N.opening setup.now.frames) }
 {
-    let Prepared { media, range } = prepared;
     let asked = Arc::try_clone(&gate)?;
-    let (board, link, running) = counted_drivers::<N, R, D, G>(
-        alloc,
-        rt,
-        board,
-        seat,
-        media,
-        range,
-        setup.policy,
-        supply,
-        asked,
+    let (board, link, running) = started_link::<N, R, D, G>(
+        alloc, rt, board, seat, prepared, setup, supply, asked,
     )?;
     mount_and_answer(
         alloc,

@@ -83,12 +83,10 @@ pub fn refusal_of(refusal: MountRefusal) -> StartRefusal
 /// at most 2^57 messages. A service may hold it. Where the link's replies were true, the volume holds a tree.
 ///
 /// It is refused as a mount is, and the link is let go then.
-pub fn mounted_server<N: ServiceParameters, L: Recorder<N>>(
-    alloc: Global,
-    link: L,
-    minor: u8,
-    frames: u32,
-) -> Result<Server<Stored<L>>, StartRefusal>
+pub fn mounted_server<
+    N: ServiceParameters + Send + Sync + 'static,
+    L: Recorder<N> + Send + 'static,
+>(alloc: Global, link: L, minor: u8, frames: u32) -> Result<Server<Stored<L>>, StartRefusal>
     requires { IsFreshLink N.ServiceParameters L.Link L.runs_on L.marks link minor frames }
     ensures held { IfOk result (IsHeld N.ServiceParameters L.Link (serving_over L.Link) line_of (IsReadyOver L.Link) (λ call. Unit {0})
         L.runs_on L.marks) }

@@ -22,7 +22,7 @@ use modeldisk::Fault;
 use reincarnate::policy::Setup;
 use serve::service::Service;
 use service_start::opened::mounted;
-use service_start::start::counted_drivers;
+use service_start::start::started_link;
 use std::marker::Brand;
 use std::sync::{Arc, Wait};
 use std::test::Fail;
@@ -129,16 +129,14 @@ fn start_and_do<
 ) -> Result<(Came, Vec<u8>), Fail>
     requires { IsAtHand N.ServiceParameters board seat setup.now (map ⟦<RecordingDriver<R> as BlockDriver>⟧.state supply.items) prepared.media prepared.range }
 {
-    let Prepared { media, range } = prepared;
     let asked = Arc::try_clone(&stage.gate)?;
-    let (board, link, running) = counted_drivers::<N, R, RecordingDriver<R>, Watch<R>>(
+    let (board, link, running) = started_link::<N, R, RecordingDriver<R>, Watch<R>>(
         stage.alloc,
         stage.rt,
         board,
         seat,
-        media,
-        range,
-        setup.policy,
+        prepared,
+        setup,
         supply,
         asked,
     )?;
