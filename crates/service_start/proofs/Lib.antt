@@ -1,3 +1,4 @@
 pub mod Mounts
 pub mod Frames
 pub mod Runs
+pub mod Starts

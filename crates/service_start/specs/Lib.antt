@@ -1,3 +1,4 @@
+pub mod Started
 pub mod Stopped
 pub mod Spent
 pub mod Ran

@@ -1,13 +1,15 @@
 //! A service of the file server over a link, and the threads behind it.
 
-ghost use Rattle.std.specs.Prelude.{◌≡◌, ◌≤◌, ◌^◌, [], true, IfErr, OnOk};
+ghost use Rattle.std.specs.Prelude.{◌≡◌, ◌≤◌, ◌^◌, [], true, IfErr, IfOk, OnOk};
 ghost use Rattle.std.specs.Arc.{arc_value};
 ghost use Rattle.layout.specs.Places.{IsGeometry};
 ghost use Rattle.tree.specs.Tree.{Tree};
 ghost use Rattle.records.specs.Opening.{contents_at};
 ghost use Rattle.records.specs.Legal.{IsAtFirst};
 ghost use Rattle.records.specs.Mount.{is_frame_count};
-ghost use Rattle.volume_mount.specs.Laws.{sizes_in};
+ghost use Rattle.shared_server.specs.Held.{IsHeld};
+ghost use Rattle.vfs.specs.OverLink.{IsReadyOver, line_of, serving_over};
+ghost use Rattle.service_start.specs.Started.{IsFreshLink, IsStarted};
 ghost use Rattle.service_start.specs.Stopped.{IsMountedTruly, IsStopped, refusal_of as start_refusal_of};
 
 use board::Board;
@@ -77,6 +79,27 @@ pub fn refusal_of(refusal: MountRefusal) -> StartRefusal
     }
 }
 
+/// A server of all calls, mounted with so many frames on the service's volume, as this minor, over a link that was told nothing yet and gives
+/// at most 2^57 messages. A service may hold it. Where the link's replies were true, the volume holds a tree.
+///
+/// It is refused as a mount is, and the link is let go then.
+pub fn mounted_server<
+    N: ServiceParameters + Send + Sync + 'static,
+    L: Recorder<N> + Send + 'static,
+>(alloc: Global, link: L, minor: u8, frames: u32) -> Result<Server<Stored<L>>, StartRefusal>
+    requires { IsFreshLink N.ServiceParameters L.Link L.runs_on L.marks link minor frames }
+    ensures held { IfOk result (IsHeld N.ServiceParameters L.Link (serving_over L.Link) line_of (IsReadyOver L.Link) (λ call. Unit {0})
+        L.runs_on L.marks) }
+    ensures none_absorbed { IfOk result (λ s. s.absorbed ≡ 0) }
+    ensures holds { OnOk result (IsMountedTruly L.truth N.geometry N.opening) }
+    ensures refused { IfErr result (IsStopped N.opening frames) }
+{
+    match mount(alloc, link, minor, frames) {
+        Ok(server) => Ok(server),
+        Err(refusal) => Err(refusal_of(refusal)),
+    }
+}
+
 /// A service of a server of all calls, mounted with so many frames on its volume in a range of the media, over a link as `over` takes it;
 /// it gives at most 2^57 messages. Where its replies were true, the volume then holds a tree.
 ///
@@ -96,23 +119,15 @@ pub fn mounted<
     running: Running<N>,
     gate: Arc<G>,
 ) -> Result<Service<N, R, L, Server<Stored<L>>>, StartRefusal>
-    requires board { arc_value board ≡ N.table }
-    requires marks { L.marks link ≡ [] }
-    requires told { L.Link.history link ≡ [] }
-    requires geometry { N.geometry ≡ sizes_in (contents_at N.opening) }
-    requires minor { minor ≡ N.opening.minor }
-    requires frames { is_frame_count frames ≡ true }
-    requires budget { L.Link.budget_left link ≤ 2 ^ 57 }
-    requires truth { L.Link.truth link N.opening [] }
-    requires drivers { L.runs_on link N.policy N.supply }
+    requires { IsStarted N.ServiceParameters L.Link L.runs_on L.marks (arc_value board) link minor frames }
     ensures holds { OnOk result (IsMountedTruly L.truth N.geometry N.opening) }
     ensures refused { IfErr result (IsStopped N.opening frames) }
 {
-    match mount(alloc, link, minor, frames) {
+    match mounted_server::<N, L>(alloc, link, minor, frames) {
         Ok(server) => Ok(Service::over(alloc, rt, board, server, running, gate)?),
         Err(refusal) => {
             let _ = running.stop(&rt);
-            Err(refusal_of(refusal))
+            Err(refusal)
         }
     }
 }

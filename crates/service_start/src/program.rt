@@ -1,11 +1,10 @@
 //! What is done with a service that is mounted.
 
-ghost use Rattle.std.specs.Prelude.{◌≡◌, ◌≤◌, ◌^◌, [], true, IfErr, IfOk, OnOk};
+ghost use Rattle.std.specs.Prelude.{IfErr, IfOk, OnOk};
 ghost use Rattle.std.specs.Arc.{arc_value};
 ghost use Rattle.layout.specs.declared.Geometry.{Geometry as Sizes};
-ghost use Rattle.records.specs.Opening.{Opening, contents_at};
-ghost use Rattle.records.specs.Mount.{is_frame_count};
-ghost use Rattle.volume_mount.specs.Laws.{sizes_in};
+ghost use Rattle.records.specs.Opening.{Opening};
+ghost use Rattle.service_start.specs.Started.{IsStarted};
 ghost use Rattle.service_start.specs.Stopped.{IsMountedTruly, IsStopped};
 
 use crate::opened::mounted;
@@ -56,15 +55,7 @@ pub fn run_over<
     gate: Arc<G>,
     program: P,
 ) -> Result<P::Output, StartRefusal>
-    requires board { arc_value board ≡ N.table }
-    requires marks { L.marks link ≡ [] }
-    requires told { L.Link.history link ≡ [] }
-    requires geometry { N.geometry ≡ sizes_in (contents_at N.opening) }
-    requires minor { minor ≡ N.opening.minor }
-    requires frames { is_frame_count frames ≡ true }
-    requires budget { L.Link.budget_left link ≤ 2 ^ 57 }
-    requires truth { L.Link.truth link N.opening [] }
-    requires drivers { L.runs_on link N.policy N.supply }
+    requires { IsStarted N.ServiceParameters L.Link L.runs_on L.marks (arc_value board) link minor frames }
     ensures ran { IfOk result (λ o. P.gives program N.geometry N.opening o) }
     ensures holds { OnOk result (IsMountedTruly L.truth N.geometry N.opening) }
     ensures refused { IfErr result (IsStopped N.opening frames) }

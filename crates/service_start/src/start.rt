@@ -2,13 +2,12 @@
 
 ghost use Rattle.std.specs.Prelude.{◌≡◌, ◌≢◌, [], IfErr, IfOk, map};
 ghost use Rattle.std.specs.Arc.{arc_value};
-ghost use Rattle.records.specs.Opening.{Opening, contents_at};
-ghost use Rattle.volume_mount.specs.Laws.{sizes_in};
+ghost use Rattle.records.specs.Opening.{Opening};
 ghost use Rattle.reincarnate.specs.Policy.{IsAllowed};
 ghost use Rattle.reincarnate.specs.Supply.{new_state};
 ghost use Rattle.true_replies.specs.Events.{opening_media};
 ghost use Rattle.board.specs.View.{IsKeeper, opener};
-ghost use Rattle.volume_mount.specs.Starting.{opening_of, IsPrepared};
+ghost use Rattle.service_start.specs.Started.{IsAtHand, IsStarted};
 ghost use Rattle.service_start.specs.Stopped.{IsStopped};
 ghost use Rattle.service_start.specs.Ran.{HasRun, IsNotStarted};
 
@@ -17,6 +16,7 @@ use bdev::BlockDriver;
 use board::counting::RecordingLink;
 use board::counting::parameters::ServiceParameters;
 use board::counting::recorder::Recorder;
+use board::counting::steady::Supplied;
 use board::{Board, Seat};
 use channel_link::link::ChannelLink;
 use driver_threads::running::{Running, start_drivers};
@@ -107,6 +107,42 @@ pub fn counted_drivers<
     }
 }
 
+/// The board, the link and the threads of a service, from all that is at hand, as `counted_drivers` makes them: over this link the volume may
+/// be mounted, with as many frames as the setup asks for.
+pub fn started_link<
+    N: ServiceParameters + Send + Sync + 'static,
+    R: Threads + Wait + Copy + Send + Sync + 'static,
+    D: BlockDriver + 'static,
+    G: Gate + 'static,
+>(
+    alloc: Global,
+    rt: R,
+    board: Board,
+    seat: Seat,
+    prepared: Prepared,
+    setup: &Setup,
+    supply: Vec<D>,
+    gate: Arc<G>,
+) -> Result<(Arc<Board>, RecordingLink<N, ChannelLink<R>>, Running<N>), AllocError>
+    requires { IsAtHand N.ServiceParameters board seat setup.now (map D.state supply.items) prepared.media prepared.range }
+    ensures { IfOk result (λ made. IsStarted N.ServiceParameters ⟦<RecordingLink<N, ChannelLink<R>> as Link>⟧
+        ⟦<RecordingLink<N, ChannelLink<R>> as Supplied>⟧.runs_on ⟦<RecordingLink<N, ChannelLink<R>> as Recorder<N>>⟧.marks
+        (arc_value made.0) made.1 setup.now.minor setup.now.frames) }
+{
+    let Prepared { media, range } = prepared;
+    counted_drivers::<N, R, D, G>(
+        alloc,
+        rt,
+        board,
+        seat,
+        media,
+        range,
+        setup.policy,
+        supply,
+        gate,
+    )
+}
+
 // The caller picks `N` from what it hands over.
 fn start_and_run<
     N: ServiceParameters + Send + Sync + 'static,
@@ -125,28 +161,14 @@ fn start_and_run<
     gate: Arc<G>,
     program: P,
 ) -> Result<Result<P::Output, StartRefusal>, AllocError>
-    requires board { board ≡ N.table }
-    requires seat { IsKeeper N.table seat × (seat.view ≡ opener) }
-    requires opening { N.opening ≡ opening_of N.opening.media setup.now.minor prepared.range }
-    requires geometry { N.geometry ≡ sizes_in (contents_at N.opening) }
-    requires prepared { IsPrepared N.opening.media setup.now (map D.state supply.items) prepared.range }
-    requires contents { prepared.media ≡ opening_media N.opening }
+    requires { IsAtHand N.ServiceParameters board seat setup.now (map D.state supply.items) prepared.media prepared.range }
     ensures ran { IfOk result (λ came. IfOk came (λ o.
         HasRun N.opening.media setup.now (map D.state supply.items) (λ g opening. P.gives program g opening o))) }
     ensures refused { IfOk result (λ came. IfErr came (IsStopped N.opening setup.now.frames)) }
 {
-    let Prepared { media, range } = prepared;
     let asked = Arc::try_clone(&gate)?;
-    let (board, link, running) = counted_drivers::<N, R, D, G>(
-        alloc,
-        rt,
-        board,
-        seat,
-        media,
-        range,
-        setup.policy,
-        supply,
-        asked,
+    let (board, link, running) = started_link::<N, R, D, G>(
+        alloc, rt, board, seat, prepared, setup, supply, asked,
     )?;
     Ok(run_over(
         alloc,

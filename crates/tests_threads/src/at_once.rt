@@ -2,14 +2,9 @@
 //!
 //! It isn't a `Program` of `launch`, whose `run` knows in one thread alone what its types keep; so the service is started here.
 
-ghost use Rattle.std.specs.Prelude.{◌≡◌, ◌≤◌, ◌^◌, [], true, map};
+ghost use Rattle.std.specs.Prelude.{map};
 ghost use Rattle.std.specs.Arc.{arc_value};
-ghost use Rattle.records.specs.Opening.{contents_at};
-ghost use Rattle.records.specs.Mount.{is_frame_count};
-ghost use Rattle.volume_mount.specs.Laws.{sizes_in};
-ghost use Rattle.volume_mount.specs.Starting.{opening_of, IsPrepared};
-ghost use Rattle.true_replies.specs.Events.{opening_media};
-ghost use Rattle.board.specs.View.{IsKeeper, opener};
+ghost use Rattle.service_start.specs.Started.{IsAtHand, IsStarted};
 
 use crate::many::{has_all, write_all};
 use crate::no_wait::{Looked, look_meanwhile};
@@ -27,7 +22,7 @@ use modeldisk::Fault;
 use reincarnate::policy::Setup;
 use serve::service::Service;
 use service_start::opened::mounted;
-use service_start::start::counted_drivers;
+use service_start::start::started_link;
 use std::marker::Brand;
 use std::sync::{Arc, Wait};
 use std::test::Fail;
@@ -105,15 +100,7 @@ fn mount_and_do<
     running: Running<N>,
     what: What,
 ) -> Result<(Came, Vec<u8>), Fail>
-    requires board { arc_value board ≡ N.table }
-    requires marks { L.marks link ≡ [] }
-    requires told { L.Link.history link ≡ [] }
-    requires geometry { N.geometry ≡ sizes_in (contents_at N.opening) }
-    requires minor { setup.now.minor ≡ N.opening.minor }
-    requires frames { is_frame_count setup.now.frames ≡ true }
-    requires budget { L.Link.budget_left link ≤ 2 ^ 57 }
-    requires truth { L.Link.truth link N.opening [] }
-    requires drivers { L.runs_on link N.policy N.supply }
+    requires { IsStarted N.ServiceParameters L.Link L.runs_on L.marks (arc_value board) link setup.now.minor setup.now.frames }
 {
     let (alloc, rt) = (stage.alloc, stage.rt);
     let gate = Arc::try_clone(&stage.gate)?;
@@ -140,23 +127,16 @@ fn start_and_do<
     supply: Vec<RecordingDriver<R>>,
     what: What,
 ) -> Result<(Came, Vec<u8>), Fail>
-    requires board { board ≡ N.table }
-    requires seat { IsKeeper N.table seat × (seat.view ≡ opener) }
-    requires opening { N.opening ≡ opening_of N.opening.media setup.now.minor prepared.range }
-    requires geometry { N.geometry ≡ sizes_in (contents_at N.opening) }
-    requires prepared { IsPrepared N.opening.media setup.now (map ⟦<RecordingDriver<R> as BlockDriver>⟧.state supply.items) prepared.range }
-    requires contents { prepared.media ≡ opening_media N.opening }
+    requires { IsAtHand N.ServiceParameters board seat setup.now (map ⟦<RecordingDriver<R> as BlockDriver>⟧.state supply.items) prepared.media prepared.range }
 {
-    let Prepared { media, range } = prepared;
     let asked = Arc::try_clone(&stage.gate)?;
-    let (board, link, running) = counted_drivers::<N, R, RecordingDriver<R>, Watch<R>>(
+    let (board, link, running) = started_link::<N, R, RecordingDriver<R>, Watch<R>>(
         stage.alloc,
         stage.rt,
         board,
         seat,
-        media,
-        range,
-        setup.policy,
+        prepared,
+        setup,
         supply,
         asked,
     )?;

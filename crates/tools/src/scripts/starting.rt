@@ -3,15 +3,10 @@
 //! It isn't a `Program` of `launch`: what is known of the types that a program's `run` takes is known in one thread alone, and scripts are
 //! played in several.
 
-ghost use Rattle.std.specs.Prelude.{◌≡◌, ◌≢◌, ◌≤◌, ◌^◌, [], true, IfErr, IfOk, OnOk, map};
+ghost use Rattle.std.specs.Prelude.{IfErr, IfOk, OnOk, map};
 ghost use Rattle.std.specs.Arc.{arc_value};
-ghost use Rattle.records.specs.Opening.{contents_at};
-ghost use Rattle.records.specs.Mount.{is_frame_count};
-ghost use Rattle.volume_mount.specs.Laws.{sizes_in};
-ghost use Rattle.volume_mount.specs.Starting.{opening_of, IsPrepared};
-ghost use Rattle.true_replies.specs.Events.{opening_media};
-ghost use Rattle.board.specs.View.{IsKeeper, opener};
 ghost use Rattle.call_text.specs.Said.{said};
+ghost use Rattle.service_start.specs.Started.{IsAtHand, IsStarted};
 ghost use Rattle.service_start.specs.Stopped.{IsMountedTruly, IsStopped};
 ghost use Rattle.service_start.specs.Ran.{HasRun, IsNotStarted};
 ghost use Rattle.service_start.specs.Spent.{IsSpent};
@@ -29,13 +24,12 @@ use gate::Gate;
 use reincarnate::policy::Setup;
 use serve::service::Service;
 use service_start::ending::cut_once_spent;
-use service_start::opened::refusal_of;
-use service_start::start::counted_drivers;
+use service_start::opened::mounted_server;
+use service_start::start::started_link;
 use std::alloc::Global;
 use std::marker::Brand;
 use std::sync::{Arc, Wait};
 use std::thread::Threads;
-use volume_mount::mounted::mount;
 use volume_mount::{Prepared, StartRefusal, prepare};
 
 /// Mounts the volume over this link, plays scripts on the service of it, and stops the service. It is refused as `service_start::opened::mounted`
@@ -56,29 +50,21 @@ fn mount_and_play<
     gate: Arc<G>,
     scripts: &[Script<'_>],
 ) -> Result<Result<Came, ServiceRefusal>, StartRefusal>
-    requires board { arc_value board ≡ N.table }
-    requires marks { L.marks link ≡ [] }
-    requires told { L.Link.history link ≡ [] }
-    requires geometry { N.geometry ≡ sizes_in (contents_at N.opening) }
-    requires minor { minor ≡ N.opening.minor }
-    requires frames { is_frame_count frames ≡ true }
-    requires budget { L.Link.budget_left link ≤ 2 ^ 57 }
-    requires truth { L.Link.truth link N.opening [] }
-    requires drivers { L.runs_on link N.policy N.supply }
+    requires { IsStarted N.ServiceParameters L.Link L.runs_on L.marks (arc_value board) link minor frames }
     ensures played { IfOk result (λ o. IfOk o (λ came. AreServed (HasEnded L.Link N.opening) N.geometry N.opening (map said scripts.now)
         came.sessions.items came.last_sync came.image.items)) }
     ensures unserved { IfOk result (λ o. IfErr o (IsUnservedBy L.Link L.numbers N.opening)) }
     ensures holds { OnOk result (IsMountedTruly L.truth N.geometry N.opening) }
     ensures refused { IfErr result (IsStopped N.opening frames) }
 {
-    match mount(alloc, link, minor, frames) {
+    match mounted_server::<N, L>(alloc, link, minor, frames) {
         Ok(server) => {
             let service = Service::over(alloc, rt, board, server, running, gate)?;
             Ok(play_on(alloc, &rt, service, scripts))
         }
         Err(refusal) => {
             let _ = running.stop(&rt);
-            Err(refusal_of(refusal))
+            Err(refusal)
         }
     }
 }
@@ -100,29 +86,15 @@ fn start_and_play<
     gate: Arc<G>,
     scripts: &[Script<'_>],
 ) -> Result<Result<Came, ServiceRefusal>, StartRefusal>
-    requires board { board ≡ N.table }
-    requires seat { IsKeeper N.table seat × (seat.view ≡ opener) }
-    requires opening { N.opening ≡ opening_of N.opening.media setup.now.minor prepared.range }
-    requires geometry { N.geometry ≡ sizes_in (contents_at N.opening) }
-    requires prepared { IsPrepared N.opening.media setup.now (map D.state supply.items) prepared.range }
-    requires contents { prepared.media ≡ opening_media N.opening }
+    requires { IsAtHand N.ServiceParameters board seat setup.now (map D.state supply.items) prepared.media prepared.range }
     ensures played { IfOk result (λ o. HasRun N.opening.media setup.now (map D.state supply.items) (λ g v. IfOk o (λ came.
         AreServed IsSpent g v (map said scripts.now) came.sessions.items came.last_sync came.image.items))) }
     ensures unserved { IfOk result (λ o. IfErr o (IsUnserved IsSpent)) }
     ensures refused { IfErr result (IsStopped N.opening setup.now.frames) }
 {
-    let Prepared { media, range } = prepared;
     let asked = Arc::try_clone(&gate)?;
-    let (board, link, running) = counted_drivers::<N, R, D, G>(
-        alloc,
-        rt,
-        board,
-        seat,
-        media,
-        range,
-        setup.policy,
-        supply,
-        asked,
+    let (board, link, running) = started_link::<N, R, D, G>(
+        alloc, rt, board, seat, prepared, setup, supply, asked,
     )?;
     cut_once_spent::<N, R>();
     mount_and_play(

@@ -1,16 +1,8 @@
 use Rattle.std.proofs.Common.{map}
 use Rattle.std.specs.Prelude.{IfOk}
-use Rattle.service_start.proofs.Frames.{frames_fit}
 use Rattle.service_start.proofs.Runs.{has_run}
 use Rattle.ninep_service.specs.Left.{IsLeftBy}
 use Rattle.ninep_service.proofs.starting.start_and_answer.Goals as goal
-
-pub mount_and_answer-requires-clause-truth : goal.mount_and_answer-requires-clause-truth
-mount_and_answer-requires-clause-truth g c κs lives = c.in_ok-board.ensures.truth g.N.ServiceParameters.opening
-
-pub mount_and_answer-requires-clause-frames : goal.mount_and_answer-requires-clause-frames
-mount_and_answer-requires-clause-frames g c κs lives =
-    frames_fit c.args.setup.now.frames c.requires.prepared.set_up.0.0 c.requires.prepared.set_up.0.1
 
 pub returns-clause-played : goal.returns-clause-played
 returns-clause-played g c =

@@ -1,19 +1,11 @@
 use Rattle.std.proofs.Common.{map}
 use Rattle.std.specs.Prelude.{IfOk}
 use Rattle.call_text.specs.Said.{said}
-use Rattle.service_start.proofs.Frames.{frames_fit}
 use Rattle.service_start.proofs.Runs.{has_run}
 use Rattle.service_start.specs.Spent.{IsSpent}
 use Rattle.tools.proofs.Records.{came_as, unserved_as}
 use Rattle.tools.specs.Served.{AreServed}
 use Rattle.tools.proofs.scripts.starting.start_and_play.Goals as goal
-
-pub mount_and_play-requires-clause-truth : goal.mount_and_play-requires-clause-truth
-mount_and_play-requires-clause-truth g c κs lives = c.in_ok-board.ensures.truth g.N.ServiceParameters.opening
-
-pub mount_and_play-requires-clause-frames : goal.mount_and_play-requires-clause-frames
-mount_and_play-requires-clause-frames g c κs lives =
-    frames_fit c.args.setup.now.frames c.requires.prepared.set_up.0.0 c.requires.prepared.set_up.0.1
 
 pub returns-clause-played : goal.returns-clause-played
 returns-clause-played g c =
