@@ -1,6 +1,6 @@
 -- What the laws say of calls.
-use Rattle.std.proofs.Common.{◌≡◌, ℕ, ◌^◌, ◌<◌, List, map, sym, subst, Option, Some, Result, OnOk, false}
-use Rattle.stable.specs.Disk.{Contents, Changes, put, Did, Disk, run}
+use Rattle.std.proofs.Common.{◌≡◌, ℕ, ◌^◌, ◌<◌, sym, subst, Option, Some, Result, OnOk, false}
+use Rattle.stable.specs.Disk.{Contents, Changes, put, run}
 use Rattle.stable.specs.Runs.{Known, now, Follows, Knows, EachMoment}
 use Rattle.redo.specs.Plans.{log_plan, settle_plan, commit_plan, recover_plan}
 use Rattle.redo.specs.UnderWay.{Fits, IsAtRest, IsPromised, IsUnderWay}
@@ -35,8 +35,8 @@ module _ {E : Type 0} (name : ℕ) (small : name < 2 ^ 64) (changes : Changes) (
   commit_moments follows before rest =
       each_moment {T = Unit {0}} {E = E} (FindsEither name before (put changes before)) (λ k. commit_plan name changes) old new r
       (λ k is events moment.
-          finds_either name small changes fits before (put changes before) (run events (now k))
-          (at_moment (IsUnderWay name changes before (put changes before)) (now k) (commit_plan name changes) events (committed name changes before (now k) (known_now (IsAtRest before) old k rest is)).along moment))
+      finds_either name small changes fits before (put changes before) (run events (now k))
+      (at_moment (IsUnderWay name changes before (put changes before)) (now k) (commit_plan name changes) events (committed name changes before (now k) (known_now (IsAtRest before) old k rest is)).along moment))
       (λ k is. follows)
 
   pub commit_rests : Follows {T = Unit {0}} {E = E} (commit_plan name changes) old new r → (before : Contents) → Knows (IsAtRest before) old → OnOk r (Knows (IsAtRest (put changes before)) new)

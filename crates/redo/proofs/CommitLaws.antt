@@ -1,17 +1,17 @@
 -- Each moment of a commit.
-use Rattle.std.proofs.Common.{◌≡◌, ◌⊎◌, inl, inr, ⊎_elim, ℕ, ◌+◌, ◌^◌, ◌<◌, ◌≤◌, List, [], ◌∷◌, ◌++◌, length, map, refl, sym, ◌∙◌, ap, subst, arith, append_assoc}
+use Rattle.std.proofs.Common.{◌≡◌, ◌⊎◌, inl, inr, ℕ, ◌+◌, ◌^◌, ◌<◌, ◌≤◌, List, [], ◌∷◌, ◌++◌, length, map, refl, sym, ◌∙◌, ap, subst, arith, append_assoc}
 use Rattle.std.specs.List.{AllByRecursion}
 use Rattle.std.proofs.lemmas.List.{append-nil, length-map, map-append}
 use Rattle.stable.specs.declared.Which.TheVariants.{Log, Image}
-use Rattle.stable.specs.Disk.{Contents, Changes, Step, Write, Sync, Did, numbered, set, put, Touches, FileState, Keeps, Disk, MayLeave, run}
+use Rattle.stable.specs.Disk.{Contents, Changes, Step, Write, Sync, numbered, put, Touches, FileState, Keeps, Disk, MayLeave, run}
 use Rattle.redo.specs.Record.{head, closed, body, directory, directory_units, first_data, recovered, redone, standing, Standing, Nothing, Redo}
 use Rattle.redo.specs.Runs.{Run, singly, spread, joined}
 use Rattle.redo.specs.Plans.{run_write, body_writes, to_write, to_gate, to_image, log_plan, settle_plan, commit_plan}
-use Rattle.redo.specs.UnderWay.{Fits, body_units, IsSaid, IsSure, IsAtRest, IsLogged, IsOpen, IsPromised, IsUnderWay}
+use Rattle.redo.specs.UnderWay.{Fits, body_units, IsSure, IsAtRest, IsLogged, IsPromised, IsUnderWay}
 use Rattle.redo.specs.Laws.{IsImage, FindsEither, LoggingIsSafe, SettlingIsSafe, CommitsAreSafe}
 use Rattle.redo.proofs.Units.{put_agrees, put_other, put_or_touches, touches_or_not, not_below, numbered-append, spread_singly, spread-append, spread_joined}
-use Rattle.redo.proofs.Spelled.{Says, said, length-directory, standing_closed, standing_says, standing_opened}
-use Rattle.redo.proofs.Moments.{Along, all_done, Reaches, reaches_then, run_all, at_moment, Moves, Within, along, all_moves, all_then, log_within, image_within, log_kept, image_kept}
+use Rattle.redo.proofs.Spelled.{said, length-directory, standing_closed, standing_says, standing_opened}
+use Rattle.redo.proofs.Moments.{all_done, Reaches, reaches_then, run_all, at_moment, Moves, Within, along, all_moves, all_then, log_within, image_within, log_kept, image_kept}
 
 -- where the log asks for nothing, the image is found as it is
 found_as_is : (name : ℕ) (log left image : Contents) → standing name log ≡ Nothing → ((n : ℕ) → left n ≡ image n) → IsImage (recovered name log left) image
@@ -72,11 +72,11 @@ body_spread name changes =
     let dirs : List (List ℕ) = directory (directory_units (length changes)) ns in
     ap (λ (k : ℕ). (1, head name k) ∷ spread (singly (numbered 2 (directory (directory_units k) ns)) ++ (first_data k, units) ∷ [])) counted
     ∙ ap (λ (l : Changes). (1, head name (length changes)) ∷ l) (
-      spread-append (singly (numbered 2 dirs)) ((first_data (length changes), units) ∷ [])
-      ∙ ap (λ (l : Changes). l ++ (numbered (first_data (length changes)) units ++ [])) (spread_singly (numbered 2 dirs))
-      ∙ ap (λ (l : Changes). numbered 2 dirs ++ l) (append-nil (numbered (first_data (length changes)) units))
-      ∙ ap (λ (k : ℕ). numbered 2 dirs ++ numbered (2 + k) units) (sym (length-directory (directory_units (length changes)) ns))
-      ∙ sym (numbered-append dirs units 2)
+    spread-append (singly (numbered 2 dirs)) ((first_data (length changes), units) ∷ [])
+    ∙ ap (λ (l : Changes). l ++ (numbered (first_data (length changes)) units ++ [])) (spread_singly (numbered 2 dirs))
+    ∙ ap (λ (l : Changes). numbered 2 dirs ++ l) (append-nil (numbered (first_data (length changes)) units))
+    ∙ ap (λ (k : ℕ). numbered 2 dirs ++ numbered (2 + k) units) (sym (length-directory (directory_units (length changes)) ns))
+    ∙ sym (numbered-append dirs units 2)
     )
 
 behind_gate : (name : ℕ) (changes : Changes) → Touches (body_units name changes) 0 → ⊥
@@ -141,13 +141,16 @@ module _ (name : ℕ) (changes : Changes) (before after : Contents) where
       let e = all_done d steps in
       record {
         along = along P [] changes d steps in_it (λ e m. inr (still d e m promised.0, inl (m.log_keeps 0 (head name (length changes)) (λ t. t) promised.1)));
-        ends = (still d e m promised.0, λ n. elim (touches_or_not changes n) [
-          | inl touched ↦ subst (Keeps e.image n) (ap (λ (l : Changes). put l after n) is ∙ promised.0.made n touched after) (image_kept runs d after n (subst (λ (l : Changes). Touches l n) (sym is) touched))
-          | inr none ↦ elim (promised.0.rest n) [
-            | inl keeps ↦ m.image_keeps n (after n) none keeps
-            | inr touched ↦ absurd (none touched)
-          ]
-        ]);
+        ends = (
+          still d e m promised.0,
+          λ n. elim (touches_or_not changes n) [
+            | inl touched ↦ subst (Keeps e.image n) (ap (λ (l : Changes). put l after n) is ∙ promised.0.made n touched after) (image_kept runs d after n (subst (λ (l : Changes). Touches l n) (sym is) touched))
+            | inr none ↦ elim (promised.0.rest n) [
+              | inl keeps ↦ m.image_keeps n (after n) none keeps
+              | inr touched ↦ absurd (none touched)
+            ]
+          ],
+        );
       }
 
   -- the image is written, and the gate closed

@@ -1,5 +1,5 @@
 -- What a commit's plan writes, and how often it syncs.
-use Rattle.std.proofs.Common.{◌≡◌, ◌<◌, ℕ, zero, suc, ◌+◌, ◌*◌, ◌==◌, Bool, true, if◌then◌else◌, List, [], ◌∷◌, ◌++◌, length, map, drop, refl, sym, ◌∙◌, ap, arith, length-append}
+use Rattle.std.proofs.Common.{◌≡◌, ℕ, suc, ◌+◌, Bool, if◌then◌else◌, List, [], ◌∷◌, ◌++◌, length, map, refl, sym, ◌∙◌, ap, arith, length-append}
 use Rattle.std.proofs.lemmas.List.{length-map}
 use Rattle.std.proofs.lemmas.Bool.Decides.{Decides-eqb}
 use Rattle.stable.specs.declared.Which.{Which}
@@ -7,7 +7,7 @@ use Rattle.stable.specs.declared.Which.TheVariants.{Log, Image}
 use Rattle.stable.specs.Disk.{Changes, Step, Write, Sync, numbered}
 use Rattle.redo.specs.Record.{head, closed, body, directory, directory_units}
 use Rattle.redo.specs.Runs.{Run, singly, spread, joined, join}
-use Rattle.redo.specs.Plans.{run_write, body_writes, to_write, to_gate, log_plan, settle_plan}
+use Rattle.redo.specs.Plans.{run_write, to_write, to_gate}
 use Rattle.redo.specs.Costs.{writes, units_written, syncs, Costs, NeighboursAreOneRun}
 use Rattle.redo.proofs.Units.{spread_joined}
 use Rattle.redo.proofs.Spelled.{length-directory}

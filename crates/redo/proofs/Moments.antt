@@ -1,5 +1,5 @@
 -- What holds at each moment of some steps.
-use Rattle.std.proofs.Common.{◌≡◌, inl, inr, ℕ, List, [], ◌∷◌, ◌++◌, map, refl, sym, ◌∙◌, ap, subst, Bool, true, false}
+use Rattle.std.proofs.Common.{◌≡◌, inl, inr, ℕ, List, [], ◌∷◌, ◌++◌, map, refl, sym, ◌∙◌, ap, subst}
 use Rattle.std.specs.List.{AllByRecursion}
 use Rattle.stable.specs.declared.Which.TheVariants.{Log, Image}
 use Rattle.stable.specs.Disk.{Contents, Changes, Step, Write, Sync, numbered, put, Touches, Keeps, Event, Did, Failed, FileState, Disk, file_written, file_synced, done, broken, happened, run}

@@ -1,10 +1,10 @@
 -- What is read of the log while the image alone is written.
-use Rattle.std.proofs.Common.{◌≡◌, ℕ, ◌+◌, ◌-◌, ◌<◌, ◌≤◌, zero, suc, List, [], ◌∷◌, ◌++◌, length, map, drop, get_or, refl, sym, ◌∙◌, ap, subst, arith, Option, Some, None, add-one}
+use Rattle.std.proofs.Common.{◌≡◌, ℕ, ◌+◌, ◌-◌, ◌<◌, ◌≤◌, zero, suc, List, [], ◌∷◌, ◌++◌, length, map, drop, get_or, sym, ◌∙◌, ap, subst, arith, Option, Some, None, add-one}
 use Rattle.std.specs.List.{zip, flat_map}
 use Rattle.std.proofs.lemmas.Grind.{flat_map-append}
 use Rattle.std.proofs.lemmas.List.{append-nil}
 use Rattle.stable.specs.declared.Which.TheVariants.{Log, Image}
-use Rattle.stable.specs.Disk.{Contents, Step, Write, Sync, Event, Did, Disk, run}
+use Rattle.stable.specs.Disk.{Contents, Write, Sync, Event, Did, Disk, run}
 use Rattle.stable.specs.Runs.{Known, now, Happens, Knows, Reads, ShowsLog}
 use Rattle.redo.specs.Record.{numbers_in, window}
 use Rattle.redo.specs.Runs.{singly}

@@ -1,17 +1,17 @@
 -- Each moment of a recovery.
-use Rattle.std.proofs.Common.{◌≡◌, ◌⊎◌, inl, inr, ⊎_elim, ℕ, ◌^◌, ◌<◌, List, [], ◌∷◌, ◌++◌, length, map, refl, sym, ◌∙◌, ap, subst, Bool, true, false, Some, if◌then◌else◌}
+use Rattle.std.proofs.Common.{◌≡◌, ◌⊎◌, inl, inr, ⊎_elim, ℕ, ◌^◌, ◌<◌, List, [], ◌∷◌, length, refl, sym, ◌∙◌, ap, subst, Bool, true, false, Some, if◌then◌else◌}
 use Rattle.std.specs.Str.{bytes_eq}
 use Rattle.std.proofs.lemmas.Slice.Eq.{bytes_eq-Decides}
-use Rattle.stable.specs.declared.Which.TheVariants.{Log, Image}
-use Rattle.stable.specs.Disk.{Contents, Changes, Step, Sync, Did, put, Held, Kept, Written, Stale, kept, FileState, Keeps, Disk, Leaves, MayLeave, Reopens, Opens, on_disk, restarted, file_synced, done, run}
+use Rattle.stable.specs.declared.Which.TheVariants.{Log}
+use Rattle.stable.specs.Disk.{Contents, Changes, Step, Sync, put, Held, Kept, Written, Stale, kept, FileState, Keeps, Disk, Leaves, MayLeave, Reopens, Opens, on_disk, restarted, done}
 use Rattle.redo.specs.Record.{head, closed, recovered, redone, standing, Standing}
 use Rattle.redo.specs.Runs.{singly}
 use Rattle.redo.specs.Plans.{to_gate, to_recover, recover_plan}
 use Rattle.redo.specs.UnderWay.{Fits, IsSure, IsAtRest, IsLogged, IsUnderWay}
 use Rattle.redo.specs.Laws.{IsRecoverable, RecoveryIsSafe, RecoveriesAreSafe, CrashesAreSafe}
-use Rattle.redo.proofs.Units.{keeps_synced, keeps_unsynced, spread_singly}
+use Rattle.redo.proofs.Units.{spread_singly}
 use Rattle.redo.proofs.Spelled.{said, standing_closed, standing_opened, standing_other}
-use Rattle.redo.proofs.Moments.{Along, all_done, Reaches, reaches_then, run_all, at_moment, Moves, Within, along, all_moves}
+use Rattle.redo.proofs.Moments.{Along, Reaches, run_all, at_moment, Moves, along, all_moves}
 use Rattle.redo.proofs.CommitLaws.{remade, finds_either, gate_written, settled}
 
 bool_cases : (b : Bool) → (b ≡ true) ⊎ (b ≡ false)
@@ -36,7 +36,7 @@ module _ (name : ℕ) (small : name < 2 ^ 64) (changes : Changes) (fits : Fits c
       rest = λ n. ⊎_elim (λ k. inl (m.image_keeps n (after n) (λ t. t) k)) (λ t. inr t) (w.0.rest n);
     },
     ⊎_elim (λ gate. inl (m.log_keeps 0 (head name (length changes)) (λ t. t) gate))
-    (λ image. inr (⊎_elim (λ is. inl (λ n. m.image_keeps n (before n) (λ t. t) (is n))) (λ is. inr (λ n. m.image_keeps n (after n) (λ t. t) (is n))) image)) (w.1),
+        (λ image. inr (⊎_elim (λ is. inl (λ n. m.image_keeps n (before n) (λ t. t) (is n))) (λ is. inr (λ n. m.image_keeps n (after n) (λ t. t) (is n))) image)) (w.1),
   )
 
   opens_moves : (d e : Disk) → Reopens d e → Moves [] [] d e

@@ -1,11 +1,11 @@
 -- Commits one behind the other.
-use Rattle.std.proofs.Common.{◌≡◌, ℕ, ◌^◌, ◌<◌, List, [], ◌∷◌, ◌++◌, map, refl, sym, ◌∙◌, ap, subst, append_assoc}
+use Rattle.std.proofs.Common.{ℕ, ◌^◌, ◌<◌, List, [], ◌∷◌, ◌++◌, map, sym, ◌∙◌, ap, subst}
 use Rattle.std.specs.List.{AllByRecursion}
 use Rattle.std.proofs.lemmas.List.{map-append}
 use Rattle.stable.specs.Disk.{Contents, Changes, put, Event, Did, Disk, run}
 use Rattle.redo.specs.Plans.{log_plan, settle_plan, commit_plan}
-use Rattle.redo.specs.UnderWay.{Fits, IsAtRest, IsPromised}
-use Rattle.redo.specs.Laws.{Finds, FindsEither, plans, put_all, RunIsSafe, RunsAreSafe}
+use Rattle.redo.specs.UnderWay.{Fits, IsAtRest}
+use Rattle.redo.specs.Laws.{Finds, FindsEither, plans, put_all, RunsAreSafe}
 use Rattle.redo.proofs.Moments.{run-append}
 use Rattle.redo.proofs.CommitLaws.{commits_are_safe}
 

@@ -2,7 +2,7 @@
 use Rattle.std.proofs.Common.{◌≡◌, ◌⊎◌, inl, inr, ℕ, zero, suc, ◌+◌, ◌<◌, ◌≤◌, ◌==◌, Bool, true, false, if◌then◌else◌, List, [], ◌∷◌, ◌++◌, length, refl, sym, ◌∙◌, ap, arith, append_assoc}
 use Rattle.std.proofs.lemmas.Bool.{cases_eq}
 use Rattle.std.proofs.lemmas.Bool.Decides.{nat_tests}
-use Rattle.stable.specs.Disk.{Contents, Changes, set, put, numbered, Touches, Held, Kept, Written, Stale, FileState, hold, mark, Keeps, file_written, file_spoilt, file_synced, file_unsynced, kept, lost}
+use Rattle.stable.specs.Disk.{Contents, Changes, set, put, numbered, Touches, Held, Written, Stale, FileState, hold, mark, Keeps, file_written, file_spoilt, file_synced, file_unsynced, kept, lost}
 use Rattle.redo.specs.Record.{window}
 use Rattle.redo.specs.Runs.{Run, spread, singly, join, joined}
 

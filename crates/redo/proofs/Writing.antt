@@ -1,14 +1,14 @@
 -- The next step of each loop that writes, and the parts of the plans.
-use Rattle.std.proofs.Common.{◌≡◌, inl, inr, length-append, ℕ, zero, suc, ◌+◌, ◌-◌, ◌*◌, ◌/◌, ◌^◌, ◌<◌, ◌≤◌, ◌==◌, Bool, true, false, if◌then◌else◌, min, List, [], ◌∷◌, ◌++◌, length, map, take, drop, get_or, replicate, refl, sym, ◌∙◌, ap, subst, arith, add-one, append_assoc, codes}
+use Rattle.std.proofs.Common.{◌≡◌, inl, inr, length-append, ℕ, suc, ◌+◌, ◌-◌, ◌*◌, ◌/◌, ◌^◌, ◌<◌, ◌≤◌, ◌==◌, Bool, true, false, if◌then◌else◌, min, List, [], ◌∷◌, ◌++◌, length, map, take, drop, get_or, replicate, refl, sym, ◌∙◌, ap, subst, arith, add-one, append_assoc, codes}
 use Rattle.std.specs.Int.{to_be_bytes, w32, w64}
 use Rattle.std.specs.List.{flat_map, zip, AllByRecursion}
 use Rattle.std.proofs.Math.Seq.{drop-cons, drop-append-add}
-use Rattle.std.proofs.lemmas.List.{take_all, drop_all, length-drop, length-take-le, take_at, append-nil, drop-replicate, map-append}
+use Rattle.std.proofs.lemmas.List.{take_all, drop_all, length-drop, length-take-le, take_at, append-nil, drop-replicate}
 use Rattle.std.proofs.lemmas.Grind.{take_at_read, flat_map-append}
 use Rattle.std.proofs.lemmas.Bool.{cases_lt}
 use Rattle.stable.specs.declared.Which.TheVariants.{Log, Image}
-use Rattle.stable.specs.Disk.{Step, Write, Sync, Changes, numbered}
-use Rattle.redo.specs.Record.{directory, directory_units, numbers_unit, head}
+use Rattle.stable.specs.Disk.{Write, Sync, numbered}
+use Rattle.redo.specs.Record.{directory, numbers_unit, head}
 use Rattle.redo.specs.Runs.{Run, run_length, followers, join, joined, singly}
 use Rattle.redo.specs.Plans.{run_write, directory_writes, body_writes, to_gate, log_plan}
 use Rattle.redo.specs.UnderWay.{Fits}

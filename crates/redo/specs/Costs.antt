@@ -1,6 +1,6 @@
 -- What a commit costs.
-use Rattle.std.specs.Prelude.{◌≡◌, ◌<◌, ℕ, ◌+◌, ◌*◌, List, [], ◌∷◌, length}
-use Rattle.stable.specs.Disk.{Changes, Step, Write, Sync, numbered}
+use Rattle.std.specs.Prelude.{◌≡◌, ◌<◌, ℕ, ◌+◌, List, [], ◌∷◌, length}
+use Rattle.stable.specs.Disk.{Step, Write, Sync, numbered}
 use Rattle.redo.specs.Record.{directory_units}
 use Rattle.redo.specs.Runs.{joined}
 use Rattle.redo.specs.Plans.{log_plan, settle_plan}

@@ -3,7 +3,7 @@ use Rattle.std.specs.Prelude.{◌≡◌, ◌⊎◌, ℕ, ◌<◌, ◌^◌, List,
 use Rattle.std.specs.List.{AllByRecursion}
 use Rattle.stable.specs.Disk.{Contents, Changes, put, Event, Did, Disk, Stale, run, Leaves, Reopens, restarted, Step}
 use Rattle.stable.specs.Runs.{IsMoment}
-use Rattle.redo.specs.Record.{recovered, closed}
+use Rattle.redo.specs.Record.{recovered}
 use Rattle.redo.specs.Plans.{log_plan, settle_plan, commit_plan, recover_plan}
 use Rattle.redo.specs.UnderWay.{Fits, IsAtRest, IsPromised, IsUnderWay}
 

@@ -71,11 +71,7 @@ pub fn log<S: Storage>(
 /// Settles units that were logged: they go to their places in the image, neighbours by one call, and the gate is closed.
 ///
 /// At each moment a crash leaves the image that was promised. It waits for two syncs.
-pub fn settle<S: Storage>(
-    storage: &mut S,
-    numbers: &[u32],
-    units: &[[u8; UNIT]],
-) -> io::Result<()>
+pub fn settle<S: Storage>(storage: &mut S, numbers: &[u32], units: &[[u8; UNIT]]) -> io::Result<()>
     requires { length numbers.now ≡ length units.now }
     ensures follows { Follows (settle_plan (zip numbers.now units.now)) (S.known storage.old) (S.known storage.new) result }
     ensures any_moment { (name : ℕ) (after : ℕ → List ℕ) → name < 2 ^ 64 → Fits (zip numbers.now units.now)

@@ -1,5 +1,5 @@
 -- What two files on stable storage hold, and what a crash may leave of them.
-use Rattle.std.specs.Prelude.{◌≡◌, ◌⊎◌, ℕ, ◌+◌, List, [], ◌∷◌, ◌++◌, Bool, true, false, ◌==◌, if◌then◌else◌}
+use Rattle.std.specs.Prelude.{◌≡◌, ◌⊎◌, ℕ, ◌+◌, List, [], ◌∷◌, Bool, true, false, ◌==◌, if◌then◌else◌}
 use Rattle.stable.specs.declared.Which.{Which}
 use Rattle.stable.specs.declared.Which.TheVariants.{Log, Image}
 

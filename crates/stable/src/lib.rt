@@ -1,6 +1,8 @@
 //! Two files on stable storage, a redo log and an image, in units of 4096 bytes: what a program asks of them, and what a crash may leave.
 #![tactic(auto)]
 
+pub mod memory;
+
 ghost use Rattle.std.specs.Prelude.{◌∷◌, [], Option, None, IfOk};
 ghost use Rattle.stable.specs.Disk.{Write, Sync};
 ghost use Rattle.stable.specs.Runs.{Known, Follows, Happens, Reads};

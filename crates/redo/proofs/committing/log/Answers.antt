@@ -1,4 +1,4 @@
-use Rattle.std.proofs.Common.{List, ℕ, [], ◌∷◌, ◌++◌, length, subst, arith}
+use Rattle.std.proofs.Common.{List, ℕ, [], ◌∷◌, length, subst, arith}
 use Rattle.std.specs.List.{zip}
 use Rattle.stable.specs.declared.Which.TheVariants.{Log}
 use Rattle.stable.specs.Disk.{Step, Sync}

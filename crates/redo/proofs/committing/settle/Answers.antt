@@ -1,4 +1,4 @@
-use Rattle.std.proofs.Common.{List, [], ◌∷◌, ◌++◌, map}
+use Rattle.std.proofs.Common.{List, [], ◌∷◌, map}
 use Rattle.std.specs.List.{zip}
 use Rattle.stable.specs.declared.Which.TheVariants.{Image}
 use Rattle.stable.specs.Disk.{Step, Sync}

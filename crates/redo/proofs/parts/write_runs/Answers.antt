@@ -1,4 +1,4 @@
-use Rattle.std.proofs.Common.{◌≡◌, ◌<◌, ◌≤◌, ℕ, [], ◌∷◌, length, get_or, map, arith, refl}
+use Rattle.std.proofs.Common.{◌<◌, [], ◌∷◌, length, get_or, map, arith, refl}
 use Rattle.std.specs.List.{zip}
 use Rattle.stable.specs.declared.Which.TheVariants.{Image}
 use Rattle.stable.specs.Disk.{Write}

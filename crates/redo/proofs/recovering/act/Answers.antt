@@ -1,11 +1,10 @@
-use Rattle.std.proofs.Common.{◌≡◌, ℕ, List, [], ◌∷◌, ◌++◌, map, sym, ◌∙◌, ap, Option, true, false}
+use Rattle.std.proofs.Common.{◌≡◌, ℕ, List, [], sym, ◌∙◌, ap, Option, true, false}
 use Rattle.std.specs.Str.{bytes_eq}
 use Rattle.stable.specs.declared.Which.TheVariants.{Log}
-use Rattle.stable.specs.Disk.{Contents, Step, Did}
+use Rattle.stable.specs.Disk.{Contents}
 use Rattle.stable.specs.Runs.{Known, Happens, Knows, Reads, ShowsLog}
 use Rattle.redo.specs.declared.recovering.Asked.{Asked}
 use Rattle.redo.specs.declared.recovering.Asked.TheVariants.{NothingMore, Changes, Another}
-use Rattle.redo.specs.declared.recovering.Recovered.{Recovered}
 use Rattle.redo.specs.Asked.{asks_of, stands, answer_of}
 use Rattle.redo.specs.Plans.{to_gate, to_image, to_recover}
 use Rattle.redo.specs.Record.{closed, changes_in, standing}

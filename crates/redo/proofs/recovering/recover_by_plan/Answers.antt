@@ -1,6 +1,6 @@
-use Rattle.std.proofs.Common.{◌≡◌, refl, sym, subst, List, [], ◌∷◌, Option, Some, false}
+use Rattle.std.proofs.Common.{◌≡◌, refl, sym, subst, [], ◌∷◌, Option, Some, false}
 use Rattle.stable.specs.declared.Which.TheVariants.{Log}
-use Rattle.stable.specs.Disk.{Contents, Step, Sync}
+use Rattle.stable.specs.Disk.{Contents, Sync}
 use Rattle.stable.specs.Runs.{Known, now, Knows, ShowsLog}
 use Rattle.redo.specs.Plans.{recover_plan, to_recover}
 use Rattle.redo.specs.Record.{standing}
