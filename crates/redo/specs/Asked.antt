@@ -9,7 +9,8 @@ use Rattle.redo.specs.declared.recovering.Recovered.TheVariants as recovered
 use Rattle.redo.specs.Record.{is_head, name_in, count_in, changes_in, Standing, Nothing, Redo, Foreign}
 
 abbrev pub asks_of : ℕ → List ℕ → List ℕ → Asked
-asks_of name gate first = if bytes_eq gate first && is_head first then (if name_in first == name then Changes (count_in first) else Another) else NothingMore
+asks_of name gate first =
+    if bytes_eq gate first && is_head first then (if name_in first == name then Changes (count_in first) else Another) else NothingMore
 
 -- how a log stands that asks so
 abbrev pub stands : Asked → Contents → Standing

@@ -17,7 +17,8 @@ directory_writes at ns = map (run_write Log) (singly (numbered at (directory (di
 
 -- what is written to the log behind its gate: the head, each unit of the directory, all bytes
 abbrev pub body_writes : ℕ → List ℕ → List (List ℕ) → List Step
-body_writes name ns units = Write Log 1 (head name (length ns) ∷ []) ∷ directory_writes 2 ns ++ Write Log (first_data (length ns)) units ∷ []
+body_writes name ns units =
+    Write Log 1 (head name (length ns) ∷ []) ∷ directory_writes 2 ns ++ Write Log (first_data (length ns)) units ∷ []
 
 -- the log is written behind its closed gate
 abbrev pub to_write : ℕ → Changes → List Step

@@ -50,7 +50,8 @@ numbers_in _ = []
 
 -- the units of a log behind its gate, for these changes
 abbrev pub body : ℕ → Changes → List (List ℕ)
-body name changes = head name (length changes) ∷ directory (directory_units (length changes)) (map (λ w. w.0) changes) ++ map (λ w. w.1) changes
+body name changes =
+    head name (length changes) ∷ directory (directory_units (length changes)) (map (λ w. w.0) changes) ++ map (λ w. w.1) changes
 
 -- so many units from one on
 abbrev pub window : Contents → ℕ → ℕ → List (List ℕ)

@@ -41,7 +41,8 @@ IsPromised name changes after d = IsLogged name changes after d × IsOpen name c
 
 -- the log says the changes, and its gate is sure to be open, or the image is sure to be the one before or the one after
 abbrev pub IsWritten : ℕ → Changes → Contents → Contents → Disk → Type 0
-IsWritten name changes before after d = IsLogged name changes after d × (IsOpen name changes d.log ⊎ (IsSure d.image before ⊎ IsSure d.image after))
+IsWritten name changes before after d = IsLogged name changes after d
+    × (IsOpen name changes d.log ⊎ (IsSure d.image before ⊎ IsSure d.image after))
 
 -- what a commit of these changes keeps from its first step to its last, and a recovery after it too
 abbrev pub IsUnderWay : ℕ → Changes → Contents → Contents → Disk → Type 0

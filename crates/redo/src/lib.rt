@@ -1,4 +1,4 @@
-//! A redo log beside an image file: a commit changes some units of the image, and a crash at any moment leaves the image before or after it.
+//! A redo log beside an image file: a commit changes some units of the image, and a crash leaves the image before it or after it.
 #![tactic(auto)]
 
 mod committing;
@@ -12,12 +12,14 @@ ghost use Rattle.redo.specs.Costs.{Costs, NeighboursAreOneRun};
 pub use committing::{commit, log, settle};
 pub use recovering::{Recovered, recover};
 
-/// At each moment of a commit's logging a crash leaves the image before or the image after; at each moment of its settling, the image after.
+/// At each moment of a commit's logging a crash leaves the image before or the image after; at each moment of its settling, the image
+/// after.
 pub fn commits_survive()
     ensures { CommitsAreSafe }
 {}
 
-/// At each moment of a recovery the files stand as a commit may leave them. After it all is at rest, with the image before or the image after.
+/// At each moment of a recovery the files stand as a commit may leave them. After it all is at rest, with the image before or the image
+/// after.
 pub fn recoveries_survive()
     ensures { RecoveriesAreSafe }
 {}

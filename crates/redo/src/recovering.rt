@@ -3,7 +3,8 @@
 ghost use Rattle.std.specs.Prelude.{◌≡◌, ◌≤◌, ◌++◌, ◌&&◌, length, ℕ, List, [], IfOk, OnOk, Some, false};
 ghost use Rattle.stable.specs.Runs.{Known, now, Knows, EachMoment, Happens, Follows, ShowsLog};
 ghost use Rattle.std.specs.Str.{bytes_eq};
-ghost use Rattle.redo.specs.Record.{closed, name_in as name_in_bytes, count_in as count_in_bytes, numbers_in, numbers_of, changes_in, is_head, standing};
+ghost use Rattle.redo.specs.Record.{closed, name_in as name_in_bytes, count_in as count_in_bytes, is_head};
+ghost use Rattle.redo.specs.Record.{numbers_in, numbers_of, changes_in, standing};
 ghost use Rattle.redo.specs.Runs.{singly};
 ghost use Rattle.redo.specs.UnderWay.{Fits, IsUnderWay};
 ghost use Rattle.redo.specs.Laws.{IsRecoverable, RestsWithEither};
@@ -174,9 +175,11 @@ pub fn recover<S: Storage>(alloc: Global, storage: &mut S, name: u64) -> io::Res
         → Follows (recover_plan name (now k).log.shows) (S.known storage.old) (S.known storage.new) result }
     ensures answer { (k : Known) → S.known storage.old ≡ Some k → (now k).log.failed ≡ false
         → IfOk result (λ answer. answer ≡ answer_of (standing name (now k).log.shows)) }
-    ensures any_moment { (changes : List (ℕ × List ℕ)) (before after : ℕ → List ℕ) → Fits changes → Knows (IsRecoverable name changes before after) (S.known storage.old)
+    ensures any_moment { (changes : List (ℕ × List ℕ)) (before after : ℕ → List ℕ) → Fits changes
+        → Knows (IsRecoverable name changes before after) (S.known storage.old)
         → EachMoment (IsUnderWay name changes before after) (S.known storage.old) (S.known storage.new) }
-    ensures ok { (changes : List (ℕ × List ℕ)) (before after : ℕ → List ℕ) → Fits changes → Knows (IsRecoverable name changes before after) (S.known storage.old)
+    ensures ok { (changes : List (ℕ × List ℕ)) (before after : ℕ → List ℕ) → Fits changes
+        → Knows (IsRecoverable name changes before after) (S.known storage.old)
         → OnOk result (Knows (RestsWithEither before after) (S.known storage.new)) }
 {
     recover_by_plan(alloc, storage, name)

@@ -40,8 +40,8 @@ pub data Event : Type 0 where
   Did : Step → Event
   Failed : Step → Event
 
--- How sure a unit's bytes are. Kept: they are on the disk, and a crash leaves them. Written: the next sync of the file keeps them. Stale: no
--- sync keeps them, since a write or a sync of them failed.
+-- How sure a unit's bytes are. Kept: they are on the disk, and a crash leaves them. Written: the next sync of the file keeps them. Stale:
+-- no sync keeps them, since a write or a sync of them failed.
 pub data Held : Type 0 where
   Kept : Held
   Written : Held

@@ -28,7 +28,8 @@ pub record Stops (plan : List Step) (events : List Event) : Type 0 where
 
 -- the events of some moment of a plan: some first steps were done, and no more, or the next one failed
 abbrev pub IsMoment : List Step → List Event → Type 0
-IsMoment plan events = ((before : List Step) × (after : List Step) × (plan ≡ before ++ after) × (events ≡ map Did before)) ⊎ Stops plan events
+IsMoment plan events = ((before : List Step) × (after : List Step) × (plan ≡ before ++ after) × (events ≡ map Did before))
+    ⊎ Stops plan events
 
 -- All of a plan was done, or at an error some first steps of it, and no other step: it was given up between two steps, or at one that
 -- failed.
@@ -53,7 +54,8 @@ Knows P (Some k) = P (now k)
 -- What happened since is some events, and this holds at each moment of them: after any first ones of them, none and all among these.
 abbrev pub EachMoment : (Disk → Type 0) → Option Known → Option Known → Type 0
 EachMoment P None new = ⊤
-EachMoment P (Some k) new = (events : List Event) × Happens events (Some k) new × ((first rest : List Event) → events ≡ first ++ rest → P (run first (now k)))
+EachMoment P (Some k) new = (events : List Event) × Happens events (Some k) new
+    × ((first rest : List Event) → events ≡ first ++ rest → P (run first (now k)))
 
 -- nothing asked of the log has failed, and this is what it shows
 abbrev pub ShowsLog : Contents → Disk → Type 0

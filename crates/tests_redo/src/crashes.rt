@@ -100,24 +100,22 @@ impl Files {
             0 => 1,
             1 => 3,
             2 => 9,
-            3 => 27,
-            4 => 81,
             _ => 0,
         }
     }
 
-    /// Adds what may be found of them when they are opened again: after each crash, or after some where there are many, and without one.
-    fn found(self, alloc: Global, work: &mut Vec<Files>, drawn: u64) -> Result<(), AllocError> {
-        let ways = if self.age > 2 { 0 } else { self.ways() };
-        let count = if ways == 0 { drawn } else { ways };
-        for way in 0..count {
+    /// Adds what may be found of them when they are opened again: after each crash, or after one that is drawn where there are many or the
+    /// files are old, and without one.
+    fn found(self, alloc: Global, work: &mut Vec<Files>) -> Result<(), AllocError> {
+        let ways = if self.age < 3 { self.ways() } else { 0 };
+        for way in 0..ways.max(1) {
             let mut choices = Choices {
                 code: way,
                 are_drawn: ways == 0,
             };
             work.push(self.crash(alloc, &mut choices)?)?;
         }
-        if !self.has_stale_gate() {
+        if self.age < 3 && !self.has_stale_gate() {
             work.push(self)?;
         }
         Ok(())
@@ -130,18 +128,29 @@ pub fn found_after(
     files: &Files,
     history: &[Happening],
     work: &mut Vec<Files>,
-    drawn: u64,
 ) -> Result<(), AllocError> {
     for cut in 0..=history.len() {
         if let Some(first) = history.get(..cut) {
-            files.after(first)?.found(alloc, work, drawn)?;
+            files.after(first)?.found(alloc, work)?;
         }
     }
     Ok(())
 }
 
+/// Adds what may be found after a history that ended in a failure.
+pub fn found_after_failure(
+    alloc: Global,
+    files: &Files,
+    history: &[Happening],
+    work: &mut Vec<Files>,
+) -> Result<(), AllocError> {
+    let mut left = files.after(history)?;
+    left.age = left.age.saturating_add(1);
+    left.found(alloc, work)
+}
+
 /// Whether an image is this one.
-fn is_image(memory: &mut Memory, image: &[[u8; UNIT]]) -> io::Result<bool> {
+pub fn is_image(memory: &mut Memory, image: &[[u8; UNIT]]) -> io::Result<bool> {
     for (n, unit) in image.iter().enumerate() {
         if memory.read(Which::Image, n as u64)? != *unit {
             return Ok(false);
@@ -156,7 +165,6 @@ fn recovers(
     files: &Files,
     wanted: &Wanted,
     work: &mut Vec<Files>,
-    drawn: u64,
 ) -> Result<(), Fail> {
     let mut memory = files.open(alloc, usize::MAX)?;
     if recover(alloc, &mut memory, NAME)? == Recovered::Foreign {
@@ -166,40 +174,32 @@ fn recovers(
         return Err(Fail::new(format_args!("a mixture after {} ends", files.age)));
     }
     if files.age < 3 {
-        found_after(alloc, files, memory.history(), work, drawn)?;
+        found_after(alloc, files, memory.history(), work)?;
     }
     Ok(())
 }
 
-/// Recovers files whose recovery fails at some step, and adds what may be found after that.
+/// Recovers files, where one step of the recovery fails, and adds what may be found after that.
 fn recovers_not(alloc: Global, files: &Files, work: &mut Vec<Files>) -> Result<(), Fail> {
     for step in 0..6 {
         let mut memory = files.open(alloc, step)?;
         if recover(alloc, &mut memory, NAME).is_err() {
-            files.after(memory.history())?.found(alloc, work, 2)?;
+            found_after_failure(alloc, files, memory.history(), work)?;
         }
     }
     Ok(())
 }
 
-/// Recovers all of these files, and what crashes leave of them in turn. How many it were.
-pub fn all_recover(
-    alloc: Global,
-    work: &mut Vec<Files>,
-    wanted: &Wanted,
-    drawn: u64,
-    fails: bool,
-) -> Result<u64, Fail> {
-    let mut count: u64 = 0;
+/// Recovers all of these files, and what crashes leave of them in turn.
+pub fn all_recover(alloc: Global, work: &mut Vec<Files>, wanted: &Wanted) -> Result<(), Fail> {
     for _ in 0..u64::MAX {
         let Some(files) = work.pop() else {
-            break;
+            return Ok(());
         };
-        recovers(alloc, &files, wanted, work, drawn)?;
-        if fails && files.age == 1 {
+        recovers(alloc, &files, wanted, work)?;
+        if files.age == 1 {
             recovers_not(alloc, &files, work)?;
         }
-        count = count.saturating_add(1);
     }
-    Ok(count)
+    Ok(())
 }

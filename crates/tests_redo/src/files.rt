@@ -37,6 +37,7 @@ impl Unit {
 }
 
 /// What a crash leaves in units that aren't sure: in turn 0 for the old bytes, 1 for the new ones, 2 for others.
+#[derive(Drop)]
 pub struct Choices {
     /// The choices as digits to base 3, or the state of a generator.
     pub code: u64,
@@ -133,13 +134,24 @@ pub fn note(file: &mut [Unit], which: Which, happening: &Happening) {
     match &happening.asked {
         Asked::Write(to, first, units) => {
             if *to == which {
-                let held = if happening.done { Held::Written } else { Held::Stale };
+                let held = if happening.done {
+                    Held::Written
+                } else {
+                    Held::Stale
+                };
                 write(file, *first, units, held);
             }
         }
         Asked::Sync(to) => {
             if *to == which {
-                sync(file, if happening.done { Held::Kept } else { Held::Stale });
+                sync(
+                    file,
+                    if happening.done {
+                        Held::Kept
+                    } else {
+                        Held::Stale
+                    },
+                );
             }
         }
     }
