@@ -1,0 +1,13 @@
+mod Units
+mod Spelled
+mod Left
+mod Moments
+mod CommitLaws
+mod RecoverLaws
+mod RunLaws
+mod Counting
+mod Calls
+mod CallLaws
+mod Writing
+mod Reading
+mod Asking

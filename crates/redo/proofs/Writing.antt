@@ -1,0 +1,185 @@
+-- The next step of each loop that writes, and the parts of the plans.
+use Rattle.std.proofs.Common.{◌≡◌, inl, inr, length-append, ℕ, suc, ◌+◌, ◌-◌, ◌*◌, ◌/◌, ◌^◌, ◌<◌, ◌≤◌, ◌==◌, Bool, true, false, if◌then◌else◌, min, List, [], ◌∷◌, ◌++◌, length, map, take, drop, get_or, replicate, refl, sym, ◌∙◌, ap, subst, arith, add-one, append_assoc, codes}
+use Rattle.std.specs.Int.{to_be_bytes, w32, w64}
+use Rattle.std.specs.List.{flat_map, zip, AllByRecursion}
+use Rattle.std.proofs.Math.Seq.{drop-cons, drop-append-add}
+use Rattle.std.proofs.lemmas.List.{take_all, drop_all, length-drop, length-take-le, take_at, append-nil, drop-replicate}
+use Rattle.std.proofs.lemmas.Grind.{take_at_read, flat_map-append}
+use Rattle.std.proofs.lemmas.Bool.{cases_lt}
+use Rattle.stable.specs.declared.Which.TheVariants.{Log, Image}
+use Rattle.stable.specs.Disk.{Write, Sync, numbered}
+use Rattle.redo.specs.Record.{directory, numbers_unit, head}
+use Rattle.redo.specs.Runs.{Run, run_length, followers, join, joined, singly}
+use Rattle.redo.specs.Plans.{run_write, directory_writes, body_writes, to_gate, log_plan}
+use Rattle.redo.specs.UnderWay.{Fits}
+
+pub one_less : (ns : List ℕ) (i : ℕ) → i < length ns → drop i ns ≡ get_or ns i 0 ∷ drop (i + 1) ns
+one_less ns i lt = rw (add-one, drop-cons ns i 0)
+
+units_one : (count after : ℕ) → 0 < count → after ≡ count - 1024 → (count + 1023) / 1024 ≡ suc ((after + 1023) / 1024)
+units_one count after some is = omega arith
+
+take_least : (ns : List ℕ) → take (min (length ns) 1024) ns ≡ take 1024 ns
+take_least ns = elim (cases_lt (length ns) 1024) [
+  | inl few ↦ ap (λ (k : ℕ). take k ns) (let e : min (length ns) 1024 ≡ length ns = omega arith in e) ∙ take_all (length ns) ns (omega arith) ∙ sym (take_all 1024 ns (omega arith))
+  | inr many ↦ ap (λ (k : ℕ). take k ns) (let e : min (length ns) 1024 ≡ 1024 = omega arith in e)
+]
+
+drop_least : (ns : List ℕ) → drop (min (length ns) 1024) ns ≡ drop 1024 ns
+drop_least ns = elim (cases_lt (length ns) 1024) [
+  | inl few ↦ ap (λ (k : ℕ). drop k ns) (let e : min (length ns) 1024 ≡ length ns = omega arith in e) ∙ drop_all (length ns) ns (omega arith) ∙ sym (drop_all 1024 ns (omega arith))
+  | inr many ↦ ap (λ (k : ℕ). drop k ns) (let e : min (length ns) 1024 ≡ 1024 = omega arith in e)
+]
+
+length_4 : (n : ℕ) → length (to_be_bytes w32 n) ≡ 4
+length_4 n = search arith
+
+take_one : (ns : List ℕ) (i : ℕ) → i < length ns → take (i + 1) ns ≡ take i ns ++ get_or ns i 0 ∷ []
+take_one ns i lt = (take_at_read ns i 0 lt).1
+
+-- one unit of the directory more
+directory_next : (ns first after : List ℕ) (at : ℕ) → 0 < length ns → first ≡ take (min (length ns) 1024) ns → after ≡ drop (min (length ns) 1024) ns
+    → directory_writes at ns ≡ Write Log at (numbers_unit first ∷ []) ∷ directory_writes (at + 1) after
+directory_next ns first after at some is_first is_after =
+    let count = length ns in
+    let counted : length after ≡ count - 1024 = ap length is_after ∙ length-drop (min count 1024) ns ∙ (let e : count - min count 1024 ≡ count - 1024 = omega arith in e) in
+    let fewer : (count + 1023) / 1024 ≡ suc ((length after + 1023) / 1024) = ap (λ (k : ℕ). (count + 1023) / 1024) counted ∙ units_one count (length after) some counted in
+    ap (λ (k : ℕ). map (run_write Log) (singly (numbered at (directory k ns)))) fewer
+    ∙ ap (λ (l : List ℕ). Write Log at (numbers_unit l ∷ []) ∷ map (run_write Log) (singly (numbered (at + 1) (directory ((length after + 1023) / 1024) (drop 1024 ns))))) (sym (is_first ∙ take_least ns))
+    ∙ ap (λ (l : List ℕ). Write Log at (numbers_unit first ∷ []) ∷ map (run_write Log) (singly (numbered (at + 1) (directory ((length after + 1023) / 1024) l)))) (sym (is_after ∙ drop_least ns))
+
+-- the same, of the unit that the code made
+pub directory_left : (ns first after unit : List ℕ) (at mid : ℕ) → 0 < length ns → mid ≡ min (length ns) 1024 → first ≡ take mid ns → after ≡ drop mid ns → unit ≡ numbers_unit first
+    → directory_writes at ns ≡ Write Log at (unit ∷ []) ∷ directory_writes (at + 1) after
+directory_left ns first after unit at mid some is_mid is_first is_after is_unit =
+    directory_next ns first after at some (is_first ∙ ap (λ (k : ℕ). take k ns) is_mid) (is_after ∙ ap (λ (k : ℕ). drop k ns) is_mid)
+    ∙ ap (λ (l : List ℕ). Write Log at (l ∷ []) ∷ directory_writes (at + 1) after) (sym is_unit)
+
+length-numbers : (ns : List ℕ) → length (flat_map (to_be_bytes w32) ns) ≡ 4 * length ns
+length-numbers [] = refl
+length-numbers (n ∷ ns) = omega (arith, length-append (to_be_bytes w32 n) (flat_map (to_be_bytes w32) ns), length_4 n, length-numbers ns)
+
+-- bytes that are put in front of zeros, behind what was put
+pub put_next : (front unit bytes : List ℕ) (at zeros : ℕ) → length front ≡ at → unit ≡ front ++ replicate zeros 0
+    → take at unit ++ bytes ++ drop (at + length bytes) unit ≡ front ++ bytes ++ replicate (zeros - length bytes) 0
+put_next front unit bytes at zeros size is =
+    let rest_is : drop (at + length bytes) unit ≡ replicate (zeros - length bytes) 0 =
+    ap (drop (at + length bytes)) is
+    ∙ ap (λ (k : ℕ). drop (k + length bytes) (front ++ replicate zeros 0)) (sym size)
+    ∙ drop-append-add front (replicate zeros 0) (length bytes)
+    ∙ drop-replicate (length bytes) zeros 0 in
+    ap (λ (l : List ℕ). l ++ bytes ++ drop (at + length bytes) unit) (ap (take at) is ∙ take_at front (replicate zeros 0) at size)
+    ∙ ap (λ (l : List ℕ). front ++ bytes ++ l) rest_is
+
+length_8 : (n : ℕ) → length (to_be_bytes w64 n) ≡ 8
+length_8 n = search arith
+
+-- a head that was put together
+pub head_made : (name count : ℕ) (first second third magic b c : List ℕ) → magic ≡ codes "MFSREDO1" → b ≡ to_be_bytes w64 name → c ≡ to_be_bytes w32 count
+    → first ≡ take 0 (replicate 4096 0) ++ magic ++ drop (0 + length magic) (replicate 4096 0)
+    → second ≡ take 8 first ++ b ++ drop (8 + length b) first → third ≡ take 16 second ++ c ++ drop (16 + length c) second → third ≡ head name count
+head_made name count first second third magic b c is_magic is_b is_c one two three =
+    let m : List ℕ = codes "MFSREDO1" in
+    let eight : length m ≡ 8 = refl in
+    let long : length magic ≡ 8 = ap length is_magic ∙ eight in
+    let long_b : length b ≡ 8 = ap length is_b ∙ length_8 name in
+    let long_c : length c ≡ 4 = ap length is_c ∙ length_4 count in
+    let first_is : first ≡ magic ++ replicate 4088 0 = one ∙ put_next [] (replicate 4096 0) magic 0 4096 refl refl ∙ ap (λ (k : ℕ). magic ++ replicate (4096 - k) 0) long in
+    let second_is : second ≡ magic ++ b ++ replicate 4080 0 = two ∙ put_next magic first b 8 4088 long first_is ∙ ap (λ (k : ℕ). magic ++ b ++ replicate (4088 - k) 0) long_b in
+    three
+    ∙ put_next (magic ++ b) second c 16 4080 (omega (arith, length-append magic b, long, long_b)) second_is
+    ∙ ap (λ (k : ℕ). magic ++ b ++ c ++ replicate (4080 - k) 0) long_c
+    ∙ ap (λ (l : List ℕ). l ++ b ++ c ++ replicate 4076 0) is_magic
+    ∙ ap (λ (l : List ℕ). m ++ l ++ c ++ replicate 4076 0) is_b
+    ∙ ap (λ (l : List ℕ). m ++ to_be_bytes w64 name ++ l ++ replicate 4076 0) is_c
+
+-- one number of a unit more
+pub number_next : (ns unit bytes : List ℕ) (i : ℕ) → i < length ns → length ns ≤ 1024 → bytes ≡ to_be_bytes w32 (get_or ns i 0)
+    → unit ≡ flat_map (to_be_bytes w32) (take i ns) ++ replicate (4096 - 4 * i) 0
+    → take (4 * i) unit ++ bytes ++ drop (4 * i + length bytes) unit ≡ flat_map (to_be_bytes w32) (take (i + 1) ns) ++ replicate (4096 - 4 * (i + 1)) 0
+number_next ns unit bytes i lt few is_bytes is =
+    let front : List ℕ = flat_map (to_be_bytes w32) (take i ns) in
+    let zeros : List ℕ = replicate (4096 - 4 * i) 0 in
+    let size : length front ≡ 4 * i = omega (arith, length-numbers (take i ns), length-take-le i ns (omega arith)) in
+    let four : length bytes ≡ 4 = ap length is_bytes ∙ length_4 (get_or ns i 0) in
+    let head_is : take (4 * i) unit ≡ front = ap (take (4 * i)) is ∙ take_at front zeros (4 * i) size in
+    let rest_is : drop (4 * i + length bytes) unit ≡ replicate (4096 - 4 * (i + 1)) 0 =
+    ap (λ (k : ℕ). drop (4 * i + k) unit) four
+    ∙ ap (drop (4 * i + 4)) is
+    ∙ ap (λ (k : ℕ). drop (k + 4) (front ++ zeros)) (sym size)
+    ∙ drop-append-add front zeros 4
+    ∙ drop-replicate 4 (4096 - 4 * i) 0
+    ∙ ap (λ (k : ℕ). replicate k 0) (let e : 4096 - 4 * i - 4 ≡ 4096 - 4 * (i + 1) = omega arith in e) in
+    let more : flat_map (to_be_bytes w32) (take (i + 1) ns) ≡ front ++ bytes =
+    ap (flat_map (to_be_bytes w32)) (take_one ns i lt)
+    ∙ flat_map-append (to_be_bytes w32) (take i ns) (get_or ns i 0 ∷ [])
+    ∙ ap (λ (l : List ℕ). front ++ l) (append-nil (to_be_bytes w32 (get_or ns i 0)) ∙ sym is_bytes) in
+    ap (λ (l : List ℕ). l ++ bytes ++ drop (4 * i + length bytes) unit) head_is
+    ∙ ap (λ (l : List ℕ). front ++ bytes ++ l) rest_is
+    ∙ ap (λ (l : List ℕ). l ++ replicate (4096 - 4 * (i + 1)) 0) (sym more)
+
+by_next : (n m : ℕ) (ns u : List ℕ) (units : List (List ℕ)) (b : Bool)
+    → joined (zip (m ∷ ns) units) ≡ (m, take (suc (followers m ns)) units) ∷ joined (zip (drop (suc (followers m ns)) (m ∷ ns)) (drop (suc (followers m ns)) units))
+    → (if b then (n, u ∷ take (suc (followers m ns)) units) ∷ joined (zip (drop (suc (followers m ns)) (m ∷ ns)) (drop (suc (followers m ns)) units)) else (n, u ∷ []) ∷ (m, take (suc (followers m ns)) units) ∷ joined (zip (drop (suc (followers m ns)) (m ∷ ns)) (drop (suc (followers m ns)) units)))
+    ≡ (n, u ∷ take (if b then suc (followers m ns) else 0) units) ∷ joined (zip (drop (if b then suc (followers m ns) else 0) (m ∷ ns)) (drop (if b then suc (followers m ns) else 0) units))
+by_next n m ns u units true is = refl
+by_next n m ns u units false is = ap (λ (l : List Run). (n, u ∷ []) ∷ l) (sym is)
+
+-- the first run, and those behind it
+pub first_run : (n : ℕ) (ns : List ℕ) (units : List (List ℕ)) → length (n ∷ ns) ≡ length units
+    → joined (zip (n ∷ ns) units) ≡ (n, take (run_length (n ∷ ns)) units) ∷ joined (zip (drop (run_length (n ∷ ns)) (n ∷ ns)) (drop (run_length (n ∷ ns)) units))
+first_run n ns [] is = cc
+first_run n [] (u ∷ []) is = refl
+first_run n [] (u ∷ v ∷ units) is = absurd (omega arith)
+first_run n (m ∷ ns) (u ∷ []) is = absurd (omega arith)
+first_run n (m ∷ ns) (u ∷ v ∷ units) is =
+    ap (λ (l : List Run). join (n, u) l) (first_run m ns (v ∷ units) (omega arith))
+    ∙ by_next n m ns u (v ∷ units) (m == n + 1) (first_run m ns (v ∷ units) (omega arith))
+
+-- the same, of the run that the code found
+pub first_write : (ns later : List ℕ) (units front rest : List (List ℕ)) (n count : ℕ) → 0 < length ns → n ≡ get_or ns 0 0 → length ns ≡ length units → count ≡ run_length ns
+    → front ≡ take count units → rest ≡ drop count units → later ≡ drop count ns
+    → map (run_write Image) (joined (zip ns units)) ≡ Write Image n front ∷ map (run_write Image) (joined (zip later rest))
+first_write ns later units front rest n count some is_first is counted is_front is_rest is_later =
+    let after : List ℕ = drop (0 + 1) ns in
+    let parts : ns ≡ n ∷ after = one_less ns 0 some ∙ ap (λ (k : ℕ). k ∷ after) (sym is_first) in
+    let whole : (ns : List ℕ) → ns ≡ n ∷ after → length ns ≡ length units → joined (zip ns units) ≡ (n, take (run_length ns) units) ∷ joined (zip (drop (run_length ns) ns) (drop (run_length ns) units)) =
+    λ ns parts is. subst (λ (l : List ℕ). joined (zip l units) ≡ (n, take (run_length l) units) ∷ joined (zip (drop (run_length l) l) (drop (run_length l) units))) (sym parts) (first_run n after units (ap length (sym parts) ∙ is)) in
+    ap (map (run_write Image)) (whole ns parts is)
+    ∙ ap (λ (k : ℕ). Write Image n (take k units) ∷ map (run_write Image) (joined (zip (drop k ns) (drop k units)))) (sym counted)
+    ∙ ap (λ (l : List (List ℕ)). Write Image n l ∷ map (run_write Image) (joined (zip (drop count ns) (drop count units)))) (sym is_front)
+    ∙ ap (λ (l : List (List ℕ)). Write Image n front ∷ map (run_write Image) (joined (zip (drop count ns) l))) (sym is_rest)
+    ∙ ap (λ (l : List ℕ). Write Image n front ∷ map (run_write Image) (joined (zip l rest))) (sym is_later)
+
+firsts : (ns : List ℕ) (units : List (List ℕ)) → length ns ≡ length units → map (λ (w : ℕ × List ℕ). w.0) (zip ns units) ≡ ns
+firsts [] units is = refl
+firsts (n ∷ ns) [] is = cc
+firsts (n ∷ ns) (u ∷ units) is = ap (λ (l : List ℕ). n ∷ l) (firsts ns units (omega arith))
+
+seconds : (ns : List ℕ) (units : List (List ℕ)) → length ns ≡ length units → map (λ (w : ℕ × List ℕ). w.1) (zip ns units) ≡ units
+seconds [] [] is = refl
+seconds [] (u ∷ units) is = cc
+seconds (n ∷ ns) [] is = cc
+seconds (n ∷ ns) (u ∷ units) is = ap (λ (l : List (List ℕ)). u ∷ l) (seconds ns units (omega arith))
+
+pub length-changes : (ns : List ℕ) (units : List (List ℕ)) → length ns ≡ length units → length (zip ns units) ≡ length ns
+length-changes [] units is = refl
+length-changes (n ∷ ns) [] is = cc
+length-changes (n ∷ ns) (u ∷ units) is = ap suc (length-changes ns units (omega arith))
+
+numbers_fit : (ns : List ℕ) (units : List (List ℕ)) → ((i : ℕ) → get_or ns i 0 < 2 ^ 32) → AllByRecursion (λ w. w.0 < 2 ^ 32) (zip ns units)
+numbers_fit [] units fit = tt
+numbers_fit (n ∷ ns) [] fit = tt
+numbers_fit (n ∷ ns) (u ∷ units) fit = (fit 0, numbers_fit ns units (λ i. fit (suc i)))
+
+pub changes_fit : (ns : List ℕ) (units : List (List ℕ)) → length ns ≡ length units → length ns < 2 ^ 32 → ((i : ℕ) → get_or ns i 0 < 2 ^ 32) → Fits (zip ns units)
+changes_fit ns units is few fit = record { few = omega (arith, length-changes ns units is); numbers = numbers_fit ns units fit }
+
+-- the parts of what is logged
+pub log_parts : (name : ℕ) (ns : List ℕ) (units : List (List ℕ)) → length ns ≡ length units
+    → log_plan name (zip ns units) ≡ body_writes name ns units ++ (Sync Log ∷ to_gate (head name (length ns)))
+log_parts name ns units is =
+    ap (λ (l : List ℕ). (body_writes name l (map (λ (w : ℕ × List ℕ). w.1) (zip ns units)) ++ Sync Log ∷ []) ++ to_gate (head name (length (zip ns units)))) (firsts ns units is)
+    ∙ ap (λ (l : List (List ℕ)). (body_writes name ns l ++ Sync Log ∷ []) ++ to_gate (head name (length (zip ns units)))) (seconds ns units is)
+    ∙ ap (λ (k : ℕ). (body_writes name ns units ++ Sync Log ∷ []) ++ to_gate (head name k)) (length-changes ns units is)
+    ∙ append_assoc (body_writes name ns units) (Sync Log ∷ []) (to_gate (head name (length ns)))

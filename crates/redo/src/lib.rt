@@ -1,0 +1,43 @@
+//! A redo log beside an image file: a commit changes some units of the image, and a crash leaves the image before it or after it.
+#![tactic(auto)]
+
+mod committing;
+mod parts;
+mod recovering;
+
+ghost use Rattle.std.specs.Prelude.{ℕ, List};
+ghost use Rattle.redo.specs.Laws.{CommitsAreSafe, RecoveriesAreSafe, CrashesAreSafe, RunsAreSafe};
+ghost use Rattle.redo.specs.Costs.{Costs, NeighboursAreOneRun};
+
+pub use committing::{commit, log, settle};
+pub use recovering::{Recovered, recover};
+
+/// At each moment of a commit's logging a crash leaves the image before or the image after; at each moment of its settling, the image
+/// after.
+pub fn commits_survive()
+    ensures { CommitsAreSafe }
+{}
+
+/// At each moment of a recovery the files stand as a commit may leave them. After it all is at rest, with the image before or the image
+/// after.
+pub fn recoveries_survive()
+    ensures { RecoveriesAreSafe }
+{}
+
+/// Where the files stand as a commit or a recovery may leave them, a crash leaves the image before or the image after, and the files opened
+/// again stand so too.
+pub fn crashes_are_survived()
+    ensures { CrashesAreSafe }
+{}
+
+/// After any number of commits, at each moment of the next one, a crash leaves the image of the last one that was answered ok or of the
+/// next one.
+pub fn runs_survive()
+    ensures { RunsAreSafe }
+{}
+
+/// What a commit writes, by how many calls, and how many syncs it waits for.
+pub fn commits_are_counted()
+    ensures costs { (name : ℕ) (changes : List (ℕ × List ℕ)) → Costs name changes }
+    ensures neighbours { NeighboursAreOneRun }
+{}

@@ -1,0 +1,11 @@
+//! Tests of the redo log: crashes after every step of a commit, of its recovery and of the recovery of that, and failed writes and syncs.
+#![tactic(auto)]
+
+#[cfg(test)]
+mod commits;
+#[cfg(test)]
+mod crashes;
+#[cfg(test)]
+mod files;
+#[cfg(test)]
+mod foreign;
