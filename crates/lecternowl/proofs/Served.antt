@@ -9,6 +9,7 @@ use Rattle.records.specs.Session.{SessionState, IsMadeFor}
 use Rattle.reissue.specs.declared.link.Link.{Ghosts as LinkWords}
 use Rattle.bdev.specs.DriverState.{DriverState}
 use Rattle.reincarnate.specs.declared.policy.Policy.{Policy}
+use Rattle.reincarnate.specs.declared.policy.Setup.{Setup}
 use Rattle.shared_server.specs.Held.{HasEnded, HoldsIfTrue, IsAdmitted, IsGood, IsGuaranteed, IsNotAdmitted}
 use Rattle.shared_server.specs.Stopping.{has_ended}
 use Rattle.shared_server.specs.Finishing.{sync_of}
@@ -16,10 +17,11 @@ use Rattle.shared_server.specs.declared.locked.LastSync.{LastSync}
 use Rattle.shared_server.specs.declared.refusal.SessionRefusal.{SessionRefusal}
 use Rattle.shared_server.specs.declared.refusal.SessionRefusal.TheVariants.{TooMany, Stopped, OutOfMemory}
 use Rattle.serve.specs.Stopping.{IsLastImage}
+use Rattle.service_start.specs.Ran.{HasRun}
 use Rattle.lecternowl.specs.declared.tasks.Came.{Came}
 use Rattle.lecternowl.specs.declared.refusal.ServeRefusal.{ServeRefusal}
 use Rattle.lecternowl.specs.declared.refusal.ServeRefusal.TheVariants.{Start, NoSession, NoImage}
-use Rattle.lecternowl.specs.Serving.{AreDone, IsLeft, IsNotDone, IsNotOpened, IsOpened}
+use Rattle.lecternowl.specs.Serving.{AreDone, IsLeft, IsNotDone, IsNotOpened, IsNotServed, IsOpened}
 
 -- ---- sessions
 
@@ -64,6 +66,25 @@ is_left link g v last image shown = record {
     ended = shown.last.ended ∙ ap (λ (l : LastSync). has_ended (sync_of l)) is;
   };
 }
+
+-- ---- what `serve` gives, by what its start gave
+
+module _ (E : List Mark → Type 0) (image : List ℕ) (setup : Setup) (supply : List DriverState) where
+  pub served : {O T : Type 0} (tasks : List T) (result : Result (Came O) ServeRefusal)
+      → HasRun image setup supply (λ g v. IfOk result (AreDone E g v tasks))
+      → IfOk result (λ came. HasRun image setup supply (λ g v. AreDone E g v tasks came))
+  served tasks (Ok came) h = h
+  served tasks (Err e) h = tt
+
+  not_served : (refusal : ServeRefusal) → IsNotDone E refusal → IsNotServed E image setup supply refusal
+  not_served (Start refusal) h = absurd h
+  not_served (NoSession refusal) h = h
+  not_served (NoImage why) h = h
+
+  pub none_served : {O : Type 0} (result : Result (Came O) ServeRefusal) → IfErr result (IsNotDone E)
+      → IfErr result (IsNotServed E image setup supply)
+  none_served (Ok came) h = tt
+  none_served (Err refusal) h = not_served refusal h
 
 -- ---- the same, where less is said of a link that has ended
 
