@@ -63,5 +63,5 @@ pub all_started : {N : Type 0} (room : ParameterWords N) (table : TableId) (seat
     → IfOk result (λ made. IsStarted room words runs_on record_in (board_of made) (link_of made) setup.minor setup.frames)
 all_started room table seat setup supply media range hand words runs_on record_in board_of link_of (Ok made) board marks told budget truth on =
     started room table seat setup supply media range hand words runs_on record_in (board_of made) (link_of made) board marks told budget truth
-        (on (link_of made))
+    (on (link_of made))
 all_started room table seat setup supply media range hand words runs_on record_in board_of link_of (Err e) board marks told budget truth on = tt
