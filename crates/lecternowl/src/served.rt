@@ -20,7 +20,8 @@ pub trait Served: Drop {
     /// A session for this user and group. It may wait for the calls of other sessions. It is refused: `TooMany` where there are 64
     /// sessions, `Stopped` where the link to the drivers has ended, `OutOfMemory` where no memory was found.
     fn session(&self, uid: u16, gid: u16) -> Result<Self::Session, SessionRefusal>
-        ensures made { IfOk result (λ s. IsOpened Self.Session.words Self.Session.sizes Self.Session.opening uid gid (Self.Session.state s)) }
+        ensures made { IfOk result (λ s.
+            IsOpened Self.Session.words Self.Session.sizes Self.Session.opening uid gid (Self.Session.state s)) }
         ensures refused { IfErr result (IsNotOpened Self.Session.words Self.Session.opening) };
 
     /// The image of the media as they stand. Behind a sync that was done, and before a further call is made, that is the volume as it was

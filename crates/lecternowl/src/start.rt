@@ -125,7 +125,8 @@ pub fn serve<R: Threads + Wait + Copy + Send + Sync + 'static, D: BlockDriver + 
     supply: Vec<D>,
     tasks: Vec<T>,
 ) -> Result<Came<T::Output>, ServeRefusal>
-    ensures done { IfOk result (λ came. HasRun image.items setup.now (map D.state supply.items) (λ g v. AreDone IsSpent g v tasks.items came)) }
+    ensures done { IfOk result (λ came.
+        HasRun image.items setup.now (map D.state supply.items) (λ g v. AreDone IsSpent g v tasks.items came)) }
     ensures refused { IfErr result (IsNotServed IsSpent image.items setup.now (map D.state supply.items)) }
 {
     match start(alloc, rt, image, setup, supply, tasks) {

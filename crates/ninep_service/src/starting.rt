@@ -30,7 +30,7 @@ use std::thread::Threads;
 use std::time::Clock;
 use volume_mount::{Prepared, StartRefusal, prepare};
 
-/// Mounts the volume over this link, answers messages by its sessions, and stops the service. It is refused as `service_start::opened::mounted`
+/// Mounts the volume over this link, answers messages by its sessions, and stops the service. It is refused as a mount
 /// is, and then nothing is answered.
 fn mount_and_answer<
     N: ServiceParameters + Send + Sync + 'static,
@@ -118,7 +118,8 @@ fn start_and_answer<
 /// Starts a service on the volume in an image, whose threads ask this gate, answers messages by its sessions until their
 /// stream ends, and stops the service.
 ///
-/// The service is refused as `service_start::start::serve` refuses it, and then nothing is answered; of a service that started no image may come.
+/// The service is refused as `service_start::start::serve` refuses it, and then nothing is answered; of a service that started no
+/// image may come.
 pub fn answer_messages<
     R: Threads + Wait + Copy + Send + Sync + 'static,
     D: BlockDriver + 'static,

@@ -1,5 +1,5 @@
 -- What a service is started with, from what a start makes of an image.
-use Rattle.std.proofs.Common.{◌≡◌, ◌≤◌, ◌^◌, ◌∙◌, ℕ, List, [], ap, lit≤, subst, sym}
+use Rattle.std.proofs.Common.{◌≡◌, ◌≤◌, ◌^◌, ◌∙◌, ℕ, List, [], Result, Ok, Err, IfOk, ap, lit≤, subst, sym}
 use Rattle.atomic_table.specs.Seated.{TableId}
 use Rattle.media.specs.Contents.{MediaState}
 use Rattle.bdev.specs.DriverState.{DriverState}
@@ -51,3 +51,17 @@ started room table seat setup supply media range hand words runs_on record_in sh
     drivers = drivers;
   };
 }
+
+-- and so it is wherever one was made
+pub all_started : {N : Type 0} (room : ParameterWords N) (table : TableId) (seat : SeatState) (setup : Setup) (supply : List DriverState)
+    (media : MediaState) (range : ℕ × ℕ) → IsAtHand room table seat setup supply media range
+    → {L M X : Type 0} (words : LinkWords L) (runs_on : L → Policy → List DriverState → Type 0) (record_in : L → List Mark)
+    (board_of : M → TableId) (link_of : M → L) (result : Result M X)
+    → IfOk result (λ made. board_of made ≡ room.table) → IfOk result (λ made. record_in (link_of made) ≡ [])
+    → IfOk result (λ made. words.history (link_of made) ≡ []) → IfOk result (λ made. words.budget_left (link_of made) ≡ 1099511627776)
+    → IfOk result (λ made. (v : Opening) → words.truth (link_of made) v []) → ((link : L) → runs_on link room.policy room.supply)
+    → IfOk result (λ made. IsStarted room words runs_on record_in (board_of made) (link_of made) setup.minor setup.frames)
+all_started room table seat setup supply media range hand words runs_on record_in board_of link_of (Ok made) board marks told budget truth on =
+    started room table seat setup supply media range hand words runs_on record_in (board_of made) (link_of made) board marks told budget truth
+    (on (link_of made))
+all_started room table seat setup supply media range hand words runs_on record_in board_of link_of (Err e) board marks told budget truth on = tt

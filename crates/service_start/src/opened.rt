@@ -79,8 +79,8 @@ pub fn refusal_of(refusal: MountRefusal) -> StartRefusal
     }
 }
 
-/// A server of all calls, mounted with so many frames on the service's volume, as this minor, over a link that was told nothing yet and gives
-/// at most 2^57 messages. A service may hold it. Where the link's replies were true, the volume holds a tree.
+/// A server of all calls, mounted with so many frames on the service's volume, as this minor, over a link that was told nothing yet and
+/// gives at most 2^57 messages. A service may hold it. Where the link's replies were true, the volume holds a tree.
 ///
 /// It is refused as a mount is, and the link is let go then.
 pub fn mounted_server<

@@ -107,8 +107,8 @@ pub fn counted_drivers<
     }
 }
 
-/// The board, the link and the threads of a service, from all that is at hand, as `counted_drivers` makes them: over this link the volume may
-/// be mounted, with as many frames as the setup asks for.
+/// The board, the link and the threads of a service, from all that is at hand, as `counted_drivers` makes them: over this link the volume
+/// may be mounted, with as many frames as the setup asks for.
 pub fn started_link<
     N: ServiceParameters + Send + Sync + 'static,
     R: Threads + Wait + Copy + Send + Sync + 'static,

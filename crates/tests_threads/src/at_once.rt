@@ -127,7 +127,8 @@ fn start_and_do<
     supply: Vec<RecordingDriver<R>>,
     what: What,
 ) -> Result<(Came, Vec<u8>), Fail>
-    requires { IsAtHand N.ServiceParameters board seat setup.now (map ⟦<RecordingDriver<R> as BlockDriver>⟧.state supply.items) prepared.media prepared.range }
+    requires { IsAtHand N.ServiceParameters board seat setup.now (map ⟦<RecordingDriver<R> as BlockDriver>⟧.state supply.items)
+        prepared.media prepared.range }
 {
     let asked = Arc::try_clone(&stage.gate)?;
     let (board, link, running) = started_link::<N, R, RecordingDriver<R>, Watch<R>>(

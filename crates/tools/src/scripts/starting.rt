@@ -32,8 +32,8 @@ use std::sync::{Arc, Wait};
 use std::thread::Threads;
 use volume_mount::{Prepared, StartRefusal, prepare};
 
-/// Mounts the volume over this link, plays scripts on the service of it, and stops the service. It is refused as `service_start::opened::mounted`
-/// is, and then nothing is played.
+/// Mounts the volume over this link, plays scripts on the service of it, and stops the service. It is refused as a mount is,
+/// and then nothing is played.
 fn mount_and_play<
     N: ServiceParameters + Send + Sync + 'static,
     R: Threads + Wait + Copy + Send + Sync + 'static,
@@ -113,8 +113,8 @@ fn start_and_play<
 /// Starts a service on the volume in an image, whose threads ask this gate, plays scripts at one time, each in a session and a thread of
 /// its own, and stops the service.
 ///
-/// The service is refused as `service_start::start::serve` refuses it, and then nothing is played; of a service that started no image may come. A
-/// call is told as cut, or the last sync, only once the link to the drivers had received 2^40 messages.
+/// The service is refused as `service_start::start::serve` refuses it, and then nothing is played; of a service that started no image may
+/// come. A call is told as cut, or the last sync, only once the link to the drivers had received 2^40 messages.
 pub fn play_scripts<
     R: Threads + Wait + Copy + Send + Sync + 'static,
     D: BlockDriver + 'static,

@@ -6,8 +6,8 @@ use Rattle.ninep_service.proofs.starting.start_and_answer.Goals as goal
 
 pub returns-clause-played : goal.returns-clause-played
 returns-clause-played g c =
-    has_run g.N.ServiceParameters.opening.media c.args.setup.now (map g.D.BlockDriver.state c.args.supply.items) c.args.prepared.range g.N.ServiceParameters.opening
-    g.N.ServiceParameters.geometry
+    has_run g.N.ServiceParameters.opening.media c.args.setup.now (map g.D.BlockDriver.state c.args.supply.items) c.args.prepared.range
+    g.N.ServiceParameters.opening g.N.ServiceParameters.geometry
     (λ h v o. IfOk o (λ came. IsLeftBy g.A.Archive.puts h v (g.I.Read.remaining c.args.streams.input)
     (g.O.Write.contents c.args.streams.output) (g.O.Write.contents came.streams.output) c.args.streams.archive came.streams.archive
     came.answered came.image.items))

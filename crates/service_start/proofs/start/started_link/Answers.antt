@@ -1,8 +1,11 @@
 use Rattle.std.proofs.Common.{map}
-use Rattle.service_start.proofs.Starts.{started}
+use Rattle.std.specs.Arc.{arc_value}
+use Rattle.service_start.proofs.Starts.{all_started}
 use Rattle.service_start.proofs.start.started_link.Goals as goal
 
-pub returns-in-Ok : goal.returns-in-Ok
-returns-in-Ok g c =
-    started g.N.ServiceParameters c.args.board c.args.seat c.args.setup.now (map g.D.BlockDriver.state c.args.supply.items) _ _ c.requires
-    _ _ _ _ _ c.in-Ok.ensures.board c.in-Ok.ensures.marks c.in-Ok.ensures.history c.in-Ok.ensures.budget c.in-Ok.ensures.truth tt
+pub returns : goal.returns
+returns g c =
+    all_started g.N.ServiceParameters c.args.board c.args.seat c.args.setup.now (map g.D.BlockDriver.state c.args.supply.items)
+    c.args.prepared.media c.args.prepared.range c.requires _ _ _ (λ made. arc_value made.0) (λ made. made.1) c.counted_drivers.result
+    c.counted_drivers.ensures.board c.counted_drivers.ensures.marks c.counted_drivers.ensures.history c.counted_drivers.ensures.budget
+    c.counted_drivers.ensures.truth (λ link. tt)

@@ -9,15 +9,15 @@ use Rattle.tools.proofs.scripts.starting.start_and_play.Goals as goal
 
 pub returns-clause-played : goal.returns-clause-played
 returns-clause-played g c =
-    has_run g.N.ServiceParameters.opening.media c.args.setup.now (map g.D.BlockDriver.state c.args.supply.items) c.args.prepared.range g.N.ServiceParameters.opening
-    g.N.ServiceParameters.geometry
+    has_run g.N.ServiceParameters.opening.media c.args.setup.now (map g.D.BlockDriver.state c.args.supply.items) c.args.prepared.range
+    g.N.ServiceParameters.opening g.N.ServiceParameters.geometry
     (λ h v o. IfOk o (λ came. AreServed IsSpent h v (map said c.args.scripts.now) came.sessions.items came.last_sync came.image.items))
     c.mount_and_play.result c.requires.opening c.requires.geometry c.requires.prepared _
-    (came_as _ IsSpent (c.cut_once_spent.ensures.ended g.N.ServiceParameters.opening) g.N.ServiceParameters.geometry g.N.ServiceParameters.opening (map said c.args.scripts.now)
-    c.mount_and_play.result c.mount_and_play.ensures.played)
+    (came_as _ IsSpent (c.cut_once_spent.ensures.ended g.N.ServiceParameters.opening) g.N.ServiceParameters.geometry
+    g.N.ServiceParameters.opening (map said c.args.scripts.now) c.mount_and_play.result c.mount_and_play.ensures.played)
     c.mount_and_play.ensures.holds
 
 pub returns-clause-unserved : goal.returns-clause-unserved
 returns-clause-unserved g c =
-    unserved_as _ _ g.N.ServiceParameters.opening IsSpent (c.cut_once_spent.ensures.ended g.N.ServiceParameters.opening) c.mount_and_play.result
-    c.mount_and_play.ensures.unserved
+    unserved_as _ _ g.N.ServiceParameters.opening IsSpent (c.cut_once_spent.ensures.ended g.N.ServiceParameters.opening)
+    c.mount_and_play.result c.mount_and_play.ensures.unserved
