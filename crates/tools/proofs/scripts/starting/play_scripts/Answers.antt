@@ -4,7 +4,7 @@ use Rattle.service_start.proofs.Starts.{at_hand}
 use Rattle.tools.proofs.scripts.starting.play_scripts.Goals as goal
 
 pub start_and_play-requires : goal.start_and_play-requires
-start_and_play-requires g c κs lives =
+start_and_play-requires g c =
     at_hand _ _ _ c.args.setup.now (map g.D.BlockDriver.state c.args.supply.items) _ _ c.args.image.items refl
     (ap (λ (bytes : List ℕ). opening_of bytes c.args.setup.now.minor c.in_ok-prepared.prepared.range) c.in_ok-prepared.ensures.bytes) refl
     c.in_ok-board.ensures.0 c.in_ok-board.ensures.1 (rw (← c.deref.ensures.value) c.in_ok-prepared.ensures.ok)
