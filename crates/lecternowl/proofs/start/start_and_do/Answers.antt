@@ -2,7 +2,7 @@ use Rattle.std.proofs.Common.{map}
 use Rattle.std.specs.Prelude.{IfOk}
 use Rattle.service_start.proofs.Runs.{has_run}
 use Rattle.service_start.specs.Spent.{IsSpent}
-use Rattle.lecternowl.proofs.Served.{done_as, undone_as}
+use Rattle.lecternowl.proofs.ServedLaws.{done_as, undone_as}
 use Rattle.lecternowl.specs.Serving.{AreDone}
 use Rattle.lecternowl.proofs.start.start_and_do.Goals as goal
 
