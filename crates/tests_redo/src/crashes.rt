@@ -94,12 +94,14 @@ impl Files {
         }
     }
 
-    /// In how many ways a crash may leave them, if those are few; else none.
+    /// In how many ways a crash may leave them, if those are few; else none. More are taken of the first crash than of later ones.
     fn ways(&self) -> u64 {
         match unsure(&self.log).saturating_add(unsure(&self.image)) {
             0 => 1,
             1 => 3,
             2 => 9,
+            3 if self.age < 2 => 27,
+            4 if self.age < 2 => 81,
             _ => 0,
         }
     }
