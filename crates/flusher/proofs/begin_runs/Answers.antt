@@ -1,4 +1,4 @@
-use Rattle.std.proofs.Common.{refl, ◌∙◌, arith}
+use Rattle.std.proofs.Common.{◌≤◌, refl, ◌∙◌, arith}
 use mathlib.Core.Logic.{inl, inr}
 use Rattle.cache.proofs.Placing.{keeps_none, keeps_then}
 use Rattle.flusher.proofs.Flushing.{flushing_none, flushing_more, flushing_end, begins_of, begins_none, run_few, lowest_of, all_of, posts_none, posts_then}
@@ -42,7 +42,7 @@ runs-preserved g c =
       uses = e.uses ∙ i.uses;
       busy = λ lt. e.busy (omega (arith, some));
       requests =
-          let size : 512 ≤ c.write_run-begun.old.self.shape.block_size = c.write_run-begun.old.self.shape.least in
+          let size : 512 ≤ c.runs.cache.shape.block_size = c.runs.cache.shape.least in
           let few = run_few c.runs.left c.write_run-begun.result _ _ _ _ _ size e.issued in
           let was = i.requests in
           let adds = e.adds (omega (arith, some)) in

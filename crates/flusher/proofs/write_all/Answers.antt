@@ -53,3 +53,10 @@ returns-in_err-take_next-clause-flush g c =
 
 pub take_next-requires-clause-stuck : goal.take_next-requires-clause-stuck
 take_next-requires-clause-stuck g c = λ live. c.begin_runs.ensures.full (omega arith) live
+
+pub returns-then-is_clean-clause-reads : goal.returns-then-is_clean-clause-reads
+returns-then-is_clean-clause-reads g c = λ t r is w. c.messages.invariant.reads t r (c.begin_runs.ensures.reads t r is w) w
+
+pub returns-in_err-take_next-clause-reads : goal.returns-in_err-take_next-clause-reads
+returns-in_err-take_next-clause-reads g c = λ t r is w.
+    c.messages.invariant.reads t r (c.begin_runs.ensures.reads t r (c.take_next.ensures.reads t r is w) w) w
