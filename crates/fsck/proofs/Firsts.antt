@@ -10,14 +10,17 @@ use Rattle.volume.specs.Pieces.{pieces}
 use Rattle.image.specs.Contents.{contents}
 use Rattle.std.proofs.lemmas.Bool.{cases_Bool, cases_lt, and_left, cond-true, cond-false}
 use Rattle.volume.specs.Nodes.{is_marked}
-use Rattle.volume.specs.Findings.{lacks_inode_bit, lacks_zone_bit, lacks_root, has_bad_mode, has_bad_size}
+use Rattle.volume.specs.Findings.{lacks_inode_bit, lacks_zone_bit, lacks_root, has_bad_mode}
 use Rattle.volume.proofs.Sums.{none_below}
 use Rattle.image.specs.declared.Image.{Image}
 use Rattle.image.proofs.Contents.{g, v, out_of_range}
 use Rattle.tree.specs.Sums.{some_below, least_below}
 use Rattle.volume.specs.declared.Finding.{Finding}
-use Rattle.volume.specs.Verdict.{Verdict, Clean, Found, Test, found, first_found, place_limit, tests, verdict_of, verdict_of_pieces}
+use Rattle.volume.specs.Verdict.{Verdict, Clean, Found, Test, found, first_found, place_limit, tests as tests_3, verdict_of, verdict_of_pieces}
 use Rattle.image.specs.Least.{least_of}
+use Rattle.fsck.specs.Form.{EntryForm, version_3}
+use Rattle.fsck.specs.Findings.{has_bad_size}
+use Rattle.fsck.specs.Verdict.{tests}
 use Rattle.fsck.specs.Parts.{found_or, first_of, structure_tests, zone_tests, block_tests, entry_tests, tree_tests}
 
 -- the verdict of a finding, or of none
@@ -94,34 +97,38 @@ none_first limit k test tests e =
       parts.1,
     )
 
-module _ (i : Image) where
+module _ (form : EntryForm) (i : Image) where
   -- what all findings are
-  pub all_parts : first_of (place_limit (g i)) 2 (tests (g i) (v i))
-      ≡ or_else (first_of (place_limit (g i)) 2 (structure_tests (g i) (v i))) (or_else (first_of (place_limit (g i)) 7 (zone_tests (g i) (v i)))
-      (or_else (first_of (place_limit (g i)) 10 (block_tests (g i) (v i))) (or_else (first_of (place_limit (g i)) 12 (entry_tests (g i) (v i))) (first_of (place_limit (g i)) 15 (tree_tests (g i) (v i))))))
+  pub all_parts : first_of (place_limit (g i)) 2 (tests form (g i) (v i))
+      ≡ or_else (first_of (place_limit (g i)) 2 (structure_tests form (g i) (v i)))
+      (or_else (first_of (place_limit (g i)) 7 (zone_tests (g i) (v i)))
+      (or_else (first_of (place_limit (g i)) 10 (block_tests (g i) (v i)))
+      (or_else (first_of (place_limit (g i)) 12 (entry_tests form (g i) (v i)))
+      (first_of (place_limit (g i)) 15 (tree_tests form (g i) (v i))))))
   all_parts =
       let l = place_limit (g i) in
-      let s = structure_tests (g i) (v i) in
+      let s = structure_tests form (g i) (v i) in
       let z = zone_tests (g i) (v i) in
       let b = block_tests (g i) (v i) in
-      let e = entry_tests (g i) (v i) in
-      let t = tree_tests (g i) (v i) in
+      let e = entry_tests form (g i) (v i) in
+      let t = tree_tests form (g i) (v i) in
       first_parts l 2 s (z ++ (b ++ (e ++ t)))
       ∙ ap (or_else (first_of l 2 s)) (first_parts l 7 z (b ++ (e ++ t))
       ∙ ap (or_else (first_of l 7 z)) (first_parts l 10 b (e ++ t)
       ∙ ap (or_else (first_of l 10 b)) (first_parts l 12 e t)))
 
   -- where the structure is right, no size is bad
-  pub sizes_good : None ≡ first_of (place_limit (g i)) 2 (structure_tests (g i) (v i)) → (n : ℕ) → has_bad_size (g i) (v i) n ≡ false
+  pub sizes_good : None ≡ first_of (place_limit (g i)) 2 (structure_tests form (g i) (v i)) → (n : ℕ)
+      → has_bad_size form (g i) (v i) n ≡ false
   sizes_good e n =
       let l = place_limit (g i) in
       let a = none_first l 2 (lacks_inode_bit (g i) (v i)) _ e in
       let b = none_first l 3 (lacks_zone_bit (g i) (v i)) _ a.1 in
       let c = none_first l 4 (lacks_root (g i) (v i)) _ b.1 in
       let d = none_first l 5 (has_bad_mode (g i) (v i)) _ c.1 in
-      let f = none_first l 6 (has_bad_size (g i) (v i)) _ d.1 in
+      let f = none_first l 6 (has_bad_size form (g i) (v i)) _ d.1 in
       elim (cases_lt n l) [
-        | inl low ↦ none_below (has_bad_size (g i) (v i)) l f.0 n low
+        | inl low ↦ none_below (has_bad_size form (g i) (v i)) l f.0 n low
         | inr far ↦ and_left (is_marked (g i) (v i) n) _ (out_of_range i n (omega arith))
       ]
 
@@ -131,10 +138,10 @@ verdict_read image g e = ap (λ r. elim r [ Err refusal ↦ found 1 (refusal_num
 
 -- is that of its first finding
 pub checked : (i : Image) (image : List ℕ) (o : Option Finding) → i.bytes.now ≡ image → geometry_of image ≡ Ok i.geometry
-    → o ≡ first_of (place_limit i.geometry) 2 (tests i.geometry (contents i)) → verdict_from o ≡ verdict_of image
+    → o ≡ first_of (place_limit i.geometry) 2 (tests version_3 i.geometry (contents i)) → verdict_from o ≡ verdict_of image
 unfolding contents
 checked i image o same read is =
-    ap verdict_from is ∙ first_verdict (place_limit i.geometry) 2 (tests i.geometry (contents i))
+    ap verdict_from is ∙ first_verdict (place_limit i.geometry) 2 (tests_3 i.geometry (contents i))
     ∙ ap (λ bytes. verdict_of_pieces i.geometry (pieces i.geometry (disk_of i.geometry bytes))) same
     ∙ sym (verdict_read image i.geometry read)
 

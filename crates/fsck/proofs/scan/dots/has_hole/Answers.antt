@@ -7,7 +7,7 @@ use Rattle.volume.specs.Nodes.{page_zone, entry_inode, file_byte, is_marked}
 use Rattle.volume.specs.Entries.{is_directory_inode, is_field, target_at, entry_count}
 use Rattle.volume.proofs.Sums.{some_from, none_from}
 use Rattle.image.specs.Contents.{contents}
-use Rattle.fsck.proofs.Entries.{no_directory, of_directory, two_entries, target_same, field_same}
+use Rattle.fsck.proofs.Directories.{no_directory, of_directory}
 use Rattle.fsck.proofs.scan.dots.has_hole.Goals as goal
 
 pub returns-then-not-is_directory : goal.returns-then-not-is_directory
