@@ -1,5 +1,6 @@
 -- The entries of directories by the bytes that version 3 has for them.
-use Rattle.std.proofs.Common.{◌≡◌, ◌≢◌, ◌<◌, ◌≤◌, ◌+◌, ◌*◌, ◌/◌, ◌-◌, take, drop, set, get_or, ℕ, zero, suc, List, [], ◌∷◌, length, slice_index}
+use Rattle.std.proofs.Common.{◌≡◌, ◌≢◌, ◌<◌, ◌≤◌, ◌+◌, ◌*◌, ◌/◌, ◌-◌, take, drop, set, get_or, ℕ, zero, suc, List, [], ◌∷◌, length}
+use Rattle.std.proofs.Common.{slice_index}
 use Rattle.std.proofs.Common.{Bool, true, false, refl, sym, ap, ◌∙◌, cond, arith}
 use mathlib.Core.Logic.{inl, inr}
 use Rattle.std.specs.Prelude.{not, ◌&&◌, ◌||◌, ◌==◌, nat_lt, nat_le, replicate}
@@ -105,7 +106,8 @@ module _ (t : Version) (i : Image) (n e : ℕ) (x : Inode) (is : x ≡ (v i).ino
   unfolding entry.name_in
   name_same =
       text_cut (slice_index bytes) form.name_length 60 4 (short_name t) (λ a far h. wide.rest a far h)
-      ∙ text_same (slice_index bytes) (file_byte (g i) (v i) ((v i).inodes n)) form.name_length 4 (form.size * e + form.name_start) byte_same
+      ∙ text_same (slice_index bytes) (file_byte (g i) (v i) ((v i).inodes n)) form.name_length 4
+      (form.size * e + form.name_start) byte_same
 
   -- what follows a zero byte
   padded_same : entry.is_padded (slice_index bytes) ≡ is_padded form (g i) (v i) n e

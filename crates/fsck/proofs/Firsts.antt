@@ -16,7 +16,8 @@ use Rattle.image.specs.declared.Image.{Image}
 use Rattle.image.proofs.Contents.{g, v, out_of_range}
 use Rattle.tree.specs.Sums.{some_below, least_below}
 use Rattle.volume.specs.declared.Finding.{Finding}
-use Rattle.volume.specs.Verdict.{Verdict, Clean, Found, Test, found, first_found, place_limit, tests as tests_3, verdict_of, verdict_of_pieces}
+use Rattle.volume.specs.Verdict.{Verdict, Clean, Found, Test, found, first_found, place_limit, tests as tests_3, verdict_of}
+use Rattle.volume.specs.Verdict.{verdict_of_pieces}
 use Rattle.image.specs.Least.{least_of}
 use Rattle.fsck.specs.Form.{EntryForm, version_3}
 use Rattle.fsck.specs.Findings.{has_bad_size}
@@ -44,12 +45,14 @@ unfolding first_of
 first_none limit k = refl
 
 -- the first test is true somewhere
-pub first_here : (limit k p : ℕ) (test : Test) (tests : List Test) → Some p ≡ least_of test limit → Some (record { number = k; place = p }) ≡ first_of limit k (test ∷ tests)
+pub first_here : (limit k p : ℕ) (test : Test) (tests : List Test) → Some p ≡ least_of test limit
+    → Some (record { number = k; place = p }) ≡ first_of limit k (test ∷ tests)
 unfolding first_of
 first_here limit k p test tests e = ap (λ o. found_or k o (first_of limit (k + 1) tests)) e
 
 -- or nowhere
-pub first_later : (limit k : ℕ) (test : Test) (tests : List Test) (r : Option Finding) → None ≡ least_of test limit → r ≡ first_of limit (k + 1) tests → r ≡ first_of limit k (test ∷ tests)
+pub first_later : (limit k : ℕ) (test : Test) (tests : List Test) (r : Option Finding) → None ≡ least_of test limit
+    → r ≡ first_of limit (k + 1) tests → r ≡ first_of limit k (test ∷ tests)
 unfolding first_of
 first_later limit k test tests r e rest = rest ∙ ap (λ o. found_or k o (first_of limit (k + 1) tests)) e
 
@@ -59,7 +62,8 @@ found_next k None r s = refl
 found_next k (Some p) r s = refl
 
 -- one part and another
-pub first_parts : (limit k : ℕ) (xs bs : List Test) → first_of limit k (xs ++ bs) ≡ or_else (first_of limit k xs) (first_of limit (after k xs) bs)
+pub first_parts : (limit k : ℕ) (xs bs : List Test) → first_of limit k (xs ++ bs)
+    ≡ or_else (first_of limit k xs) (first_of limit (after k xs) bs)
 unfolding first_of
 first_parts limit k [] bs = refl
 first_parts limit k (a ∷ xs) bs =
@@ -72,10 +76,12 @@ unfolding first_of
 first_verdict limit k [] = refl
 first_verdict limit k (test ∷ tests) = elim (cases_Bool (some_below test limit)) [
   | inl is ↦
-      ap (λ o. verdict_from (found_or k o (first_of limit (k + 1) tests))) (cond-true (some_below test limit) (Some (least_below test limit)) None is)
+      ap (λ o. verdict_from (found_or k o (first_of limit (k + 1) tests))) (cond-true (some_below test limit)
+      (Some (least_below test limit)) None is)
       ∙ sym (cond-true (some_below test limit) (found k (least_below test limit)) (first_found limit (k + 1) tests) is)
   | inr out ↦
-      ap (λ o. verdict_from (found_or k o (first_of limit (k + 1) tests))) (cond-false (some_below test limit) (Some (least_below test limit)) None out)
+      ap (λ o. verdict_from (found_or k o (first_of limit (k + 1) tests))) (cond-false (some_below test limit)
+      (Some (least_below test limit)) None out)
       ∙ first_verdict limit (k + 1) tests
       ∙ sym (cond-false (some_below test limit) (found k (least_below test limit)) (first_found limit (k + 1) tests) out)
 ]
@@ -86,7 +92,8 @@ none_parts k None r e = (refl, e)
 none_parts k (Some p) r e = absurd (cc)
 
 -- where no test is true, the next isn't
-pub none_first : (limit k : ℕ) (test : Test) (tests : List Test) → None ≡ first_of limit k (test ∷ tests) → (some_below test limit ≡ false) × (None ≡ first_of limit (k + 1) tests)
+pub none_first : (limit k : ℕ) (test : Test) (tests : List Test) → None ≡ first_of limit k (test ∷ tests)
+    → (some_below test limit ≡ false) × (None ≡ first_of limit (k + 1) tests)
 unfolding first_of
 none_first limit k test tests e =
     let parts = none_parts k (least_of test limit) (first_of limit (k + 1) tests) e in (
@@ -133,8 +140,10 @@ module _ (form : EntryForm) (i : Image) where
       ]
 
 -- the verdict on an image that is read
-verdict_read : (image : List ℕ) (g : Geometry) → geometry_of image ≡ Ok g → verdict_of image ≡ verdict_of_pieces g (pieces g (disk_of g image))
-verdict_read image g e = ap (λ r. elim r [ Err refusal ↦ found 1 (refusal_number refusal) | Ok h ↦ verdict_of_pieces h (pieces h (disk_of h image)) ]) e
+verdict_read : (image : List ℕ) (g : Geometry) → geometry_of image ≡ Ok g
+    → verdict_of image ≡ verdict_of_pieces g (pieces g (disk_of g image))
+verdict_read image g e = ap (λ r. elim r [ Err refusal ↦ found 1 (refusal_number refusal) | Ok h ↦
+    verdict_of_pieces h (pieces h (disk_of h image)) ]) e
 
 -- is that of its first finding
 pub checked : (i : Image) (image : List ℕ) (o : Option Finding) → i.bytes.now ≡ image → geometry_of image ≡ Ok i.geometry

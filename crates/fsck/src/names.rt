@@ -16,7 +16,11 @@ use std::alloc::{AllocError, Global};
 use volume::Finding;
 
 /// The first of findings 12 to 14, where no size is bad.
-pub(crate) fn entries(version: Version, alloc: Global, image: &Image) -> Result<Option<Finding>, AllocError>
+pub(crate) fn entries(
+    version: Version,
+    alloc: Global,
+    image: &Image,
+) -> Result<Option<Finding>, AllocError>
     requires { (n : ℕ) → has_bad_size (form_of version) image.now.geometry (contents image.now) n ≡ false }
     ensures { IfOk result (λ r. r
         ≡ first_of (place_limit image.now.geometry) 12 (entry_tests (form_of version) image.now.geometry (contents image.now))) }
@@ -34,7 +38,11 @@ pub(crate) fn entries(version: Version, alloc: Global, image: &Image) -> Result<
 }
 
 /// The first of findings 15 to 17, where no size is bad.
-pub(crate) fn tree(version: Version, alloc: Global, image: &Image) -> Result<Option<Finding>, AllocError>
+pub(crate) fn tree(
+    version: Version,
+    alloc: Global,
+    image: &Image,
+) -> Result<Option<Finding>, AllocError>
     requires { (n : ℕ) → has_bad_size (form_of version) image.now.geometry (contents image.now) n ≡ false }
     ensures { IfOk result (λ r. r
         ≡ first_of (place_limit image.now.geometry) 15 (tree_tests (form_of version) image.now.geometry (contents image.now))) }

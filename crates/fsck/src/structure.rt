@@ -87,7 +87,10 @@ fn is_mode(mode: u16) -> bool
 fn bad_size(version: Version, image: &Image) -> Option<u32>
     ensures { result ≡ least_of (has_bad_size (form_of version) image.now.geometry (contents image.now)) (place_limit image.now.geometry) }
 {
-    least_passing(image.geometry().inodes + 1, |n| has_bad_size(version, image, n))
+    least_passing(
+        image.geometry().inodes + 1,
+        |n| has_bad_size(version, image, n),
+    )
 }
 
 /// Whether n is such an inode.

@@ -48,7 +48,10 @@ pub(crate) fn bad_dots(version: Version, image: &Image) -> Option<u32>
     requires { (n : ℕ) → has_bad_size (form_of version) image.now.geometry (contents image.now) n ≡ false }
     ensures { result ≡ least_of (has_bad_dots (form_of version) image.now.geometry (contents image.now)) (place_limit image.now.geometry) }
 {
-    least_passing(image.geometry().inodes + 1, |n| has_bad_dots(version, image, n))
+    least_passing(
+        image.geometry().inodes + 1,
+        |n| has_bad_dots(version, image, n),
+    )
 }
 
 /// Whether n is a directory with such entries.
@@ -75,7 +78,10 @@ pub(crate) fn bad_target(version: Version, image: &Image) -> Option<u32>
     requires { (n : ℕ) → has_bad_size (form_of version) image.now.geometry (contents image.now) n ≡ false }
     ensures { result ≡ least_of (has_bad_target (form_of version) image.now.geometry (contents image.now)) (place_limit image.now.geometry) }
 {
-    least_passing(image.geometry().inodes + 1, |n| has_bad_target(version, image, n))
+    least_passing(
+        image.geometry().inodes + 1,
+        |n| has_bad_target(version, image, n),
+    )
 }
 
 /// Whether n is a directory with such an entry.
@@ -88,7 +94,12 @@ fn has_bad_target(version: Version, image: &Image, n: u32) -> bool
     }
     let inode = image.inode(n);
     for number in 0..entry_count(version, &inode) {
-        if is_lost(version, image, &entry(version, image, &inode, number), number) {
+        if is_lost(
+            version,
+            image,
+            &entry(version, image, &inode, number),
+            number,
+        ) {
             return true;
         }
     }

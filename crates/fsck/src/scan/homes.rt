@@ -18,7 +18,13 @@ use image::{Image, least_passing};
 
 /// The least directory that isn't reached from the root, is named other than once, or whose .. isn't its parent. Each has two
 /// entries; it is known how often each inode is named, a directory that names it, and whether it is reached.
-pub(crate) fn misplaced(version: Version, image: &Image, named: &[u16], namer: &[u16], seen: &[bool]) -> Option<u32>
+pub(crate) fn misplaced(
+    version: Version,
+    image: &Image,
+    named: &[u16],
+    namer: &[u16],
+    seen: &[bool],
+) -> Option<u32>
     requires sizes { (n : ℕ) → has_bad_size (form_of version) image.now.geometry (contents image.now) n ≡ false }
     requires named { AreNamed (form_of version) image.now named.now namer.now }
     requires seen { AreReached (form_of version) image.now seen.now }
@@ -32,7 +38,14 @@ pub(crate) fn misplaced(version: Version, image: &Image, named: &[u16], namer: &
 }
 
 /// Whether n is such a directory.
-fn is_misplaced(version: Version, image: &Image, named: &[u16], namer: &[u16], seen: &[bool], n: u32) -> bool
+fn is_misplaced(
+    version: Version,
+    image: &Image,
+    named: &[u16],
+    namer: &[u16],
+    seen: &[bool],
+    n: u32,
+) -> bool
     requires sizes { (n : ℕ) → has_bad_size (form_of version) image.now.geometry (contents image.now) n ≡ false }
     requires named { AreNamed (form_of version) image.now named.now namer.now }
     requires seen { AreReached (form_of version) image.now seen.now }
@@ -50,7 +63,11 @@ fn is_misplaced(version: Version, image: &Image, named: &[u16], namer: &[u16], s
     if u32::from(named[place]) != names_wanted(n) {
         return true;
     }
-    !is_home(n, u32::from(namer[place]), target(version, image, &inode, 1))
+    !is_home(
+        n,
+        u32::from(namer[place]),
+        target(version, image, &inode, 1),
+    )
 }
 
 /// How many names a directory has: the root none, others one.
@@ -68,7 +85,12 @@ fn is_home(n: u32, namer: u32, m: u32) -> bool
 }
 
 /// The least inode with another link count than it should have, 0, or one over the greatest.
-pub(crate) fn bad_links(version: Version, image: &Image, named: &[u16], namer: &[u16]) -> Option<u32>
+pub(crate) fn bad_links(
+    version: Version,
+    image: &Image,
+    named: &[u16],
+    namer: &[u16],
+) -> Option<u32>
     requires sizes { (n : ℕ) → has_bad_size (form_of version) image.now.geometry (contents image.now) n ≡ false }
     requires named { AreNamed (form_of version) image.now named.now namer.now }
     ensures { result ≡ least_of (has_bad_links (form_of version) image.now.geometry (contents image.now)) (place_limit image.now.geometry) }

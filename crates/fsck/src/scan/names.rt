@@ -17,7 +17,11 @@ use std::collections::HashSet;
 
 /// The least directory with a free entry among the first two, one past . and .. whose field is no name, or one whose name stands earlier
 /// too.
-pub(crate) fn bad_entry(version: Version, alloc: Global, image: &Image) -> Result<Option<u32>, AllocError>
+pub(crate) fn bad_entry(
+    version: Version,
+    alloc: Global,
+    image: &Image,
+) -> Result<Option<u32>, AllocError>
     requires { (n : ℕ) → has_bad_size (form_of version) image.now.geometry (contents image.now) n ≡ false }
     ensures { IfOk result (λ r. r
         ≡ least_of (has_bad_entry (form_of version) image.now.geometry (contents image.now)) (place_limit image.now.geometry)) }

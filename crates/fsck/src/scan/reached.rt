@@ -36,13 +36,7 @@ pub(crate) fn mark_reached(
 }
 
 /// Marks the inodes that directory n names. Those that weren't marked wait: there is room for all that aren't.
-fn mark_names(
-    version: Version,
-    image: &Image,
-    n: u32,
-    seen: &mut [bool],
-    waiting: &mut Vec<u32>,
-)
+fn mark_names(version: Version, image: &Image, n: u32, seen: &mut [bool], waiting: &mut Vec<u32>)
     requires sizes { (n : ℕ) → has_bad_size (form_of version) image.now.geometry (contents image.now) n ≡ false }
     requires room { unseen seen.old + length waiting.old.items ≤ vec_capacity waiting.old }
     ensures goes { GoesOn (names_in_of (form_of version) image.now.geometry (contents image.now) n) seen.old waiting.old.items seen.new

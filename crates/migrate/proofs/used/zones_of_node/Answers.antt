@@ -20,7 +20,8 @@ name_count-requires c =
     let mode : is_directory_mode ((contents i).inodes n).mode ≡ true
     = ap (λ x. is_directory_mode x.mode) (sym c.inode-inode.ensures) ∙ sym c.is_directory_mode.ensures ∙ c.if-is_directory_mode.true in
     let marked = sym c.is_marked.ensures ∙ c.if-not-is_marked.false in
-    small V2 i n c.inode-inode.result c.inode-inode.ensures (and_from (is_marked i.geometry (contents i) n) _ marked mode) (c.requires.sizes n)
+    small V2 i n c.inode-inode.result c.inode-inode.ensures (and_from (is_marked i.geometry (contents i) n) _ marked mode)
+    (c.requires.sizes n)
 
 pub returns-then-is_directory_mode-clause-value : goal.returns-then-is_directory_mode-clause-value
 returns-then-is_directory_mode-clause-value c =

@@ -11,5 +11,5 @@ moved_directory-requires c =
     let i = c.args.old.now.image in
     let mode : is_directory_mode ((contents i).inodes c.args.n).mode ≡ true
     = ap (λ x. is_directory_mode x.mode) (sym c.inode-inode.ensures) ∙ sym c.is_directory_mode.ensures ∙ c.if-is_directory_mode.true in
-    small V2 i c.args.n c.inode-inode.result c.inode-inode.ensures (and_from (is_marked i.geometry (contents i) c.args.n) _ c.requires.marked
-    mode) (c.requires.sizes c.args.n)
+    small V2 i c.args.n c.inode-inode.result c.inode-inode.ensures (and_from (is_marked i.geometry (contents i) c.args.n) _
+    c.requires.marked mode) (c.requires.sizes c.args.n)

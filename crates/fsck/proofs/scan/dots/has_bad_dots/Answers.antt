@@ -20,7 +20,8 @@ entry-first-requires-clause-there c =
 
 pub entry-first-requires-clause-small : goal.entry-first-requires-clause-small
 entry-first-requires-clause-small c =
-    small c.args.version c.args.image.now c.args.n c.inode-inode.result c.inode-inode.ensures (sym c.is_directory.ensures ∙ c.if-not-is_directory.false)
+    small c.args.version c.args.image.now c.args.n c.inode-inode.result c.inode-inode.ensures
+    (sym c.is_directory.ensures ∙ c.if-not-is_directory.false)
     (c.requires c.args.n)
 
 pub entry-requires-clause-there : goal.entry-requires-clause-there
@@ -30,7 +31,8 @@ entry-requires-clause-there c =
 
 pub entry-requires-clause-small : goal.entry-requires-clause-small
 entry-requires-clause-small c =
-    small c.args.version c.args.image.now c.args.n c.inode-inode.result c.inode-inode.ensures (sym c.is_directory.ensures ∙ c.if-not-is_directory.false)
+    small c.args.version c.args.image.now c.args.n c.inode-inode.result c.inode-inode.ensures
+    (sym c.is_directory.ensures ∙ c.if-not-is_directory.false)
     (c.requires c.args.n)
 
 pub returns-then-not-is_field : goal.returns-then-not-is_field
@@ -64,7 +66,8 @@ returns c =
     let i = c.args.image.now in
     let n = c.args.n in
     let first : is_field form i.geometry (contents i) n 0 dot ≡ true
-    = sym (field_same c.args.version i n 0 c.inode-inode.result c.inode-inode.ensures c.entry-first.result c.entry-first.ensures dot (short_dot c.args.version))
+    = sym (field_same c.args.version i n 0 c.inode-inode.result c.inode-inode.ensures c.entry-first.result c.entry-first.ensures dot
+    (short_dot c.args.version))
     ∙ sym c.is_field.ensures ∙ c.if-not-is_field.false in
     let is = c.u32_at.ensures ∙ target_same c.args.version i n 0 c.inode-inode.result c.inode-inode.ensures c.entry-first.result c.entry-first.ensures in
     let own : (target_at form i.geometry (contents i) n 0 == n) ≡ true

@@ -15,7 +15,8 @@ returns-then-not-is_directory c =
 
 pub entry-requires-clause-small : goal.entry-requires-clause-small
 entry-requires-clause-small c =
-    small c.args.version c.args.image.now c.args.n c.inode-inode.result c.inode-inode.ensures (sym c.is_directory.ensures ∙ c.if-not-is_directory.false)
+    small c.args.version c.args.image.now c.args.n c.inode-inode.result c.inode-inode.ensures
+    (sym c.is_directory.ensures ∙ c.if-not-is_directory.false)
     (c.requires c.args.n)
 
 pub returns-then-is_lost : goal.returns-then-is_lost

@@ -40,7 +40,8 @@ returns-then-is_directory c =
     = ap (λ k. 2 + k) c.subdirectories.ensures.value ∙ sym (cond-true (is_directory_inode i.geometry (contents i) n)
     (2 + subdirectories_of form i.geometry (contents i) n) _ (sym c.is_directory.ensures ∙ c.if-is_directory.true)) in
     ap (λ l. not (l == 2 + c.subdirectories.result)) is
-    ∙ other_links form i n (sym c.is_marked.ensures ∙ c.if-not-is_marked.false) (λ e. some (is ∙ e)) (omega arith) (2 + c.subdirectories.result)
+    ∙ other_links form i n (sym c.is_marked.ensures ∙ c.if-not-is_marked.false) (λ e. some (is ∙ e)) (omega arith)
+    (2 + c.subdirectories.result)
     (ap (λ k. ((contents i).inodes n).links == k) wanted)
 
 pub bounds-named-n : goal.bounds-named-n

@@ -47,7 +47,8 @@ target-requires-clause-there c =
 
 pub target-requires-clause-small : goal.target-requires-clause-small
 target-requires-clause-small c =
-    small c.args.version c.args.image.now c.args.n c.inode-inode.result c.inode-inode.ensures (sym c.is_directory.ensures ∙ c.if-not-is_directory.false)
+    small c.args.version c.args.image.now c.args.n c.inode-inode.result c.inode-inode.ensures
+    (sym c.is_directory.ensures ∙ c.if-not-is_directory.false)
     (c.requires.sizes c.args.n)
 
 pub returns : goal.returns
@@ -64,7 +65,8 @@ returns c =
     let same = c.if-from-names_wanted.false in
     let once : all_names_of form i.geometry (contents i) n ≡ one_if (not (n == 1)) = omega arith in
     ap not (c.is_home.ensures ∙ ap (λ p. cond (n == 1) (c.target.result == 1) (c.target.result == p)) c.from-2.ensures)
-    ∙ by_home form i c.args.named.now c.args.namer.now c.requires.named n low is (sym (c.requires.seen n low) ∙ c.if-not-seen-place.false) once
+    ∙ by_home form i c.args.named.now c.args.namer.now c.requires.named n low is (sym (c.requires.seen n low)
+    ∙ c.if-not-seen-place.false) once
     c.target.result
     (c.target.ensures ∙ ap (λ x. entry_inode form (file_byte i.geometry (contents i) x) 1) c.inode-inode.ensures)
 

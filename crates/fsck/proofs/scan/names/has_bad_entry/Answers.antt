@@ -22,17 +22,18 @@ returns-then-not-is_directory c =
 
 pub entry-entry-requires-clause-small : goal.entry-entry-requires-clause-small
 entry-entry-requires-clause-small c =
-    small c.args.version c.args.image.now c.args.n c.inode-inode.result c.inode-inode.ensures (sym c.is_directory.ensures ∙ c.if-not-is_directory.false)
+    small c.args.version c.args.image.now c.args.n c.inode-inode.result c.inode-inode.ensures
+    (sym c.is_directory.ensures ∙ c.if-not-is_directory.false)
     (c.requires c.args.n)
 
 pub name_at-requires-clause-small : goal.name_at-requires-clause-small
 name_at-requires-clause-small c =
-    small c.args.version c.args.image.now c.args.n c.inode-inode.result c.inode-inode.ensures (sym c.is_directory.ensures ∙ c.if-not-is_directory.false)
+    small c.args.version c.args.image.now c.args.n c.inode-inode.result c.inode-inode.ensures
+    (sym c.is_directory.ensures ∙ c.if-not-is_directory.false)
     (c.requires c.args.n)
 
 pub loop-number-init : goal.loop-number-init
-loop-number-init c =
-    record {
+loop-number-init c = record {
   good = λ e h. absurd (omega arith);
   names = λ q. ap (list_any (λ (k : Bor (List ℕ)). pointwise eqb q k.now)) c.in_ok-names.ensures.empty ∙ sym (no_some _);
 }
@@ -82,7 +83,8 @@ returns-then-not-branch c =
     let key = c.name_at.ensures ∙ is_named c.args.version i n e c.inode-inode.result c.inode-inode.ensures in
     let there = not-false _ (sym c.in_ok-insert.ensures.added ∙ c.if-not-branch.true) in
     sym (some_from (is_bad_entry form i.geometry (contents i) n) (entry_count form (contents i) n) e (omega arith)
-    (bad_double form i n e used (sym (stands_earlier form i n c.loop-number.names.keys e c.name_at.result.now true c.loop-number.invariant.names key
+    (bad_double form i n e used
+    (sym (stands_earlier form i n c.loop-number.names.keys e c.name_at.result.now true c.loop-number.invariant.names key
     (sym there)))))
     ∙ of_directory i n _ (sym c.is_directory.ensures ∙ c.if-not-is_directory.false)
 
@@ -118,7 +120,8 @@ loop-number-preserved c =
       good = below_more P e c.loop-number.invariant.good (good_entry form i n e
           (ne_eqb _ 0 (λ z. c.if-u32_at-eq0.false (c.u32_at.ensures ∙ is ∙ z)))
           (ap (λ b. nat_le 2 e && not b) (sym field) ∙ sym c.is_bad_name.ensures ∙ c.if-is_bad_name.false)
-          (sym (stands_earlier form i n c.loop-number.names.keys e c.name_at.result.now false c.loop-number.invariant.names key (sym new))));
+          (sym (stands_earlier form i n c.loop-number.names.keys e c.name_at.result.now false c.loop-number.invariant.names key
+          (sym new))));
       names = names_more form i n c.loop-number.names.keys c.insert.new.self.keys e c.name_at.result.now c.loop-number.invariant.names used key
           (λ q. c.in_ok-insert.ensures.updates.0 (record { ref_ptr = (0, 0); now = q }));
     }

@@ -22,12 +22,16 @@ returns-then-not-is_directory-clause-goes c =
     let form = form_of c.args.version in
     let i = c.args.image.now in
     goes_none (names_in_of form i.geometry (contents i) c.args.n) c.args.seen.now c.args.waiting.now.items
-    (λ k h some. let none : names_in_of form i.geometry (contents i) c.args.n k ≡ 0 = cond-false (is_directory_inode i.geometry (contents i) c.args.n) _ 0 (sym c.is_directory.ensures ∙ c.if-not-is_directory.true) in absurd (omega arith))
+    (λ k h some. let none : names_in_of form i.geometry (contents i) c.args.n k ≡ 0
+    = cond-false (is_directory_inode i.geometry (contents i) c.args.n) _ 0 (sym c.is_directory.ensures
+    ∙ c.if-not-is_directory.true) in absurd (omega arith))
 
 pub loop-number-init : goal.loop-number-init
 loop-number-init c = record {
   near = omega arith;
-  go = goes_none _ c.args.seen.now c.args.waiting.now.items (λ k h some. let none = no_sum (λ e. one_if (target_at (form_of c.args.version) c.args.image.now.geometry (contents c.args.image.now) c.args.n (e + 2) == k)) in absurd (omega arith));
+  go = goes_none _ c.args.seen.now c.args.waiting.now.items (λ k h some. let none
+      = no_sum (λ e. one_if (target_at (form_of c.args.version) c.args.image.now.geometry (contents c.args.image.now) c.args.n
+      (e + 2) == k)) in absurd (omega arith));
   capacity = refl;
 }
 
@@ -40,11 +44,13 @@ loop-number-preserved c =
     let low : 2 ≤ e = omega arith in
     let target : ℕ → ℕ = target_at form i.geometry (contents i) n in
     let here : target (e - 2 + 2) ≡ c.target.result
-    = ap target (let k : e - 2 + 2 ≡ e = omega arith in k) ∙ ap (λ x. entry_inode form (file_byte i.geometry (contents i) x) e) (sym c.inode-inode.ensures) ∙ sym c.target.ensures in
+    = ap target (let k : e - 2 + 2 ≡ e = omega arith in k) ∙ ap (λ x. entry_inode form (file_byte i.geometry (contents i) x) e)
+    (sym c.inode-inode.ensures) ∙ sym c.target.ensures in
     let next : e + 1 - 2 ≡ e - 2 + 1 = omega arith in
     record {
       near = omega arith;
-      go = goes_more (λ m. count_below (λ e. target (e + 2) == m) (e - 2)) (λ m. one_if (c.target.result == m)) (λ m. count_below (λ e. target (e + 2) == m) (e + 1 - 2))
+      go = goes_more (λ m. count_below (λ e. target (e + 2) == m) (e - 2)) (λ m. one_if (c.target.result == m))
+          (λ m. count_below (λ e. target (e + 2) == m) (e + 1 - 2))
           c.args.seen.now c.args.waiting.now.items c.loop-number.seen c.loop-number.waiting.items c.mark.new.seen c.mark.new.waiting.items
           (λ m. ap (count_below (λ e. target (e + 2) == m)) next ∙ sum_more (λ e. one_if (target (e + 2) == m)) (e - 2)
           ∙ ap (λ t. count_below (λ e. target (e + 2) == m) (e - 2) + one_if (t == m)) here)

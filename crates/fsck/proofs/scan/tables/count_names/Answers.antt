@@ -13,14 +13,14 @@ pub loop-n-init : goal.loop-n-init
 loop-n-init c =
     let form = form_of c.args.version in
     record {
-  most = λ m. omega (arith, c.requires.fresh m);
-  named_size = c.requires.named_size;
-  namer_size = c.requires.namer_size;
-  counted = λ m h. let none = no_sum (λ n. names_in_of form c.args.image.now.geometry (contents c.args.image.now) n m) in
-      omega (arith, c.requires.fresh m);
-  noted = λ m h some. let none = no_sum (λ n. names_in_of form c.args.image.now.geometry (contents c.args.image.now) n m) in
-      absurd (omega arith);
-}
+      most = λ m. omega (arith, c.requires.fresh m);
+      named_size = c.requires.named_size;
+      namer_size = c.requires.namer_size;
+      counted = λ m h. let none = no_sum (λ n. names_in_of form c.args.image.now.geometry (contents c.args.image.now) n m) in
+          omega (arith, c.requires.fresh m);
+      noted = λ m h some. let none = no_sum (λ n. names_in_of form c.args.image.now.geometry (contents c.args.image.now) n m) in
+          absurd (omega arith);
+    }
 
 pub loop-n-preserved : goal.loop-n-preserved
 loop-n-preserved c =

@@ -22,8 +22,7 @@ returns-then-not-is_directory-clause-more c =
     (λ m. cond-false (is_directory_inode i.geometry (contents i) c.args.n) _ 0 (sym c.is_directory.ensures ∙ c.if-not-is_directory.true))
 
 pub loop-number-init : goal.loop-number-init
-loop-number-init c =
-    record {
+loop-number-init c = record {
   most = c.requires.most;
   near = omega arith;
   sizes = c.requires.sizes;
@@ -76,5 +75,6 @@ count_name-requires-clause-inode c =
 
 pub target-requires-clause-small : goal.target-requires-clause-small
 target-requires-clause-small c =
-    small c.args.version c.args.image.now c.args.n c.inode-inode.result c.inode-inode.ensures (sym c.is_directory.ensures ∙ c.if-not-is_directory.false)
+    small c.args.version c.args.image.now c.args.n c.inode-inode.result c.inode-inode.ensures
+    (sym c.is_directory.ensures ∙ c.if-not-is_directory.false)
     (c.requires.good c.args.n)

@@ -13,6 +13,7 @@ invariant-loop-number l = record {
   most : (m : ℕ) → slice_index l.named m ≤ 32768;
   near : l.number - 2 ≤ entry_count_of (form_of l.version) l.inode - 2;
   sizes : length l.namer ≡ length l.named;
-  more : AreNamedMore l.n (λ m. count_below (λ e. target_at (form_of l.version) l.image.geometry (contents l.image) l.n (e + 2) == m) (l.number - 2))
+  more : AreNamedMore l.n (λ m. count_below (λ e. target_at (form_of l.version) l.image.geometry (contents l.image) l.n (e + 2) == m)
+  (l.number - 2))
       l.fn.named l.fn.namer l.named l.namer;
 }
