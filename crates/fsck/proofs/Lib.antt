@@ -1,4 +1,6 @@
-pub mod Entries
+pub mod Directories
+pub mod EntryBytes
+pub mod ShortEntries
 pub mod Doubles
 pub mod Counts
 pub mod Walks

@@ -8,16 +8,18 @@ use Rattle.std.proofs.lemmas.Bool.{or_right, and_from, and_parts}
 use Rattle.std.proofs.lemmas.List.{length-set, get_or-set_same, get_or-set_other, get_or_append_left, get_or_push, length_push, get_or_past}
 use Rattle.std.proofs.lemmas.List.Sums.{sum_by-cons, sum_by-set}
 use Rattle.tree.specs.Sums.{some_below, one_if}
-use Rattle.volume.specs.Findings.{names_in_of, is_reached}
 use Rattle.volume.proofs.Sums.{some_from, some_witness}
 use Rattle.volume.proofs.Reach.{reached}
 use Rattle.volume.proofs.Reached.{fuel_enough}
 use Rattle.image.specs.declared.Image.{Image}
 use Rattle.image.proofs.Contents.{g, v, is_geometry}
+use Rattle.fsck.specs.Form.{EntryForm}
+use Rattle.fsck.specs.Findings.{names_in_of, is_reached}
 use Rattle.fsck.specs.Reached.{is_seen, unseen, IsWaiting, AreReached, GoesOn}
 
 -- nothing more
-pub goes_none : (more : ℕ → ℕ) (a : List Bool) (w : List ℕ) → ((k : ℕ) → k < length a → 0 < more k → is_seen a k ≡ true) → GoesOn more a w a w
+pub goes_none : (more : ℕ → ℕ) (a : List Bool) (w : List ℕ) → ((k : ℕ) → k < length a → 0 < more k → is_seen a k ≡ true)
+    → GoesOn more a w a w
 goes_none more a w all = record {
   size = refl;
   longer = omega arith;
@@ -30,7 +32,8 @@ goes_none more a w all = record {
 }
 
 -- one step and another
-pub goes_more : (f h both : ℕ → ℕ) (a : List Bool) (w : List ℕ) (b : List Bool) (x : List ℕ) (c : List Bool) (y : List ℕ) → ((k : ℕ) → both k ≡ f k + h k)
+pub goes_more : (f h both : ℕ → ℕ) (a : List Bool) (w : List ℕ) (b : List Bool) (x : List ℕ) (c : List Bool) (y : List ℕ)
+    → ((k : ℕ) → both k ≡ f k + h k)
     → GoesOn f a w b x → GoesOn h b x c y → GoesOn both a w c y
 goes_more f h both a w b x c y sum first second = record {
   size = second.size ∙ first.size;
@@ -55,7 +58,8 @@ goes_more f h both a w b x c y sum first second = record {
 }
 
 -- the same steps
-pub goes_same : (f h : ℕ → ℕ) (a : List Bool) (w : List ℕ) (b : List Bool) (x : List ℕ) → ((k : ℕ) → h k ≡ f k) → GoesOn f a w b x → GoesOn h a w b x
+pub goes_same : (f h : ℕ → ℕ) (a : List Bool) (w : List ℕ) (b : List Bool) (x : List ℕ) → ((k : ℕ) → h k ≡ f k) → GoesOn f a w b x
+    → GoesOn h a w b x
 goes_same f h a w b x same go = record {
   size = go.size;
   longer = go.longer;
@@ -81,7 +85,8 @@ goes_seen m a w is = goes_none _ a w (λ k l some. elim (cases_eq m k) [
 ])
 
 -- one that wasn't
-pub goes_one : (m : ℕ) (a : List Bool) (w x : List ℕ) → m < length a → is_seen a m ≡ false → x ≡ w ++ m ∷ [] → GoesOn (λ k. one_if (m == k)) a w (set a m true) x
+pub goes_one : (m : ℕ) (a : List Bool) (w x : List ℕ) → m < length a → is_seen a m ≡ false → x ≡ w ++ m ∷ []
+    → GoesOn (λ k. one_if (m == k)) a w (set a m true) x
 goes_one m a w x h out is =
     let size : length x ≡ length w + 1 = ap length is ∙ length_push w m in
     let last : slice_index x (length w) ≡ m = ap (λ l. slice_index l (length w)) is ∙ get_or_push w m 0 (length w) refl in
@@ -105,7 +110,8 @@ goes_one m a w x h out is =
         | inl e ↦ ap (is_seen (set a m true)) (sym e) ∙ there
         | inr d ↦ let none : one_if (m == k) ≡ 0 = ap one_if (ne_eqb m k d) in absurd (omega arith)
       ];
-      marked = λ j far l. let e : j ≡ length w = omega arith in ap (λ j. is_seen (set a m true) (slice_index x j)) e ∙ ap (is_seen (set a m true)) last ∙ there;
+      marked = λ j far l. let e : j ≡ length w = omega arith in ap (λ j. is_seen (set a m true) (slice_index x j)) e
+          ∙ ap (is_seen (set a m true)) last ∙ there;
       less = omega arith;
     }
 
@@ -120,14 +126,15 @@ few_unseen (b ∷ bs) =
     omega (arith, both, rest, one)
 
 -- What holds while the walk goes on: who is marked is reached, and waits or has all that it names marked.
-pub record IsWalk (i : Image) (seen : List Bool) (waiting : List ℕ) : Type 0 where
+pub record IsWalk (form : EntryForm) (i : Image) (seen : List Bool) (waiting : List ℕ) : Type 0 where
   pub size : length seen ≡ (g i).inodes + 1
   pub root : is_seen seen 1 ≡ true
-  pub found : (n : ℕ) → is_seen seen n ≡ true → (k : ℕ) × (is_reached (g i) (v i) k n ≡ true)
-  pub closed : (m : ℕ) → is_seen seen m ≡ true → IsWaiting waiting m ⊎ ((n : ℕ) → n < length seen → 0 < names_in_of (g i) (v i) m n → is_seen seen n ≡ true)
+  pub found : (n : ℕ) → is_seen seen n ≡ true → (k : ℕ) × (is_reached form (g i) (v i) k n ≡ true)
+  pub closed : (m : ℕ) → is_seen seen m ≡ true → IsWaiting waiting m ⊎
+      ((n : ℕ) → n < length seen → 0 < names_in_of form (g i) (v i) m n → is_seen seen n ≡ true)
   pub marked : (j : ℕ) → j < length waiting → is_seen seen (slice_index waiting j) ≡ true
 
-module _ (i : Image) where
+module _ (form : EntryForm) (i : Image) where
   -- who is marked has a place
   in_list : (seen : List Bool) (n : ℕ) → is_seen seen n ≡ true → n < length seen
   in_list seen n is = elim (cases_lt n (length seen)) [
@@ -136,7 +143,8 @@ module _ (i : Image) where
   ]
 
   -- a walk begins
-  pub walk_begins : (a b : List Bool) (x : List ℕ) → length a ≡ (g i).inodes + 1 → ((n : ℕ) → get_or a n false ≡ false) → GoesOn (λ k. one_if (1 == k)) a [] b x → IsWalk i b x
+  pub walk_begins : (a b : List Bool) (x : List ℕ) → length a ≡ (g i).inodes + 1 → ((n : ℕ) → get_or a n false ≡ false)
+      → GoesOn (λ k. one_if (1 == k)) a [] b x → IsWalk form i b x
   walk_begins a b x size fresh go =
       let some = (is_geometry i).some_inode in
       record {
@@ -154,13 +162,14 @@ module _ (i : Image) where
       ]
 
   -- and goes on from one that waited last
-  pub walk_goes : (a : List Bool) (w rest : List ℕ) (n : ℕ) (b : List Bool) (x : List ℕ) → IsWalk i a w → w ≡ rest ++ n ∷ []
-      → GoesOn (names_in_of (g i) (v i) n) a rest b x → IsWalk i b x
+  pub walk_goes : (a : List Bool) (w rest : List ℕ) (n : ℕ) (b : List Bool) (x : List ℕ) → IsWalk form i a w → w ≡ rest ++ n ∷ []
+      → GoesOn (names_in_of form (g i) (v i) n) a rest b x → IsWalk form i b x
   walk_goes a w rest n b x walk is go =
       let size : length w ≡ length rest + 1 = ap length is ∙ length_push rest n in
       let last : slice_index w (length rest) ≡ n = ap (λ l. slice_index l (length rest)) is ∙ get_or_push rest n 0 (length rest) refl in
       let n_seen : is_seen a n ≡ true = ap (is_seen a) (sym last) ∙ walk.marked (length rest) (omega arith) in
-      let same : (j : ℕ) → j < length rest → slice_index w j ≡ slice_index rest j = λ j l. ap (λ l. slice_index l j) is ∙ get_or_append_left rest (n ∷ []) 0 j l in
+      let same : (j : ℕ) → j < length rest → slice_index w j ≡ slice_index rest j = λ j l. ap (λ l. slice_index l j) is
+      ∙ get_or_append_left rest (n ∷ []) 0 j l in
       record {
         size = go.size ∙ walk.size;
         root = go.keeps 1 walk.root;
@@ -171,8 +180,10 @@ module _ (i : Image) where
               let k = walk.found n n_seen in
               let low = in_list a n n_seen in (
                 suc k.0,
-                or_right (is_reached (g i) (v i) k.0 m) _ (some_from (λ z. nat_lt 0 (names_in_of (g i) (v i) z m) && is_reached (g i) (v i) k.0 z) ((g i).inodes + 1) n (omega (arith, walk.size))
-                    (and_from (nat_lt 0 (names_in_of (g i) (v i) n m)) (is_reached (g i) (v i) k.0 n) (lt-ltb 0 _ new.0) k.1)),
+                or_right (is_reached form (g i) (v i) k.0 m) _ (some_from
+                    (λ z. nat_lt 0 (names_in_of form (g i) (v i) z m) && is_reached form (g i) (v i) k.0 z) ((g i).inodes + 1) n
+                    (omega (arith, walk.size))
+                    (and_from (nat_lt 0 (names_in_of form (g i) (v i) n m)) (is_reached form (g i) (v i) k.0 n) (lt-ltb 0 _ new.0) k.1)),
               )
         ];
         closed = λ m seen. elim (cases_Bool (is_seen a m)) [
@@ -182,7 +193,8 @@ module _ (i : Image) where
               | inr late ↦
                   let e : wait.0 ≡ length rest = omega (arith, wait.1) in
                   let m_is : n ≡ m = sym last ∙ ap (slice_index w) (sym e) ∙ wait.2 in
-                  inr (λ k l some. go.all k (omega (arith, go.size)) (let P : ℕ → Type 0 = λ z. 0 < names_in_of (g i) (v i) z k in subst P (sym m_is) some))
+                  inr (λ k l some. go.all k (omega (arith, go.size)) (let P : ℕ → Type 0
+                  = λ z. 0 < names_in_of form (g i) (v i) z k in subst P (sym m_is) some))
             ]
             | inr done ↦ inr (λ k l some. go.keeps k (done k (omega (arith, go.size)) some))
           ]
@@ -196,29 +208,29 @@ module _ (i : Image) where
 
   -- who names whom
   abbrev edge : ℕ → ℕ → Bool
-  edge m n = nat_lt 0 (names_in_of (g i) (v i) m n)
+  edge m n = nat_lt 0 (names_in_of form (g i) (v i) m n)
 
   -- reached as the plain walk says it
-  reached_is : (k n : ℕ) → is_reached (g i) (v i) k n ≡ reached edge ((g i).inodes + 1) k n
+  reached_is : (k n : ℕ) → is_reached form (g i) (v i) k n ≡ reached edge ((g i).inodes + 1) k n
   unfolding reached
   reached_is zero n = refl
   reached_is (suc k) n = λ j. reached_is k n j || some_below (λ m. edge m n && reached_is k m j) ((g i).inodes + 1)
 
   -- a set that is closed within the bound holds all that is reached within it
   within : (set : ℕ → Bool) (limit : ℕ) → set 1 ≡ true → ((m n : ℕ) → m < limit → n < limit → set m ≡ true → edge m n ≡ true → set n ≡ true)
-      → limit ≡ (g i).inodes + 1 → (k n : ℕ) → n < limit → is_reached (g i) (v i) k n ≡ true → set n ≡ true
+      → limit ≡ (g i).inodes + 1 → (k n : ℕ) → n < limit → is_reached form (g i) (v i) k n ≡ true → set n ≡ true
   within set limit root closed e zero n l is = ap set (eqb-true n 1 is) ∙ root
-  within set limit root closed e (suc k) n l is = elim (or_cases (is_reached (g i) (v i) k n) _ is) [
+  within set limit root closed e (suc k) n l is = elim (or_cases (is_reached form (g i) (v i) k n) _ is) [
     | inl before ↦ within set limit root closed e k n l before
     | inr s ↦
-        let w = some_witness (λ m. edge m n && is_reached (g i) (v i) k m) ((g i).inodes + 1) s in
-        let at = and_parts (edge w.0 n) (is_reached (g i) (v i) k w.0) w.2 in
+        let w = some_witness (λ m. edge m n && is_reached form (g i) (v i) k m) ((g i).inodes + 1) s in
+        let at = and_parts (edge w.0 n) (is_reached form (g i) (v i) k w.0) w.2 in
         let low : w.0 < limit = omega (arith, w.1) in
         closed w.0 n low l (within set limit root closed e k w.0 low at.1) at.0
   ]
 
   -- a walk that is over has found just what is reached
-  pub walk_over : (seen : List Bool) (waiting : List ℕ) → IsWalk i seen waiting → length waiting ≡ 0 → AreReached i seen
+  pub walk_over : (seen : List Bool) (waiting : List ℕ) → IsWalk form i seen waiting → length waiting ≡ 0 → AreReached form i seen
   walk_over seen waiting walk none n l =
       let some = (is_geometry i).some_inode in
       let closed : (m n : ℕ) → m < length seen → n < length seen → is_seen seen m ≡ true → edge m n ≡ true → is_seen seen n ≡ true
@@ -230,9 +242,11 @@ module _ (i : Image) where
         | inl is ↦
             let w = walk.found n is in
             let big : (g i).inodes + 1 ≡ suc (g i).inodes = omega arith in
-            is ∙ sym (reached_is (g i).inodes n ∙ fuel_enough edge ((g i).inodes + 1) (g i).inodes w.0 n (omega arith) big l (sym (reached_is w.0 n) ∙ w.1))
-        | inr out ↦ elim (cases_Bool (is_reached (g i) (v i) (g i).inodes n)) [
-          | inl is ↦ absurd (both_ways _ out (within (is_seen seen) (length seen) walk.root closed walk.size (g i).inodes n (omega (arith, walk.size)) is))
+            is ∙ sym (reached_is (g i).inodes n ∙ fuel_enough edge ((g i).inodes + 1) (g i).inodes w.0 n (omega arith) big l
+            (sym (reached_is w.0 n) ∙ w.1))
+        | inr out ↦ elim (cases_Bool (is_reached form (g i) (v i) (g i).inodes n)) [
+          | inl is ↦ absurd (both_ways _ out (within (is_seen seen) (length seen) walk.root closed walk.size (g i).inodes n
+              (omega (arith, walk.size)) is))
           | inr not ↦ out ∙ sym not
         ]
       ]

@@ -1,28 +1,14 @@
--- The findings, part by part.
+-- The findings, part by part. Those of zones and blocks are one for all forms.
 use Rattle.std.specs.Prelude.{ℕ, ◌+◌, List, [], ◌∷◌, Option, None, Some}
 use Rattle.layout.specs.declared.Geometry.{Geometry}
 use Rattle.volume.specs.declared.Finding.{Finding}
 use Rattle.volume.specs.Pieces.{Pieces}
-use Rattle.volume.specs.Findings.{
-  lacks_inode_bit,
-  lacks_zone_bit,
-  lacks_root,
-  has_bad_mode,
-  has_bad_size,
-  has_bad_number,
-  is_used_twice,
-  has_bad_bit,
-  has_spare_zone,
-  has_hole,
-  has_bad_dots,
-  has_bad_entry,
-  has_bad_target,
-  is_misplaced,
-  has_bad_links,
-  has_bad_link,
-}
+use Rattle.volume.specs.Findings.{lacks_inode_bit, lacks_zone_bit, lacks_root, has_bad_mode, has_bad_number, is_used_twice, has_bad_bit}
+use Rattle.volume.specs.Findings.{has_spare_zone, has_hole, has_bad_link}
 use Rattle.volume.specs.Verdict.{Test}
 use Rattle.image.specs.Least.{least_of}
+use Rattle.fsck.specs.Form.{EntryForm}
+use Rattle.fsck.specs.Findings.{has_bad_size, has_bad_dots, has_bad_entry, has_bad_target, is_misplaced, has_bad_links}
 
 -- the finding of that number at a place, where there is one, else another
 abbrev pub found_or : ℕ → Option ℕ → Option Finding → Option Finding
@@ -35,8 +21,8 @@ first_of limit k [] = None
 first_of limit k (test ∷ tests) = found_or k (least_of test limit) (first_of limit (k + 1) tests)
 
 -- findings 2 to 6
-abbrev pub structure_tests : Geometry → Pieces → List Test
-structure_tests g v = lacks_inode_bit g v ∷ lacks_zone_bit g v ∷ lacks_root g v ∷ has_bad_mode g v ∷ has_bad_size g v ∷ []
+abbrev pub structure_tests : EntryForm → Geometry → Pieces → List Test
+structure_tests form g v = lacks_inode_bit g v ∷ lacks_zone_bit g v ∷ lacks_root g v ∷ has_bad_mode g v ∷ has_bad_size form g v ∷ []
 
 -- findings 7 to 9
 abbrev pub zone_tests : Geometry → Pieces → List Test
@@ -47,9 +33,9 @@ abbrev pub block_tests : Geometry → Pieces → List Test
 block_tests g v = has_spare_zone g v ∷ has_hole g v ∷ []
 
 -- findings 12 to 14
-abbrev pub entry_tests : Geometry → Pieces → List Test
-entry_tests g v = has_bad_dots g v ∷ has_bad_entry g v ∷ has_bad_target g v ∷ []
+abbrev pub entry_tests : EntryForm → Geometry → Pieces → List Test
+entry_tests form g v = has_bad_dots form g v ∷ has_bad_entry form g v ∷ has_bad_target form g v ∷ []
 
 -- findings 15 to 17
-abbrev pub tree_tests : Geometry → Pieces → List Test
-tree_tests g v = is_misplaced g v ∷ has_bad_links g v ∷ has_bad_link g v ∷ []
+abbrev pub tree_tests : EntryForm → Geometry → Pieces → List Test
+tree_tests form g v = is_misplaced form g v ∷ has_bad_links form g v ∷ has_bad_link g v ∷ []

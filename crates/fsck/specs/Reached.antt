@@ -1,9 +1,10 @@
 -- A walk along the names from the root.
 use Rattle.std.specs.Prelude.{◌≡◌, ◌<◌, ◌≤◌, ℕ, ◌+◌, List, length, slice_index, slice_index_or, Bool, true, false, if◌then◌else◌}
 use Rattle.std.specs.List.{sum_by}
-use Rattle.volume.specs.Findings.{is_reached}
 use Rattle.image.specs.declared.Image.{Image}
 use Rattle.image.specs.Contents.{contents}
+use Rattle.fsck.specs.Form.{EntryForm}
+use Rattle.fsck.specs.Findings.{is_reached}
 
 -- inode n is marked
 abbrev pub is_seen : List Bool → ℕ → Bool
@@ -18,8 +19,8 @@ abbrev pub IsWaiting : List ℕ → ℕ → Type 0
 IsWaiting waiting n = (j : ℕ) × (j < length waiting) × (slice_index waiting j ≡ n)
 
 -- those that are marked are those that are reached from the root
-abbrev pub AreReached : Image → List Bool → Type 0
-AreReached i seen = (n : ℕ) → n < i.geometry.inodes + 1 → is_seen seen n ≡ is_reached i.geometry (contents i) i.geometry.inodes n
+abbrev pub AreReached : EntryForm → Image → List Bool → Type 0
+AreReached form i seen = (n : ℕ) → n < i.geometry.inodes + 1 → is_seen seen n ≡ is_reached form i.geometry (contents i) i.geometry.inodes n
 
 -- All inodes of which there is more are marked, and no others; those that weren't before wait, behind those that waited.
 pub record GoesOn (more : ℕ → ℕ) (seen : List Bool) (waiting : List ℕ) (seen' : List Bool) (waiting' : List ℕ) : Type 0 where

@@ -7,9 +7,9 @@ mod names;
 mod reached;
 mod tables;
 
-pub use dots::{bad_dots, bad_target, hole};
-pub use homes::{bad_links, misplaced};
-pub use links::bad_link;
-pub use names::bad_entry;
-pub use reached::mark_reached;
-pub use tables::count_names;
+pub(crate) use dots::{bad_dots, bad_target, hole};
+pub(crate) use homes::{bad_links, misplaced};
+pub(crate) use links::bad_link;
+pub(crate) use names::bad_entry;
+pub(crate) use reached::mark_reached;
+pub(crate) use tables::count_names;

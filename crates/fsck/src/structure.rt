@@ -1,19 +1,23 @@
 //! Findings 2 to 6: bit 0 of both maps, the root, modes and sizes.
 
-ghost use Rattle.std.specs.Prelude.{◌≡◌};
+ghost use Rattle.std.specs.Prelude.{◌≡◌, ◌*◌, ◌%◌, ◌==◌, ◌||◌, nat_lt, not};
 ghost use Rattle.volume.specs.Nodes.{is_mode};
-ghost use Rattle.volume.specs.Findings.{has_bad_mode, has_bad_size, is_bad_directory_size, lacks_inode_bit, lacks_root, lacks_zone_bit};
+ghost use Rattle.volume.specs.Findings.{has_bad_mode, lacks_inode_bit, lacks_root, lacks_zone_bit};
+ghost use Rattle.fsck.specs.Findings.{has_bad_size, is_bad_directory_size};
 ghost use Rattle.volume.specs.Verdict.{place_limit};
 ghost use Rattle.image.specs.Contents.{contents};
 ghost use Rattle.image.specs.Least.{least_of};
+ghost use Rattle.fsck.specs.Form.{form_of};
 ghost use Rattle.fsck.specs.Parts.{first_of, structure_tests};
 
+use crate::version::Version;
 use image::{Image, least_passing};
 use volume::Finding;
 
 /// The first of these findings.
-pub(crate) fn structure(image: &Image) -> Option<Finding>
-    ensures { result ≡ first_of (place_limit image.now.geometry) 2 (structure_tests image.now.geometry (contents image.now)) }
+pub(crate) fn structure(version: Version, image: &Image) -> Option<Finding>
+    ensures { result
+        ≡ first_of (place_limit image.now.geometry) 2 (structure_tests (form_of version) image.now.geometry (contents image.now)) }
 {
     if let Some(place) = inode_bit(image) {
         return Some(Finding { number: 2, place });
@@ -27,7 +31,7 @@ pub(crate) fn structure(image: &Image) -> Option<Finding>
     if let Some(place) = bad_mode(image) {
         return Some(Finding { number: 5, place });
     }
-    if let Some(place) = bad_size(image) {
+    if let Some(place) = bad_size(version, image) {
         return Some(Finding { number: 6, place });
     }
     None
@@ -80,15 +84,18 @@ fn is_mode(mode: u16) -> bool
 }
 
 /// The least inode with a size over the greatest, or with one that no directory has.
-fn bad_size(image: &Image) -> Option<u32>
-    ensures { result ≡ least_of (has_bad_size image.now.geometry (contents image.now)) (place_limit image.now.geometry) }
+fn bad_size(version: Version, image: &Image) -> Option<u32>
+    ensures { result ≡ least_of (has_bad_size (form_of version) image.now.geometry (contents image.now)) (place_limit image.now.geometry) }
 {
-    least_passing(image.geometry().inodes + 1, |n| has_bad_size(image, n))
+    least_passing(
+        image.geometry().inodes + 1,
+        |n| has_bad_size(version, image, n),
+    )
 }
 
 /// Whether n is such an inode.
-fn has_bad_size(image: &Image, n: u32) -> bool
-    ensures { result ≡ has_bad_size image.now.geometry (contents image.now) n }
+fn has_bad_size(version: Version, image: &Image, n: u32) -> bool
+    ensures { result ≡ has_bad_size (form_of version) image.now.geometry (contents image.now) n }
 {
     if !image.is_marked(n) {
         return false;
@@ -97,5 +104,12 @@ fn has_bad_size(image: &Image, n: u32) -> bool
     if 2147483647 < size {
         return true;
     }
-    image.is_directory(n) && (size < 128 || size % 64 != 0)
+    image.is_directory(n) && is_bad_directory_size(version, size)
+}
+
+/// Whether a directory can't have this size: it is under two entries, or no whole number of them.
+fn is_bad_directory_size(version: Version, size: u32) -> bool
+    ensures { result ≡ (nat_lt size (2 * (form_of version).size) || not (size % (form_of version).size == 0)) }
+{
+    size < 2 * version.entry_size() || size % version.entry_size() != 0
 }

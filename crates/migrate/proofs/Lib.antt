@@ -11,11 +11,6 @@ pub mod UsedNames
 pub mod UsedNodes
 pub mod RoomLeft
 pub mod Version3
-pub mod Doubles
-pub mod EntryBytes
-pub mod Standing
-pub mod Walks
-pub mod Firsts
 pub mod SuperblockPut
 pub mod Quiet
 pub mod SoundZones

@@ -11,11 +11,11 @@ use Rattle.image.specs.declared.Image.{Image}
 use Rattle.image.specs.Contents.{contents}
 use Rattle.migrate.specs.Same.{SameNames, SameDirectory}
 use Rattle.image.proofs.Places.{four}
-use Rattle.migrate.specs.Form.{version_2}
-use Rattle.migrate.specs.Nodes as nodes_2
-use Rattle.migrate.specs.Nodes.{is_dropped}
-use Rattle.migrate.specs.Widened.{IsWidened}
-use Rattle.migrate.proofs.EntryBytes.{text_cut}
+use Rattle.fsck.specs.Form.{version_2}
+use Rattle.fsck.specs.Nodes as nodes_2
+use Rattle.fsck.specs.Nodes.{is_dropped}
+use Rattle.fsck.specs.Widened.{IsWidened}
+use Rattle.fsck.proofs.EntryBytes.{text_cut}
 
 -- two rows of the same bytes hold the same text
 text_same : (f h : ℕ → ℕ) (k p q : ℕ) → ((a : ℕ) → a < k → f (p + a) ≡ h (q + a)) → text_in f k p ≡ text_in h k q
@@ -50,7 +50,7 @@ one_more f h k j used name inode before =
     cond-false (is_dropped version_2 f (k + 2)) (nodes_2.names_in version_2 f k) _ used
     ∙ (λ i. with_name (before i) (name i) (inode i))
 
-module _ (f h : ℕ → ℕ) (e d : ℕ) (bytes new : List ℕ) (wide : IsWidened f e bytes)
+module _ (f h : ℕ → ℕ) (e d : ℕ) (bytes new : List ℕ) (wide : IsWidened version_2 f e bytes)
     (read : (a : ℕ) → a < 64 → slice_index new a ≡ h (64 * d + a)) (same : bytes ≡ new) where
   -- the inode number
   pub number_same : nodes_2.entry_inode version_2 f e ≡ nodes_3.entry_inode h d
@@ -63,7 +63,7 @@ module _ (f h : ℕ → ℕ) (e d : ℕ) (bytes new : List ℕ) (wide : IsWidene
   pub name_same : nodes_2.entry_name version_2 f e ≡ nodes_3.entry_name h d
   name_same =
       text_same f (slice_index bytes) 14 (16 * e + 2) 4 (λ a l. sym (wide.name a l))
-      ∙ sym (text_cut (slice_index bytes) 14 60 4 (omega arith) (wide.rest 14 (omega arith) (omega arith)))
+      ∙ sym (text_cut (slice_index bytes) 14 60 4 (omega arith) (λ a far l. wide.rest a far l))
       ∙ ap (λ l. text_in (slice_index l) 60 4) same
       ∙ text_same (slice_index new) h 60 4 (64 * d + 4) (λ a l. let at : 64 * d + (4 + a) ≡ 64 * d + 4 + a = omega arith in
       read (4 + a) (omega arith) ∙ ap h at)

@@ -11,8 +11,8 @@ use Rattle.volume.specs.Nodes.{file_of, is_directory_mode, is_link_mode, permiss
 use Rattle.image.specs.declared.Image.{Image}
 use Rattle.image.specs.Contents.{contents}
 use Rattle.image.proofs.Contents.{out_of_range, zero_unmarked}
-use Rattle.migrate.specs.Form.{version_2}
-use Rattle.migrate.specs.Nodes as nodes_2
+use Rattle.fsck.specs.Form.{version_2}
+use Rattle.fsck.specs.Nodes as nodes_2
 use Rattle.migrate.specs.Same.{SameAttributes, same_attributes, SameDirectory, SameNode, SameNodes}
 
 -- inodes that were found to agree do

@@ -10,9 +10,9 @@ use Rattle.volume.specs.Findings.{has_spare_zone, has_hole}
 use Rattle.volume.specs.Verdict.{Clean, Test, place_limit}
 use Rattle.fsck.specs.Parts.{first_of}
 use Rattle.fsck.proofs.Firsts.{verdict_from, first_verdict, none_first}
-use Rattle.migrate.specs.Form.{version_2}
-use Rattle.migrate.specs.Findings.{has_bad_size, has_bad_dots, has_bad_entry}
-use Rattle.migrate.specs.Verdict.{tests, verdict_of_pieces}
+use Rattle.fsck.specs.Form.{version_2}
+use Rattle.fsck.specs.Findings.{has_bad_size, has_bad_dots, has_bad_entry}
+use Rattle.fsck.specs.Verdict.{tests, verdict_of_pieces}
 
 -- a test that is true nowhere
 abbrev Never : Geometry → Test → Type 0

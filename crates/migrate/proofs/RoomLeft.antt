@@ -13,8 +13,8 @@ use Rattle.volume.specs.Pieces.{Pieces}
 use Rattle.new_volume.specs.Sizes.{sizes_of, new_geometry}
 use Rattle.new_volume.specs.declared.MkfsRefusal.{MkfsRefusal}
 use Rattle.new_volume.specs.declared.MkfsRefusal.TheVariants.{BadInodes, TooManyBlocks, TooFewBlocks}
-use Rattle.migrate.specs.Form.{version_2}
-use Rattle.migrate.specs.Nodes.{nodes_of}
+use Rattle.fsck.specs.Form.{version_2}
+use Rattle.fsck.specs.Nodes.{nodes_of}
 use Rattle.migrate.specs.Used.{zones_of_all, has_room}
 
 -- a refusal of a test

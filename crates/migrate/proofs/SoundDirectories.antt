@@ -13,9 +13,9 @@ use Rattle.volume.specs.Entries.{is_directory_inode}
 use Rattle.volume.proofs.Sums.{none_below}
 use Rattle.volume.proofs.Volumes.{IsVolume, is_volume}
 use Rattle.volume.proofs.Ranges.{dir_marked, at_inode, at_dir, same_name_itself}
-use Rattle.migrate.specs.Form.{version_2}
-use Rattle.migrate.specs.Entries.{entry_count, name_at, target_at, is_free_at, is_field, is_name_field}
-use Rattle.migrate.specs.Findings.{is_bad_entry, has_name_of}
+use Rattle.fsck.specs.Form.{version_2}
+use Rattle.fsck.specs.Entries.{entry_count, name_at, target_at, is_free_at, is_field, is_name_field}
+use Rattle.fsck.specs.Findings.{is_bad_entry, has_name_of}
 use Rattle.migrate.specs.Holds.{IsSoundDirectory, IsSound}
 use Rattle.migrate.specs.Laws.{CleanIsSound}
 use Rattle.migrate.proofs.Quiet.{Quiet, clean_quiet}

@@ -10,8 +10,8 @@ use Rattle.tree.specs.Sums.{sum_below, count_below, one_if}
 use Rattle.tree.specs.Names.{Name, Names, name_cmp, inode_of, with_name}
 use Rattle.tree.proofs.Names.{inode_of-with_name, sorted-with_name}
 use Rattle.volume.proofs.Entries.{cmp_apart}
-use Rattle.migrate.specs.Form.{version_2}
-use Rattle.migrate.specs.Nodes.{names_in, entry_name, entry_inode, is_dropped}
+use Rattle.fsck.specs.Form.{version_2}
+use Rattle.fsck.specs.Nodes.{names_in, entry_name, entry_inode, is_dropped}
 
 module _ (f : ℕ → ℕ) where
   -- entry e past the first two is free

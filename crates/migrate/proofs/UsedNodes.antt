@@ -14,8 +14,8 @@ use Rattle.volume.proofs.Naming.{spot}
 use Rattle.volume.proofs.Bridge.{naming, zone_spot}
 use Rattle.volume.proofs.Levels.{needed_by_level}
 use Rattle.volume.proofs.Sums.{count_most}
-use Rattle.migrate.specs.Form.{version_2}
-use Rattle.migrate.specs.Nodes.{nodes_of, node_of, body_of, directory_of, is_dropped, entry_count_of}
+use Rattle.fsck.specs.Form.{version_2}
+use Rattle.fsck.specs.Nodes.{nodes_of, node_of, body_of, directory_of, is_dropped, entry_count_of}
 use Rattle.migrate.specs.Holds.{IsSound}
 use Rattle.migrate.specs.Used.{zones_in, zones_for, name_count}
 use Rattle.migrate.proofs.UsedFiles.{zones_by_slots}

@@ -20,11 +20,12 @@ use Rattle.image.proofs.Contents.{out_of_range, is_geometry}
 use Rattle.fsck.specs.Parts.{first_of}
 use Rattle.fsck.proofs.Firsts.{verdict_from, first_verdict, none_first}
 use Rattle.tree.specs.Tree.{Tree}
-use Rattle.migrate.specs.Form.{version_2}
-use Rattle.migrate.specs.Nodes as nodes_2
-use Rattle.migrate.specs.Findings.{has_bad_size}
+use Rattle.fsck.specs.Form.{version_2}
+use Rattle.fsck.specs.Nodes as nodes_2
+use Rattle.fsck.specs.Findings.{has_bad_size}
 use Rattle.migrate.specs.Holds.{IsSound}
-use Rattle.migrate.specs.Verdict.{tests, verdict_of_pieces, old_verdict_of}
+use Rattle.fsck.specs.Verdict.{tests, verdict_of_pieces}
+use Rattle.migrate.specs.Verdict.{old_verdict_of}
 use Rattle.migrate.specs.Stamped.{IsStamped}
 use Rattle.migrate.specs.Same.{SameNodes}
 use Rattle.migrate.specs.Superblock.{old_geometry_of}

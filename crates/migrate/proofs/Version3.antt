@@ -11,10 +11,10 @@ use Rattle.volume.specs.Nodes.{file_byte, file_of, is_directory_mode, is_marked}
 use Rattle.volume.specs.Holds as holds_3
 use Rattle.volume.specs.Verdict as verdict_3
 use Rattle.volume.specs.Verdict.{first_found, place_limit, Test}
-use Rattle.migrate.specs.Form.{version_3}
-use Rattle.migrate.specs.Nodes.{names_in, body_of, node_of, nodes_of}
+use Rattle.fsck.specs.Form.{version_3}
+use Rattle.fsck.specs.Nodes.{names_in, body_of, node_of, nodes_of}
 use Rattle.migrate.specs.Holds.{HoldsNodes, IsSoundDirectory}
-use Rattle.migrate.specs.Verdict.{tests}
+use Rattle.fsck.specs.Verdict.{tests}
 use Rattle.migrate.specs.OneDefinition.{OneDefinition}
 
 -- the names

@@ -11,9 +11,9 @@ use Rattle.volume.specs.Nodes.{page_zone, is_marked}
 use Rattle.volume.specs.Entries.{is_directory_inode}
 use Rattle.volume.specs.Holds.{ZonesAgree, IsSoundInode}
 use Rattle.migrate.specs.Superblock.{old_geometry_of}
-use Rattle.migrate.specs.Form.{EntryForm, version_2}
-use Rattle.migrate.specs.Nodes.{nodes_of}
-use Rattle.migrate.specs.Entries.{entry_count, target_at, name_at, is_free_at, is_field, is_name_field}
+use Rattle.fsck.specs.Form.{EntryForm, version_2}
+use Rattle.fsck.specs.Nodes.{nodes_of}
+use Rattle.fsck.specs.Entries.{entry_count, target_at, name_at, is_free_at, is_field, is_name_field}
 
 -- A directory has no hole; its entries are ., .. and names that differ. An entry that leads nowhere is free, and may be.
 pub record IsSoundDirectory (form : EntryForm) (g : Geometry) (v : Pieces) (n : ℕ) : Type 0 where

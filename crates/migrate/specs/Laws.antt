@@ -5,9 +5,9 @@ use Rattle.layout.specs.Places.{IsGeometry}
 use Rattle.volume.specs.Reading.{Disk}
 use Rattle.volume.specs.Pieces.{pieces}
 use Rattle.volume.specs.Verdict.{Clean}
-use Rattle.migrate.specs.Form.{version_2}
+use Rattle.fsck.specs.Form.{version_2}
 use Rattle.migrate.specs.Holds.{IsSound}
-use Rattle.migrate.specs.Verdict.{verdict_of_pieces}
+use Rattle.fsck.specs.Verdict.{verdict_of_pieces}
 
 -- a volume in which the check finds nothing keeps the rules of the format that a tree doesn't show
 abbrev pub CleanIsSound : Type 0

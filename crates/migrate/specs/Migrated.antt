@@ -13,8 +13,8 @@ use Rattle.image.specs.Contents.{contents}
 use Rattle.new_volume.specs.Sizes.{sizes_of}
 use Rattle.migrate.specs.declared.old_volume.superblock.OldRefusal.{OldRefusal}
 use Rattle.migrate.specs.Superblock.{old_geometry_of, old_refusal_number}
-use Rattle.migrate.specs.Form.{version_2}
-use Rattle.migrate.specs.Nodes.{nodes_of}
+use Rattle.fsck.specs.Form.{version_2}
+use Rattle.fsck.specs.Nodes.{nodes_of}
 use Rattle.migrate.specs.Holds.{HoldsOld}
 use Rattle.migrate.specs.Verdict.{old_verdict_of}
 use Rattle.migrate.specs.Used.{has_room}

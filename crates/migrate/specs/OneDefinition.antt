@@ -6,10 +6,10 @@ use Rattle.volume.specs.Pieces.{Pieces}
 use Rattle.volume.specs.Nodes as nodes_3
 use Rattle.volume.specs.Holds as holds_3
 use Rattle.volume.specs.Verdict as verdict_3
-use Rattle.migrate.specs.Form.{version_3}
-use Rattle.migrate.specs.Nodes.{nodes_of}
+use Rattle.fsck.specs.Form.{version_3}
+use Rattle.fsck.specs.Nodes.{nodes_of}
 use Rattle.migrate.specs.Holds.{HoldsNodes}
-use Rattle.migrate.specs.Verdict.{tests, verdict_of_pieces}
+use Rattle.fsck.specs.Verdict.{tests, verdict_of_pieces}
 
 -- the nodes are the same, a tree is held exactly where it is, and the findings and the verdict are the same
 pub record IsVersion3s (g : Geometry) (v : Pieces) : Type 0 where

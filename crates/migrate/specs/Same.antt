@@ -7,8 +7,8 @@ use Rattle.volume.specs.declared.Inode.{Inode}
 use Rattle.volume.specs.Pieces.{Pieces}
 use Rattle.volume.specs.Nodes as nodes_3
 use Rattle.volume.specs.Nodes.{number, page_byte, slot, file_byte}
-use Rattle.migrate.specs.Form.{version_2}
-use Rattle.migrate.specs.Nodes as nodes_2
+use Rattle.fsck.specs.Form.{version_2}
+use Rattle.fsck.specs.Nodes as nodes_2
 
 -- two zones are both holes or both none, and have the same bytes
 pub record SamePage (v w : Pieces) (x y : ℕ) : Type 0 where

@@ -11,9 +11,9 @@ use Rattle.image.specs.declared.Image.{Image}
 use Rattle.image.specs.Contents.{contents}
 use Rattle.image.specs.Entered.{level_of}
 use Rattle.new_volume.specs.Sizes.{new_geometry}
-use Rattle.migrate.specs.Form.{version_2}
-use Rattle.migrate.specs.Nodes.{nodes_of, is_dropped, entry_count_of}
-use Rattle.migrate.specs.Findings.{has_bad_size}
+use Rattle.fsck.specs.Form.{version_2}
+use Rattle.fsck.specs.Nodes.{nodes_of, is_dropped, entry_count_of}
+use Rattle.fsck.specs.Findings.{has_bad_size}
 
 -- how many zones the nodes use: `zones_used` of a tree with these nodes
 abbrev pub zones_of_all : Geometry → (ℕ → Option Node) → ℕ

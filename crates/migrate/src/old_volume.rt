@@ -4,24 +4,20 @@
 //! its superblock and the entries of its directories are others. So what reads version 3 volumes reads the rest, once the superblock is
 //! stamped.
 
-mod blocks;
 pub mod entries;
-mod names;
-mod scan;
 mod stamp;
-mod structure;
 mod superblock;
-mod zones;
 
 ghost use Rattle.std.specs.Prelude.{◌≡◌, IfOk};
 ghost use Rattle.volume.specs.Verdict.{place_limit};
 ghost use Rattle.image.specs.Contents.{contents};
 ghost use Rattle.fsck.specs.Parts.{first_of};
-ghost use Rattle.migrate.specs.Form.{version_2};
-ghost use Rattle.migrate.specs.Verdict.{tests};
+ghost use Rattle.fsck.specs.Form.{version_2};
+ghost use Rattle.fsck.specs.Verdict.{tests};
 ghost use Rattle.migrate.specs.OneDefinition.{OneDefinition};
 ghost use Rattle.migrate.specs.Laws.{CleanIsSound};
 
+use fsck::Version;
 use image::Image;
 pub use stamp::stamped;
 use std::alloc::{AllocError, Global};
@@ -32,19 +28,7 @@ use volume::Finding;
 pub fn finding(alloc: Global, image: &Image) -> Result<Option<Finding>, AllocError>
     ensures { IfOk result (λ r. r ≡ first_of (place_limit image.now.geometry) 2 (tests version_2 image.now.geometry (contents image.now))) }
 {
-    if let Some(finding) = structure::structure(image) {
-        return Ok(Some(finding));
-    }
-    if let Some(finding) = zones::zones(alloc, image)? {
-        return Ok(Some(finding));
-    }
-    if let Some(finding) = blocks::blocks(image) {
-        return Ok(Some(finding));
-    }
-    if let Some(finding) = names::entries(alloc, image)? {
-        return Ok(Some(finding));
-    }
-    Ok(names::tree(alloc, image)?)
+    fsck::finding(Version::V2, alloc, image)
 }
 
 /// What is said of a volume by the form of its entries is, with version 3's form, what is said of version 3 volumes.

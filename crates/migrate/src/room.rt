@@ -4,7 +4,7 @@ ghost use Rattle.std.specs.Prelude.{◌≡◌, ◌≤◌, Ok, IfOk, IfErr, true}
 ghost use Rattle.layout.specs.Places.{IsGeometry};
 ghost use Rattle.image.specs.Contents.{contents};
 ghost use Rattle.new_volume.specs.Sizes.{sizes_of};
-ghost use Rattle.migrate.specs.Form.{version_2};
+ghost use Rattle.fsck.specs.Form.{version_2};
 ghost use Rattle.migrate.specs.Holds.{IsSound};
 ghost use Rattle.migrate.specs.Used.{SizesAreGood, has_room};
 ghost use Rattle.migrate.specs.Migrated.{IsCramped};

@@ -5,9 +5,9 @@ ghost use Rattle.tree.specs.Sums.{one_if};
 ghost use Rattle.tree.specs.Tree.{most_size};
 ghost use Rattle.tree.specs.Space.{zones_of};
 ghost use Rattle.image.specs.Contents.{contents};
-ghost use Rattle.migrate.specs.Form.{version_2};
+ghost use Rattle.fsck.specs.Form.{version_2};
 ghost use Rattle.migrate.specs.Holds.{IsSound};
-ghost use Rattle.migrate.specs.Nodes.{nodes_of};
+ghost use Rattle.fsck.specs.Nodes.{nodes_of};
 ghost use Rattle.migrate.specs.Used.{blocks_over, most_below, name_count, zones_below, zones_for, zones_in, zones_of_all, SizesAreGood};
 
 use crate::new_zones::NUMBERS;

@@ -6,9 +6,9 @@ use Rattle.tree.specs.Sums.{put, sum_below, some_below, least_below}
 use Rattle.volume.specs.Reading.{Disk}
 use Rattle.volume.specs.Pieces.{pieces}
 use Rattle.volume.specs.Verdict.{Verdict, Clean, found}
-use Rattle.migrate.specs.Form.{version_2}
-use Rattle.migrate.specs.Nodes.{names_in, directory_of}
-use Rattle.migrate.specs.Verdict.{verdict_of_pieces}
+use Rattle.fsck.specs.Form.{version_2}
+use Rattle.fsck.specs.Nodes.{names_in, directory_of}
+use Rattle.fsck.specs.Verdict.{verdict_of_pieces}
 
 -- the two bytes of a number
 abbrev u16 : ℕ → List ℕ

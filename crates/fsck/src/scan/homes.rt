@@ -3,38 +3,54 @@
 ghost use Rattle.std.specs.Prelude.{◌≡◌, ◌≤◌, ◌+◌, ◌-◌, ◌==◌, ℕ, true, false, length, not, slice_index, if◌then◌else◌};
 ghost use Rattle.tree.specs.Sums.{one_if};
 ghost use Rattle.volume.specs.Entries.{is_directory_inode};
-ghost use Rattle.volume.specs.Findings.{has_bad_links, has_bad_size, is_misplaced, subdirectories_of};
+ghost use Rattle.fsck.specs.Findings.{has_bad_links, has_bad_size, is_misplaced, subdirectories_of};
 ghost use Rattle.volume.specs.Verdict.{place_limit};
 ghost use Rattle.image.specs.Contents.{contents};
 ghost use Rattle.image.specs.Least.{least_of};
+ghost use Rattle.fsck.specs.Form.{form_of};
 ghost use Rattle.fsck.specs.Named.{AreNamed};
 ghost use Rattle.fsck.specs.Reached.{AreReached};
 
+use crate::entries::entry_count;
 use crate::scan::dots::target;
+use crate::version::Version;
 use image::{Image, least_passing};
 
 /// The least directory that isn't reached from the root, is named other than once, or whose .. isn't its parent. Each has two
 /// entries; it is known how often each inode is named, a directory that names it, and whether it is reached.
-pub fn misplaced(image: &Image, named: &[u16], namer: &[u16], seen: &[bool]) -> Option<u32>
-    requires sizes { (n : ℕ) → has_bad_size image.now.geometry (contents image.now) n ≡ false }
-    requires named { AreNamed image.now named.now namer.now }
-    requires seen { AreReached image.now seen.now }
+pub(crate) fn misplaced(
+    version: Version,
+    image: &Image,
+    named: &[u16],
+    namer: &[u16],
+    seen: &[bool],
+) -> Option<u32>
+    requires sizes { (n : ℕ) → has_bad_size (form_of version) image.now.geometry (contents image.now) n ≡ false }
+    requires named { AreNamed (form_of version) image.now named.now namer.now }
+    requires seen { AreReached (form_of version) image.now seen.now }
     requires seen_size { length seen.now ≡ image.now.geometry.inodes + 1 }
-    ensures { result ≡ least_of (is_misplaced image.now.geometry (contents image.now)) (place_limit image.now.geometry) }
+    ensures { result ≡ least_of (is_misplaced (form_of version) image.now.geometry (contents image.now)) (place_limit image.now.geometry) }
 {
     least_passing(
         image.geometry().inodes + 1,
-        |n| is_misplaced(image, named, namer, seen, n),
+        |n| is_misplaced(version, image, named, namer, seen, n),
     )
 }
 
 /// Whether n is such a directory.
-fn is_misplaced(image: &Image, named: &[u16], namer: &[u16], seen: &[bool], n: u32) -> bool
-    requires sizes { (n : ℕ) → has_bad_size image.now.geometry (contents image.now) n ≡ false }
-    requires named { AreNamed image.now named.now namer.now }
-    requires seen { AreReached image.now seen.now }
+fn is_misplaced(
+    version: Version,
+    image: &Image,
+    named: &[u16],
+    namer: &[u16],
+    seen: &[bool],
+    n: u32,
+) -> bool
+    requires sizes { (n : ℕ) → has_bad_size (form_of version) image.now.geometry (contents image.now) n ≡ false }
+    requires named { AreNamed (form_of version) image.now named.now namer.now }
+    requires seen { AreReached (form_of version) image.now seen.now }
     requires seen_size { length seen.now ≡ image.now.geometry.inodes + 1 }
-    ensures { result ≡ is_misplaced image.now.geometry (contents image.now) n }
+    ensures { result ≡ is_misplaced (form_of version) image.now.geometry (contents image.now) n }
 {
     if !image.is_directory(n) {
         return false;
@@ -47,7 +63,11 @@ fn is_misplaced(image: &Image, named: &[u16], namer: &[u16], seen: &[bool], n: u
     if u32::from(named[place]) != names_wanted(n) {
         return true;
     }
-    !is_home(n, u32::from(namer[place]), target(image, &inode, 1))
+    !is_home(
+        n,
+        u32::from(namer[place]),
+        target(version, image, &inode, 1),
+    )
 }
 
 /// How many names a directory has: the root none, others one.
@@ -65,20 +85,27 @@ fn is_home(n: u32, namer: u32, m: u32) -> bool
 }
 
 /// The least inode with another link count than it should have, 0, or one over the greatest.
-pub fn bad_links(image: &Image, named: &[u16], namer: &[u16]) -> Option<u32>
-    requires { AreNamed image.now named.now namer.now }
-    ensures { result ≡ least_of (has_bad_links image.now.geometry (contents image.now)) (place_limit image.now.geometry) }
+pub(crate) fn bad_links(
+    version: Version,
+    image: &Image,
+    named: &[u16],
+    namer: &[u16],
+) -> Option<u32>
+    requires sizes { (n : ℕ) → has_bad_size (form_of version) image.now.geometry (contents image.now) n ≡ false }
+    requires named { AreNamed (form_of version) image.now named.now namer.now }
+    ensures { result ≡ least_of (has_bad_links (form_of version) image.now.geometry (contents image.now)) (place_limit image.now.geometry) }
 {
     least_passing(
         image.geometry().inodes + 1,
-        |n| has_bad_links(image, named, namer, n),
+        |n| has_bad_links(version, image, named, namer, n),
     )
 }
 
 /// Whether n is such an inode.
-fn has_bad_links(image: &Image, named: &[u16], namer: &[u16], n: u32) -> bool
-    requires { AreNamed image.now named.now namer.now }
-    ensures { result ≡ has_bad_links image.now.geometry (contents image.now) n }
+fn has_bad_links(version: Version, image: &Image, named: &[u16], namer: &[u16], n: u32) -> bool
+    requires sizes { (n : ℕ) → has_bad_size (form_of version) image.now.geometry (contents image.now) n ≡ false }
+    requires named { AreNamed (form_of version) image.now named.now namer.now }
+    ensures { result ≡ has_bad_links (form_of version) image.now.geometry (contents image.now) n }
 {
     if !image.is_marked(n) {
         return false;
@@ -91,21 +118,22 @@ fn has_bad_links(image: &Image, named: &[u16], namer: &[u16], n: u32) -> bool
         return true;
     }
     if image.is_directory(n) {
-        return links != 2 + subdirectories(image, n);
+        return links != 2 + subdirectories(version, image, n);
     }
     links != u32::from(named[n as usize])
 }
 
 /// How many names of directory n lead to directories.
-fn subdirectories(image: &Image, n: u32) -> u32
-    requires { is_directory_inode image.now.geometry (contents image.now) n ≡ true }
-    ensures value { result ≡ subdirectories_of image.now.geometry (contents image.now) n }
-    ensures most { result ≤ 67108864 }
+fn subdirectories(version: Version, image: &Image, n: u32) -> u32
+    requires sizes { (n : ℕ) → has_bad_size (form_of version) image.now.geometry (contents image.now) n ≡ false }
+    requires directory { is_directory_inode image.now.geometry (contents image.now) n ≡ true }
+    ensures value { result ≡ subdirectories_of (form_of version) image.now.geometry (contents image.now) n }
+    ensures most { result ≤ 268435456 }
 {
     let inode = image.inode(n);
     let mut count = 0;
-    for number in 2..inode.size / 64 {
-        count += one_when(image.is_directory(target(image, &inode, number)));
+    for number in 2..entry_count(version, &inode) {
+        count += one_when(image.is_directory(target(version, image, &inode, number)));
     }
     count
 }

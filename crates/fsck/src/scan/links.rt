@@ -9,7 +9,7 @@ ghost use Rattle.image.specs.Least.{least_of};
 use image::{Image, least_passing};
 
 /// The least symbolic link whose target has no byte or over 1023, has no zone at page 0, or has a zero byte.
-pub fn bad_link(image: &Image) -> Option<u32>
+pub(crate) fn bad_link(image: &Image) -> Option<u32>
     ensures { result ≡ least_of (has_bad_link image.now.geometry (contents image.now)) (place_limit image.now.geometry) }
 {
     least_passing(image.geometry().inodes + 1, |n| has_bad_link(image, n))

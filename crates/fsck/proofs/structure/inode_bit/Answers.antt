@@ -11,7 +11,8 @@ use Rattle.fsck.proofs.structure.inode_bit.Goals as goal
 pub returns-then-has_inode_bit : goal.returns-then-has_inode_bit
 returns-then-has_inode_bit c =
     let i = c.args.image.now in
-    none_least (lacks_inode_bit i.geometry (contents i)) (place_limit i.geometry) (λ k _. and_right (k == 0) _ (ap not (sym c.has_inode_bit.ensures ∙ c.if-has_inode_bit.true)))
+    none_least (lacks_inode_bit i.geometry (contents i)) (place_limit i.geometry)
+    (λ k _. and_right (k == 0) _ (ap not (sym c.has_inode_bit.ensures ∙ c.if-has_inode_bit.true)))
 
 pub returns-else-has_inode_bit : goal.returns-else-has_inode_bit
 returns-else-has_inode_bit c =

@@ -11,7 +11,8 @@ use Rattle.fsck.proofs.structure.root.Goals as goal
 pub returns-then-is_directory : goal.returns-then-is_directory
 returns-then-is_directory c =
     let i = c.args.image.now in
-    none_least (lacks_root i.geometry (contents i)) (place_limit i.geometry) (λ k _. and_right (k == 1) _ (ap not (sym c.is_directory.ensures ∙ c.if-is_directory.true)))
+    none_least (lacks_root i.geometry (contents i)) (place_limit i.geometry)
+    (λ k _. and_right (k == 1) _ (ap not (sym c.is_directory.ensures ∙ c.if-is_directory.true)))
 
 pub returns-else-is_directory : goal.returns-else-is_directory
 returns-else-is_directory c =

@@ -11,7 +11,8 @@ use Rattle.fsck.proofs.structure.zone_bit.Goals as goal
 pub returns-then-has_zone_bit : goal.returns-then-has_zone_bit
 returns-then-has_zone_bit c =
     let i = c.args.image.now in
-    none_least (lacks_zone_bit i.geometry (contents i)) (place_limit i.geometry) (λ k _. and_right (k == 0) _ (ap not (sym c.has_zone_bit.ensures ∙ c.if-has_zone_bit.true)))
+    none_least (lacks_zone_bit i.geometry (contents i)) (place_limit i.geometry)
+    (λ k _. and_right (k == 0) _ (ap not (sym c.has_zone_bit.ensures ∙ c.if-has_zone_bit.true)))
 
 pub returns-else-has_zone_bit : goal.returns-else-has_zone_bit
 returns-else-has_zone_bit c =

@@ -6,9 +6,9 @@ use Rattle.volume.specs.Nodes.{file_byte}
 use Rattle.volume.proofs.Ranges.{same_name_true}
 use Rattle.image.specs.Contents.{contents}
 use Rattle.image.proofs.Texts.{same_names}
-use Rattle.migrate.specs.Form.{version_2}
-use Rattle.migrate.specs.Nodes as nodes_2
-use Rattle.migrate.specs.Nodes.{is_dropped}
+use Rattle.fsck.specs.Form.{version_2}
+use Rattle.fsck.specs.Nodes as nodes_2
+use Rattle.fsck.specs.Nodes.{is_dropped}
 use Rattle.migrate.proofs.Names.{none_yet, one_free, one_more, number_same, name_same}
 use Rattle.migrate.proofs.compare.same_names.Goals as goal
 

@@ -2,8 +2,8 @@ use Rattle.std.proofs.Common.{◌≡◌, ◌≤◌, ◌-◌, ◌/◌}
 use Rattle.volume.specs.Nodes as nodes_3
 use Rattle.volume.specs.Nodes.{file_byte}
 use Rattle.image.specs.Contents.{contents}
-use Rattle.migrate.specs.Form.{version_2}
-use Rattle.migrate.specs.Nodes as nodes_2
+use Rattle.fsck.specs.Form.{version_2}
+use Rattle.fsck.specs.Nodes as nodes_2
 use Rattle.migrate.proofs.compare.same_names.Given as goal
 
 abbrev pub invariant-loop-number : goal.invariant-loop-number

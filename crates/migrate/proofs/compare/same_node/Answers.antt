@@ -2,7 +2,8 @@ use Rattle.std.proofs.Common.{◌≡◌, true, sym, ap, ◌∙◌}
 use Rattle.std.proofs.lemmas.Bool.{and_from}
 use Rattle.volume.specs.Nodes.{is_marked, is_directory_mode}
 use Rattle.image.specs.Contents.{contents}
-use Rattle.migrate.proofs.EntryBytes.{small}
+use Rattle.fsck.specs.declared.version.Version.TheVariants.{V2}
+use Rattle.fsck.proofs.EntryBytes.{small}
 use Rattle.migrate.proofs.Below.{file_same}
 use Rattle.migrate.proofs.Nodes.{attributes_from, same_answer, directory_same, file_same as node_of_file}
 use Rattle.migrate.proofs.compare.same_node.Goals as goal
@@ -13,7 +14,7 @@ same_directory-requires c =
     let mode : is_directory_mode ((contents i).inodes c.args.n).mode ≡ true
     = ap (λ x. is_directory_mode x.mode) (sym c.inode-x.ensures) ∙ sym c.is_directory_mode.ensures ∙ c.if-is_directory_mode.true in
     let marked : is_marked i.geometry (contents i) c.args.n ≡ true = sym c.is_marked-3.ensures ∙ c.if-not-is_marked.false in
-    small i c.args.n c.inode-x.result c.inode-x.ensures (and_from (is_marked i.geometry (contents i) c.args.n) _ marked mode)
+    small V2 i c.args.n c.inode-x.result c.inode-x.ensures (and_from (is_marked i.geometry (contents i) c.args.n) _ marked mode)
     (c.requires c.args.n)
 
 pub returns-then-is_directory_mode : goal.returns-then-is_directory_mode

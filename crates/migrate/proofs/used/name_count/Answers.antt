@@ -4,8 +4,8 @@ use Rattle.tree.specs.Sums.{count_below, one_if}
 use Rattle.volume.specs.Nodes.{file_byte}
 use Rattle.image.specs.Contents.{contents}
 use Rattle.fsck.proofs.Counts.{sum_more, no_sum}
-use Rattle.migrate.specs.Form.{version_2}
-use Rattle.migrate.specs.Nodes.{is_dropped}
+use Rattle.fsck.specs.Form.{version_2}
+use Rattle.fsck.specs.Nodes.{is_dropped}
 use Rattle.migrate.proofs.used.name_count.Goals as goal
 
 pub loop-number-init : goal.loop-number-init

@@ -3,8 +3,8 @@ use Rattle.std.specs.Prelude.{not}
 use Rattle.tree.specs.Sums.{count_below}
 use Rattle.volume.specs.Nodes.{file_byte}
 use Rattle.image.specs.Contents.{contents}
-use Rattle.migrate.specs.Form.{version_2}
-use Rattle.migrate.specs.Nodes.{is_dropped}
+use Rattle.fsck.specs.Form.{version_2}
+use Rattle.fsck.specs.Nodes.{is_dropped}
 use Rattle.migrate.proofs.used.name_count.Given as goal
 
 abbrev pub invariant-loop-number : goal.invariant-loop-number

@@ -3,8 +3,8 @@ use Rattle.tree.specs.Sums.{sum_below}
 use Rattle.tree.specs.Space.{zones_of}
 use Rattle.image.specs.Contents.{contents}
 use Rattle.fsck.proofs.Counts.{sum_more, no_sum}
-use Rattle.migrate.specs.Form.{version_2}
-use Rattle.migrate.specs.Nodes.{nodes_of}
+use Rattle.fsck.specs.Form.{version_2}
+use Rattle.fsck.specs.Nodes.{nodes_of}
 use Rattle.migrate.proofs.used.zones_used.Goals as goal
 
 pub loop-n-init : goal.loop-n-init

@@ -2,8 +2,8 @@ use Rattle.std.proofs.Common.{◌≡◌, ◌≤◌, ◌*◌}
 use Rattle.tree.specs.Sums.{sum_below}
 use Rattle.tree.specs.Space.{zones_of}
 use Rattle.image.specs.Contents.{contents}
-use Rattle.migrate.specs.Form.{version_2}
-use Rattle.migrate.specs.Nodes.{nodes_of}
+use Rattle.fsck.specs.Form.{version_2}
+use Rattle.fsck.specs.Nodes.{nodes_of}
 use Rattle.migrate.proofs.used.zones_used.Given as goal
 
 abbrev pub invariant-loop-n : goal.invariant-loop-n

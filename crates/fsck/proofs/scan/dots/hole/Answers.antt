@@ -3,7 +3,7 @@ use Rattle.volume.specs.Findings.{has_hole}
 use Rattle.volume.specs.Verdict.{place_limit}
 use Rattle.image.specs.Contents.{contents}
 use Rattle.image.proofs.Leasts.{first_least}
-use Rattle.fsck.proofs.Entries.{no_directory, past_directories}
+use Rattle.fsck.proofs.Directories.{no_directory, past_directories}
 use Rattle.fsck.proofs.scan.dots.hole.Goals as goal
 
 pub returns : goal.returns

@@ -1,27 +1,33 @@
-use Rattle.std.proofs.Common.{◌≡◌, ◌<◌, ◌≤◌, ◌+◌, ℕ, slice_index, refl, sym, ap, subst, ◌∙◌, arith}
+use Rattle.std.proofs.Common.{◌≡◌, ◌<◌, ◌+◌, ℕ, sym, ap, subst, ◌∙◌, arith}
 use mathlib.Core.Logic.{inl, inr}
 use Rattle.std.proofs.lemmas.Bool.{cases_lt}
 use Rattle.std.specs.Prelude.{min}
 use Rattle.tree.specs.Sums.{sum_below}
-use Rattle.volume.specs.Findings.{names_in_of}
+use Rattle.fsck.specs.Findings.{names_in_of}
 use Rattle.image.specs.Contents.{contents}
 use Rattle.fsck.proofs.Counts.{sum_more, no_sum}
 use Rattle.fsck.proofs.scan.tables.count_names.Goals as goal
+use Rattle.fsck.specs.Form.{form_of}
 
 pub loop-n-init : goal.loop-n-init
-loop-n-init c = record {
-  most = λ m. omega (arith, c.requires.fresh m);
-  named_size = c.requires.named_size;
-  namer_size = c.requires.namer_size;
-  counted = λ m h. let none = no_sum (λ n. names_in_of c.args.image.now.geometry (contents c.args.image.now) n m) in omega (arith, c.requires.fresh m);
-  noted = λ m h some. let none = no_sum (λ n. names_in_of c.args.image.now.geometry (contents c.args.image.now) n m) in absurd (omega arith);
-}
+loop-n-init c =
+    let form = form_of c.args.version in
+    record {
+      most = λ m. omega (arith, c.requires.fresh m);
+      named_size = c.requires.named_size;
+      namer_size = c.requires.namer_size;
+      counted = λ m h. let none = no_sum (λ n. names_in_of form c.args.image.now.geometry (contents c.args.image.now) n m) in
+          omega (arith, c.requires.fresh m);
+      noted = λ m h some. let none = no_sum (λ n. names_in_of form c.args.image.now.geometry (contents c.args.image.now) n m) in
+          absurd (omega arith);
+    }
 
 pub loop-n-preserved : goal.loop-n-preserved
 loop-n-preserved c =
+    let form = form_of c.args.version in
     let i = c.args.image.now in
     let n = c.loop-n.n in
-    let f : ℕ → ℕ → ℕ = λ n m. names_in_of i.geometry (contents i) n m in
+    let f : ℕ → ℕ → ℕ = λ n m. names_in_of form i.geometry (contents i) n m in
     let before = c.loop-n.invariant in
     let more = c.count_names_in.ensures.more in
     record {
@@ -44,6 +50,7 @@ loop-n-preserved c =
 
 pub returns : goal.returns
 returns c =
+    let form = form_of c.args.version in
     let i = c.args.image.now in
     let e : c.geometry-n-end.result.inodes ≡ i.geometry.inodes = ap (λ g. g.inodes) c.geometry-n-end.ensures in
     let all : c.loop-n.n ≡ i.geometry.inodes + 1 = omega arith in
@@ -51,6 +58,7 @@ returns c =
     record {
       named_size = done.named_size;
       namer_size = done.namer_size;
-      counted = λ m h. done.counted m h ∙ ap (λ k. min 32768 (sum_below (λ n. names_in_of i.geometry (contents i) n m) k)) all;
-      noted = λ m h some. done.noted m h (let same = ap (sum_below (λ n. names_in_of i.geometry (contents i) n m)) all in omega arith);
+      counted = λ m h. done.counted m h ∙ ap (λ k. min 32768 (sum_below (λ n. names_in_of form i.geometry (contents i) n m) k)) all;
+      noted = λ m h some. done.noted m h (let same = ap (sum_below (λ n. names_in_of form i.geometry (contents i) n m)) all
+          in omega arith);
     }

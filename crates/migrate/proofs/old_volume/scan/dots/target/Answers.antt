@@ -1,5 +1,0 @@
-use Rattle.std.proofs.Common.{◌∙◌}
-use Rattle.migrate.proofs.old_volume.scan.dots.target.Goals as goal
-
-pub returns : goal.returns
-returns c = c.u32_at.ensures ∙ c.entry.ensures.number
