@@ -5,7 +5,7 @@
 
 mod taken;
 
-ghost use Rattle.std.specs.Prelude.{◌≡◌, ◌<◌, ◌^◌, IfOk, Bool, false, length, map, replicate};
+ghost use Rattle.std.specs.Prelude.{◌≡◌, ◌<◌, ◌≤◌, ◌^◌, ◌++◌, IfOk, Bool, false, drop, length, map, replicate};
 ghost use Rattle.std.specs.List.{concat};
 ghost use Rattle.changes.specs.Units.{AreTaken, marked, unit_of, with_mark, with_marks};
 ghost use Rattle.changes.specs.Laws.{TakenIsAll, StaysUnchanged};
@@ -107,23 +107,33 @@ fn units_at(
     Ok(units)
 }
 
+/// Puts bytes at the front of a unit.
+fn put_front(unit: &mut [u8; UNIT], bytes: &[u8])
+    requires { length bytes.now ≤ 4096 }
+    ensures { unit.new ≡ bytes.now ++ drop (length bytes.now) unit.old }
+{
+    unit[..bytes.len()].copy_from_slice(bytes);
+}
+
 /// A unit of an image: zeros where the image has ended.
 fn unit_at(image: &[u8], number: u32) -> [u8; UNIT]
     ensures { result ≡ unit_of image.now number }
 {
     let first = (number as usize * UNIT).min(image.len());
-    let count = (image.len() - first).min(UNIT);
+    let last = (first + UNIT).min(image.len());
     let mut unit = [0; UNIT];
-    unit[..count].copy_from_slice(&image[first..first + count]);
+    put_front(&mut unit, &image[first..last]);
     unit
 }
 
 /// Where an image agrees with another one in each unit that isn't marked, the changes taken of that one make it that one, unit for unit.
+#[tactic(auto, using(crate::proofs::Taking::taken_is_all))]
 pub fn taken_is_all()
     ensures { TakenIsAll }
 {}
 
 /// A unit none of whose sectors changed is as it was.
+#[tactic(auto, using(crate::proofs::UnitBytes::stays_unchanged))]
 pub fn unchanged_sectors_make_the_same_unit()
     ensures { StaysUnchanged }
 {}

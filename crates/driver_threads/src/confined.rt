@@ -5,9 +5,10 @@ ghost use Rattle.std.specs.List.{concat};
 ghost use Rattle.media.specs.Contents.{adopted};
 ghost use Rattle.true_replies.specs.Events.{opening_media};
 ghost use Rattle.bdev.specs.Promises.{StepKeeps};
-ghost use Rattle.changes.specs.Units.{AreTaken, with_mark, with_marks};
+ghost use Rattle.bdev.specs.Stepping.{step_with};
+ghost use Rattle.changes.specs.Units.{AreTaken, with_marks};
 ghost use Rattle.driver_threads.specs.Confined.{KeepsOutside, IsImageOutside, IsInVolume, StaysInVolume, step_of};
-ghost use Rattle.driver_threads.specs.Marking.{AreChangesOutside, MarksChanges, marked_for, unmarked};
+ghost use Rattle.driver_threads.specs.Marking.{AreChangesOutside, MarksChanges, marked_for, units_of, unmarked};
 
 use bdev::{BlockDriver, Stepped};
 use board::counting::parameters::ServiceParameters;
@@ -46,6 +47,33 @@ impl<N: ServiceParameters> Model for Confined<N> {
         × (length c.marks ≡ units_of c.media) };
 }
 
+/// How many units media have; the last one may have fewer than eight sectors.
+fn units_of(media: &Media) -> u32
+    ensures { result ≡ units_of media.now }
+{
+    (media.sectors() + (SECTORS - 1)) / SECTORS
+}
+
+/// Marks the unit of a sector, if there is one.
+fn mark_sector(marks: &mut Marks, sector: Option<u32>)
+    ensures { marks.new ≡ marked_for sector marks.old }
+{
+    if let Some(sector) = sector {
+        marks.mark(sector / SECTORS);
+    }
+}
+
+/// Puts the answer of a step that is done into the reply, without its bytes and its endpoint.
+fn put_completion(reply: &mut BlockReply, stepped: Stepped)
+    ensures step { step_of stepped reply.new ≡ step_with stepped reply.old.bytes }
+    ensures from { reply.new.from ≡ reply.old.from }
+{
+    if let Stepped::Done(completion) = stepped {
+        reply.id = completion.id;
+        reply.outcome = completion.outcome;
+    }
+}
+
 impl<N: ServiceParameters> Confined<N> {
     /// The media as they were handed in, of which nothing is marked, and the volume's first sector and how many it has. Where no memory was
     /// found for the marks, the media are let go.
@@ -56,7 +84,7 @@ impl<N: ServiceParameters> Confined<N> {
         ensures { IfOk result (λ confined. confined ≡ unmarked media) }
     {
         let (first, count) = range;
-        let marks = Marks::new(alloc, media.sectors().div_ceil(SECTORS))?;
+        let marks = Marks::new(alloc, units_of(&media))?;
         Ok(Confined {
             media,
             marks,
@@ -67,9 +95,10 @@ impl<N: ServiceParameters> Confined<N> {
     }
 
     /// Makes a greater generation the one that may move sectors. The marks stay.
-    #[tactic(auto, using(crate::proofs::Confining::keeps_adopted))]
+    #[tactic(auto, using(crate::proofs::Confining::keeps_adopted, crate::proofs::Marking::adopted_marks))]
     pub fn adopt(&mut self, generation: u32)
-        ensures { self.new ≡ record self.old { media = adopted self.old.media generation } }
+        ensures is { self.new ≡ record self.old { media = adopted self.old.media generation } }
+        ensures changed { MarksChanges self.old self.new }
     {
         self.media.adopt(generation);
     }
@@ -77,7 +106,7 @@ impl<N: ServiceParameters> Confined<N> {
     /// Takes a driver's step, under its generation, and puts the answer of one that is done into the reply, without its endpoint. A driver
     /// that names a sector outside of the range as the one that its step may write isn't stepped: it counts as failed. The unit of a sector
     /// that the step may write is marked, whether the step writes it or not.
-    #[tactic(auto, using(crate::proofs::Confining::keeps_stepped))]
+    #[tactic(auto, using(crate::proofs::Confining::keeps_stepped, crate::proofs::Marking::long_after, crate::proofs::Marking::marks_step))]
     pub fn step<D: BlockDriver>(
         &mut self,
         driver: &mut D,
@@ -96,19 +125,15 @@ impl<N: ServiceParameters> Confined<N> {
         if !self.admits(driver) {
             return Stepped::Failed;
         }
-        if let Some(sector) = driver.in_work() {
-            self.marks.mark(sector / SECTORS);
-        }
+        mark_sector(&mut self.marks, driver.in_work());
         let stepped = driver.step_into(&mut self.media, generation, &mut reply.bytes);
-        if let Stepped::Done(completion) = &stepped {
-            reply.id = completion.id;
-            reply.outcome = completion.outcome;
-        }
+        put_completion(reply, stepped);
         stepped
     }
 
     /// The marked units, in ascending order, with their bytes as they stand; then none is marked. Refused where no memory was found for these
     /// units: nothing has changed then.
+    #[tactic(auto, using(crate::proofs::Marking::changes_outside))]
     pub fn take_changes(&mut self, alloc: Global) -> Result<Changes, AllocError>
         ensures taken { IfOk result (AreTaken self.old.marks (concat self.old.media.sectors)) }
         ensures cleared { OnOk result (self.new ≡ unmarked self.old.media) }
@@ -122,8 +147,10 @@ impl<N: ServiceParameters> Confined<N> {
     }
 
     /// Marks the units of changes that were taken and not kept, so that they are taken again with what then stands in them.
+    #[tactic(auto, using(changes::proofs::Marking::length-with_marks, crate::proofs::Marking::marked_again))]
     pub fn mark_again(&mut self, changes: &Changes)
-        ensures { self.new ≡ record self.old { marks = with_marks self.old.marks changes.now.numbers.items } }
+        ensures is { self.new ≡ record self.old { marks = with_marks self.old.marks changes.now.numbers.items } }
+        ensures changed { MarksChanges self.old self.new }
     {
         self.marks.mark_all(&changes.numbers);
     }
