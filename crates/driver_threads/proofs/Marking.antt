@@ -14,7 +14,7 @@ use Rattle.bdev.specs.DriverState.{DriverState, Work, chunk}
 use Rattle.bdev.specs.Promises.{StepKeeps, StepsAt, MovesBytes, IsNext}
 use Rattle.changes.specs.declared.taken.Changes.{Changes}
 use Rattle.changes.specs.Units.{units_in, is_marked, with_mark, with_marks, AreTaken}
-use Rattle.changes.proofs.Marking.{still_set, still_marks}
+use Rattle.changes.proofs.Marking.{length-with_marks, still_set, still_marks}
 use Rattle.driver_threads.specs.Confined.{KeepsOutside, StaysInVolume}
 use Rattle.driver_threads.specs.Marking.{ConfinedState, MarksChanges, AreChangesOutside, units_of, marked_for}
 use Rattle.driver_threads.proofs.Confining.{keeps_stepped}
@@ -46,6 +46,9 @@ adopted_marks m marks g = record { number = refl; same = λ n off. refl; still =
 
 pub marked_again : (m : MediaState) (marks : List Bool) (ns : List ℕ) → MarksChanges (with m marks) (with m (with_marks marks ns))
 marked_again m marks ns = record { number = refl; same = λ n off. refl; still = still_marks ns marks }
+
+pub long_again : (m : MediaState) (marks : List Bool) (ns : List ℕ) → length marks ≡ units_of m → length (with_marks marks ns) ≡ units_of m
+long_again m marks ns long = length-with_marks ns marks ∙ long
 
 -- a sector whose unit isn't marked isn't the one that is written
 elsewhere : (m : MediaState) (marks : List Bool) (s n : ℕ) → s < length m.sectors → length marks ≡ units_of m

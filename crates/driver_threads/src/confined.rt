@@ -147,7 +147,7 @@ impl<N: ServiceParameters> Confined<N> {
     }
 
     /// Marks the units of changes that were taken and not kept, so that they are taken again with what then stands in them.
-    #[tactic(auto, using(changes::proofs::Marking::length-with_marks, crate::proofs::Marking::marked_again))]
+    #[tactic(auto, using(crate::proofs::Marking::long_again, crate::proofs::Marking::marked_again))]
     pub fn mark_again(&mut self, changes: &Changes)
         ensures is { self.new ≡ record self.old { marks = with_marks self.old.marks changes.now.numbers.items } }
         ensures changed { MarksChanges self.old self.new }
