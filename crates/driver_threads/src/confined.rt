@@ -1,6 +1,6 @@
 //! The media that drivers share, on which they write in the range of one volume alone.
 
-ghost use Rattle.std.specs.Prelude.{◌≡◌, ◌≤◌, ◌<◌, ◌+◌, ◌/◌, ◌↔◌, IfOk, IsTrue, OnErr, OnOk, length, replicate};
+ghost use Rattle.std.specs.Prelude.{◌≡◌, ◌≤◌, ◌<◌, ◌+◌, ◌↔◌, IfOk, IsTrue, OnErr, OnOk};
 ghost use Rattle.std.specs.List.{concat};
 ghost use Rattle.media.specs.Contents.{adopted};
 ghost use Rattle.true_replies.specs.Events.{opening_media};
