@@ -57,12 +57,8 @@ fn play_files<W: Threads + Wait + Copy + Send + Sync + 'static>(
     words: &MfsWords<'_>,
 ) -> io::Result<ExitCode> {
     let alloc = rt.alloc();
-    let image = start_on(
-        alloc,
-        read(&rt, words.image).ok(),
-        words.minor,
-        &mut rt.stderr(),
-    );
+    let image = read(&rt, words.image).ok();
+    let image = start_on(alloc, image, words.minor, &mut rt.stderr());
     let texts = read_all(&rt, &words.scripts)?;
     let scripts = files(alloc, &words.scripts, &texts)?;
     let table = table_in(image.as_deref().unwrap_or(&[]));

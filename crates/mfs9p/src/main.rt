@@ -62,12 +62,8 @@ fn mount_file<W: Threads + Wait + Copy + Send + Sync + 'static>(
     words: &Mfs9pWords<'_>,
 ) -> io::Result<ExitCode> {
     let alloc = rt.alloc();
-    let image = start_on(
-        alloc,
-        read(&rt, words.image).ok(),
-        words.minor,
-        &mut rt.stderr(),
-    );
+    let image = read(&rt, words.image).ok();
+    let image = start_on(alloc, image, words.minor, &mut rt.stderr());
     let mortality = mortality(words.die_every);
     let table = table_in(image.as_deref().unwrap_or(&[]));
     let supply = mortal_drivers(alloc, words.spares, words.model, mortality, table)?;

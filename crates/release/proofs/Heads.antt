@@ -1,5 +1,5 @@
 -- A volume whose blocks before the maps stay has the sizes that it had.
-use Rattle.std.proofs.Common.{◌≡◌, ◌<◌, ◌≤◌, ◌+◌, ◌*◌, ◌/◌, ◌%◌, ℕ, List, length, slice_index, refl, sym, ap, subst, ◌∙◌, arith}
+use Rattle.std.proofs.Common.{◌≡◌, ◌<◌, ◌≤◌, ◌*◌, ◌/◌, ◌%◌, ℕ, List, length, slice_index, refl, sym, ap, ◌∙◌, arith}
 use mathlib.Core.Logic.{inl, inr}
 use Rattle.std.specs.Prelude.{Result, Ok, Err, IsTrue, not, nat_lt, nat_le, ◌==◌, ◌&&◌, if◌then◌else◌}
 use Rattle.std.proofs.lemmas.Nat.{div_below, div-add-mod', mod_below}
@@ -7,7 +7,7 @@ use Rattle.std.proofs.lemmas.Bool.{and_parts, cases_Bool, cond-true, cond-false,
 use Rattle.layout.specs.declared.Geometry.{Geometry}
 use Rattle.layout.specs.declared.LayoutRefusal.{LayoutRefusal}
 use Rattle.layout.specs.declared.LayoutRefusal.TheVariants.{Truncated, BadMagic, BadBlockSize, BadVersion, BadCounts, DoesNotFit}
-use Rattle.layout.specs.Places.{IsGeometry, counts_agree, geometry_of, is_block_size}
+use Rattle.layout.specs.Places.{counts_agree, geometry_of, is_block_size}
 use Rattle.layout.proofs.Parsed.{block_sizes, geometry_fits}
 use Rattle.volume.specs.Reading.{disk_of, u16_in, u32_in}
 use Rattle.block_store.specs.Volume.{SameHead}

@@ -1,5 +1,5 @@
 -- Nodes that are given back one by one.
-use Rattle.std.proofs.Common.{◌≡◌, ◌≢◌, ◌<◌, ◌≤◌, ◌+◌, ℕ, Bool, true, false, refl, sym, ap, subst, ◌∙◌, arith, add-one}
+use Rattle.std.proofs.Common.{◌≡◌, ◌≤◌, ◌+◌, ℕ, Bool, true, false, refl, sym, ap, subst, ◌∙◌, arith, add-one}
 use mathlib.Core.Logic.{inl, inr}
 use Rattle.std.specs.Prelude.{Option, None, Some, nat_lt, ◌==◌, if◌then◌else◌}
 use Rattle.std.proofs.lemmas.Bool.{cases_lt, cond-true, cond-false, lt-ltb, le-ltb}
@@ -17,7 +17,7 @@ use Rattle.image.specs.Contents.{contents}
 use Rattle.inode_operations.specs.Steps.{BecomesAt, FreesNode, IsOfNode}
 use Rattle.inode_operations.proofs.Nodes.{node_is, put_back}
 use Rattle.release.specs.Nameless.{if_linked, linked_below, unlinked_below}
-use Rattle.release.specs.Giving.{GivesBack, GivesBackBelow, HasImage, IsLeft, MayGiveBack}
+use Rattle.release.specs.Giving.{GivesBack, GivesBackBelow, HasImage, MayGiveBack}
 
 -- nothing was given back
 pub linked_none : (nodes : ℕ → Option Node) → linked_below nodes 0 ≡ nodes

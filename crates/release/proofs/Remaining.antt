@@ -5,7 +5,7 @@ use Rattle.layout.specs.declared.Geometry.{Geometry}
 use Rattle.layout.specs.declared.LayoutRefusal.{LayoutRefusal}
 use Rattle.layout.specs.Places.{geometry_of}
 use Rattle.tree.specs.Tree.{Node, Tree}
-use Rattle.volume.specs.Reading.{Disk, disk_of}
+use Rattle.volume.specs.Reading.{disk_of}
 use Rattle.volume.specs.Pieces.{pieces}
 use Rattle.volume.specs.Nodes.{nodes_of}
 use Rattle.volume.specs.Holds.{Holds}
@@ -13,7 +13,7 @@ use Rattle.volume.specs.Verdict.{HoldsClosed}
 use Rattle.image.specs.declared.Image.{Image}
 use Rattle.image.specs.Contents.{contents}
 use Rattle.block_store.specs.Memory.{disk_in}
-use Rattle.release.specs.Nameless.{closed_of, if_linked, linked_below}
+use Rattle.release.specs.Nameless.{closed_of, linked_below}
 use Rattle.release.specs.Giving.{GivesAllBack, HasImage}
 use Rattle.release.specs.Released.{KeepsLinked}
 use Rattle.release.proofs.Heads.{sizes_stay}

@@ -1,8 +1,7 @@
 -- What the check says of a volume, before nodes are given back and after.
-use Rattle.std.proofs.Common.{◌≡◌, ◌+◌, ℕ, List, true, refl, sym, ap, subst, ◌∙◌, arith}
+use Rattle.std.proofs.Common.{◌≡◌, ◌+◌, ℕ, List, sym, ap, subst, ◌∙◌, arith}
 use mathlib.Core.Logic.{inl, inr}
-use Rattle.std.specs.Prelude.{Result, Ok, Err, IsTrue, ◌==◌}
-use Rattle.std.proofs.lemmas.Bool.{eqb-true}
+use Rattle.std.specs.Prelude.{Result, Ok, Err}
 use Rattle.layout.specs.declared.Geometry.{Geometry}
 use Rattle.layout.specs.declared.LayoutRefusal.{LayoutRefusal}
 use Rattle.layout.specs.Places.{geometry_of}
@@ -14,10 +13,10 @@ use Rattle.volume.specs.Verdict as volume
 use Rattle.image.specs.declared.Image.{Image}
 use Rattle.image.specs.Contents.{contents}
 use Rattle.fsck.specs.declared.verdict.Verdict.{Verdict}
-use Rattle.fsck.specs.declared.verdict.Verdict.TheVariants.{Clean, Found}
+use Rattle.fsck.specs.declared.verdict.Verdict.TheVariants.{Found}
 use Rattle.fsck.specs.Shown.{TellsWhetherTree, shown}
 use Rattle.release.specs.Nameless.{closed_of, unlinked_below}
-use Rattle.release.specs.Released.{HoldsTree, IsFoundBy, IsFoundByLinks, KeepsLinked, unlinked_in}
+use Rattle.release.specs.Released.{HoldsTree, IsFoundBy, KeepsLinked, unlinked_in}
 use Rattle.release.proofs.Held.{held_is_found}
 use Rattle.release.proofs.Remaining.{sizes_are}
 

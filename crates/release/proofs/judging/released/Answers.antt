@@ -1,4 +1,4 @@
-use Rattle.std.proofs.Common.{List, ℕ, ap, false, subst, sym, true, ◌∙◌}
+use Rattle.std.proofs.Common.{List, ℕ, ap, subst, sym, ◌∙◌}
 use Rattle.lemmas.proofs.Bools.{false_not_true}
 use Rattle.volume.specs.Verdict.{verdict_of}
 use Rattle.fsck.specs.declared.verdict.Verdict.{Verdict}

@@ -1,4 +1,4 @@
-use Rattle.std.proofs.Common.{◌≡◌, ◌<◌, refl, rules}
+use Rattle.std.proofs.Common.{refl, rules}
 use Rattle.release.proofs.Releasing.{tells_none, tells_some}
 use Rattle.release.proofs.telling.release_and_tell.Goals as goal
 
