@@ -7,6 +7,7 @@ use host::command_line::{line_of, status_for};
 use host::play_words::mfs::{MfsWords, read as read_words};
 use host::whole_file::{read, replace, try_replace};
 use modeldisk::supply::{drivers_for, setup_for, table_in};
+use release::start_on;
 use std::alloc::{AllocError, Global};
 use std::io;
 use std::process::ExitCode;
@@ -57,6 +58,7 @@ fn play_files<W: Threads + Wait + Copy + Send + Sync + 'static>(
 ) -> io::Result<ExitCode> {
     let alloc = rt.alloc();
     let image = read(&rt, words.image).ok();
+    let image = start_on(alloc, image, words.minor, &mut rt.stderr());
     let texts = read_all(&rt, &words.scripts)?;
     let scripts = files(alloc, &words.scripts, &texts)?;
     let table = table_in(image.as_deref().unwrap_or(&[]));

@@ -14,6 +14,7 @@ use ninep_service::mortal::{Mortality, mortal_drivers, mortal_setup};
 use ninep_service::mount::{Ended, MountStatus, finish, mount};
 use ninep_service::program::{Came, Streams};
 use ninep_service::telling_gate::Telling;
+use release::start_on;
 use std::alloc::Global;
 use std::io;
 use std::io::{BufReader, Write};
@@ -62,6 +63,7 @@ fn mount_file<W: Threads + Wait + Copy + Send + Sync + 'static>(
 ) -> io::Result<ExitCode> {
     let alloc = rt.alloc();
     let image = read(&rt, words.image).ok();
+    let image = start_on(alloc, image, words.minor, &mut rt.stderr());
     let mortality = mortality(words.die_every);
     let table = table_in(image.as_deref().unwrap_or(&[]));
     let supply = mortal_drivers(alloc, words.spares, words.model, mortality, table)?;

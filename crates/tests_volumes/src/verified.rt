@@ -30,13 +30,16 @@ const CLEAN: Verified = Verified::IsClean;
 /// The finding is said, whole.
 const FOUND: Verified = Verified::HasFinding;
 
+/// The finding of the links is said, whole, and a line on standard error.
+const LINKS: Verified = Verified::HasWrongLinks;
+
 /// A line on standard error says why not.
 const REFUSED: Verified = Verified::Refused(Told::Whole);
 
 /// A file, the minor, what `verify` writes on standard output and on standard error, its answer, and the status.
 type Row = (File, u8, &'static str, &'static str, Verified, u8);
 
-static ROWS: [Row; 31] = [
+static ROWS: [Row; 32] = [
     // new volumes
     (File::New(64, 1024, 32), 0, "clean\n", "", CLEAN, 0),
     (File::New(64, 2048, 32), 0, "clean\n", "", CLEAN, 0),
@@ -93,6 +96,15 @@ static ROWS: [Row; 31] = [
         "finding 8 at 7\n",
         "",
         FOUND,
+        1,
+    ),
+    // the root has three links
+    (
+        File::Changed(&[(4098, 3)]),
+        0,
+        "finding 16 at 1\n",
+        "if a removed file was open, mfs or mfs9p with --out mends it\n",
+        LINKS,
         1,
     ),
     // partitions

@@ -9,17 +9,20 @@ use Rattle.media.specs.declared.partition.PartitionRefusal.TheVariants.{NoSignat
 use Rattle.media.specs.declared.partition.place.PlaceRefusal.{PlaceRefusal}
 use Rattle.media.specs.declared.partition.place.PlaceRefusal.TheVariants.{Table, NoPartition}
 use Rattle.media.specs.Places.{volume_place}
+use Rattle.output.specs.declared.Told.{Told}
+use Rattle.output.specs.Output.{Tells}
 use Rattle.volume_commands.specs.declared.verify.NoVolume.{NoVolume}
 use Rattle.volume_commands.specs.declared.verify.NoVolume.TheVariants.{NotSectors, TooManySectors, Place}
 use Rattle.volume_commands.specs.declared.verify.VerifyRefusal.{VerifyRefusal}
 use Rattle.volume_commands.specs.declared.verify.VerifyRefusal.TheVariants.{CannotRead, Missing, OutOfMemory, NotWritten}
 use Rattle.volume_commands.specs.declared.verify.Verified.{Verified}
-use Rattle.volume_commands.specs.declared.verify.Verified.TheVariants.{IsClean, HasFinding, Refused}
+use Rattle.volume_commands.specs.declared.verify.Verified.TheVariants.{IsClean, HasFinding, HasWrongLinks, Refused}
 
 -- the status of the process
 abbrev pub verified_number : Verified → ℕ
 verified_number IsClean = 0
 verified_number HasFinding = 1
+verified_number HasWrongLinks = 1
 verified_number (Refused told) = 1
 
 -- the bytes of a range of sectors
@@ -64,10 +67,23 @@ abbrev pub verdict_text : Verdict → List ℕ
 verdict_text Clean = codes "clean\n"
 verdict_text (Found finding) = finding_text finding ++ codes "\n"
 
+-- what a finding of a number comes to: 16 is that of the links
+abbrev pub found_as : ℕ → Verified
+found_as number = if number == 16 then HasWrongLinks else HasFinding
+
 -- what a verdict comes to
 abbrev pub verified_as : Verdict → Verified
 verified_as Clean = IsClean
-verified_as (Found finding) = HasFinding
+verified_as (Found finding) = found_as finding.number
+
+-- what is said of wrong links
+abbrev pub mending_text : List ℕ
+mending_text = codes "if a removed file was open, mfs or mfs9p with --out mends it"
+
+-- that goes out as a line where they were told, and else nothing
+abbrev pub TellsMending : {E : Type 0} → (E → Option (List ℕ)) → Verified → E → E → Type 0
+TellsMending contents HasWrongLinks before after = (told : Told) × Tells (Some mending_text) told (contents before) (contents after)
+TellsMending contents _ before after = after ≡ before
 
 -- whether the verdict was told, all of its line
 abbrev pub IsToldWhole : Verified → Type 0

@@ -5,7 +5,7 @@ ghost use Rattle.std.specs.Io.KnownBytes.{Appends};
 ghost use Rattle.volume.specs.Verdict.{Verdict as OfVolume};
 ghost use Rattle.fsck.specs.Shown.{shown};
 ghost use Rattle.output.specs.Output.{AppendsPart, Tells};
-ghost use Rattle.volume_commands.specs.Verifying.{IsToldWhole, IsVerdictOn, IsUnverified, IsUntold, missing_text, partition_text, verdict_text, verified_as, verified_number, verify_text, volume_at};
+ghost use Rattle.volume_commands.specs.Verifying.{IsToldWhole, IsVerdictOn, IsUnverified, IsUntold, TellsMending, found_as, mending_text, missing_text, partition_text, verdict_text, verified_as, verified_number, verify_text, volume_at};
 
 use fsck::{Verdict, check};
 use media::partition::{PartitionRefusal, PlaceRefusal, volume_place};
@@ -14,6 +14,9 @@ use output::{Told, tell, write_text};
 use std::alloc::{AllocError, Global};
 use std::fmt;
 use std::io::Write;
+
+/// The number of the finding of wrong links.
+const WRONG_LINKS: u32 = 16;
 
 /// Why a file holds no volume of a minor.
 #[derive(Clone, Copy, Debug, PartialEq, Eq)]
@@ -82,6 +85,8 @@ pub enum Verified {
     IsClean,
     /// It breaks a rule.
     HasFinding,
+    /// The first rule that it breaks is that of the links, finding 16. A line was to say what mends it if a removed file was open.
+    HasWrongLinks,
     /// Nothing was said of it, or not all, and a line was to say why.
     Refused(Told),
 }
@@ -94,6 +99,7 @@ impl Verified {
         match self {
             Verified::IsClean => 0,
             Verified::HasFinding => 1,
+            Verified::HasWrongLinks => 1,
             Verified::Refused(_) => 1,
         }
     }
@@ -101,7 +107,8 @@ impl Verified {
 
 /// Checks the volume in a file, whose bytes are none where it couldn't be read, and writes on `out` the line `clean` or `finding N at P`.
 /// With minor 0 the volume is all of the file, and with another one a partition of the disk that it holds. Where nothing can be said of
-/// it, or the line can't be written, a line on `err` says why; how that line went out is handed back.
+/// it, or the line can't be written, a line on `err` says why; how that line went out is handed back. Where the links are wrong, a line on
+/// `err` says what mends that, if a removed file was open when the image was taken.
 pub fn verify<W: Write, E: Write>(
     alloc: Global,
     name: &str,
@@ -111,18 +118,43 @@ pub fn verify<W: Write, E: Write>(
     err: &mut E,
 ) -> Verified
     ensures told { IsToldWhole result → (verdict : OfVolume) × IsVerdictOn file.entry minor verdict × (result ≡ verified_as verdict)
-        × Appends (W.contents out.old) (W.contents out.new) (verdict_text verdict) × (err.new ≡ err.old) }
+        × Appends (W.contents out.old) (W.contents out.new) (verdict_text verdict)
+        × TellsMending E.contents result err.old err.new }
     ensures refused { (told : Told) → result ≡ Verified.Refused told → (refusal : VerifyRefusal)
         × Tells (Some (verify_text refusal)) told (E.contents err.old) (E.contents err.new)
         × IsUntold file.entry name.entry minor refusal (out.new ≡ out.old) (AppendsPart (W.contents out.old) (W.contents out.new)) }
 {
     match try_verify(alloc, name, file, minor, out) {
-        Ok(verified) => verified,
+        Ok(verified) => {
+            tell_mending(alloc, verified, err);
+            verified
+        }
         Err(refusal) => Verified::Refused(tell(alloc, err, &refusal)),
     }
 }
 
-/// The same, but for the line on `err`.
+/// What is said of wrong links.
+#[derive(Clone, Copy)]
+struct Mending;
+
+impl fmt::Display for Mending {
+    ghost output = { λ _. Some mending_text };
+
+    fn fmt<W: fmt::Write>(&self, f: &mut fmt::Formatter<W>) -> fmt::Result {
+        f.write_str("if a removed file was open, mfs or mfs9p with --out mends it")
+    }
+}
+
+/// Says on `err` what mends wrong links, where these were told.
+fn tell_mending<E: Write>(alloc: Global, verified: Verified, err: &mut E)
+    ensures { TellsMending E.contents verified err.old err.new }
+{
+    if let Verified::HasWrongLinks = verified {
+        tell(alloc, err, &Mending);
+    }
+}
+
+/// The same, but for the lines on `err`.
 fn try_verify<'n, W: Write>(
     alloc: Global,
     name: &'n str,
@@ -153,8 +185,19 @@ fn ended_by(verdict: &Verdict) -> Verified
 {
     match verdict {
         Verdict::Clean(_) => Verified::IsClean,
-        Verdict::Found(_) => Verified::HasFinding,
+        Verdict::Found(finding) => found_as(finding.number),
     }
+}
+
+/// How it ends that told a finding of this number.
+fn found_as(number: u32) -> Verified
+    ensures told { IsToldWhole result }
+    ensures finding { result ≡ found_as number }
+{
+    if number == WRONG_LINKS {
+        return Verified::HasWrongLinks;
+    }
+    Verified::HasFinding
 }
 
 /// The line of a verdict.
