@@ -142,8 +142,11 @@ module _ (form : EntryForm) (i : Image) where
 -- the verdict on an image that is read
 verdict_read : (image : List ℕ) (g : Geometry) → geometry_of image ≡ Ok g
     → verdict_of image ≡ verdict_of_pieces g (pieces g (disk_of g image))
-verdict_read image g e = ap (λ r. elim r [ Err refusal ↦ found 1 (refusal_number refusal) | Ok h ↦
-    verdict_of_pieces h (pieces h (disk_of h image)) ]) e
+verdict_read image g e = ap (λ r. elim r [
+  | Err refusal ↦ found 1 (refusal_number refusal)
+  | Ok h ↦
+      verdict_of_pieces h (pieces h (disk_of h image))
+]) e
 
 -- is that of its first finding
 pub checked : (i : Image) (image : List ℕ) (o : Option Finding) → i.bytes.now ≡ image → geometry_of image ≡ Ok i.geometry

@@ -12,6 +12,6 @@ abbrev pub invariant-loop-number : goal.invariant-loop-number
 invariant-loop-number l = record {
   near : l.number - 2 ≤ entry_count_of (form_of l.version) l.inode - 2;
   go : GoesOn (λ m. count_below (λ e. target_at (form_of l.version) l.image.geometry (contents l.image) l.n (e + 2) == m)
-  (l.number - 2)) l.fn.seen l.fn.waiting.items l.seen l.waiting.items;
+      (l.number - 2)) l.fn.seen l.fn.waiting.items l.seen l.waiting.items;
   capacity : vec_capacity l.waiting ≡ vec_capacity l.fn.waiting;
 }

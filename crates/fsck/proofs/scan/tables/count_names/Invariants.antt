@@ -14,6 +14,6 @@ invariant-loop-n l = record {
   counted : (m : ℕ) → m < l.image.geometry.inodes + 1 → slice_index l.named m
       ≡ min 32768 (sum_below (λ n. names_in_of (form_of l.version) l.image.geometry (contents l.image) n m) l.n);
   noted : (m : ℕ) → m < l.image.geometry.inodes + 1 → 0 < sum_below (λ n. names_in_of (form_of l.version) l.image.geometry
-  (contents l.image) n m) l.n
+      (contents l.image) n m) l.n
       → 0 < names_in_of (form_of l.version) l.image.geometry (contents l.image) (slice_index l.namer m) m;
 }

@@ -14,6 +14,6 @@ invariant-loop-number l = record {
   near : l.number - 2 ≤ entry_count_of (form_of l.version) l.inode - 2;
   sizes : length l.namer ≡ length l.named;
   more : AreNamedMore l.n (λ m. count_below (λ e. target_at (form_of l.version) l.image.geometry (contents l.image) l.n (e + 2) == m)
-  (l.number - 2))
+      (l.number - 2))
       l.fn.named l.fn.namer l.named l.namer;
 }
