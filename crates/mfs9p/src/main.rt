@@ -13,8 +13,8 @@ use ninep_service::archive::Archive;
 use ninep_service::mortal::{Mortality, mortal_drivers, mortal_setup};
 use ninep_service::mount::{Ended, MountStatus, finish, mount};
 use ninep_service::program::{Came, Streams};
-use ninep_service::telling_gate::Telling;
-use std::alloc::Global;
+use ninep_service::teller::Teller;
+use std::alloc::{AllocError, Global};
 use std::io;
 use std::io::{BufReader, Write};
 use std::process::ExitCode;
@@ -23,6 +23,9 @@ use std::thread::Threads;
 
 /// How many bytes of messages are read together.
 const ROOM: usize = 65536;
+
+/// How long the lines of a mount's end are at most, beside the names of files in them.
+const LINES: usize = 256;
 
 /// When drivers die that do so in the request of this number; none does in that of number 0.
 fn mortality(die_every: u32) -> Mortality {
@@ -53,13 +56,23 @@ fn finished<I: Drop, O: Drop, C: Drop, A: Archive + Drop, E: Write>(
     status
 }
 
+/// Room for the lines of a mount's end.
+fn room_for_lines(alloc: Global, words: &Mfs9pWords<'_>) -> Result<Vec<u8>, AllocError> {
+    let out = words.out.unwrap_or("");
+    let names = words.image.len().saturating_add(out.len());
+    Vec::with_capacity(alloc, names.saturating_add(LINES))
+}
+
 /// Mounts the volume in the image that the words name, and writes the image that is left, where they name a file for it, which also has the
-/// image of each sync. The service has threads of its own, and a tick of it takes a tenth of a second.
-fn mount_file<W: Threads + Wait + Copy + Send + Sync + 'static>(
+/// image of each sync. The service has threads of its own, and a tick of it takes a tenth of a second. Its drivers are told by this thread;
+/// the lines of its end go to `err`.
+fn mount_words<W: Threads + Wait + Copy + Send + Sync + 'static, E: Write>(
     rt: HostRuntime,
     waits: W,
     words: &Mfs9pWords<'_>,
-) -> io::Result<ExitCode> {
+    teller: &Teller,
+    err: &mut E,
+) -> io::Result<MountStatus> {
     let alloc = rt.alloc();
     let image = read(&rt, words.image).ok();
     let mortality = mortality(words.die_every);
@@ -67,14 +80,13 @@ fn mount_file<W: Threads + Wait + Copy + Send + Sync + 'static>(
     let supply = mortal_drivers(alloc, words.spares, words.model, mortality, table)?;
     let mut setup = mortal_setup(words.minor, mortality);
     setup.frames = words.frames as usize;
-    let gate = Arc::new(alloc, Telling::new(Paced::new(waits), rt))?;
+    let gate = Arc::new(alloc, teller.gate(Paced::new(waits))?)?;
     let streams = Streams {
         input: BufReader::with_capacity(alloc, ROOM, rt.reader())?,
         output: rt.stdout(),
         clock: rt,
         archive: words.out.map(|name| ImageFile::new(rt, name)),
     };
-    let mut err = rt.stderr();
     let mounted = mount(
         alloc,
         waits,
@@ -84,9 +96,23 @@ fn mount_file<W: Threads + Wait + Copy + Send + Sync + 'static>(
         supply,
         gate,
         streams,
-        &mut err,
+        err,
     );
-    let status = finished(alloc, mounted, words.out, &mut err);
+    Ok(finished(alloc, mounted, words.out, err))
+}
+
+/// Mounts as these words say. Standard error gets the lines of the end once the image is written and the drivers are told: so nothing but the
+/// end of the program waits for whoever reads them.
+fn mount_and_tell<W: Threads + Wait + Copy + Send + Sync + 'static>(
+    rt: HostRuntime,
+    waits: W,
+    words: &Mfs9pWords<'_>,
+) -> io::Result<ExitCode> {
+    let mut lines = room_for_lines(rt.alloc(), words)?;
+    let teller = Teller::start(rt.alloc(), &waits, rt)?;
+    let status = mount_words(rt, waits, words, &teller, &mut lines)?;
+    teller.end(&waits);
+    let _ = rt.stderr().write_all(&lines);
     Ok(ExitCode::from(status.number()))
 }
 
@@ -103,7 +129,7 @@ fn main(rt: HostRuntime) -> io::Result<ExitCode> {
     match read_words(rt.alloc(), line.as_slice()) {
         Ok(words) => match words.out {
             Some(name) if try_replace(&rt, name).is_err() => Ok(unwritable(rt, name)),
-            _ => mount_file(rt, rt, &words),
+            _ => mount_and_tell(rt, rt, &words),
         },
         Err(error) => {
             error.print(&rt)?;

@@ -7,4 +7,5 @@ pub mod mount;
 pub mod program;
 pub mod sessions;
 pub mod starting;
+pub mod teller;
 pub mod telling_gate;
