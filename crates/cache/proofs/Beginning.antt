@@ -3,7 +3,6 @@ use Rattle.std.proofs.Common.{◌≡◌, ℕ, ◌+◌, ◌-◌, ◌*◌, ◌/◌
 use Rattle.std.proofs.lemmas.List.{length-append}
 use mathlib.Core.Logic.{inl, inr}
 use Rattle.std.specs.Prelude.{◌||◌, ◌↔◌, IsTrue, IsErrOf, nat_lt, slice_get, slice_index}
-use Rattle.std.specs.Bool.{OnFalse}
 use Rattle.std.specs.List.{list_any}
 use Rattle.std.proofs.lemmas.Bool.{cases_lt, lt-ltb}
 use Rattle.std.proofs.lemmas.Bool.Decides.{nat_tests}
@@ -26,7 +25,7 @@ use Rattle.cache.specs.Slots.{held, ticket_of, IsDistinct}
 use Rattle.cache.specs.Edits.{IsSetAt, AreBegun, AreDirty}
 use Rattle.cache.specs.Frames.{Tied, CacheAgrees, view}
 use Rattle.cache.specs.Runs.{AreGathered}
-use Rattle.cache.specs.Calls.{AbstractCache, IsReady, IsLive, IsStuck, IsRefusing, Serves, Keeps}
+use Rattle.cache.specs.Calls.{AbstractCache, IsReady, IsRefusing, Serves, Keeps}
 use Rattle.cache.specs.Takes.{IsReadAt}
 use Rattle.cache.proofs.Held.{held_at, held_set}
 use Rattle.cache.proofs.Tied.{tied_run, tied_read}
@@ -137,12 +136,6 @@ refusing c (Err BlockPending) position size b count h full same at whole some mo
     let x = meets_any c.table.pending c.size b count some more there in
     let d = dirty_held (c.held (b + x.index)) (dirty x.index x.below) in
     inr (b + x.index, d.0, d.1, d.2, x.is)
-
--- and no message comes in between
-pub stuck_for : {X : Type 0} (F : X → AbstractCache) (r : Bool) (old new : X) → OnFalse r (new ≡ old) → OnFalse r (IsRefusing (F old))
-    → IsBusy (pending_of (F new).table.pending) → OnFalse r (IsLive (F new) → IsStuck (F new))
-stuck_for F true old new same h busy = tt
-stuck_for F false old new same h busy = λ live. record { why = inr (busy, subst (λ (x : _). IsRefusing (F x)) (sym same) h) }
 
 -- a cache over whose requests one more was begun is ready
 ready_begun : (ask : Ask) (old new : AbstractCache) → Begins ask old.table new.table old.told new.told old.truth new.truth

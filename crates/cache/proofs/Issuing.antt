@@ -1,12 +1,12 @@
 -- The write of a dirty slot is begun.
-use Rattle.std.proofs.Common.{◌≡◌, ℕ, List, set, refl, sym, ap, subst, ◌≤◌, ◌∙◌, Bool, true, false, Option, Some, None}
-use Rattle.std.specs.Prelude.{◌&&◌, is_some, not, slice_get, MatchBool}
+use Rattle.std.proofs.Common.{◌≡◌, ℕ, List, set, refl, ap, ◌∙◌, true, false, Option, Some, None}
+use Rattle.std.specs.Prelude.{◌&&◌, is_some, not, slice_get}
 use Rattle.cache.specs.declared.slot.Slot.{Slot}
 use Rattle.cache.specs.declared.state.State.{State}
 use Rattle.cache.specs.declared.state.State.TheVariants.{Clean, Dirty, Writing, Changed}
 use Rattle.cache.specs.Slots.{held, ticket_of, is_clean, is_dirty, is_dirty_slot, is_unclean_slot, IsDistinct}
-use Rattle.cache.specs.Edits.{IsSetAt, IsSlotAt, IsIssued, IssuesLowest, IsLowestDirty, Leaves}
-use Rattle.cache.proofs.Held.{held_at, held_set}
+use Rattle.cache.specs.Edits.{IsSetAt, IsIssued, Leaves}
+use Rattle.cache.proofs.Held.{held_set}
 use Rattle.cache.proofs.Edits.{one_slot, leaves_set}
 
 -- a dirty slot has a block, and this state
@@ -55,29 +55,3 @@ issued_at items items' b n at s d is block st e =
       dirty = st;
       all = ap held (e.all ∙ ap (λ (y : Slot). set items at (record y { state = Writing n })) one) ∙ held_set items at b s (record s { state = Writing n }) d is block refl;
     }
-
--- the dirty slot with the lowest block is dirty
-pub lowest_is_dirty : (items : List Slot) (at : ℕ) → IsLowestDirty items at → IsSlotAt items at is_dirty_slot
-lowest_is_dirty items at h = record { slot = h.slot; is = h.is; passes = rw (h.block_is, h.dirty) refl }
-
--- its write is the one of the lowest block
-its_lowest : (items : List Slot) (at : ℕ) (held' : ℕ → Option Slot) → IsDistinct items → IsLowestDirty items at → IsIssued items at held'
-    → IssuesLowest (held items) held'
-its_lowest items at held' d h x =
-    let same : h.slot ≡ x.slot = one_slot items at h.slot x.slot h.is x.is in
-    let key : Some h.block ≡ Some x.block = sym h.block_is ∙ ap (λ (s : Slot). s.block) same ∙ x.block_is in
-    record {
-      slot = x.slot;
-      block = x.block;
-      ticket = x.ticket;
-      is = held_at items at x.block x.slot d x.is x.block_is;
-      dirty = x.dirty;
-      lowest = λ b s is st. subst (λ (n : ℕ). n ≤ b) (let k : h.block ≡ x.block = cc in k) (h.lowest b s is st);
-      all = x.all;
-    }
-
--- where it was begun
-pub issued_lowest : (r : Bool) (items : List Slot) (at : ℕ) (held' : ℕ → Option Slot) (C : Type 0) → IsDistinct items → IsLowestDirty items at
-    → MatchBool r (IsIssued items at held') C → MatchBool r (IssuesLowest (held items) held') C
-issued_lowest true items at held' C d h x = its_lowest items at held' d h x
-issued_lowest false items at held' C d h x = x

@@ -49,7 +49,7 @@ pub struct Cache<L> {
 
 impl<L: Link> Cache<L> {
     ghost use Rattle.cache.specs.Slots.{held, is_dirty_slot, is_unclean_slot};
-    ghost use Rattle.cache.specs.Edits.{AllClean, SomeUnclean, IsIssued, IssuesLowest, IsWritten, IsSlotAt, IsFreeAt, IsAt, Leaves};
+    ghost use Rattle.cache.specs.Edits.{AllClean, SomeUnclean, IsIssued, IsWritten, IsSlotAt, IsFreeAt, IsAt, Leaves};
     ghost use Rattle.cache.specs.Edits.{AllStay, StayBut, IsChangedAt, AreDirty};
     ghost use Rattle.cache.specs.Frames.{frames_of, view, with_bytes};
     ghost use Rattle.cache.specs.Calls.{caching, held_by, frame_count, IsReady, IsIdle, IsLive, IsWhyCut, IsFrame, IsFrameOf, IsMade, IsStuck};
@@ -225,6 +225,7 @@ impl<L: Link> Cache<L> {
         ensures posts { PostsAlone (caching L.Link self.old) (caching L.Link self.new) }
         ensures flush { self.new.flush ≡ self.old.flush }
         ensures refused { OnFalse result (self.new ≡ self.old) }
+        ensures adds { OnTrue result (length (table_of self.new.transfers).pending ≡ length (table_of self.old.transfers).pending + 1) }
         ensures refusing { OnFalse result (IsRefusing (caching L.Link self.old)) }
         ensures reads { NoReadBegun (begun_in self.old.transfers) (begun_in self.new.transfers) }
     {
@@ -546,35 +547,6 @@ impl<L: Link> Cache<L> {
         }
     }
 
-    /// Begins the write of the dirty frame with the lowest block. No message is taken. False where there is none, or the write was
-    /// refused since sixteen requests are pending or a byte of it is, or where no message comes any more; then nothing is changed.
-    pub fn write_lowest(&mut self) -> bool
-        requires ready { IsReady (caching L.Link self.old) }
-        ensures keeps { Keeps (caching L.Link self.old) (caching L.Link self.new) }
-        ensures goes { LinkGoesOn L.Link self.old self.new }
-        ensures count { frame_count self.new ≡ frame_count self.old }
-        ensures posts { PostsAlone (caching L.Link self.old) (caching L.Link self.new) }
-        ensures left { messages_left (caching L.Link self.new) ≤ messages_left (caching L.Link self.old) }
-        ensures issued { MatchBool result (IssuesLowest (held_by self.old) (held_by self.new)) (held_by self.new ≡ held_by self.old) }
-        ensures busy { OnTrue result (IsBusy (begun_in self.new.transfers)) }
-        ensures stuck { OnFalse result (IsLive (caching L.Link self.new) → IsStuck (caching L.Link self.new)) }
-        ensures frames { (f : FrameValue) → IsFrame self.old f → IsFrame self.new f }
-        ensures flush { self.new.flush ≡ self.old.flush }
-        ensures refused { OnFalse result (self.new ≡ self.old) }
-        ensures live { OnTrue result (IsLive (caching L.Link self.old)) }
-        ensures uses { self.new.slots.uses ≡ self.old.slots.uses }
-        ensures adds { OnTrue result (length (table_of self.new.transfers).pending ≡ length (table_of self.old.transfers).pending + 1) }
-        ensures reads { NoReadBegun (begun_in self.old.transfers) (begun_in self.new.transfers) }
-    {
-        if self.live().is_err() {
-            return false;
-        }
-        match self.slots.lowest_dirty() {
-            Some(at) => self.issue(at),
-            None => false,
-        }
-    }
-
     /// Begins the writes of a run in one request: of the dirty frame with the lowest block, and of as many as are dirty side by side from it
     /// on, `most` of them at most and no more than one request takes. How many: none where no frame is dirty, or the write was refused since
     /// sixteen requests are pending or a byte of it is, or where no message comes any more; then nothing is changed. No message is taken.
@@ -596,6 +568,7 @@ impl<L: Link> Cache<L> {
         ensures refused { result ≡ 0 → self.new ≡ self.old }
         ensures live { 0 < result → IsLive (caching L.Link self.old) }
         ensures uses { self.new.slots.uses ≡ self.old.slots.uses }
+        ensures adds { 0 < result → length (table_of self.new.transfers).pending ≡ length (table_of self.old.transfers).pending + 1 }
         ensures reads { NoReadBegun (begun_in self.old.transfers) (begun_in self.new.transfers) }
     {
         if self.live().is_err() {

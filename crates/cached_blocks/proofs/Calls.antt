@@ -1,6 +1,6 @@
 -- Calls of a cache, as blocks have them.
 use Rattle.std.proofs.Common.{◌≡◌, ℕ, List, sym, ap, subst, ◌∙◌, None}
-use Rattle.std.specs.Prelude.{Result, Ok, Err}
+use Rattle.std.specs.Prelude.{Result, Ok, Err, OnOk}
 use Rattle.volume.specs.Reading.{Disk}
 use Rattle.records.specs.Told.{Told, grown}
 use Rattle.records.specs.Disk.{HasTrueReplies}
@@ -11,6 +11,7 @@ use Rattle.cache.proofs.Runs.{runs_as}
 use Rattle.block_store.specs.declared.Cut.{Cut}
 use Rattle.block_store.specs.World.{Turns}
 use Rattle.block_store.specs.Rows.{written, cleared}
+use Rattle.block_store.proofs.Turns.{turns_as}
 use Rattle.cached_blocks.specs.World.{world_by}
 use Rattle.cached_blocks.specs.Lawful.{Fits, one_told}
 
@@ -44,15 +45,10 @@ turns_changed f goes a b at block from bytes same on x =
     let y = subst (λ (n : ℕ). Runs None (f a) (f b) (λ w v. Rewrites n (with_bytes from bytes) (f a) (f b) w v)) same x in
     turns f goes a b (λ w v. Rewrites block (with_bytes from bytes) (f a) (f b) w v) (λ d e. e ≡ written block from bytes d) (λ w v s. s.agrees) (λ w v s. s.changed) on y
 
--- a call that clears a block
-pub turns_cleared : {B X : Type 0} (f : B → AbstractCache) (goes : B → B → Type 0) (a b : B) (x : X) (r : Result X Cut) (block : ℕ) → r ≡ Ok x → goes a b
-    → Runs None (f a) (f b) (λ w v. Blanks r block (f a) (f b) w v) → Turns (world_by f goes) a b (λ d e. e ≡ cleared block d)
-turns_cleared {X = X} f goes a b x r block e on runs =
-    let y = subst (λ (n : Result X Cut). Runs None (f a) (f b) (λ w v. Blanks n block (f a) (f b) w v)) e runs in
-    turns f goes a b (λ w v. Rewrites block (λ row o. 0) (f a) (f b) w v) (λ d e. e ≡ cleared block d) (λ w v s. s.agrees) (λ w v s. s.changed) on y
-
--- a call that was cut
-pub turns_cut : {B X : Type 0} (f : B → AbstractCache) (goes : B → B → Type 0) (a b : B) (c : Cut) (r : Result X Cut) (block : ℕ) → r ≡ Err c → goes a b
-    → Runs None (f a) (f b) (λ w v. Blanks r block (f a) (f b) w v) → Turns (world_by f goes) a b (λ d e. e ≡ d)
-turns_cut {X = X} f goes a b c r block e on runs =
-    turns_kept f goes a b on (subst (λ (n : Result X Cut). Runs None (f a) (f b) (λ w v. Blanks n block (f a) (f b) w v)) e runs)
+-- a call that clears a block, unless it was cut
+pub turns_fresh : {B X : Type 0} (f : B → AbstractCache) (goes : B → B → Type 0) (a b : B) (r : Result X Cut) (block : ℕ) → goes a b
+    → Runs None (f a) (f b) (λ w v. Blanks r block (f a) (f b) w v) → Turns (world_by f goes) a b (λ d e. OnOk r (e ≡ cleared block d))
+turns_fresh f goes a b (Ok x) block on runs =
+    turns f goes a b (λ w v. Rewrites block (λ row o. 0) (f a) (f b) w v) (λ d e. e ≡ cleared block d) (λ w v s. s.agrees) (λ w v s. s.changed)
+    on runs
+turns_fresh f goes a b (Err c) block on runs = turns_as _ _ _ _ _ (λ d e x. tt) (turns_kept f goes a b on runs)

@@ -182,10 +182,7 @@ impl<L: Link> Blocks for Stored<L> {
     // it.
     #[inline(always)]
     fn fetch(&mut self, block: u32) -> Result<Frame, Cut> {
-        match self.cache.fetch(block) {
-            Ok(frame) => Ok(frame),
-            Err(cut) => Err(cut),
-        }
+        self.cache.fetch(block)
     }
 
     fn bytes(&self, frame: Frame) -> &[u8] {
@@ -197,10 +194,7 @@ impl<L: Link> Blocks for Stored<L> {
     }
 
     fn fresh(&mut self, block: u32) -> Result<Frame, Cut> {
-        match self.cache.fresh(block) {
-            Ok(frame) => Ok(frame),
-            Err(cut) => Err(cut),
-        }
+        self.cache.fresh(block)
     }
 
     fn forget(&mut self, block: u32) {
@@ -208,17 +202,11 @@ impl<L: Link> Blocks for Stored<L> {
     }
 
     fn sync(&mut self) -> Result<(), Cut> {
-        match flusher::sync(&mut self.cache) {
-            Ok(()) => Ok(()),
-            Err(cut) => Err(cut),
-        }
+        flusher::sync(&mut self.cache)
     }
 
     fn live(&self) -> Result<(), Cut> {
-        match self.cache.live() {
-            Ok(()) => Ok(()),
-            Err(cut) => Err(cut),
-        }
+        self.cache.live()
     }
 
     ghost lawful = { is_world (stored_caching L.Link.own) (GoesOn L.Link.own)

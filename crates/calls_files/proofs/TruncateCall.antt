@@ -31,7 +31,7 @@ use Rattle.calls_attributes.specs.Does.{IsHeld, Does}
 use Rattle.calls_attributes.proofs.Made.{refused_made, granted_made}
 use Rattle.calls_attributes.specs.Named.{Finds}
 use Rattle.calls_attributes.proofs.Volumes.{may_change, volume_changed, no_directory}
-use Rattle.calls_files.specs.Dated.{SetsSizeAt}
+use Rattle.inode_operations.specs.Sizes.{SetsSizeAt}
 
 -- a body has names
 abbrev is_dir_body : Body → Bool

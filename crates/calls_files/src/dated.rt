@@ -1,4 +1,4 @@
-//! Changes of the bytes of one inode's file, with the times of the change.
+//! Bytes written into one inode's file, with the times of the change.
 
 ghost use Rattle.std.specs.Prelude.{◌≤◌, ◌<◌, ◌+◌, length, IfErr};
 ghost use Rattle.volume.specs.Pieces.{pieces};
@@ -6,10 +6,10 @@ ghost use Rattle.block_store.specs.World.{Turns};
 ghost use Rattle.block_store.specs.Volume.{IsOn};
 ghost use Rattle.block_store.specs.Halts.{Ends, IsHalt};
 ghost use Rattle.file.specs.PageChanges.{MayChange};
-ghost use Rattle.calls_files.specs.Dated.{WritesIfRoom, SetsSizeAt};
+ghost use Rattle.calls_files.specs.Dated.{WritesIfRoom};
 
 use block_store::{Blocks, Halt};
-use file::file_pages::changing::{set_size, stamp};
+use file::file_pages::changing::stamp;
 use file::file_room::has_room;
 use file::write_at;
 use layout::Geometry;
@@ -37,23 +37,4 @@ pub(crate) fn write_if_room<B: Blocks>(
     write_at(blocks, geometry, number, at, bytes)?;
     stamp(blocks, geometry, number, now)?;
     Ok(true)
-}
-
-/// Makes the file of an inode that long, at `now`: what lies past the size is gone, and what is new is a hole. Unsound only where the
-/// rules are broken, or the inode isn't marked.
-pub fn set_size_at<B: Blocks>(
-    blocks: &mut B,
-    geometry: &Geometry,
-    number: u32,
-    size: u32,
-    now: u32,
-) -> Result<(), Halt>
-    requires on { IsOn B.world geometry.now blocks.old }
-    requires end { size ≤ 2147483647 }
-    ensures turns { Turns B.world blocks.old blocks.new (λ d e. Ends result
-        (λ x. SetsSizeAt geometry.now number size now d e) (MayChange geometry.now (pieces geometry.now d) number)) }
-    ensures halt { IfErr result (λ h. IsHalt B.world blocks.new h) }
-{
-    set_size(blocks, geometry, number, size)?;
-    stamp(blocks, geometry, number, now)
 }

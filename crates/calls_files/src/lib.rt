@@ -14,7 +14,6 @@ mod truncating;
 mod writing;
 
 pub use closing::close;
-pub use dated::set_size_at;
 pub use listing::readdir;
 pub use reading::read;
 pub use seeking::seek;

@@ -9,11 +9,11 @@ ghost use Rattle.block_store.specs.Volume.{IsOn};
 ghost use Rattle.block_store.specs.Halts.{IsHalt};
 ghost use Rattle.calls_attributes.specs.Does.{Meets};
 
-use crate::dated::set_size_at;
 use block_store::{Blocks, Halt};
 use calls_attributes::found::is_directory;
 use calls_attributes::named::find_node;
 use errno::Errno;
+use inode_operations::set_size_at;
 use layout::Geometry;
 use path::{NameCache, Wish, may};
 use tree::{MAX_SIZE, Reply, User};

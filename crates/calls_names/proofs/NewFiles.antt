@@ -21,6 +21,7 @@ use Rattle.volume.specs.Reading.{Disk}
 use Rattle.path.specs.declared.place.NamePlace.{NamePlace}
 use Rattle.path.specs.Places.{place_of}
 use Rattle.inode_operations.proofs.Between.{node_stands, nothing_is_done}
+use Rattle.calls_names.specs.Names.{IsOfInode}
 use Rattle.calls_names.specs.Making.{IsFileMade, IsFileRefused, MakesFileAt, MayMakeAt, at_missing, with_new_file}
 use Rattle.calls_names.specs.Vacant.{IsFreeFor, IsFull, IsVacant, zones_with_name}
 use Rattle.calls_names.proofs.Numbers.{directory_in}
@@ -33,14 +34,12 @@ module _ (g : Geometry) (ok : IsGeometry g) (t : Tree) (user : User) (now mode :
   its_node = (node_stands g d d t.nodes p.directory parent ok (nothing_is_done g d t holds) vacant.there).node
 
   -- the parent's attributes are those of its inode
-  pub its_permissions : parent.permissions ≡ permissions_in p.inode.mode
-  its_permissions = ap (λ (y : Node). y.permissions) (sym its_node) ∙ ap (λ (i : Inode). permissions_in i.mode) (sym vacant.inode)
-
-  pub its_owner : parent.uid ≡ p.inode.uid
-  its_owner = ap (λ (y : Node). y.uid) (sym its_node) ∙ ap (λ (i : Inode). i.uid) (sym vacant.inode)
-
-  pub its_group : parent.gid ≡ p.inode.gid
-  its_group = ap (λ (y : Node). y.gid) (sym its_node) ∙ ap (λ (i : Inode). i.gid) (sym vacant.inode)
+  pub its_inode : IsOfInode parent p.inode
+  its_inode = record {
+    permissions = ap (λ (y : Node). y.permissions) (sym its_node) ∙ ap (λ (i : Inode). permissions_in i.mode) (sym vacant.inode);
+    uid = ap (λ (y : Node). y.uid) (sym its_node) ∙ ap (λ (i : Inode). i.uid) (sym vacant.inode);
+    gid = ap (λ (y : Node). y.gid) (sym its_node) ∙ ap (λ (i : Inode). i.gid) (sym vacant.inode);
+  }
 
   abbrev at_number : (ℕ → Effect) → Effect
   at_number rest = free_inode g t >>= rest

@@ -26,7 +26,7 @@ use Rattle.path.specs.Wishes.{IsWhose}
 use Rattle.file.specs.PageChanges.{MayChange, file_at, stamped}
 use Rattle.calls_attributes.proofs.Made.{node_there}
 use Rattle.calls_attributes.proofs.Volumes.{may_change, no_directory, volume_changed}
-use Rattle.calls_files.specs.Dated.{SetsSizeAt}
+use Rattle.inode_operations.specs.Sizes.{SetsSizeAt}
 use Rattle.inode_operations.specs.Stands.{Stands}
 use Rattle.inode_operations.proofs.Between.{kind_is, nothing_is_done}
 use Rattle.calls_names.specs.Asking.{lacks_permission, only_makes, why_barred}

@@ -10,7 +10,8 @@ ghost use Rattle.path.specs.Stops.{Answers, IfRefused, IsStop};
 ghost use Rattle.calls_names.specs.Making.{MakesFileAt, MakesFileOr, MayMakeAt};
 ghost use Rattle.calls_names.specs.Vacant.{IsVacant};
 
-use crate::vacant::{free_number, may_write};
+use crate::named::may_write;
+use crate::vacant::free_number;
 use block_store::{Blocks, Halt};
 use directory::insert;
 use errno::Errno;

@@ -22,4 +22,4 @@ pub use linking::link;
 pub use opening::open;
 pub use removing::{rmdir, unlink};
 pub use symlinks::symlink;
-pub use vacant::{free_number, may_write};
+pub use vacant::free_number;

@@ -1,31 +1,21 @@
 //! Places for new names, and numbers for new nodes.
 
-ghost use Rattle.std.specs.Prelude.{◌≡◌, ◌≢◌, IfErr};
+ghost use Rattle.std.specs.Prelude.{◌≢◌, IfErr};
 ghost use Rattle.tree.specs.Tree.{Node, Tree};
-ghost use Rattle.tree.specs.Walk.{may_access, to_write};
 ghost use Rattle.volume.specs.Holds.{HoldsVolume};
-ghost use Rattle.volume.specs.Nodes.{permissions_in};
 ghost use Rattle.block_store.specs.Volume.{IsOn};
 ghost use Rattle.block_store.specs.World.{Reads};
 ghost use Rattle.path.specs.Stops.{Answers, IfRefused, IsStop};
 ghost use Rattle.calls_names.specs.Vacant.{FindsNewPlace, FindsNumber, IsVacant};
 
+use crate::named::may_write;
 use block_store::{Blocks, Halt};
 use errno::Errno;
 use file::file_room::has_room_beside;
 use inode_operations::free_inode;
 use layout::Geometry;
-use path::{NameCache, NamePlace, Path, Stop, Wish, find_place, may};
+use path::{NameCache, NamePlace, Path, Stop, find_place};
 use tree::{MAX_SIZE, User};
-use volume::Inode;
-
-/// Whether a user may change the names of a directory.
-pub fn may_write(user: User, inode: &Inode) -> bool
-    ensures { (node : Node) → node.permissions ≡ permissions_in inode.now.mode → node.uid ≡ inode.now.uid → node.gid ≡ inode.now.gid
-        → result ≡ may_access user node to_write }
-{
-    may(user, inode.mode % 512, inode.uid, inode.gid, Wish::Write)
-}
 
 /// The place at which a path's last name is missing. The refusals of the path and of the walk come first, then EEXIST where the name is
 /// there or the path has none, then EACCES where the user may not change the directory's names.

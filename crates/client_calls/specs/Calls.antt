@@ -1,11 +1,10 @@
 -- What a client call does on a volume, whatever tree the volume holds.
-use Rattle.std.specs.Prelude.{◌≡◌, ℕ, Bool, Result, is_some, IsTrue}
+use Rattle.std.specs.Prelude.{ℕ, Result}
 use Rattle.layout.specs.declared.Geometry.{Geometry}
 use Rattle.tree.specs.declared.Who.{Who}
 use Rattle.tree.specs.declared.Call.{Call}
 use Rattle.tree.specs.declared.Reply.{Reply}
-use Rattle.tree.specs.Sums.{some_below}
-use Rattle.tree.specs.Tree.{Tree, most_open_files}
+use Rattle.tree.specs.Tree.{Tree}
 use Rattle.tree.specs.Answers.{Answer, answer_of}
 use Rattle.volume.specs.Reading.{Disk}
 use Rattle.volume.specs.Holds.{HoldsVolume}
@@ -29,7 +28,3 @@ pub record DoesCall (g : Geometry) (who : Who) (now : ℕ) (call : Call) (answer
 abbrev pub MeetsCall : Geometry → Who → ℕ → Call → Result (Unit {0}) Halt → Reply → Files → Files → Disk → Disk → Type 0
 MeetsCall g who now call result reply old new d e =
     Ends result (λ u. DoesCall g who now call (answer_of reply) old new d e) (IsHeld g (HasFiles old) d)
-
--- whether some file is open
-abbrev pub is_busy : Files → Bool
-is_busy f = some_below (λ k. is_some (f.opened k)) most_open_files

@@ -1,7 +1,8 @@
 -- Open files by number, and for each session the open file of each descriptor; what calls do to them.
-use Rattle.std.specs.Prelude.{◌≡◌, ◌≤◌, ◌<◌, ℕ, Option, None, Some, Result, Ok, Err, is_some, IsTrue, if◌then◌else◌}
+use Rattle.std.specs.Prelude.{◌≡◌, ◌≤◌, ◌<◌, ℕ, Bool, Option, None, Some, Result, Ok, Err, is_some, IsTrue, if◌then◌else◌}
 use Rattle.errno.specs.declared.Errno.{Errno}
 use Rattle.errno.specs.declared.Errno.TheVariants.{EMFILE, ENFILE}
+use Rattle.tree.specs.Sums.{some_below}
 use Rattle.tree.specs.Tree.{OpenFile, Tree, has_descriptor, with_descriptor, most_sessions, most_descriptors, most_open_files, most_size}
 use Rattle.tree.specs.Refusals.{◌>>=◌, free_place}
 use Rattle.tree.specs.Changes.{open_file_of, without_unused, at_position}
@@ -28,6 +29,10 @@ tree_with f = record { nodes = λ n. None; open_files = f.opened; descriptors = 
 pub record HasFiles (f : Files) (t : Tree) : Type 0 where
   pub opened : t.open_files ≡ f.opened
   pub descriptors : t.descriptors ≡ f.descriptors
+
+-- whether some file is open
+abbrev pub is_busy : Files → Bool
+is_busy f = some_below (λ k. is_some (f.opened k)) most_open_files
 
 -- a new open file, at position 0: its descriptor, and what is open then
 abbrev pub put_file : Files → ℕ → ℕ → ℕ → Result (ℕ × Files) Errno

@@ -1,8 +1,8 @@
 //! The open files of all sessions, and their descriptors.
 
-ghost use Rattle.std.specs.Prelude.{◌≡◌, ◌<◌, ◌≤◌, IfOk, IsSome, OnErr, None, Some, is_none, is_some, length, position, option_map};
+ghost use Rattle.std.specs.Prelude.{◌≡◌, ◌<◌, ◌≤◌, IfOk, IsSome, OnErr, None, Some, is_none, length, position, option_map};
 ghost use Rattle.std.specs.Prelude.{slice_index_or};
-ghost use Rattle.tree.specs.Tree.{is_open, leads_to, most_open_files, most_sessions, most_size};
+ghost use Rattle.tree.specs.Tree.{is_open, leads_to, most_sessions, most_size};
 ghost use Rattle.tree.specs.Sums.{some_below};
 
 use crate::free::first_free;
@@ -55,7 +55,7 @@ fn has_number(session: &[Option<u8>], number: u8) -> bool
 }
 
 impl Descriptors {
-    ghost use Rattle.descriptors.specs.Files.{AreFiles, close_file, dup_file, file_at, moved, put_file, room_for_file, tree_with};
+    ghost use Rattle.descriptors.specs.Files.{AreFiles, close_file, dup_file, file_at, is_busy, moved, put_file, room_for_file, tree_with};
     ghost use Rattle.descriptors.specs.Keys.{file_of};
     ghost use Rattle.descriptors.specs.Table.{files_of, number_at, session_at, told};
     ghost use Rattle.descriptors.specs.Made.{no_files, shown};
@@ -175,7 +175,7 @@ impl Descriptors {
 
     /// Whether some file is open.
     pub fn is_busy(&self) -> bool
-        ensures { result ≡ some_below (λ k. is_some ((files_of self.now).opened k)) most_open_files }
+        ensures { result ≡ is_busy (files_of self.now) }
     {
         self.files.has_some()
     }

@@ -26,9 +26,6 @@ pub struct ScheduledFault {
     pub ticks: u32,
 }
 
-/// How many requests the base schedule has steps and a delivery for.
-const REQUESTS: u32 = 11;
-
 /// A step of driver 1.
 static STEP: [Event<'static>; 1] = [Event::Step(1)];
 
@@ -46,17 +43,18 @@ fn add_steps(events: &mut Vec<Event<'_>>, sectors: usize) -> Result<(), AllocErr
     Ok(())
 }
 
-/// The base schedule: these calls; for each request as many steps of driver 1 as a block has sectors, and the delivery of its reply; a
-/// flush and a tick.
+/// The base schedule: these calls; for each block that requests move as many steps of driver 1 as it has sectors, and the delivery of the
+/// reply to its request, which has no effect before the request's last block is moved; a flush and a tick.
 pub fn base<'t>(
     alloc: Global,
     calls: &[Event<'t>],
     sectors: usize,
+    replies: &[u32],
 ) -> Result<Vec<Event<'t>>, AllocError> {
     let mut events = Vec::from_slice(alloc, calls)?;
-    for reply in 0..REQUESTS {
+    for reply in replies {
         add_steps(&mut events, sectors)?;
-        events.push(Event::Deliver(reply))?;
+        events.push(Event::Deliver(*reply))?;
     }
     events.extend_from_slice(&LAST)?;
     Ok(events)

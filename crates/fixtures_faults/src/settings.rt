@@ -68,6 +68,18 @@ impl Setting {
         self.block / 512
     }
 
+    /// Of each block that the calls have moved, the number of the reply to its request: four blocks are read, each by a request of its own;
+    /// the sync writes neighbours by one request, of 4096 bytes at most. Numbers behind the last request's have no effect.
+    pub fn replies(&self) -> &'static [u32] {
+        match (self.block, self.two) {
+            (1024, false) => &[0, 1, 2, 3, 4, 4, 4, 5, 5, 5, 6],
+            (1024, true) => &[0, 1, 2, 3, 4, 4, 4, 5, 5, 5, 5],
+            (2048, false) => &[0, 1, 2, 3, 4, 4, 5, 5, 6, 7, 8],
+            (2048, true) => &[0, 1, 2, 3, 4, 4, 5, 5, 6, 6, 7],
+            _other => &[0, 1, 2, 3, 4, 5, 6, 7, 8, 9, 10],
+        }
+    }
+
     /// The clients: their sessions are numbered below.
     pub fn clients(&self) -> u8 {
         if self.two { 2 } else { 1 }

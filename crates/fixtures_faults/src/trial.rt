@@ -74,7 +74,7 @@ fn base_of<'t>(
     setting: &Setting,
     calls: &[Event<'t>],
 ) -> Result<Vec<Event<'t>>, AllocError> {
-    let base = base(alloc, calls, setting.sectors())?;
+    let base = base(alloc, calls, setting.sectors(), setting.replies())?;
     if setting.twice {
         twice(alloc, base.as_slice())
     } else {

@@ -1,6 +1,6 @@
 -- Flushes and syncs.
 use Rattle.std.proofs.Common.{◌≡◌, ◌≢◌, ℕ, zero, suc, ◌+◌, ◌*◌, ◌/◌, ◌%◌, ◌<◌, ◌≤◌, List, [], ◌∷◌, ◌++◌, append_assoc, refl, sym, ap, subst, ◌∙◌, arith, true, false, Option, Some, None, Result, Ok, Err, IsErr}
-use Rattle.std.proofs.Math.Nat.{div-add-mod, mod-lt, mul_comm}
+use Rattle.std.proofs.Math.Nat.{div-add-mod, mod-lt, mul_comm, mul-le-mul_left}
 use mathlib.Core.Logic.{inl, inr}
 use Rattle.std.specs.Prelude.{◌-◌, sum}
 use Rattle.std.proofs.lemmas.Bool.{cases_eq, cases_lt}
@@ -22,21 +22,8 @@ use Rattle.reissue.specs.Posts.{OnlyPosts}
 use Rattle.cache.proofs.Tied.{way_ticket, no_ticket}
 use Rattle.cache.proofs.Agreeing.{same_view, byte_or}
 use Rattle.cache.proofs.Runs.{runs_as}
+use Rattle.cache.proofs.Begun.{fits_in}
 use Rattle.flusher.specs.Flushing.{WritesLowest, WritesJust, WritesRuns, IsIdle, IsSynced, Syncs}
-
--- fewer are so many at most
-pub at_most : (k n : ℕ) (old new : ℕ → Option Slot) → k ≤ n → WritesLowest k old new → WritesLowest n old new
-at_most zero zero old new le h = h
-at_most zero (suc n) old new le h = inl h
-at_most (suc k) zero old new le h = absurd (omega (arith, le))
-at_most (suc k) (suc n) old new le (inl same) = inl same
-at_most (suc k) (suc n) old new le (inr x) = inr (x.0, x.1, at_most k n x.0 new (omega (arith, le)) x.2)
-
--- one more after them
-pub one_more : (k : ℕ) (old mid new : ℕ → Option Slot) → WritesLowest k old mid → IssuesLowest mid new → WritesLowest (suc k) old new
-one_more zero old mid new h x = inr (new, subst (λ (m : ℕ → Option Slot). IssuesLowest m new) h x, refl)
-one_more (suc k) old mid new (inl same) x = inr (new, subst (λ (m : ℕ → Option Slot). IssuesLowest m new) same x, inl refl)
-one_more (suc k) old mid new (inr y) x = inr (y.0, y.1, one_more k y.0 mid new y.2 x)
 
 -- where a frame isn't clean and no write can be begun, a request is pending
 pub busy_unclean : (c : AbstractCache) → IsReady c → IsStuck c → SomeUnclean c.held → IsBusy (pending_of c.table.pending)
@@ -246,6 +233,16 @@ begins_of most n size size' mid new between pending' same x = subst (λ (k : ℕ
 pub begins_none : (most n size : ℕ) (mid new : ℕ → Option Slot) (between pending' : ℕ → Option Begun)
     → n ≡ 0 → BeginsRun most size n mid new between pending' → (new ≡ mid) × (pending' ≡ between)
 begins_none most n size mid new between pending' none x = subst (λ (k : ℕ). BeginsRun most size k mid new between pending') none x
+
+-- a run has eight frames at most, since a block has a sector at least
+pub run_few : (most n size : ℕ) (mid new : ℕ → Option Slot) (between pending' : ℕ → Option Begun)
+    → 512 ≤ size → BeginsRun most size n mid new between pending' → n ≤ 8
+run_few most zero size mid new between pending' least x = omega arith
+run_few most (suc n) size mid new between pending' least x =
+    let few = x.few in
+    let whole : suc n * size ≤ 4096 = fits_in (suc n) size (omega (arith, few)) in
+    let sectors : suc n * 512 ≤ suc n * size = mul-le-mul_left (suc n) least in
+    omega (arith, whole, sectors)
 
 -- then they stay
 pub flushing_end : (most size left : ℕ) (old mid new : ℕ → Option Slot) (pending between pending' : ℕ → Option Begun)

@@ -16,11 +16,43 @@ use reissue::Link;
 
 /// Of how many frames a flush begins the writes at most.
 const MOST_FRAMES: u32 = 16;
-/// How many writes a sync begins at most before it looks whether all is clean.
-const AT_ONCE: usize = 16;
+/// Of how many frames a sync begins the writes at most before it looks whether all is clean: sixteen requests, which are all that may be
+/// pending, have no more blocks, since each has eight sectors at most.
+const AT_ONCE: u32 = 128;
+
+/// Begins the writes of dirty frames, `most` at most, the lowest block first, in runs: neighbouring dirty frames whose writes aren't under
+/// way go in one request, as many as fit. It waits for none: no message is taken. It stops early where none is dirty, where the next run
+/// was refused since sixteen requests are pending or a byte of it is, or where no message comes any more: where `most` is 128 or more, only
+/// then. Whether a Flush is wanted stays as it is.
+fn begin_runs<L: Link>(cache: &mut Cache<L>, most: u32)
+    requires ready { IsReady (caching L.Link cache.old) }
+    ensures keeps { Keeps (caching L.Link cache.old) (caching L.Link cache.new) }
+    ensures goes { LinkGoesOn L.Link cache.old cache.new }
+    ensures count { frame_count cache.new ≡ frame_count cache.old }
+    ensures posts { PostsAlone (caching L.Link cache.old) (caching L.Link cache.new) }
+    ensures issued { WritesLowest most (held_by cache.old) (held_by cache.new) }
+    ensures runs { WritesInRuns most cache.old.shape.block_size (held_by cache.old) (held_by cache.new)
+        (begun_in cache.old.transfers) (begun_in cache.new.transfers) }
+    ensures left { messages_left (caching L.Link cache.new) ≤ messages_left (caching L.Link cache.old) }
+    ensures stuck { IsLive (caching L.Link cache.new) → BeginsAll most (held_by cache.old) (caching L.Link cache.new) }
+    ensures full { 128 ≤ most → IsLive (caching L.Link cache.new) → IsStuck (caching L.Link cache.new) }
+    ensures frames { (f : Frame) → IsFrame cache.old f → IsFrame cache.new f }
+    ensures flush { cache.new.flush ≡ cache.old.flush }
+    ensures uses { cache.new.slots.uses ≡ cache.old.slots.uses }
+    ensures reads { NoReadBegun (begun_in cache.old.transfers) (begun_in cache.new.transfers) }
+{
+    let mut left = most;
+    'runs: while left > 0 {
+        let begun = cache.write_run(left);
+        if begun == 0 {
+            return;
+        }
+        left -= begun;
+    }
+}
 
 /// Begins the writes of dirty frames, sixteen at most, the lowest block first, in runs: neighbouring dirty frames whose writes aren't under
-/// way go in one request, as many as it takes. It waits for none: no message is taken. It stops early where none is dirty, where the next run
+/// way go in one request, as many as fit. It waits for none: no message is taken. It stops early where none is dirty, where the next run
 /// was refused since sixteen requests are pending or a byte of it is, or where no message comes any more. Whether a Flush is wanted stays
 /// as it is.
 pub fn flush_some<L: Link>(cache: &mut Cache<L>)
@@ -39,37 +71,7 @@ pub fn flush_some<L: Link>(cache: &mut Cache<L>)
     ensures uses { cache.new.slots.uses ≡ cache.old.slots.uses }
     ensures reads { NoReadBegun (begun_in cache.old.transfers) (begun_in cache.new.transfers) }
 {
-    let mut left = MOST_FRAMES;
-    'runs: while left > 0 {
-        let begun = cache.write_run(left);
-        if begun == 0 {
-            return;
-        }
-        left -= begun;
-    }
-}
-
-/// Begins the writes of dirty frames, sixteen at most, the lowest block first, each by a request of its own. It waits for none: no message is
-/// taken. It stops early where none is dirty, where the next write was refused, or where no message comes any more.
-fn write_some<L: Link>(cache: &mut Cache<L>)
-    requires ready { IsReady (caching L.Link cache.old) }
-    ensures keeps { Keeps (caching L.Link cache.old) (caching L.Link cache.new) }
-    ensures goes { LinkGoesOn L.Link cache.old cache.new }
-    ensures count { frame_count cache.new ≡ frame_count cache.old }
-    ensures posts { PostsAlone (caching L.Link cache.old) (caching L.Link cache.new) }
-    ensures issued { WritesLowest 16 (held_by cache.old) (held_by cache.new) }
-    ensures left { messages_left (caching L.Link cache.new) ≤ messages_left (caching L.Link cache.old) }
-    ensures stuck { IsLive (caching L.Link cache.new) → IsStuck (caching L.Link cache.new) }
-    ensures frames { (f : Frame) → IsFrame cache.old f → IsFrame cache.new f }
-    ensures flush { cache.new.flush ≡ cache.old.flush }
-    ensures uses { cache.new.slots.uses ≡ cache.old.slots.uses }
-    ensures reads { NoReadBegun (begun_in cache.old.transfers) (begun_in cache.new.transfers) }
-{
-    'writes: for _ in 0..AT_ONCE {
-        if !cache.write_lowest() {
-            return;
-        }
-    }
+    begin_runs(cache, MOST_FRAMES);
 }
 
 /// Takes a message of a sync: only where no further write can be begun before it, and some frame isn't the disk's yet. The bytes of a read
@@ -92,7 +94,7 @@ fn take_next<L: Link>(cache: &mut Cache<L>) -> Result<(), Cut>
     Ok(())
 }
 
-/// Writes all dirty frames, until no frame is dirty and no write is open.
+/// Writes all dirty frames in runs, until no frame is dirty and no write is open.
 fn write_all<L: Link>(cache: &mut Cache<L>) -> Result<(), Cut>
     requires ready { IsReady (caching L.Link cache.old) }
     ensures runs { Does L.Link cache.old cache.new (Syncs result) }
@@ -106,7 +108,7 @@ fn write_all<L: Link>(cache: &mut Cache<L>) -> Result<(), Cut>
     ensures reads { NoReadBegun (begun_in cache.old.transfers) (begun_in cache.new.transfers) }
 {
     'messages: loop {
-        write_some(cache);
+        begin_runs(cache, AT_ONCE);
         if cache.is_clean() {
             return Ok(());
         }
@@ -114,9 +116,9 @@ fn write_all<L: Link>(cache: &mut Cache<L>) -> Result<(), Cut>
     }
 }
 
-/// Writes all dirty frames, the lowest block first, until no frame is dirty and no write is open. Then no place of the disk is unsure,
-/// and the disk is what would be read back. Where each frame is clean it changes nothing, whatever became of the link. A Flush is wanted
-/// then where one was or has come: `take_flush` counts it as done.
+/// Writes all dirty frames, the lowest block first, neighbours in one request, until no frame is dirty and no write is open. Then no place
+/// of the disk is unsure, and the disk is what would be read back. Where each frame is clean it changes nothing, whatever became of the
+/// link. A Flush is wanted then where one was or has come: `take_flush` counts it as done.
 pub fn sync<L: Link>(cache: &mut Cache<L>) -> Result<(), Cut>
     requires ready { IsReady (caching L.Link cache.old) }
     ensures runs { Does L.Link cache.old cache.new (Syncs result) }

@@ -17,3 +17,4 @@ pub mod Settling
 pub mod Whole
 pub mod Dropping
 pub mod Asked
+pub mod Stamped

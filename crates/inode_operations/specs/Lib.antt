@@ -12,3 +12,4 @@ pub mod Moves
 pub mod Whole
 pub mod Replaced
 pub mod Asking
+pub mod Sizes

@@ -1,5 +1,5 @@
 -- What a service gives, as an application has it.
-use Rattle.std.proofs.Common.{◌≡◌, ℕ, List, [], Result, Ok, Err, IfOk, IfErr, ap, ◌∙◌, subst, sym, length}
+use Rattle.std.proofs.Common.{ℕ, List, Result, Ok, Err, IfOk, IfErr, subst, sym}
 use Rattle.layout.specs.declared.Geometry.{Geometry}
 use Rattle.tree.specs.Tree.{Tree}
 use Rattle.records.specs.Marks.{Mark}
@@ -9,19 +9,13 @@ use Rattle.records.specs.Session.{SessionState, IsMadeFor}
 use Rattle.reissue.specs.declared.link.Link.{Ghosts as LinkWords}
 use Rattle.bdev.specs.DriverState.{DriverState}
 use Rattle.reincarnate.specs.declared.policy.Policy.{Policy}
-use Rattle.reincarnate.specs.declared.policy.Setup.{Setup}
-use Rattle.shared_server.specs.Held.{HasEnded, HoldsIfTrue, IsAdmitted, IsGood, IsGuaranteed, IsNotAdmitted}
-use Rattle.shared_server.specs.Stopping.{has_ended}
-use Rattle.shared_server.specs.Finishing.{sync_of}
+use Rattle.shared_server.specs.Held.{HoldsIfTrue, IsAdmitted, IsGood, IsGuaranteed}
 use Rattle.shared_server.specs.declared.locked.LastSync.{LastSync}
-use Rattle.shared_server.specs.declared.refusal.SessionRefusal.{SessionRefusal}
 use Rattle.shared_server.specs.declared.refusal.SessionRefusal.TheVariants.{TooMany, Stopped, OutOfMemory}
-use Rattle.serve.specs.Stopping.{IsLastImage}
-use Rattle.service_start.specs.Ran.{HasRun}
 use Rattle.lecternowl.specs.declared.tasks.Came.{Came}
 use Rattle.lecternowl.specs.declared.refusal.ServeRefusal.{ServeRefusal}
 use Rattle.lecternowl.specs.declared.refusal.ServeRefusal.TheVariants.{Start, NoSession, NoImage}
-use Rattle.lecternowl.specs.Serving.{AreDone, IsLeft, IsNotDone, IsNotOpened, IsNotServed, IsOpened}
+use Rattle.lecternowl.specs.Serving.{AreDone, IsLeft, IsNotDone, IsOpened}
 
 -- ---- sessions
 
@@ -39,52 +33,6 @@ all_opened link runs_on marks numbers policy supply g v uid gid (Ok s) admitted 
   sound = sound;
 }
 all_opened link runs_on marks numbers policy supply g v uid gid (Err e) admitted guaranteed volume sound = tt
-
--- why one wasn't
-not_opened : {L : Type 0} (link : LinkWords L) (numbers : L → List ℕ) (v : Opening) (e : SessionRefusal) → IsNotAdmitted link numbers v e
-    → IsNotOpened link v e
-not_opened link numbers v TooMany h = tt
-not_opened link numbers v Stopped h = (h.0, h.1)
-not_opened link numbers v OutOfMemory h = tt
-
-pub none_opened : {L X : Type 0} (link : LinkWords L) (numbers : L → List ℕ) (v : Opening) (result : Result X SessionRefusal)
-    → IfErr result (IsNotAdmitted link numbers v) → IfErr result (IsNotOpened link v)
-none_opened link numbers v (Ok s) h = tt
-none_opened link numbers v (Err e) h = not_opened link numbers v e h
-
--- ---- the image that is left
-
-pub is_left : {L : Type 0} (link : LinkWords L) (g : Geometry) (v : Opening) (last : LastSync) (image : List ℕ)
-    → IsLastImage link g v [] (sync_of last) image → IsLeft (HasEnded link v) g v last image
-is_left link g v last image shown = record {
-  outside = shown.outside;
-  marks = shown.last.marks;
-  tells = shown.last.tells;
-  ended = λ is. record {
-    line = shown.line;
-    guaranteed = shown.last.guaranteed;
-    ended = shown.last.ended ∙ ap (λ (l : LastSync). has_ended (sync_of l)) is;
-  };
-}
-
--- ---- what `serve` gives, by what its start gave
-
-module _ (E : List Mark → Type 0) (image : List ℕ) (setup : Setup) (supply : List DriverState) where
-  pub served : {O T : Type 0} (tasks : List T) (result : Result (Came O) ServeRefusal)
-      → HasRun image setup supply (λ g v. IfOk result (AreDone E g v tasks))
-      → IfOk result (λ came. HasRun image setup supply (λ g v. AreDone E g v tasks came))
-  served tasks (Ok came) h = h
-  served tasks (Err e) h = tt
-
-  not_served : (refusal : ServeRefusal) → IsNotDone E refusal → IsNotServed E image setup supply refusal
-  not_served (Start refusal) h = absurd h
-  not_served (NoSession refusal) h = h
-  not_served (NoImage why) h = h
-
-  pub none_served : {O : Type 0} (result : Result (Came O) ServeRefusal) → IfErr result (IsNotDone E)
-      → IfErr result (IsNotServed E image setup supply)
-  none_served (Ok came) h = tt
-  none_served (Err refusal) h = not_served refusal h
 
 -- ---- the same, where less is said of a link that has ended
 

@@ -1,12 +1,12 @@
 -- A note that is read.
 use Rattle.schedule.specs.declared.log.LogEntry.{LogEntry}
 use Rattle.schedule.specs.declared.log.LogEntry.TheVariants as entry
-use Rattle.schedule.specs.declared.entry_ref.EntryRef.{EntryRef}
-use Rattle.schedule.specs.declared.entry_ref.EntryRef.TheVariants.{Begun, Posted, Complained, Received, Handed, Faulted, Took}
+use Rattle.schedule.specs.declared.entry_ref.LogEntryRef.{LogEntryRef}
+use Rattle.schedule.specs.declared.entry_ref.LogEntryRef.TheVariants.{Begun, Posted, Complained, Received, Handed, Faulted, Took}
 use Rattle.compact_message.specs.Padded.{incoming_of, request_of}
 
 -- the note that is borrowed
-abbrev pub entry_in : EntryRef → LogEntry
+abbrev pub entry_in : LogEntryRef → LogEntry
 entry_in (Begun event) = entry.Begun event.now
 entry_in (Posted to request accepted) = entry.Posted to (request_of request) accepted
 entry_in (Complained e is_fault) = entry.Complained e is_fault

@@ -6,9 +6,9 @@ use message::endpoint::Endpoint;
 use records::marks::Cause;
 use tree::{Call, Reply, Who};
 
-/// One note, borrowed: what the variants say, [`Entry`](crate::log::LogEntry) has.
+/// One note, borrowed: what the variants say, [`LogEntry`](crate::log::LogEntry) has.
 #[derive(Clone, Copy)]
-pub enum EntryRef<'l> {
+pub enum LogEntryRef<'l> {
     Begun(&'l Event<'l>),
     Posted(Endpoint, RequestRef<'l>, bool),
     Complained(Endpoint, bool),

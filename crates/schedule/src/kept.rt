@@ -7,7 +7,7 @@ ghost use Rattle.schedule.specs.Entries.{entry_in};
 ghost use Rattle.compact_message.specs.Padded.{incoming_of, request_of};
 
 use crate::Event;
-use crate::entry_ref::EntryRef;
+use crate::entry_ref::LogEntryRef;
 use crate::log::Post;
 use compact_message::{IncomingRef, ReplyHead, ReplyRef, RequestHead, RequestRef, trimmed};
 use message::endpoint::Endpoint;
@@ -157,19 +157,19 @@ fn shown_message<'l>(all: &'l [u8], kept: &KeptMessage) -> IncomingRef<'l>
 }
 
 /// A note that is kept beside these bytes and these replies to calls, borrowed.
-pub fn shown<'l>(all: &'l [u8], replies: &'l [Reply], kept: &'l Kept<'l>) -> EntryRef<'l>
+pub fn shown<'l>(all: &'l [u8], replies: &'l [Reply], kept: &'l Kept<'l>) -> LogEntryRef<'l>
     requires { IsWithin (length all.now) (length replies.now) kept.now }
     ensures { entry_in result ≡ entry_of all.now replies.now kept.now }
 {
     match kept {
-        Kept::Begun(event) => EntryRef::Begun(*event),
+        Kept::Begun(event) => LogEntryRef::Begun(*event),
         Kept::Posted(kept, accepted) => {
-            EntryRef::Posted(kept.to, shown_request(all, kept), *accepted)
+            LogEntryRef::Posted(kept.to, shown_request(all, kept), *accepted)
         }
-        Kept::Complained(about, is_fault) => EntryRef::Complained(*about, *is_fault),
-        Kept::Received(message) => EntryRef::Received(shown_message(all, message)),
-        Kept::Handed(message) => EntryRef::Handed(shown_message(all, message)),
-        Kept::Faulted(about, cause) => EntryRef::Faulted(*about, *cause),
-        Kept::Took(who, now, call, at) => EntryRef::Took(*who, *now, call, &replies[*at]),
+        Kept::Complained(about, is_fault) => LogEntryRef::Complained(*about, *is_fault),
+        Kept::Received(message) => LogEntryRef::Received(shown_message(all, message)),
+        Kept::Handed(message) => LogEntryRef::Handed(shown_message(all, message)),
+        Kept::Faulted(about, cause) => LogEntryRef::Faulted(*about, *cause),
+        Kept::Took(who, now, call, at) => LogEntryRef::Took(*who, *now, call, &replies[*at]),
     }
 }

@@ -22,7 +22,7 @@ pub mod queue;
 ghost use Rattle.schedule.specs.Laws.{BeginningKeeps, GroupsStay, RefusedForOne, RefusedOrAccepted, RepliesStay};
 
 pub use arrived::Arrived;
-pub use entry_ref::EntryRef;
+pub use entry_ref::LogEntryRef;
 pub use log::{Log, LogEntry};
 pub use mark::RunMark;
 use message::BlockReply;

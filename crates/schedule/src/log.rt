@@ -4,7 +4,7 @@ ghost use Rattle.std.specs.Prelude.{◌≡◌, All, length};
 ghost use Rattle.schedule.specs.KeptNotes.{IsWithin, accepted_in};
 
 use crate::Event;
-use crate::entry_ref::EntryRef;
+use crate::entry_ref::LogEntryRef;
 use crate::kept::{Kept, KeptRequest, keep_message, keep_request, post_of, shown};
 use message::endpoint::Endpoint;
 use message::{BlockRequest, Incoming};
@@ -12,7 +12,7 @@ use records::marks::Cause;
 use std::alloc::{AllocError, Global};
 use tree::{Call, Reply, Who};
 
-/// One note, as contracts see it; [`EntryRef`] is read, and what is kept takes less memory.
+/// One note, as contracts see it; [`LogEntryRef`] is read, and what is kept takes less memory.
 #[derive(Drop)]
 pub enum LogEntry<'a> {
     /// An event begins.
@@ -175,7 +175,7 @@ impl<'a> Log<'a> {
     }
 
     /// The note at this place, from 0 on, borrowed.
-    pub fn entry(&self, at: usize) -> EntryRef<'_>
+    pub fn entry(&self, at: usize) -> LogEntryRef<'_>
         requires { at < length (entries_of self.now) }
         ensures { entry_in result ≡ slice_index_or (entries_of self.now) at (entry_in result) }
     {

@@ -1,37 +1,19 @@
 -- What a service is started with, from what a start makes of an image.
-use Rattle.std.proofs.Common.{◌≡◌, ◌≤◌, ◌^◌, ◌∙◌, ℕ, List, [], Result, Ok, Err, IfOk, ap, lit≤, subst, sym}
+use Rattle.std.proofs.Common.{◌≡◌, ◌≤◌, ◌^◌, ℕ, List, [], Result, Ok, Err, IfOk, ap, lit≤, subst, sym}
 use Rattle.atomic_table.specs.Seated.{TableId}
 use Rattle.media.specs.Contents.{MediaState}
 use Rattle.bdev.specs.DriverState.{DriverState}
 use Rattle.records.specs.Marks.{Mark}
-use Rattle.records.specs.Opening.{Opening, contents_at}
+use Rattle.records.specs.Opening.{Opening}
 use Rattle.reincarnate.specs.declared.policy.Policy.{Policy}
 use Rattle.reincarnate.specs.declared.policy.Setup.{Setup}
 use Rattle.reissue.specs.declared.link.Link.{Ghosts as LinkWords}
-use Rattle.true_replies.specs.Events.{opening_media}
-use Rattle.board.specs.View.{SeatState, IsKeeper, opener}
+use Rattle.board.specs.View.{SeatState}
 use Rattle.board.specs.declared.counting.parameters.ServiceParameters.{Ghosts as ParameterWords}
-use Rattle.volume_mount.specs.Laws.{sizes_in}
-use Rattle.volume_mount.specs.Starting.{opening_of, IsPrepared}
 use Rattle.service_start.specs.Started.{IsAtHand, IsStarted}
 use Rattle.service_start.proofs.Frames.{frames_fit}
 
--- all is at hand, where the service's parts agree on the new board, on the volume in the media, and on its sizes
-pub at_hand : {N : Type 0} (room : ParameterWords N) (table : TableId) (seat : SeatState) (setup : Setup) (supply : List DriverState)
-    (media : MediaState) (range : ℕ × ℕ) (image : List ℕ) → room.table ≡ table → room.opening ≡ opening_of image setup.minor range
-    → room.geometry ≡ sizes_in (contents_at room.opening) → IsKeeper table seat → seat.view ≡ opener → IsPrepared image setup supply range
-    → media ≡ opening_media (opening_of image setup.minor range) → IsAtHand room table seat setup supply media range
-at_hand room table seat setup supply media range image board opening geometry keeper fresh prepared contents = record {
-  board = sym board;
-  keeper = subst (λ (t : TableId). IsKeeper t seat) (sym board) keeper;
-  fresh = fresh;
-  opening = opening ∙ ap (λ (bytes : List ℕ). opening_of bytes setup.minor range) (sym (ap (λ (v : Opening). v.media) opening));
-  geometry = geometry;
-  prepared = subst (λ (bytes : List ℕ). IsPrepared bytes setup supply range) (sym (ap (λ (v : Opening). v.media) opening)) prepared;
-  contents = contents ∙ ap opening_media (sym opening);
-}
-
--- then a link that the start made is one over which the volume may be mounted
+-- where all is at hand, a link that the start made is one over which the volume may be mounted
 pub started : {N : Type 0} (room : ParameterWords N) (table : TableId) (seat : SeatState) (setup : Setup) (supply : List DriverState)
     (media : MediaState) (range : ℕ × ℕ) → IsAtHand room table seat setup supply media range
     → {L : Type 0} (words : LinkWords L) (runs_on : L → Policy → List DriverState → Type 0) (record_in : L → List Mark) (shown : TableId)

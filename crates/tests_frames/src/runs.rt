@@ -1,4 +1,4 @@
-//! Runs: neighbouring changed blocks, which a flush writes by one request.
+//! Runs: neighbouring changed blocks, which a flush or a sync writes by one request.
 ghost use Rattle.std.specs.Prelude.{◌≤◌, IfOk};
 ghost use Rattle.cache.specs.Calls.{caching, IsReady};
 ghost use Rattle.reissue.specs.Transfers.{link_of, table_of};
@@ -215,17 +215,19 @@ write 6 24576 2048 0
 write 7 26624 3072 0
 ",
     ),
-    // a sync writes each block by a request of its own
+    // a sync writes neighbours by one request, as many as fit
     (
         Size::Of1024,
         &[
             Given::Started(1),
-            Given::Moved(1, 1, 1024),
+            Given::Moved(1, 1, 4096),
             Given::Moved(1, 2, 1024),
+            Given::Moved(1, 3, 2048),
         ],
-        &[Step::Fresh(2, 4), Step::Sync],
-        "write 1 2048 1024 0
-write 2 3072 1024 0
+        &[Step::Fresh(2, 7), Step::Fresh(8, 10), Step::Sync],
+        "write 1 2048 4096 0
+write 2 6144 1024 0
+write 3 8192 2048 0
 ",
     ),
     // a block that is as large as a request goes alone

@@ -132,16 +132,13 @@ step 1
 deliver 3
 step 1
 step 1
+step 1
+step 1
+step 1
+step 1
 deliver 4
 step 1
 step 1
-deliver 5
-step 1
-step 1
-deliver 6
-step 1
-step 1
-deliver 7
 step 1
 hang 1
 ";
@@ -154,16 +151,18 @@ tick
 tick
 step 2
 step 2
-deliver 8
+step 2
+step 2
+deliver 5
 call 0 0 0 100 seek 0 set 0
 call 0 0 0 101 fill 0 1024 22
 call 0 0 0 101 sync
 step 2
 step 2
-deliver 9
+deliver 6
 step 2
 step 2
-deliver 10
+deliver 7
 step 1
 step 1
 call 0 0 0 101 seek 0 set 0
@@ -183,33 +182,27 @@ issue 4 read 6144 1024 to 1.1
 answer 4 1024 from 1.1
 reply 0 fd 0
 reply 0 wrote 1024
-issue 5 write 2048 1024 to 1.1
-issue 6 write 3072 1024 to 1.1
-issue 7 write 4096 1024 to 1.1
-issue 8 write 6144 1024 to 1.1
-issue 9 write 7168 1024 to 1.1
-answer 5 1024 from 1.1
-answer 6 1024 from 1.1
-answer 7 1024 from 1.1
-answer 8 1024 from 1.1
+issue 5 write 2048 3072 to 1.1
+issue 6 write 6144 2048 to 1.1
+answer 5 3072 from 1.1
 fault 1.1 hung
 started 1.2
-issue 9 write 7168 1024 to 1.2
-answer 9 1024 from 1.2
+issue 6 write 6144 2048 to 1.2
+answer 6 2048 from 1.2
 reply 0 ok
 reply 0 at 0
 reply 0 wrote 1024
-issue 10 write 4096 1024 to 1.2
-issue 11 write 7168 1024 to 1.2
-answer 10 1024 from 1.2
-answer 11 1024 from 1.2
+issue 7 write 4096 1024 to 1.2
+issue 8 write 7168 1024 to 1.2
+answer 7 1024 from 1.2
+answer 8 1024 from 1.2
 reply 0 ok
 reply 0 at 0
 reply 0 bytes 22
 unanswered 0
 ";
 
-/// The reads on a volume of 64 blocks of 2048, and the first sync's first two steps: its first request is for block 2.
+/// The reads on a volume of 64 blocks of 2048, and the first sync's first two steps: its first request is for the blocks 2 and 3.
 const BEGUN: &str = "\
 call 0 0 0 100 open /f rwc 644
 call 0 0 0 100 fill 0 2048 aa
@@ -245,7 +238,15 @@ step 2
 step 2
 step 2
 step 2
+step 2
+step 2
+step 2
+step 2
 deliver 4
+step 2
+step 2
+step 2
+step 2
 step 2
 step 2
 step 2
@@ -256,16 +257,6 @@ step 2
 step 2
 step 2
 deliver 6
-step 2
-step 2
-step 2
-step 2
-deliver 7
-step 2
-step 2
-step 2
-step 2
-deliver 8
 call 0 0 0 100 seek 0 set 0
 call 0 0 0 100 read 0 2048
 ";
@@ -283,23 +274,17 @@ issue 4 read 10240 2048 to 1.1
 answer 4 2048 from 1.1
 reply 0 fd 0
 reply 0 wrote 2048
-issue 5 write 4096 2048 to 1.1
-issue 6 write 6144 2048 to 1.1
-issue 7 write 8192 2048 to 1.1
-issue 8 write 10240 2048 to 1.1
-issue 9 write 12288 2048 to 1.1
+issue 5 write 4096 4096 to 1.1
+issue 6 write 8192 4096 to 1.1
+issue 7 write 12288 2048 to 1.1
 fault 1.1 exit
 started 1.2
-issue 5 write 4096 2048 to 1.2
-issue 6 write 6144 2048 to 1.2
-issue 7 write 8192 2048 to 1.2
-issue 8 write 10240 2048 to 1.2
-issue 9 write 12288 2048 to 1.2
-answer 5 2048 from 1.2
-answer 6 2048 from 1.2
+issue 5 write 4096 4096 to 1.2
+issue 6 write 8192 4096 to 1.2
+issue 7 write 12288 2048 to 1.2
+answer 5 4096 from 1.2
+answer 6 4096 from 1.2
 answer 7 2048 from 1.2
-answer 8 2048 from 1.2
-answer 9 2048 from 1.2
 reply 0 ok
 reply 0 at 0
 ";

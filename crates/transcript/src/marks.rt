@@ -12,38 +12,38 @@ ghost use Rattle.compact_message.specs.Padded.{incoming_of};
 use compact_message::IncomingRef;
 use records::marks::Cause;
 use reply_text::mark::MarkRef;
-use schedule::EntryRef;
+use schedule::LogEntryRef;
 use std::alloc::AllocError;
 use trace_digest::TraceDigest;
 
 /// The mark that a note leaves, if it leaves one. An error: no memory was found, and what was heard is as it was.
 pub fn mark_of_note<'l>(
     heard: &mut TraceDigest,
-    entry: EntryRef<'l>,
+    entry: LogEntryRef<'l>,
 ) -> Result<Option<MarkRef<'l>>, AllocError>
     ensures left { IfOk result (λ left. (n : Noted) → IsHeard heard.old (marks_in n)
         → Leaves heard.new (marks_in n) (marks_in (with_entry (entry_in entry.entry) n)) left) }
     ensures refused { IfErr result (λ _. (marks : List Mark) → IsHeard heard.old marks → IsHeard heard.new marks) }
 {
     match entry {
-        EntryRef::Begun(_) => Ok(None),
-        EntryRef::Posted(to, request, accepted) => {
+        LogEntryRef::Begun(_) => Ok(None),
+        LogEntryRef::Posted(to, request, accepted) => {
             if !accepted {
                 return Ok(None);
             }
             heard.issued_any(&request.request())?;
             Ok(Some(MarkRef::Issued(request, to)))
         }
-        EntryRef::Complained(about, is_fault) => {
+        LogEntryRef::Complained(about, is_fault) => {
             if !is_fault {
                 return Ok(None);
             }
             Ok(Some(MarkRef::Fault(about, Cause::Complaint)))
         }
-        EntryRef::Received(message) => Ok(mark_of_message(heard, message)),
-        EntryRef::Handed(message) => Ok(mark_of_message(heard, message)),
-        EntryRef::Faulted(about, cause) => Ok(Some(MarkRef::Fault(about, cause))),
-        EntryRef::Took(who, now, call, reply) => Ok(Some(MarkRef::Took(who, now, call, reply))),
+        LogEntryRef::Received(message) => Ok(mark_of_message(heard, message)),
+        LogEntryRef::Handed(message) => Ok(mark_of_message(heard, message)),
+        LogEntryRef::Faulted(about, cause) => Ok(Some(MarkRef::Fault(about, cause))),
+        LogEntryRef::Took(who, now, call, reply) => Ok(Some(MarkRef::Took(who, now, call, reply))),
     }
 }
 

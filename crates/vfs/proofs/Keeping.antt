@@ -35,8 +35,8 @@ use Rattle.cache.proofs.ReadingBack.{frames_read_back}
 use Rattle.cached_blocks.specs.World.{Leads, Sees}
 use Rattle.flusher.proofs.Flushing.{synced}
 use Rattle.cache.specs.Edits.{AllClean}
-use Rattle.descriptors.specs.Files.{Files, HasFiles}
-use Rattle.client_calls.specs.Calls.{IsDone, DoesCall, is_busy}
+use Rattle.descriptors.specs.Files.{Files, HasFiles, is_busy}
+use Rattle.client_calls.specs.Calls.{IsDone, DoesCall}
 use Rattle.records.specs.Opening.{Opening, contents_at}
 use Rattle.file_server.specs.Over.{CallSpecification}
 use Rattle.vfs.specs.Serving.{IsServer, server_of}

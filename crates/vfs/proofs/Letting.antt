@@ -7,8 +7,7 @@ use Rattle.records.specs.Unmount as legal
 use Rattle.cache.specs.Calls.{AbstractCache, IsLive}
 use Rattle.cache.specs.Edits.{AllClean}
 use Rattle.cached_blocks.specs.World.{Leads, Sees}
-use Rattle.descriptors.specs.Files.{Files}
-use Rattle.client_calls.specs.Calls.{is_busy}
+use Rattle.descriptors.specs.Files.{Files, is_busy}
 use Rattle.vfs.specs.Serving.{MayServe, server_of}
 use Rattle.vfs.specs.UnmountingLaws.{UnmountsOver}
 use Rattle.vfs.proofs.Ending.{none, false_true}

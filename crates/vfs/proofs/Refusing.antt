@@ -8,8 +8,7 @@ use Rattle.cache.specs.Calls.{AbstractCache, IsLive, IsWhyCut}
 use Rattle.block_store.specs.declared.Cut.{Cut as Why}
 use Rattle.block_store.specs.declared.Cut.TheVariants.{Eio, LinkEnded}
 use Rattle.cached_blocks.specs.World.{Leads, Sees}
-use Rattle.descriptors.specs.Files.{Files}
-use Rattle.client_calls.specs.Calls.{is_busy}
+use Rattle.descriptors.specs.Files.{Files, is_busy}
 use Rattle.vfs.specs.declared.unmounting.UnmountRefusal.{UnmountRefusal}
 use Rattle.vfs.specs.declared.unmounting.UnmountRefusal.TheVariants as refusal
 use Rattle.vfs.specs.Serving.{MayServe, server_of}

@@ -14,8 +14,8 @@ use Rattle.records.specs.Unmount as legal
 use Rattle.cache.specs.Calls.{AbstractCache, HandsOver, IsLive, IsWhyCut}
 use Rattle.cache.specs.Edits.{AllClean}
 use Rattle.cached_blocks.specs.World.{Leads, Sees}
-use Rattle.descriptors.specs.Files.{Files}
-use Rattle.client_calls.specs.Calls.{DoesCall, is_busy}
+use Rattle.descriptors.specs.Files.{Files, is_busy}
+use Rattle.client_calls.specs.Calls.{DoesCall}
 use Rattle.file_server.specs.Over.{AbsorbsOver, CallSpecification, outcome_of}
 use Rattle.vfs.specs.Serving.{MayServe, Spends, server_of}
 use Rattle.vfs.specs.Outcomes.{stopped}

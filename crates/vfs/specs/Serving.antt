@@ -13,8 +13,7 @@ use Rattle.reissue.specs.Moves.{state_after}
 use Rattle.reissue.specs.Rules.{outbox_of}
 use Rattle.cache.specs.Calls.{AbstractCache, IsReady, messages_left}
 use Rattle.cache.specs.Frames.{CacheAgrees, frames_of}
-use Rattle.descriptors.specs.Files.{Files, HasFiles}
-use Rattle.client_calls.specs.Calls.{is_busy}
+use Rattle.descriptors.specs.Files.{Files, HasFiles, is_busy}
 
 -- calls may be made, on a cache for a volume of this geometry
 pub record MayServe (g : Geometry) (c : AbstractCache) : Type 0 where

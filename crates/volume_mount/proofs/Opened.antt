@@ -25,10 +25,9 @@ use Rattle.reissue.proofs.TableRules.{at_rest}
 use Rattle.cache.specs.declared.slot.Slot.{Slot}
 use Rattle.cache.specs.Calls.{AbstractCache, frame_count}
 use Rattle.cache.specs.Frames.{CacheAgrees, frame_of, frames_of}
-use Rattle.descriptors.specs.Files.{Files, HasFiles}
+use Rattle.descriptors.specs.Files.{Files, HasFiles, is_busy}
 use Rattle.descriptors.specs.Made.{no_files}
 use Rattle.descriptors.specs.Table.{files_of}
-use Rattle.client_calls.specs.Calls.{is_busy}
 use Rattle.cached_blocks.specs.declared.Stored.{Stored}
 use Rattle.vfs.specs.declared.server.Server.{Server}
 use Rattle.vfs.specs.Serving.{server_of}

@@ -4,7 +4,7 @@ ghost use Rattle.layout.specs.Places.{IsGeometry};
 ghost use Rattle.cache.specs.Calls.{caching, IsReady};
 
 use crate::bench_frames::BLOCKS;
-use crate::bench_frames::work::{By, driver, fetch_again, fetch_run, write_run};
+use crate::bench_frames::work::{driver, fetch_again, fetch_run, write_run};
 use bench_layers::timing::{say, tell};
 use board::counting::parameters::ServiceParameters;
 use board::{Board, Seat};
@@ -45,11 +45,8 @@ fn measure_cache<L: Link>(rt: &HostRuntime, cache: &mut Cache<L>) -> io::Result<
     let hit = fetch_again(cache, BLOCKS);
     tell(rt, "fetches that hit", hit, "blocks", start)?;
     let start = Instant::now(rt)?;
-    let written = write_run(cache, BLOCKS / 16, By::Runs);
-    tell(rt, "made anew and written back", written, "blocks", start)?;
-    let start = Instant::now(rt)?;
-    let written = write_run(cache, BLOCKS / 16, By::Blocks);
-    tell(rt, "the same, block by block", written, "blocks", start)
+    let written = write_run(cache, BLOCKS / 16);
+    tell(rt, "made anew and written back", written, "blocks", start)
 }
 
 /// Measures a cache of so many frames for a volume, over a link that may give 2^40 messages.

@@ -4,7 +4,7 @@ ghost use Rattle.cache.specs.Calls.{caching, IsReady};
 
 use bdev::{Accept, BlockDriver};
 use cache::Cache;
-use flusher::{flush_some, sync};
+use flusher::sync;
 use media::Media;
 use media::partition::Table;
 use message::{BlockRequest, Kind};
@@ -47,17 +47,8 @@ pub(crate) fn fetch_again<L: Link>(cache: &mut Cache<L>, count: u32) -> u32
     given
 }
 
-/// How blocks are written back.
-#[derive(Clone, Copy, Debug, PartialEq, Eq)]
-pub(crate) enum By {
-    /// By a flush, in runs of neighbours.
-    Runs,
-    /// By a sync, each by a request of its own.
-    Blocks,
-}
-
-/// Makes 16 blocks anew, and writes them back.
-fn write_16<L: Link>(cache: &mut Cache<L>, first: u32, by: By) -> u32
+/// Makes 16 blocks anew, and writes them back, in runs of neighbours.
+fn write_16<L: Link>(cache: &mut Cache<L>, first: u32) -> u32
     requires { IsReady (caching L.Link cache.old) }
     ensures { IsReady (caching L.Link cache.new) }
 {
@@ -66,9 +57,6 @@ fn write_16<L: Link>(cache: &mut Cache<L>, first: u32, by: By) -> u32
             return 0;
         }
     }
-    if by == By::Runs {
-        flush_some(cache);
-    }
     match sync(cache) {
         Ok(()) => 16,
         Err(_) => 0,
@@ -76,13 +64,13 @@ fn write_16<L: Link>(cache: &mut Cache<L>, first: u32, by: By) -> u32
 }
 
 /// Makes so many times 16 blocks anew, and writes each 16 of them back.
-pub(crate) fn write_run<L: Link>(cache: &mut Cache<L>, times: u32, by: By) -> u32
+pub(crate) fn write_run<L: Link>(cache: &mut Cache<L>, times: u32) -> u32
     requires { IsReady (caching L.Link cache.old) }
     ensures { IsReady (caching L.Link cache.new) }
 {
     let mut written = 0u32;
     for turn in 0..times {
-        written = written.saturating_add(write_16(cache, turn.saturating_mul(16), by));
+        written = written.saturating_add(write_16(cache, turn.saturating_mul(16)));
     }
     written
 }

@@ -5,7 +5,7 @@ use Rattle.block_store.proofs.Turns.{turns_as, turns_then}
 use Rattle.zone.proofs.ZoneInodes.{inode_is}
 use Rattle.file.specs.PageChanges.{MayChange}
 use Rattle.calls_attributes.proofs.Made.{node_there}
-use Rattle.calls_files.specs.Dated.{SetsSizeAt}
+use Rattle.inode_operations.specs.Sizes.{SetsSizeAt}
 use Rattle.calls_names.proofs.Ending.{answers_halted}
 use Rattle.calls_names.proofs.There.{there_emptied, there_kept, there_may_change, there_refused}
 use Rattle.calls_names.proofs.readying.ready_there.Goals as goal

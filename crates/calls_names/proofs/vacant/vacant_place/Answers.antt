@@ -55,7 +55,8 @@ returns-then-not-may_write-clause-reads g c =
     (λ d p t holds rest. let at = p t holds.nodes in
     barred t a.user a.path.now rest parts _ (parent_node v d t a.user parts place holds at) read at.walked (taken_is v d t a.user parts place holds at ∙ free)
     (parent_there v d t a.user parts place holds at)
-    (sym (c.may_write.ensures (parent_node v d t a.user parts place holds at) refl refl refl) ∙ c.if-not-may_write.true))
+    (sym (c.may_write.ensures (parent_node v d t a.user parts place holds at)
+    (record { permissions = refl; uid = refl; gid = refl })) ∙ c.if-not-may_write.true))
     c.in_ok-place.ensures.reads
 
 pub returns-clause-reads : goal.returns-clause-reads
@@ -71,5 +72,6 @@ returns-clause-reads g c =
     reads_as _ _ _ _ _
     (λ d p t holds. let at = p t holds.nodes in
     is_new_place v d t a.user parts place holds at a.path.now bytes read (taken_is v d t a.user parts place holds at ∙ free)
-    (sym (c.may_write.ensures (parent_node v d t a.user parts place holds at) refl refl refl) ∙ c.if-not-may_write.false))
+    (sym (c.may_write.ensures (parent_node v d t a.user parts place holds at)
+    (record { permissions = refl; uid = refl; gid = refl })) ∙ c.if-not-may_write.false))
     c.in_ok-place.ensures.reads

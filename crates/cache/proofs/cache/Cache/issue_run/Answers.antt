@@ -3,7 +3,7 @@ use Rattle.cache.specs.Slots.{held}
 use Rattle.cache.specs.Runs.{AreGathered}
 use Rattle.cache.specs.Calls.{AbstractCache, caching, caching_of, Keeps}
 use Rattle.cache.proofs.Edits.{leaves_none}
-use Rattle.cache.proofs.Beginning.{refusing, write_many, busy_begun}
+use Rattle.cache.proofs.Beginning.{longer, refusing, write_many, busy_begun}
 use Rattle.cache.proofs.Placing.{keeps_none}
 use Rattle.cache.proofs.cache.Cache.issue_run.Goals as goal
 
@@ -50,6 +50,12 @@ pub returns-in-Err-clause-posts : goal.returns-in-Err-clause-posts
 returns-in-Err-clause-posts g c =
     let x = c.in-Err.ensures.begins in
     record { posts = x.posts; history = x.history; only_posts = x.only_posts }
+
+pub returns-in-Ok-clause-adds : goal.returns-in-Ok-clause-adds
+returns-in-Ok-clause-adds g c =
+    let s = c.args.self.now in
+    longer c.write_run-ask.result (caching g.L.Link s) (caching_of g.L.Link c.begin_run.new.self s.shape c.set_writing.new.self.items.items s.ended)
+    c.in-Ok.ensures.adds
 
 pub returns-in-Err-clause-refusing : goal.returns-in-Err-clause-refusing
 returns-in-Err-clause-refusing g c =

@@ -1,6 +1,6 @@
 use Rattle.block_store.proofs.Turns.{turns_then, ends_as}
-use Rattle.calls_files.proofs.Stamped.{may_stamp_resized, resized_at}
-use Rattle.calls_files.proofs.dated.set_size_at.Goals as goal
+use Rattle.inode_operations.proofs.Stamped.{may_stamp_resized, resized_at}
+use Rattle.inode_operations.proofs.resizing.set_size_at.Goals as goal
 
 pub returns-clause-turns : goal.returns-clause-turns
 returns-clause-turns g c =
