@@ -1,5 +1,5 @@
 -- A step marks what it changes.
-use Rattle.std.proofs.Common.{◌≡◌, ℕ, ◌+◌, ◌*◌, ◌/◌, ◌<◌, ◌⊎◌, inl, inr, List, length, Bool, true, false, refl, sym, subst, ◌∙◌, ap, arith, length-replicate, length-set, get_or-set_same, replicate, Option, Some, None}
+use Rattle.std.proofs.Common.{◌≡◌, ℕ, ◌+◌, ◌*◌, ◌/◌, ◌<◌, ◌⊎◌, inl, inr, List, length, Bool, true, false, refl, sym, subst, ◌∙◌, ap, arith, length-set, get_or-set_same, Option, Some, None}
 use Rattle.std.specs.List.{concat}
 use Rattle.std.proofs.lemmas.Bool.{false≢true}
 use Rattle.message.specs.declared.Kind.{Kind}
@@ -14,7 +14,7 @@ use Rattle.bdev.specs.DriverState.{DriverState, Work, chunk}
 use Rattle.bdev.specs.Promises.{StepKeeps, StepsAt, MovesBytes, IsNext}
 use Rattle.changes.specs.declared.taken.Changes.{Changes}
 use Rattle.changes.specs.Units.{units_in, is_marked, with_mark, with_marks, AreTaken}
-use Rattle.changes.proofs.Marking.{still_set, still_marks}
+use Rattle.changes.proofs.Marking.{length-with_marks, still_set, still_marks}
 use Rattle.driver_threads.specs.Confined.{KeepsOutside, StaysInVolume}
 use Rattle.driver_threads.specs.Marking.{ConfinedState, MarksChanges, AreChangesOutside, units_of, marked_for}
 use Rattle.driver_threads.proofs.Confining.{keeps_stepped}
@@ -44,8 +44,15 @@ same_media m m' old new same still =
 pub adopted_marks : (m : MediaState) (marks : List Bool) (g : ℕ) → MarksChanges (with m marks) (with (adopted m g) marks)
 adopted_marks m marks g = record { number = refl; same = λ n off. refl; still = λ n off. off }
 
-pub marked_again : (m : MediaState) (marks : List Bool) (ns : List ℕ) → MarksChanges (with m marks) (with m (with_marks marks ns))
-marked_again m marks ns = record { number = refl; same = λ n off. refl; still = still_marks ns marks }
+pub marked_again : (old : ConfinedState) (m : MediaState) (marks marks' : List Bool) (ns : List ℕ) → with m marks ≡ old
+    → marks' ≡ with_marks marks ns → MarksChanges old (with m marks')
+marked_again old m marks marks' ns from is =
+    subst (λ (x : ConfinedState). MarksChanges x (with m marks')) from
+    (subst (λ (l : List Bool). MarksChanges (with m marks) (with m l)) (sym is)
+    (record { number = refl; same = λ n off. refl; still = still_marks ns marks }))
+
+pub long_again : (m : MediaState) (marks : List Bool) (ns : List ℕ) → length marks ≡ units_of m → length (with_marks marks ns) ≡ units_of m
+long_again m marks ns long = length-with_marks ns marks ∙ long
 
 -- a sector whose unit isn't marked isn't the one that is written
 elsewhere : (m : MediaState) (marks : List Bool) (s n : ℕ) → s < length m.sectors → length marks ≡ units_of m
@@ -84,11 +91,12 @@ stepped b (Some w) m g step a m' marks s long = elim s.1 [
       (accepts_exists m g (p.run.first + p.number) p.accepted) long p.bytes
 ]
 
-pub marks_step : (b : DriverState) (m : MediaState) (g : ℕ) (step : Step) (a : DriverState) (m' : MediaState) (marks marks' : List Bool)
-    → StepKeeps b m g step a m' → length marks ≡ units_of m → marks' ≡ marked_for b.in_work marks
-    → MarksChanges (with m marks) (with m' marks')
-marks_step b m g step a m' marks marks' keeps long is =
-    subst (λ (l : List Bool). MarksChanges (with m marks) (with m' l)) (sym is) (stepped b b.work m g step a m' marks keeps.steps long)
+pub marks_step : (old : ConfinedState) (b : DriverState) (m : MediaState) (g : ℕ) (step : Step) (a : DriverState) (m' : MediaState)
+    (marks marks' : List Bool) → with m marks ≡ old → StepKeeps b m g step a m' → length marks ≡ units_of m
+    → marks' ≡ marked_for b.in_work marks → MarksChanges old (with m' marks')
+marks_step old b m g step a m' marks marks' from keeps long is =
+    subst (λ (x : ConfinedState). MarksChanges x (with m' marks')) from
+    (subst (λ (l : List Bool). MarksChanges (with m marks) (with m' l)) (sym is) (stepped b b.work m g step a m' marks keeps.steps long))
 
 pub long_after : (b : DriverState) (m : MediaState) (g : ℕ) (step : Step) (a : DriverState) (m' : MediaState) (marks marks' : List Bool)
     → StepKeeps b m g step a m' → length marks ≡ units_of m → marks' ≡ marked_for b.in_work marks → length marks' ≡ units_of m'

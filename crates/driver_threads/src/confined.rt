@@ -106,7 +106,7 @@ impl<N: ServiceParameters> Confined<N> {
     /// Takes a driver's step, under its generation, and puts the answer of one that is done into the reply, without its endpoint. A driver
     /// that names a sector outside of the range as the one that its step may write isn't stepped: it counts as failed. The unit of a sector
     /// that the step may write is marked, whether the step writes it or not.
-    #[tactic(auto, using(crate::proofs::Confining::keeps_stepped, crate::proofs::Marking::long_after, crate::proofs::Marking::marks_step))]
+    #[tactic(auto, using(crate::proofs::Confining::keeps_stepped, crate::proofs::Marking::long_after))]
     pub fn step<D: BlockDriver>(
         &mut self,
         driver: &mut D,
@@ -147,7 +147,7 @@ impl<N: ServiceParameters> Confined<N> {
     }
 
     /// Marks the units of changes that were taken and not kept, so that they are taken again with what then stands in them.
-    #[tactic(auto, using(changes::proofs::Marking::length-with_marks, crate::proofs::Marking::marked_again))]
+    #[tactic(auto, using(crate::proofs::Marking::long_again))]
     pub fn mark_again(&mut self, changes: &Changes)
         ensures is { self.new ≡ record self.old { marks = with_marks self.old.marks changes.now.numbers.items } }
         ensures changed { MarksChanges self.old self.new }

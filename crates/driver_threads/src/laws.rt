@@ -3,7 +3,6 @@
 ghost use Rattle.driver_threads.specs.Marking.{AgreesOn, MarkedAgain, TakenAfterSteps};
 
 /// An image that agrees with the media but in marked units does so after any number of steps of drivers.
-#[tactic(auto, using(crate::proofs::Sequences::agrees_on))]
 pub fn agreement_stays()
     ensures { AgreesOn }
 {}
@@ -17,7 +16,6 @@ pub fn taken_after_steps()
 
 /// Where changes that were taken weren't kept and their units are marked again, whatever steps came between, an image that agreed with the
 /// media but in marked units does so still.
-#[tactic(auto, using(crate::proofs::Sequences::marked_again))]
 pub fn marked_again_is_all()
     ensures { MarkedAgain }
 {}
