@@ -1,23 +1,21 @@
 //! Serves the image of a volume by 9P, so that Linux mounts it, while its drivers may die.
 #![tactic(auto)]
 
-mod image_file;
+mod keeping;
 
-use crate::image_file::ImageFile;
+use crate::keeping::{Begun, KeptImage, begin, begin_to_keep, finished, refused};
 use gate::paced_gate::Paced;
 use host::command_line::{line_of, status_for};
+use host::image_files::locked::{LockedImage, open};
 use host::play_words::mfs9p::{Mfs9pWords, read as read_words};
-use host::whole_file::{read, try_replace};
 use modeldisk::supply::table_in;
-use ninep_service::archive::Archive;
 use ninep_service::mortal::{Mortality, mortal_drivers, mortal_setup};
-use ninep_service::mount::{Ended, MountStatus, finish, mount};
-use ninep_service::program::{Came, Streams};
+use ninep_service::mount::{Ended, MountStatus, mount};
+use ninep_service::program::Streams;
 use ninep_service::telling_gate::Telling;
-use std::alloc::Global;
-use std::io;
-use std::io::{BufReader, Write};
+use std::io::{self, BufReader, StdinLock};
 use std::process::ExitCode;
+use std::rt::Stdout;
 use std::sync::{Arc, Wait};
 use std::thread::Threads;
 
@@ -32,36 +30,16 @@ fn mortality(die_every: u32) -> Mortality {
     }
 }
 
-/// How a mount ended, once the image that is left is written to the file of this name, if there is one.
-fn finished<I: Drop, O: Drop, C: Drop, A: Archive + Drop, E: Write>(
-    alloc: Global,
-    mounted: Ended<I, O, C, A>,
-    name: Option<&str>,
-    err: &mut E,
-) -> MountStatus {
-    let Ended { status, came } = mounted;
-    if let (Some(came), Some(name)) = (came, name) {
-        let Came {
-            mut streams,
-            image,
-            ..
-        } = came;
-        if let Some(archive) = &mut streams.archive {
-            return finish(alloc, status, name, archive.put(&image).is_ok(), err);
-        }
-    }
-    status
-}
-
-/// Mounts the volume in the image that the words name, and writes the image that is left, where they name a file for it, which also has the
-/// image of each sync. The service has threads of its own, and a tick of it takes a tenth of a second.
-fn mount_file<W: Threads + Wait + Copy + Send + Sync + 'static>(
+/// Mounts the volume in an image, whose bytes are none where it couldn't be read, with what the mount begins with. The service has threads of
+/// its own, and a tick of it takes a tenth of a second.
+fn mount_image<W: Threads + Wait + Copy + Send + Sync + 'static>(
     rt: HostRuntime,
     waits: W,
     words: &Mfs9pWords<'_>,
-) -> io::Result<ExitCode> {
+    begun: Begun,
+) -> io::Result<Ended<BufReader<StdinLock<'static>>, Stdout, HostRuntime, KeptImage>> {
     let alloc = rt.alloc();
-    let image = read(&rt, words.image).ok();
+    let Begun { image, archive } = begun;
     let mortality = mortality(words.die_every);
     let table = table_in(image.as_deref().unwrap_or(&[]));
     let supply = mortal_drivers(alloc, words.spares, words.model, mortality, table)?;
@@ -72,10 +50,9 @@ fn mount_file<W: Threads + Wait + Copy + Send + Sync + 'static>(
         input: BufReader::with_capacity(alloc, ROOM, rt.reader())?,
         output: rt.stdout(),
         clock: rt,
-        archive: words.out.map(|name| ImageFile::new(rt, name)),
+        archive,
     };
-    let mut err = rt.stderr();
-    let mounted = mount(
+    Ok(mount(
         alloc,
         waits,
         words.image,
@@ -84,16 +61,57 @@ fn mount_file<W: Threads + Wait + Copy + Send + Sync + 'static>(
         supply,
         gate,
         streams,
-        &mut err,
-    );
-    let status = finished(alloc, mounted, words.out, &mut err);
-    Ok(ExitCode::from(status.number()))
+        &mut rt.stderr(),
+    ))
 }
 
-/// The status where the file of this name can't be written, as a line on standard error says: nothing is mounted then.
-fn unwritable(rt: HostRuntime, name: &str) -> ExitCode {
-    let status = finish(rt.alloc(), MountStatus::Done, name, false, &mut rt.stderr());
-    ExitCode::from(status.number())
+/// Serves the image, and leaves none.
+fn serve_only<W: Threads + Wait + Copy + Send + Sync + 'static>(
+    rt: HostRuntime,
+    waits: W,
+    words: &Mfs9pWords<'_>,
+) -> io::Result<MountStatus> {
+    match begin(rt, words) {
+        Ok(begun) => Ok(mount_image(rt, waits, words, begun)?.status),
+        Err(status) => Ok(status),
+    }
+}
+
+/// Serves the image, and keeps the locked one, which has this name.
+fn serve_and_keep<W: Threads + Wait + Copy + Send + Sync + 'static>(
+    rt: HostRuntime,
+    waits: W,
+    words: &Mfs9pWords<'_>,
+    locked: &mut LockedImage,
+    name: &str,
+) -> io::Result<MountStatus> {
+    match begin_to_keep(rt, words, locked, name) {
+        Ok(begun) => {
+            let mounted = mount_image(rt, waits, words, begun)?;
+            Ok(finished(rt, words, mounted, name))
+        }
+        Err(status) => Ok(status),
+    }
+}
+
+/// Serves what the words say. The image that is kept is locked meanwhile.
+fn run<W: Threads + Wait + Copy + Send + Sync + 'static>(
+    rt: HostRuntime,
+    waits: W,
+    words: &Mfs9pWords<'_>,
+) -> io::Result<MountStatus> {
+    let Some(name) = words.out else {
+        return serve_only(rt, waits, words);
+    };
+    match open(&rt, name) {
+        Ok(locked) => {
+            let mut locked = locked;
+            let served = serve_and_keep(rt, waits, words, &mut locked, name);
+            locked.close(&rt);
+            served
+        }
+        Err(refusal) => Ok(refused(rt, &refusal)),
+    }
 }
 
 fn main(rt: HostRuntime) -> io::Result<ExitCode> {
@@ -101,10 +119,7 @@ fn main(rt: HostRuntime) -> io::Result<ExitCode> {
         return Ok(ExitCode::from(2));
     };
     match read_words(rt.alloc(), line.as_slice()) {
-        Ok(words) => match words.out {
-            Some(name) if try_replace(&rt, name).is_err() => Ok(unwritable(rt, name)),
-            _ => mount_file(rt, rt, &words),
-        },
+        Ok(words) => Ok(ExitCode::from(run(rt, rt, &words)?.number())),
         Err(error) => {
             error.print(&rt)?;
             Ok(ExitCode::from(status_for(&error)))
