@@ -1,7 +1,7 @@
 //! Why an image file isn't opened.
 
 ghost use Rattle.std.specs.Prelude.{◌≡◌};
-ghost use Rattle.image_file.specs.Refusal.{refusal_number};
+ghost use Rattle.image_file.specs.Numbers.{refusal_number};
 ghost use Rattle.image_file.specs.declared.refusal.OpenRefusal.TheVariants.{Io as IoRefusal};
 
 use std::{error, fmt, io};

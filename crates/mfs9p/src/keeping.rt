@@ -1,8 +1,5 @@
 //! The image that a mount keeps: what it begins with, and what is left of it.
 
-ghost use Rattle.std.specs.Prelude.{ℕ, List, Result};
-
-use errno::Errno;
 use host::image_files::FilesRefusal;
 use host::image_files::beside::{Left, leave_beside};
 use host::image_files::locked::LockedImage;
@@ -10,32 +7,16 @@ use host::image_files::reading::read_image;
 use host::image_files::storing::ImageFiles;
 use host::play_words::mfs9p::Mfs9pWords;
 use host::whole_file::read;
-use image_file::Kept;
 use ninep_service::archive::Archive;
+use ninep_service::file_archive::FileArchive;
 use ninep_service::mount::{Ended, MountStatus, finish};
 use ninep_service::program::Came;
 use output::tell;
-use std::io::{self, ErrorKind};
+use std::io;
 use volume_commands::verify::{Verified, verify};
 
 /// The image that is kept.
-#[derive(Drop)]
-pub(crate) struct KeptImage {
-    kept: Kept<ImageFiles>,
-}
-
-impl Archive for KeptImage {
-    ghost puts = { λ s image answer t. Unit {0} };
-
-    /// EIO where the file can't be written; ENOMEM where no memory was found for that.
-    fn put(&mut self, image: &[u8]) -> Result<(), Errno> {
-        match self.kept.put_image(image) {
-            Ok(()) => Ok(()),
-            Err(error) if error.kind() == ErrorKind::OutOfMemory => Err(Errno::ENOMEM),
-            Err(_) => Err(Errno::EIO),
-        }
-    }
-}
+pub(crate) type KeptImage = FileArchive<ImageFiles>;
 
 /// What a mount begins with.
 #[derive(Drop)]
@@ -86,7 +67,7 @@ pub(crate) fn begin_to_keep(
 /// The locked image, which is kept from now on.
 fn kept_image(rt: HostRuntime, locked: &LockedImage, name: &str) -> Result<KeptImage, MountStatus> {
     match locked.keep(&rt, name) {
-        Ok(kept) => Ok(KeptImage { kept }),
+        Ok(kept) => Ok(FileArchive::new(kept)),
         Err(refusal) => Err(refused(rt, &refusal)),
     }
 }
@@ -165,7 +146,7 @@ pub(crate) fn finished<I: Drop, O: Drop, C: Drop>(
         };
     }
     let written = match &mut streams.archive {
-        Some(archive) => archive.put(&image).is_ok(),
+        Some(archive) => archive.finish(&image).is_ok(),
         None => false,
     };
     finish(rt.alloc(), status, name, written, &mut err)
