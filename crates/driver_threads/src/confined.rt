@@ -1,24 +1,33 @@
 //! The media that drivers share, on which they write in the range of one volume alone.
 
-ghost use Rattle.std.specs.Prelude.{◌≡◌, ◌≤◌, ◌<◌, ◌+◌, ◌↔◌, IfOk, IsTrue};
+ghost use Rattle.std.specs.Prelude.{◌≡◌, ◌≤◌, ◌<◌, ◌+◌, ◌/◌, ◌↔◌, IfOk, IsTrue, OnErr, OnOk, length, replicate};
 ghost use Rattle.std.specs.List.{concat};
 ghost use Rattle.media.specs.Contents.{adopted};
 ghost use Rattle.true_replies.specs.Events.{opening_media};
 ghost use Rattle.bdev.specs.Promises.{StepKeeps};
+ghost use Rattle.bdev.specs.Stepping.{step_with};
+ghost use Rattle.changes.specs.Units.{AreTaken, with_marks};
 ghost use Rattle.driver_threads.specs.Confined.{KeepsOutside, IsImageOutside, IsInVolume, StaysInVolume, step_of};
+ghost use Rattle.driver_threads.specs.Marking.{AreChangesOutside, MarksChanges, marked_for, units_of, unmarked};
 
 use bdev::{BlockDriver, Stepped};
 use board::counting::parameters::ServiceParameters;
+use changes::{Changes, Marks};
 use media::Media;
 use message::BlockReply;
 use std::alloc::{AllocError, Global};
 use std::marker::{Model, PhantomData};
 
+/// How many sectors are in a unit of changes.
+const SECTORS: u32 = 8;
+
 /// Media on which drivers write in a volume's range alone: they have as many sectors as were handed in, and outside of the range each
-/// sector is as it was handed in. Contracts see them as the media.
+/// sector is as it was handed in. Beside them stands a mark for each unit of 4096 bytes: whether a sector of it may have changed since the
+/// changes were last taken. Contracts see the media and the marks.
 #[derive(Drop)]
 pub struct Confined<N: ServiceParameters> {
     media: Media,
+    marks: Marks,
     // The volume's first sector, and how many it has.
     first: u32,
     count: u32,
@@ -26,45 +35,78 @@ pub struct Confined<N: ServiceParameters> {
 }
 
 impl<N: ServiceParameters> Model for Confined<N> {
-    ghost use Rattle.std.specs.Prelude.{◌≡◌};
-    ghost use Rattle.media.specs.Contents.{MediaState};
+    ghost use Rattle.std.specs.Prelude.{◌≡◌, length};
     ghost use Rattle.driver_threads.specs.Confined.{KeepsOutside};
+    ghost use Rattle.driver_threads.specs.Marking.{ConfinedState, units_of};
 
-    ghost Value = { MediaState };
+    ghost Value = { ConfinedState };
 
-    ghost view = { λ c. c.media };
+    ghost view = { λ c. record { media = c.media; marks = c.marks } };
 
-    ghost invariant = { λ c. (c.first ≡ N.opening.first) × (c.count ≡ N.opening.count) × KeepsOutside N.opening c.media };
+    ghost invariant = { λ c. (c.first ≡ N.opening.first) × (c.count ≡ N.opening.count) × KeepsOutside N.opening c.media
+        × (length c.marks ≡ units_of c.media) };
+}
+
+/// How many units media have; the last one may have fewer than eight sectors.
+fn units_of(media: &Media) -> u32
+    ensures { result ≡ units_of media.now }
+{
+    (media.sectors() + (SECTORS - 1)) / SECTORS
+}
+
+/// Marks the unit of a sector, if there is one.
+fn mark_sector(marks: &mut Marks, sector: Option<u32>)
+    ensures { marks.new ≡ marked_for sector marks.old }
+{
+    if let Some(sector) = sector {
+        marks.mark(sector / SECTORS);
+    }
+}
+
+/// Puts the answer of a step that is done into the reply, without its bytes and its endpoint.
+fn put_completion(reply: &mut BlockReply, stepped: Stepped)
+    ensures step { step_of stepped reply.new ≡ step_with stepped reply.old.bytes }
+    ensures from { reply.new.from ≡ reply.old.from }
+{
+    if let Stepped::Done(completion) = stepped {
+        reply.id = completion.id;
+        reply.outcome = completion.outcome;
+    }
 }
 
 impl<N: ServiceParameters> Confined<N> {
-    /// The media as they were handed in, and the volume's first sector and how many it has.
+    /// The media as they were handed in, of which nothing is marked, and the volume's first sector and how many it has. Where no memory was
+    /// found for the marks, the media are let go.
     #[tactic(auto, using(crate::proofs::Confining::keeps_given))]
-    pub fn new(media: Media, range: (u32, u32)) -> Confined<N>
+    pub fn new(alloc: Global, media: Media, range: (u32, u32)) -> Result<Confined<N>, AllocError>
         requires range { (range.0 ≡ N.opening.first) × (range.1 ≡ N.opening.count) }
         requires media { media ≡ opening_media N.opening }
-        ensures { result ≡ media }
+        ensures { IfOk result (λ confined. confined ≡ unmarked media) }
     {
         let (first, count) = range;
-        Confined {
+        let marks = Marks::new(alloc, units_of(&media))?;
+        Ok(Confined {
             media,
+            marks,
             first,
             count,
             of: PhantomData,
-        }
+        })
     }
 
-    /// Makes a greater generation the one that may move sectors.
-    #[tactic(auto, using(crate::proofs::Confining::keeps_adopted))]
+    /// Makes a greater generation the one that may move sectors. The marks stay.
+    #[tactic(auto, using(crate::proofs::Confining::keeps_adopted, crate::proofs::Marking::adopted_marks))]
     pub fn adopt(&mut self, generation: u32)
-        ensures { self.new ≡ adopted self.old generation }
+        ensures is { self.new ≡ record self.old { media = adopted self.old.media generation } }
+        ensures changed { MarksChanges self.old self.new }
     {
         self.media.adopt(generation);
     }
 
     /// Takes a driver's step, under its generation, and puts the answer of one that is done into the reply, without its endpoint. A driver
-    /// that names a sector outside of the range as the one that its step may write isn't stepped: it counts as failed.
-    #[tactic(auto, using(crate::proofs::Confining::keeps_stepped))]
+    /// that names a sector outside of the range as the one that its step may write isn't stepped: it counts as failed. The unit of a sector
+    /// that the step may write is marked, whether the step writes it or not.
+    #[tactic(auto, using(crate::proofs::Confining::keeps_stepped, crate::proofs::Marking::long_after))]
     pub fn step<D: BlockDriver>(
         &mut self,
         driver: &mut D,
@@ -72,29 +114,50 @@ impl<N: ServiceParameters> Confined<N> {
         reply: &mut BlockReply,
     ) -> Stepped
         ensures inside { StaysInVolume N.opening (D.state driver.old)
-            → StepKeeps (D.state driver.old) self.old generation (step_of result reply.new) (D.state driver.new) self.new }
+            → StepKeeps (D.state driver.old) self.old.media generation (step_of result reply.new) (D.state driver.new) self.new.media }
         ensures outside { ¬ (StaysInVolume N.opening (D.state driver.old))
             → (result ≡ Stepped.Failed) × (D.state driver.new ≡ D.state driver.old) × (self.new ≡ self.old) }
+        ensures marks { StaysInVolume N.opening (D.state driver.old)
+            → self.new.marks ≡ marked_for (D.state driver.old).in_work self.old.marks }
+        ensures changed { MarksChanges self.old self.new }
         ensures from { reply.new.from ≡ reply.old.from }
     {
         if !self.admits(driver) {
             return Stepped::Failed;
         }
-        match driver.step_into(&mut self.media, generation, &mut reply.bytes) {
-            Stepped::Working => Stepped::Working,
-            Stepped::Idle => Stepped::Idle,
-            Stepped::Done(completion) => {
-                reply.id = completion.id;
-                reply.outcome = completion.outcome;
-                Stepped::Done(completion)
-            }
-            Stepped::Failed => Stepped::Failed,
-        }
+        mark_sector(&mut self.marks, driver.in_work());
+        let stepped = driver.step_into(&mut self.media, generation, &mut reply.bytes);
+        put_completion(reply, stepped);
+        stepped
+    }
+
+    /// The marked units, in ascending order, with their bytes as they stand; then none is marked. Refused where no memory was found for these
+    /// units: nothing has changed then.
+    #[tactic(auto, using(crate::proofs::Marking::changes_outside))]
+    pub fn take_changes(&mut self, alloc: Global) -> Result<Changes, AllocError>
+        ensures taken { IfOk result (AreTaken self.old.marks (concat self.old.media.sectors)) }
+        ensures cleared { OnOk result (self.new ≡ unmarked self.old.media) }
+        ensures refused { OnErr result (self.new ≡ self.old) }
+        ensures outside { IfOk result (AreChangesOutside N.opening) }
+    {
+        let _ = self.media.sectors();
+        let changes = self.marks.changes(alloc, self.media.as_sectors())?;
+        self.marks.clear();
+        Ok(changes)
+    }
+
+    /// Marks the units of changes that were taken and not kept, so that they are taken again with what then stands in them.
+    #[tactic(auto, using(crate::proofs::Marking::long_again))]
+    pub fn mark_again(&mut self, changes: &Changes)
+        ensures is { self.new ≡ record self.old { marks = with_marks self.old.marks changes.now.numbers.items } }
+        ensures changed { MarksChanges self.old self.new }
+    {
+        self.marks.mark_all(&changes.numbers);
     }
 
     /// The image of the media: the bytes of all sectors, in order, as they stand. Refused where no memory was found for it.
     pub fn image(&self, alloc: Global) -> Result<Vec<u8>, AllocError>
-        ensures bytes { IfOk result (λ image. image.items ≡ concat self.now.sectors) }
+        ensures bytes { IfOk result (λ image. image.items ≡ concat self.now.media.sectors) }
         ensures outside { IfOk result (λ image. IsImageOutside N.opening image.items) }
     {
         let _ = self.media.sectors();
@@ -106,7 +169,7 @@ impl<N: ServiceParameters> Confined<N> {
 
     /// The media, with no drivers on them.
     pub fn into_media(self) -> Media
-        ensures same { result ≡ self }
+        ensures same { result ≡ self.media }
         ensures kept { KeepsOutside N.opening result }
     {
         let Confined { media, .. } = self;

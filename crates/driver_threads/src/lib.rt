@@ -3,6 +3,7 @@
 
 pub mod confined;
 mod driver_task;
+pub mod laws;
 pub mod running;
 mod shared;
 mod supervisor;

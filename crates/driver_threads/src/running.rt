@@ -5,6 +5,7 @@ ghost use Rattle.std.specs.Arc.{arc_value};
 ghost use Rattle.records.specs.Opening.{Opening};
 ghost use Rattle.true_replies.specs.Events.{opening_media};
 ghost use Rattle.driver_threads.specs.Confined.{IsImageOutside, KeepsOutside};
+ghost use Rattle.driver_threads.specs.Marking.{AreChangesOutside};
 
 use crate::confined::Confined;
 use crate::shared::Shared;
@@ -12,6 +13,7 @@ use crate::supervisor::{Lines, Supervisor, start_supervisor};
 use bdev::BlockDriver;
 use board::counting::parameters::ServiceParameters;
 use board::{Board, Seat};
+use changes::Changes;
 use channel_link::channel::bounded;
 use channel_link::link::ChannelLink;
 use channel_link::messages::Report;
@@ -126,6 +128,23 @@ impl<N: ServiceParameters> Running<N> {
     {
         let media = self.media.lock(rt);
         (&*media).image(alloc)
+    }
+
+    /// Takes the changes of the media since they were last taken, since the start at first: the units of 4096 bytes that drivers may have
+    /// written since, in ascending order, with their bytes as they stand while the threads run. They are units of an image as `image` gives
+    /// one. It waits for the step of a driver, and drivers wait for it, while these units alone are copied. Refused where no memory was
+    /// found for them: the next call takes them.
+    pub fn changes<R: Wait>(&self, rt: &R, alloc: Global) -> Result<Changes, AllocError>
+        ensures { IfOk result (AreChangesOutside N.opening) }
+    {
+        let mut media = self.media.lock(rt);
+        (&mut *media).take_changes(alloc)
+    }
+
+    /// Says that changes which were taken were not kept: the next call of `changes` takes their units again.
+    pub fn mark_again<R: Wait>(&self, rt: &R, changes: &Changes) {
+        let mut media = self.media.lock(rt);
+        (&mut *media).mark_again(changes);
     }
 
     /// Ends all drivers, joins all threads, and gives the media back: as many sectors as were handed in, and outside of the volume's range

@@ -36,7 +36,7 @@ impl<N: ServiceParameters, G: Gate> Shared<N, G> {
         ensures { IfOk result (λ s. arc_value s.board ≡ arc_value board.now) }
     {
         Ok(Shared {
-            media: Arc::new(alloc, Mutex::new(Confined::new(media, range)))?,
+            media: Arc::new(alloc, Mutex::new(Confined::new(alloc, media, range)?))?,
             board: Arc::try_clone(board)?,
             gate,
             ending: Arc::new(alloc, Bell::new())?,

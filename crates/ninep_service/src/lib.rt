@@ -2,6 +2,7 @@
 #![tactic(auto)]
 
 pub mod archive;
+pub mod file_archive;
 pub mod mortal;
 pub mod mount;
 pub mod program;

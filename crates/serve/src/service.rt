@@ -8,6 +8,7 @@ ghost use Rattle.records.specs.Legal.{IsAtFirst};
 ghost use Rattle.shared_server.specs.Stopping.{Went};
 ghost use Rattle.records.specs.Session.{SessionState};
 ghost use Rattle.driver_threads.specs.Confined.{IsImageOutside};
+ghost use Rattle.driver_threads.specs.Marking.{AreChangesOutside};
 ghost use Rattle.serve.specs.Closing.{HasClosed};
 ghost use Rattle.serve.specs.Stopping.{IsLastImage, WhyNotSynced};
 ghost use Rattle.shared_server.specs.Held.{HoldsIfTrue, IsAdmitted, IsGood, IsGuaranteed, IsHeld, IsNotAdmitted};
@@ -18,6 +19,7 @@ use crate::stopping::{StopRefusal, image_of};
 use board::Board;
 use board::counting::parameters::ServiceParameters;
 use board::counting::recorder::Recorder;
+use changes::Changes;
 use driver_threads::running::Running;
 use file_server::FileServer;
 use gate::Gate;
@@ -194,6 +196,23 @@ impl<N: ServiceParameters, R: Threads + Wait + Copy, L: Recorder<N>, S: FileServ
         ensures { IfOk result (λ image. IsImageOutside N.opening image.items) }
     {
         self.running.image(&self.rt, alloc)
+    }
+
+    /// Takes the changes of the media since they were last taken, since the service was made at first: the units of 4096 bytes that drivers
+    /// may have written since, in ascending order, with their bytes as they stand. They are units of an image as `image` gives one. Behind a
+    /// sync that was done, and before a further call is made, they make the image of the changes taken before the volume as it was synced.
+    /// It waits for the step of a driver, and for no call. Refused where no memory was found for these units: the next call takes them. The
+    /// service goes on in each case.
+    pub fn changes(&self, alloc: Global) -> Result<Changes, AllocError>
+        ensures { IfOk result (AreChangesOutside N.opening) }
+    {
+        self.running.changes(&self.rt, alloc)
+    }
+
+    /// Says that changes which were taken were not kept, as where an image file could not be written: the next call of `changes` takes their
+    /// units again. It waits for the step of a driver, and for no call.
+    pub fn mark_again(&self, changes: &Changes) {
+        self.running.mark_again(&self.rt, changes);
     }
 
     /// Whether a session is left.

@@ -16,3 +16,5 @@ mod read_back;
 mod seats;
 #[cfg(test)]
 mod sessions;
+#[cfg(test)]
+mod taken;

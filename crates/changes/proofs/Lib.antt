@@ -1,0 +1,3 @@
+pub mod Marking
+pub mod Taking
+pub mod UnitBytes

@@ -1,0 +1,6 @@
+use Rattle.driver_threads.proofs.Marking.{marked_again}
+use Rattle.driver_threads.proofs.confined.Confined.mark_again.Goals as goal
+
+pub returns-clause-changed : goal.returns-clause-changed
+returns-clause-changed g c =
+    marked_again c.args.self.now c.self.inside.media c.self.inside.marks c.mark_all.new.self c.deref.result.now c.self.view_is c.mark_all.ensures
