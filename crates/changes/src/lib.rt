@@ -116,7 +116,7 @@ fn put_front(unit: &mut [u8; UNIT], bytes: &[u8])
 }
 
 /// A unit of an image: zeros where the image has ended.
-fn unit_at(image: &[u8], number: u32) -> [u8; UNIT]
+pub fn unit_at(image: &[u8], number: u32) -> [u8; UNIT]
     ensures { result ≡ unit_of image.now number }
 {
     let first = (number as usize * UNIT).min(image.len());

@@ -1,63 +1,34 @@
 //! Plays scripts of client calls against a file server over the image of a volume.
 #![tactic(auto)]
 
-use call_text::scripts::script_files::File;
+mod files;
+
+use crate::files::{files, read_all, write_left};
 use gate::paced_gate::Paced;
 use host::command_line::{line_of, status_for};
+use host::image_files::FilesRefusal;
+use host::image_files::locked::{LockedImage, open};
+use host::image_files::reading::read_image;
 use host::play_words::mfs::{MfsWords, read as read_words};
-use host::whole_file::{read, replace, try_replace};
+use host::whole_file::{read, try_replace};
 use modeldisk::supply::{drivers_for, setup_for, table_in};
+use output::tell;
 use release::start_on;
-use std::alloc::{AllocError, Global};
 use std::io;
 use std::process::ExitCode;
-use std::rt::Files;
 use std::sync::{Arc, Wait};
 use std::thread::Threads;
-use tools::play::{ImageFile, PlayStatus, finish, play};
+use tools::play::{Ended, ImageFile, PlayStatus, play};
 
-/// A file of this name, with its bytes if it could be read.
-fn file<'n, 'b>(name: &'n str, bytes: &'b Option<Vec<u8>>) -> File<'n, 'b> {
-    File {
-        name,
-        bytes: bytes.as_deref(),
-    }
-}
-
-/// The bytes of each of these files, if it can be read.
-fn read_all<R: Files + AllocGlobal>(
-    rt: &R,
-    names: &[&str],
-) -> Result<Vec<Option<Vec<u8>>>, AllocError> {
-    let mut texts = Vec::new(rt.alloc());
-    for name in names {
-        texts.push(read(rt, name).ok())?;
-    }
-    Ok(texts)
-}
-
-/// The files of these names, with their bytes.
-fn files<'n, 'b>(
-    alloc: Global,
-    names: &[&'n str],
-    texts: &'b [Option<Vec<u8>>],
-) -> Result<Vec<File<'n, 'b>>, AllocError> {
-    let mut files = Vec::new(alloc);
-    for (name, text) in names.iter().zip(texts) {
-        files.push(file(name, text))?;
-    }
-    Ok(files)
-}
-
-/// Plays the scripts that the words name on the image that they name, and writes the image that is left, where they name a file for it. The
-/// service has threads of its own, and a tick of it takes a tenth of a second.
+/// Plays the scripts that the words name on an image, whose bytes are none where it couldn't be read. The service has threads of its own,
+/// and a tick of it takes a tenth of a second.
 fn play_files<W: Threads + Wait + Copy + Send + Sync + 'static>(
     rt: HostRuntime,
     waits: W,
     words: &MfsWords<'_>,
-) -> io::Result<ExitCode> {
+    image: Option<Vec<u8>>,
+) -> io::Result<Ended> {
     let alloc = rt.alloc();
-    let image = read(&rt, words.image).ok();
     let image = start_on(alloc, image, words.minor, &mut rt.stderr());
     let texts = read_all(&rt, &words.scripts)?;
     let scripts = files(alloc, &words.scripts, &texts)?;
@@ -71,7 +42,7 @@ fn play_files<W: Threads + Wait + Copy + Send + Sync + 'static>(
         bytes: image,
     };
     let (mut out, mut err) = (io::writer(&rt), rt.stderr());
-    let played = play(
+    Ok(play(
         alloc,
         waits,
         image,
@@ -81,21 +52,79 @@ fn play_files<W: Threads + Wait + Copy + Send + Sync + 'static>(
         gate,
         &mut out,
         &mut err,
-    );
-    let status = match (played.image, words.out) {
-        (Some(image), Some(name)) => {
-            let written = replace(&rt, name, &image).is_ok();
-            finish(alloc, played.status, name, written, &mut err)
-        }
-        _ => played.status,
-    };
-    Ok(ExitCode::from(status.number()))
+    ))
 }
 
-/// The status where the file of this name can't be written, as a line on standard error says: nothing is played then.
-fn unwritable(rt: HostRuntime, name: &str) -> ExitCode {
-    let status = finish(rt.alloc(), PlayStatus::Done, name, false, &mut rt.stderr());
-    ExitCode::from(status.number())
+/// Plays the scripts, and leaves no image.
+fn play_only<W: Threads + Wait + Copy + Send + Sync + 'static>(
+    rt: HostRuntime,
+    waits: W,
+    words: &MfsWords<'_>,
+) -> io::Result<PlayStatus> {
+    match read_image(&rt, words.image) {
+        Ok(image) => Ok(play_files(rt, waits, words, image)?.status),
+        Err(refusal) => Ok(refused(rt, &refusal)),
+    }
+}
+
+/// Plays the scripts, and puts the image that is left in the place of the locked one, which has this name.
+fn play_into<W: Threads + Wait + Copy + Send + Sync + 'static>(
+    rt: HostRuntime,
+    waits: W,
+    words: &MfsWords<'_>,
+    locked: &mut LockedImage,
+    name: &str,
+) -> io::Result<PlayStatus> {
+    match image_beside(rt, words, locked, name) {
+        Ok(image) => {
+            let played = play_files(rt, waits, words, image)?;
+            Ok(write_left(rt, words, locked, name, played))
+        }
+        Err(refusal) => Ok(refused(rt, &refusal)),
+    }
+}
+
+/// The image that the words name, where another one, or the same, is locked and is to be replaced; that one's log is settled.
+fn image_beside<'n>(
+    rt: HostRuntime,
+    words: &MfsWords<'n>,
+    locked: &LockedImage,
+    name: &'n str,
+) -> Result<Option<Vec<u8>>, FilesRefusal<'n>> {
+    locked.settle(&rt, name)?;
+    if try_replace(&rt, name).is_err() {
+        return Err(FilesRefusal::CannotWrite(name));
+    }
+    if locked.is_image(&rt, words.image) {
+        Ok(read(&rt, words.image).ok())
+    } else {
+        read_image(&rt, words.image)
+    }
+}
+
+/// How a play ended that was refused, as a line on standard error says.
+fn refused(rt: HostRuntime, refusal: &FilesRefusal<'_>) -> PlayStatus {
+    PlayStatus::Refused(tell(rt.alloc(), &mut rt.stderr(), refusal))
+}
+
+/// Plays what the words say. The image that is to be written is locked meanwhile.
+fn run<W: Threads + Wait + Copy + Send + Sync + 'static>(
+    rt: HostRuntime,
+    waits: W,
+    words: &MfsWords<'_>,
+) -> io::Result<PlayStatus> {
+    let Some(name) = words.out else {
+        return play_only(rt, waits, words);
+    };
+    match open(&rt, name) {
+        Ok(locked) => {
+            let mut locked = locked;
+            let played = play_into(rt, waits, words, &mut locked, name);
+            locked.close(&rt);
+            played
+        }
+        Err(refusal) => Ok(refused(rt, &refusal)),
+    }
 }
 
 fn main(rt: HostRuntime) -> io::Result<ExitCode> {
@@ -103,10 +132,7 @@ fn main(rt: HostRuntime) -> io::Result<ExitCode> {
         return Ok(ExitCode::from(2));
     };
     match read_words(rt.alloc(), line.as_slice()) {
-        Ok(words) => match words.out {
-            Some(name) if try_replace(&rt, name).is_err() => Ok(unwritable(rt, name)),
-            _ => play_files(rt, rt, &words),
-        },
+        Ok(words) => Ok(ExitCode::from(run(rt, rt, &words)?.number())),
         Err(error) => {
             error.print(&rt)?;
             Ok(ExitCode::from(status_for(&error)))

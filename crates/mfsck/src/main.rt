@@ -2,25 +2,28 @@
 #![tactic(auto)]
 
 use host::command_line::{line_of, status_for};
+use host::image_files::reading::read_image;
 use host::volume_words::mfsck::{MfsckWords, read as read_words};
-use host::whole_file::read;
+use output::tell;
 use std::io;
 use std::process::ExitCode;
-use volume_commands::verify::verify;
+use volume_commands::verify::{Verified, verify};
 
 /// Checks the volume in the file that the words name.
 fn check_file(rt: HostRuntime, words: &MfsckWords<'_>) -> io::Result<ExitCode> {
     let alloc = rt.alloc();
-    let image = read(&rt, words.image).ok();
     let (mut out, mut err) = (io::writer(&rt), rt.stderr());
-    let verified = verify(
-        alloc,
-        words.image,
-        image.as_deref(),
-        words.minor,
-        &mut out,
-        &mut err,
-    );
+    let verified = match read_image(&rt, words.image) {
+        Ok(image) => verify(
+            alloc,
+            words.image,
+            image.as_deref(),
+            words.minor,
+            &mut out,
+            &mut err,
+        ),
+        Err(refusal) => Verified::Refused(tell(alloc, &mut err, &refusal)),
+    };
     Ok(ExitCode::from(verified.number()))
 }
 

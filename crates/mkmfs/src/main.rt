@@ -2,11 +2,12 @@
 #![tactic(auto)]
 
 use host::command_line::{line_of, status_for};
+use host::image_files::locked::replace_image;
 use host::volume_words::mkmfs::{MkmfsWords, read};
-use host::whole_file::replace_filled;
+use output::tell;
 use std::io;
 use std::process::ExitCode;
-use volume_commands::make::{Wanted, finish, make};
+use volume_commands::make::{CommandStatus, Wanted, make};
 
 /// Makes the volume that the words say, and writes it to its file.
 fn make_file(rt: HostRuntime, words: &MkmfsWords<'_>) -> io::Result<ExitCode> {
@@ -20,11 +21,10 @@ fn make_file(rt: HostRuntime, words: &MkmfsWords<'_>) -> io::Result<ExitCode> {
     };
     let made = make(alloc, &wanted, &mut out, &mut err);
     let status = match made.image {
-        Some(image) => {
-            let length = image.length();
-            let written = replace_filled(&rt, words.image, &image.front, length).is_ok();
-            finish(alloc, words.image, written, &mut err)
-        }
+        Some(image) => match replace_image(&rt, words.image, &image.front, image.length()) {
+            Ok(()) => CommandStatus::Done,
+            Err(refusal) => CommandStatus::Refused(tell(alloc, &mut err, &refusal)),
+        },
         None => made.status,
     };
     Ok(ExitCode::from(status.number()))

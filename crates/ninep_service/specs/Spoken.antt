@@ -1,4 +1,4 @@
--- What the sessions of a service answer to a connection, the images that are put behind syncs, and so what is spoken on its streams.
+-- What the sessions of a service answer to a connection, the changes that are put behind syncs, and so what is spoken on its streams.
 use Rattle.std.specs.Prelude.{◌≡◌, ◌⊎◌, ℕ, List, Option, Some, None, Result, Ok, Err}
 use Rattle.layout.specs.declared.Geometry.{Geometry}
 use Rattle.errno.specs.declared.Errno.{Errno}
@@ -12,7 +12,9 @@ use Rattle.records.specs.Opening.{Opening, contents_at}
 use Rattle.records.specs.Session.{SessionState, SessionCallKeeps, caller_of}
 use Rattle.file_server.specs.Over.{outcome_of}
 use Rattle.shared_server.specs.Held.{HoldsIfTrue}
-use Rattle.driver_threads.specs.Confined.{IsImageOutside}
+use Rattle.changes.specs.declared.taken.Changes.{Changes}
+use Rattle.changes.specs.Units.{puts_of}
+use Rattle.driver_threads.specs.Marking.{AreChangesOutside}
 use Rattle.ninep_fids.specs.Knowledge.{Known}
 use Rattle.ninep_stream.specs.Answered.{IsAnsweredAll}
 use Rattle.ninep_stream.specs.Exchanges.{answers, nobody}
@@ -26,20 +28,20 @@ pub record IsAnsweredBy (g : Geometry) (v : Opening) (now : ℕ) (call : Call) (
   pub keeps : SessionCallKeeps g (contents_at v) before (caller_of before) now call (outcome_of outcome) after
   pub holds : HoldsIfTrue g v after.knows.seen
 
--- how an image may be put into an archive: the state before, the image, what is answered, the state after
+-- how changes may be put into an archive: the state before, units' numbers with their bytes, what is answered, the state after
 abbrev pub Puts : Type 0 → Type 1
-Puts A = A → List ℕ → Result (Unit {0}) Errno → A → Type 0
+Puts A = A → List (ℕ × List ℕ) → Result (Unit {0}) Errno → A → Type 0
 
--- An image of the media was put into an archive, and this was answered: an image of as many sectors as were handed in, and outside of the
--- volume each as it was handed in.
+-- Changes of the media were put into an archive, and this was answered: changes of an image of as many sectors as were handed in, and
+-- outside of the volume each as it was handed in.
 pub record IsPut {A : Type 0} (puts : Puts A) (v : Opening) (s : A) (answer : Result (Unit {0}) Errno) (new : Option A) : Type 0 where
-  pub image : List ℕ
-  pub outside : IsImageOutside v image
+  pub changes : Changes
+  pub outside : AreChangesOutside v changes
   pub after : A
   pub is : new ≡ Some after
-  pub put : puts s image answer after
+  pub put : puts s (puts_of changes) answer after
 
--- what came of the image behind a sync: nothing is put where there is no archive, nor where no memory is found for the image
+-- what came of the changes behind a sync: nothing is put where there is no archive, nor where no memory is found for the changes
 abbrev pub IsArchived : {A : Type 0} → Puts A → Opening → Option A → Result (Unit {0}) Errno → Option A → Type 0
 IsArchived puts v None answer new = (answer ≡ Ok tt) × (new ≡ None)
 IsArchived puts v (Some s) answer new = IsPut puts v s answer new ⊎ ((answer ≡ Err ENOMEM) × (new ≡ Some s))
@@ -53,7 +55,7 @@ outcome_then (Err e) = Reply (Refused e)
 abbrev pub IsSynced : Call → Outcome → Type 0
 IsSynced call outcome = (call ≡ Sync) × (outcome ≡ Reply Done)
 
--- a session made a sync, which was done, and behind it the image was put where there is an archive: what came of that is answered
+-- a session made a sync, which was done, and behind it changes were put where there is an archive: what came of that is answered
 pub record IsAnsweredSync {A : Type 0} (puts : Puts A) (g : Geometry) (v : Opening) (old : Option A) (now : ℕ) (call : Call)
     (outcome : Outcome) (new : Option A) : Type 0 where
   pub sync : call ≡ Sync
@@ -62,7 +64,7 @@ pub record IsAnsweredSync {A : Type 0} (puts : Puts A) (g : Geometry) (v : Openi
   pub archived : IsArchived puts v old put new
   pub answer : outcome ≡ outcome_then put
 
--- Answered so, and it was no sync that was done; or such a sync with its image; or EINVAL: that is also what comes where there is no
+-- Answered so, and it was no sync that was done; or such a sync with its changes; or EINVAL: that is also what comes where there is no
 -- session of the number. Nothing is put but behind such a sync.
 abbrev pub MayAnswer : {A : Type 0} → Puts A → Geometry → Opening → Option A → ℕ → Call → Outcome → Option A → Type 0
 MayAnswer puts g v old now call outcome new =
@@ -70,7 +72,7 @@ MayAnswer puts g v old now call outcome new =
     ⊎ IsAnsweredSync puts g v old now call outcome new
     ⊎ ((outcome ≡ Reply (Refused EINVAL)) × (new ≡ old))
 
--- A sync that is answered ok where there is an archive: a session made it, and was answered ok, and behind that the archive took an image.
+-- A sync that is answered ok where there is an archive: a session made it, and was answered ok, and behind that the archive took changes.
 abbrev pub OkMeansPut : {A : Type 0} → Puts A → Type 0
 OkMeansPut {A} puts = (g : Geometry) (v : Opening) (s : A) (now : ℕ) (new : Option A)
     → MayAnswer puts g v (Some s) now Sync (Reply Done) new → IsAnsweredBy g v now Sync (Reply Done) × IsPut puts v s (Ok tt) new

@@ -2,9 +2,11 @@
 #![tactic(auto)]
 
 pub mod archive;
+pub mod file_archive;
 pub mod mortal;
 pub mod mount;
 pub mod program;
 pub mod sessions;
 pub mod starting;
+pub mod teller;
 pub mod telling_gate;

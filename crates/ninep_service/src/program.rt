@@ -19,7 +19,7 @@ use std::sync::Wait;
 use std::thread::Threads;
 use std::time::Clock;
 
-/// The streams of messages and answers, the clock that says when calls are made, and where images are put.
+/// The streams of messages and answers, the clock that says when calls are made, and where changes are put.
 #[derive(Drop)]
 pub struct Streams<I, O, C, A> {
     /// Where messages come from.
@@ -28,7 +28,7 @@ pub struct Streams<I, O, C, A> {
     pub output: O,
     /// What the time of a call is.
     pub clock: C,
-    /// Where the image is put behind each sync that was done, if anywhere.
+    /// Where the changes are put behind each sync that was done, if anywhere.
     pub archive: Option<A>,
 }
 

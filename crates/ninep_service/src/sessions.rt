@@ -1,4 +1,4 @@
-//! The sessions of a service that a connection calls by, one for each user who is attached, and the image behind each sync.
+//! The sessions of a service that a connection calls by, one for each user who is attached, and the changes behind each sync.
 
 ghost use Rattle.std.specs.Prelude.{◌≡◌, ◌↔◌, IsTrue};
 ghost use Rattle.ninep_service.specs.Spoken.{IsArchived, IsSynced};
@@ -17,7 +17,7 @@ use std::sync::Wait;
 use std::thread::Threads;
 use tree::{Call, Outcome, Reply};
 
-/// Sessions of a service, which were made one after the other, and where the image is put behind a sync, if anywhere.
+/// Sessions of a service, which were made one after the other, and where the changes are put behind a sync, if anywhere.
 #[derive(Drop)]
 pub struct ServiceSessions<
     's,
@@ -41,7 +41,7 @@ impl<
     S: FileServer<L>,
     A: Archive + Drop,
 > ServiceSessions<'s, N, R, L, S, A> {
-    /// None of this service. Its images go to this archive.
+    /// None of this service. Its changes go to this archive.
     pub fn new(
         alloc: Global,
         service: &'s Service<N, R, L, S>,
@@ -66,17 +66,22 @@ impl<
         archive
     }
 
-    /// Puts the image of the media into the archive, where there is one. ENOMEM where no memory was found for it.
+    /// Puts the changes of the media since the last put into the archive, where there is one. Where that is refused, the next changes have
+    /// them again. ENOMEM where no memory was found for them.
     fn archived(&mut self) -> Result<(), Errno>
         ensures { IsArchived A.puts N.opening self.old.archive result self.new.archive }
     {
         let Some(archive) = &mut self.archive else {
             return Ok(());
         };
-        match self.service.image(self.alloc) {
-            Ok(image) => archive.put(&image),
-            Err(_) => Err(Errno::ENOMEM),
+        let Ok(changes) = self.service.changes(self.alloc) else {
+            return Err(Errno::ENOMEM);
+        };
+        let answer = archive.put(&changes);
+        if answer.is_err() {
+            self.service.mark_again(&changes);
         }
+        answer
     }
 }
 
@@ -111,8 +116,8 @@ impl<
         }
     }
 
-    /// A call of the session of this number; EINVAL where there is none. Behind a sync that was done the image is put into the archive, and
-    /// where that is refused, so is the sync.
+    /// A call of the session of this number; EINVAL where there is none. Behind a sync that was done the changes are put into the archive,
+    /// and where that is refused, so is the sync.
     fn call(&mut self, session: u8, now: u32, call: &Call<'_>) -> Outcome {
         let Some(session) = session_of(&mut self.sessions, session) else {
             return Outcome::Reply(Reply::Refused(Errno::EINVAL));

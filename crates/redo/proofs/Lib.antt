@@ -1,13 +1,13 @@
-mod Units
-mod Spelled
-mod Left
-mod Moments
-mod CommitLaws
-mod RecoverLaws
-mod RunLaws
-mod Counting
-mod Calls
-mod CallLaws
-mod Writing
-mod Reading
-mod Asking
+pub mod Units
+pub mod Spelled
+pub mod Left
+pub mod Moments
+pub mod CommitLaws
+pub mod RecoverLaws
+pub mod RunLaws
+pub mod Counting
+pub mod Calls
+pub mod CallLaws
+pub mod Writing
+pub mod Reading
+pub mod Asking

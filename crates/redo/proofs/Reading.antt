@@ -1,10 +1,10 @@
 -- What is read of the log while the image alone is written.
-use Rattle.std.proofs.Common.{◌≡◌, ℕ, ◌+◌, ◌-◌, ◌<◌, ◌≤◌, zero, suc, List, [], ◌∷◌, ◌++◌, length, map, drop, get_or, sym, ◌∙◌, ap, subst, arith, Option, Some, None, add-one}
+use Rattle.std.proofs.Common.{◌≡◌, ℕ, ◌+◌, ◌-◌, ◌<◌, ◌≤◌, zero, suc, List, [], ◌∷◌, ◌++◌, length, map, drop, get_or, sym, ◌∙◌, ap, subst, arith, append_assoc, Option, Some, None, add-one}
 use Rattle.std.specs.List.{zip, flat_map}
 use Rattle.std.proofs.lemmas.Grind.{flat_map-append}
 use Rattle.std.proofs.lemmas.List.{append-nil}
 use Rattle.stable.specs.declared.Which.TheVariants.{Log, Image}
-use Rattle.stable.specs.Disk.{Contents, Write, Sync, Event, Did, Disk, run}
+use Rattle.stable.specs.Disk.{Contents, Changes, Write, Sync, Event, Did, Disk, run}
 use Rattle.stable.specs.Runs.{Known, now, Happens, Knows, Reads, ShowsLog}
 use Rattle.redo.specs.Record.{numbers_in, window}
 use Rattle.redo.specs.Runs.{singly}
@@ -57,3 +57,25 @@ redo_next log numbers first count i lt le =
     ap (λ (k : ℕ). map (run_write Image) (singly (zip (drop i numbers) (window log (first + i) k)))) one
     ∙ ap (λ (l : List ℕ). map (run_write Image) (singly (zip l (window log (first + i) (suc (count - (i + 1))))))) (one_less numbers i lt)
     ∙ ap (λ (n : ℕ). Write Image (get_or numbers i 0) (log (first + i) ∷ []) ∷ map (run_write Image) (singly (zip (drop (i + 1) numbers) (window log n (count - (i + 1)))))) (let e : first + i + 1 ≡ first + (i + 1) = omega arith in e)
+
+-- the next of the changes that a log says, as they are read
+pub next_change : (log : Contents) (numbers : List ℕ) (first count i : ℕ) → i < length numbers → length numbers ≤ count
+    → zip (drop i numbers) (window log (first + i) (count - i)) ≡ (get_or numbers i 0, log (first + i)) ∷ zip (drop (i + 1) numbers) (window log (first + (i + 1)) (count - (i + 1)))
+next_change log numbers first count i lt le =
+    let one : count - i ≡ suc (count - (i + 1)) = omega arith in
+    ap (λ (k : ℕ). zip (drop i numbers) (window log (first + i) k)) one
+    ∙ ap (λ (l : List ℕ). zip l (window log (first + i) (suc (count - (i + 1))))) (one_less numbers i lt)
+    ∙ ap (λ (n : ℕ). (get_or numbers i 0, log (first + i)) ∷ zip (drop (i + 1) numbers) (window log n (count - (i + 1)))) (let e : first + i + 1 ≡ first + (i + 1) = omega arith in e)
+
+-- one of them more was read
+pub changes_more : (log : Contents) (numbers bytes : List ℕ) (old new whole : Changes) (first count i : ℕ) → i < length numbers → length numbers ≤ count
+    → bytes ≡ log (first + i) → new ≡ old ++ (get_or numbers i 0, bytes) ∷ []
+    → old ++ zip (drop i numbers) (window log (first + i) (count - i)) ≡ whole
+    → new ++ zip (drop (i + 1) numbers) (window log (first + (i + 1)) (count - (i + 1))) ≡ whole
+changes_more log numbers bytes old new whole first count i lt le is more was =
+    let rest : Changes = zip (drop (i + 1) numbers) (window log (first + (i + 1)) (count - (i + 1))) in
+    ap (λ (l : Changes). l ++ rest) more
+    ∙ append_assoc old ((get_or numbers i 0, bytes) ∷ []) rest
+    ∙ ap (λ (v : List ℕ). old ++ (get_or numbers i 0, v) ∷ rest) is
+    ∙ ap (λ (l : Changes). old ++ l) (sym (next_change log numbers first count i lt le))
+    ∙ was

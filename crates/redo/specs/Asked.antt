@@ -6,6 +6,8 @@ use Rattle.redo.specs.declared.recovering.Asked.{Asked}
 use Rattle.redo.specs.declared.recovering.Asked.TheVariants.{NothingMore, Changes, Another}
 use Rattle.redo.specs.declared.recovering.Recovered.{Recovered}
 use Rattle.redo.specs.declared.recovering.Recovered.TheVariants as recovered
+use Rattle.redo.specs.declared.log_reading.Logged.{Logged}
+use Rattle.redo.specs.declared.log_reading.Logged.TheVariants as logged
 use Rattle.redo.specs.Record.{is_head, name_in, count_in, changes_in, Standing, Nothing, Redo, Foreign}
 
 abbrev pub asks_of : ℕ → List ℕ → List ℕ → Asked
@@ -23,3 +25,9 @@ abbrev pub answer_of : Standing → Recovered
 answer_of Nothing = recovered.AsItWas
 answer_of (Redo changes) = recovered.Redone
 answer_of Foreign = recovered.Foreign
+
+-- how a log stands of which this was read
+abbrev pub standing_of : Logged → Standing
+standing_of logged.Nothing = Nothing
+standing_of (logged.Changes changes) = Redo changes.items
+standing_of logged.Foreign = Foreign

@@ -2,6 +2,7 @@
 #![tactic(auto)]
 
 mod committing;
+mod log_reading;
 mod parts;
 mod recovering;
 
@@ -10,6 +11,7 @@ ghost use Rattle.redo.specs.Laws.{CommitsAreSafe, RecoveriesAreSafe, CrashesAreS
 ghost use Rattle.redo.specs.Costs.{Costs, NeighboursAreOneRun};
 
 pub use committing::{commit, log, settle};
+pub use log_reading::{Logged, read_log};
 pub use recovering::{Recovered, recover};
 
 /// At each moment of a commit's logging a crash leaves the image before or the image after; at each moment of its settling, the image

@@ -61,7 +61,11 @@ fn push_numbers(numbers: &mut Vec<u32>, unit: &[u8; UNIT]) -> Result<(), AllocEr
 }
 
 /// The numbers in a log's directory.
-fn read_numbers<S: Storage>(alloc: Global, storage: &mut S, count: u32) -> io::Result<Vec<u32>>
+pub(crate) fn read_numbers<S: Storage>(
+    alloc: Global,
+    storage: &mut S,
+    count: u32,
+) -> io::Result<Vec<u32>>
     ensures same { Happens [] (S.known storage.old) (S.known storage.new) }
     ensures few { IfOk result (λ v. length v.items ≤ count) }
     ensures numbers { (log : ℕ → List ℕ) → Knows (ShowsLog log) (S.known storage.old) → IfOk result (λ v. v.items ≡ numbers_of log count) }
@@ -92,7 +96,7 @@ fn redo<S: Storage>(alloc: Global, storage: &mut S, count: u32) -> io::Result<()
 
 /// What a log's gate and head ask for.
 #[derive(Clone, Copy, Debug, Drop)]
-enum Asked {
+pub(crate) enum Asked {
     /// The gate isn't open.
     NothingMore,
     /// So many changes.
@@ -109,7 +113,7 @@ fn is_open(gate: &[u8; UNIT], first: &[u8; UNIT]) -> bool
 }
 
 /// What a log's gate and head ask for.
-fn asks(name: u64, gate: &[u8; UNIT], first: &[u8; UNIT]) -> Asked
+pub(crate) fn asks(name: u64, gate: &[u8; UNIT], first: &[u8; UNIT]) -> Asked
     ensures { result ≡ asks_of name gate.now first.now }
 {
     if !is_open(gate, first) {

@@ -1,4 +1,4 @@
-//! Tests of the redo log: crashes after every step of a commit, of its recovery and of the recovery of that, and failed writes and syncs.
+//! Tests of the redo log and of an image file over it: crashes after every step of a commit, of its recovery and of the recovery of that, and failed writes and syncs.
 #![tactic(auto)]
 
 #[cfg(test)]
@@ -9,3 +9,5 @@ mod crashes;
 mod files;
 #[cfg(test)]
 mod foreign;
+#[cfg(test)]
+mod puts;

@@ -1,0 +1,74 @@
+//! The image of a volume as two files: the image, and beside it its redo log, which is locked while a program may write the image.
+
+pub mod beside;
+pub mod locked;
+pub mod reading;
+pub mod storing;
+
+use std::alloc::{AllocError, Global};
+use std::fmt;
+use std::fs::{self, File, OpenOptions, TryLockError};
+use std::io::{self, ErrorKind};
+use std::os::unix::fs::MetadataExt;
+use std::rt::Files;
+
+/// How often files are opened anew that somebody took away or replaced meanwhile (own).
+const MOST_TRIES: u32 = 16;
+
+/// Why an image is neither read nor written, in the order in which it is looked for; each prints a line.
+#[derive(Clone, Copy, Debug, PartialEq, Eq)]
+pub enum FilesRefusal<'n> {
+    /// 1: it can't be opened for reading and writing, or its log can't, or it can't be written.
+    CannotWrite(&'n str),
+    /// 2: another program has the lock of its log.
+    Served(&'n str),
+    /// 3: its log is open for another image, or the file of that name is no log. It is as it was.
+    Foreign(&'n str),
+}
+
+impl fmt::Display for FilesRefusal<'_> {
+    fn fmt<W: fmt::Write>(&self, f: &mut fmt::Formatter<W>) -> fmt::Result {
+        match self {
+            FilesRefusal::CannotWrite(name) => write!(f, "cannot write {name}"),
+            FilesRefusal::Served(name) => write!(f, "{name} is being served"),
+            FilesRefusal::Foreign(name) => write!(f, "{name}.log is of another image"),
+        }
+    }
+}
+
+/// The name of the log of the image at this place.
+fn log_name(alloc: Global, place: &str) -> Result<String, AllocError> {
+    format!(in alloc; "{place}.log")
+}
+
+/// The image of this name, open for reading and writing; none where there is none. What is there and is no file is refused.
+fn image_at<R: Files<File = File>>(rt: &R, place: &str) -> io::Result<Option<File>> {
+    match OpenOptions::new().read(true).write(true).open(rt, place) {
+        Ok(file) if file.metadata()?.is_file() => Ok(Some(file)),
+        Ok(_) => Err(io::Error::from(ErrorKind::InvalidInput)),
+        Err(error) if error.kind() == ErrorKind::NotFound => Ok(None),
+        Err(error) => Err(error),
+    }
+}
+
+/// Whether this file, or none, is what the name leads to.
+fn is_at<R: Files<File = File>>(rt: &R, file: Option<&File>, name: &str) -> io::Result<bool> {
+    match (fs::metadata(rt, name), file) {
+        (Ok(there), Some(file)) => {
+            let open = file.metadata()?;
+            Ok(open.ino() == there.ino() && open.dev() == there.dev())
+        }
+        (Ok(_), None) => Ok(false),
+        (Err(error), _) if error.kind() == ErrorKind::NotFound => Ok(file.is_none()),
+        (Err(error), _) => Err(error),
+    }
+}
+
+/// Whether a lock was taken: not where another program has one.
+fn is_taken(lock: Result<(), TryLockError>) -> io::Result<bool> {
+    match lock {
+        Ok(()) => Ok(true),
+        Err(TryLockError::WouldBlock) => Ok(false),
+        Err(TryLockError::Error(error)) => Err(error),
+    }
+}

@@ -1,0 +1,189 @@
+//! An image that one program alone may write: it holds the lock of the image's log.
+
+use crate::image_files::storing::{ImageFiles, is_log, is_shut};
+use crate::image_files::{FilesRefusal, MOST_TRIES, image_at, is_at, is_taken, log_name};
+use crate::whole_file::{flush_folder, place_of, replace_filled};
+use image_file::{Kept, OpenRefusal};
+use std::alloc::Global;
+use std::fs::{self, File, OpenOptions};
+use std::io::{self, ErrorKind};
+use std::os::unix::fs::{MetadataExt, chown};
+use std::path::PathBuf;
+use std::rt::Files;
+
+/// An image, or the name of one that is to be made, and its log, which is locked until `close` or the end of the process.
+#[derive(Drop)]
+pub struct LockedImage {
+    place: PathBuf,
+    image: Option<File>,
+    log_name: String,
+    log: File,
+    // Whether the log was made for this, and so asks for nothing.
+    is_new: bool,
+}
+
+/// Opens the image of this name, or none where there is none, and its log, which is made where there is none; and locks the log. A symbolic
+/// link is followed: the log lies beside the file that it leads to.
+///
+/// Refused are what is no file or can't be opened for reading and writing (`CannotWrite`), an image whose log another program has locked
+/// (`Served`), and a log that is none (`Foreign`).
+pub fn open<'n, R: Files<File = File> + AllocGlobal>(
+    rt: &R,
+    name: &'n str,
+) -> Result<LockedImage, FilesRefusal<'n>> {
+    match try_open(rt, name) {
+        Ok(Some(locked)) => match is_log(&locked.log) {
+            Ok(true) => Ok(locked),
+            Ok(false) => Err(FilesRefusal::Foreign(name)),
+            Err(_) => Err(FilesRefusal::CannotWrite(name)),
+        },
+        Ok(None) => Err(FilesRefusal::Served(name)),
+        Err(_) => Err(FilesRefusal::CannotWrite(name)),
+    }
+}
+
+/// The same; none where another program has the lock. Somebody may take the log away before it is locked, or replace the image: then both
+/// are opened again.
+fn try_open<R: Files<File = File> + AllocGlobal>(
+    rt: &R,
+    name: &str,
+) -> io::Result<Option<LockedImage>> {
+    for _ in 0..MOST_TRIES {
+        let place = place_of(rt, name)?;
+        let image = image_at(rt, place.as_path().as_str())?;
+        let log_name = log_name(rt.alloc(), place.as_path().as_str())?;
+        let (log, is_new) = log_at(rt, &log_name, image.as_ref())?;
+        if !is_taken(log.try_lock())? {
+            return Ok(None);
+        }
+        let is_image = is_at(rt, image.as_ref(), place.as_path().as_str())?;
+        if is_image && is_at(rt, Some(&log), &log_name)? {
+            return Ok(Some(LockedImage {
+                place,
+                image,
+                log_name,
+                log,
+                is_new,
+            }));
+        }
+    }
+    Ok(None)
+}
+
+/// The log of this name, and whether it was made: then it has the permissions of the image, and its owner where this process may give it
+/// away.
+fn log_at<R: Files<File = File>>(
+    rt: &R,
+    name: &str,
+    image: Option<&File>,
+) -> io::Result<(File, bool)> {
+    let mut how = OpenOptions::new();
+    how.read(true).write(true);
+    match how.create_new(true).open(rt, name) {
+        Ok(log) => {
+            if let Some(image) = image {
+                let metadata = image.metadata()?;
+                let _ = chown(rt, name, Some(metadata.uid()), Some(metadata.gid()));
+                log.set_permissions(metadata.permissions())?;
+            }
+            Ok((log, true))
+        }
+        Err(error) if error.kind() == ErrorKind::AlreadyExists => {
+            Ok((how.create_new(false).create(true).open(rt, name)?, false))
+        }
+        Err(error) => Err(error),
+    }
+}
+
+impl LockedImage {
+    /// Whether there is an image.
+    pub fn has_image(&self) -> bool {
+        self.image.is_some()
+    }
+
+    /// Whether this name leads to the image.
+    pub fn is_image<R: Files<File = File>>(&self, rt: &R, name: &str) -> bool {
+        self.image.is_some() && matches!(is_at(rt, self.image.as_ref(), name), Ok(true))
+    }
+
+    /// Does what the log asks for, and keeps the image from now on; `name` is the name that a refusal tells.
+    pub fn keep<'n, R: Files<File = File> + AllocGlobal>(
+        &self,
+        rt: &R,
+        name: &'n str,
+    ) -> Result<Kept<ImageFiles>, FilesRefusal<'n>> {
+        let Ok((files, number)) = self.files(rt) else {
+            return Err(FilesRefusal::CannotWrite(name));
+        };
+        match Kept::open(rt.alloc(), files, number) {
+            Ok(kept) => Ok(kept),
+            Err(OpenRefusal::Foreign) => Err(FilesRefusal::Foreign(name)),
+            Err(OpenRefusal::Io(_)) => Err(FilesRefusal::CannotWrite(name)),
+        }
+    }
+
+    /// The two files, and the image's name in its log: the number of its inode, and 0, which is that of no file, where there is no image.
+    /// The name of a log that was made is on the disk first.
+    fn files<R: Files<File = File>>(&self, rt: &R) -> io::Result<(ImageFiles, u64)> {
+        if self.is_new {
+            flush_folder(rt, &self.log_name)?;
+        }
+        let (image, number) = match &self.image {
+            Some(image) => (Some(image.try_clone()?), image.metadata()?.ino()),
+            None => (None, 0),
+        };
+        Ok((ImageFiles::new(self.log.try_clone()?, image)?, number))
+    }
+
+    /// Does what the log asks for, where there was one; `name` is the name that a refusal tells.
+    pub fn settle<'n, R: Files<File = File> + AllocGlobal>(
+        &self,
+        rt: &R,
+        name: &'n str,
+    ) -> Result<(), FilesRefusal<'n>> {
+        if !self.is_new {
+            self.keep(rt, name)?;
+        }
+        Ok(())
+    }
+
+    /// Puts bytes in the place of the image, and zeros behind them up to a length, as `replace_filled` does. The log has to be settled.
+    pub fn replace<R: Files<File = File> + AllocGlobal>(
+        &mut self,
+        rt: &R,
+        bytes: &[u8],
+        length: u64,
+    ) -> io::Result<()> {
+        let place = self.place.as_path().as_str();
+        replace_filled(rt, place, bytes, length)?;
+        self.image = image_at(rt, place)?;
+        Ok(())
+    }
+
+    /// Takes the log away, if its gate is shut, and gives the lock back.
+    pub fn close<R: Files<File = File>>(self, rt: &R) {
+        let is_ours = matches!(is_at(rt, Some(&self.log), &self.log_name), Ok(true));
+        if is_ours && matches!(is_shut(&self.log), Ok(true)) {
+            let _ = fs::remove_file(rt, self.log_name.as_str());
+        }
+    }
+}
+
+/// Puts bytes in the place of an image, or makes it, as `replace_filled` does, while no other program may write it. What its log asked for
+/// is done first, so that the image that was there is whole where the new one can't be written; the log goes.
+pub fn replace_image<'n, R: Files<File = File> + AllocGlobal>(
+    rt: &R,
+    name: &'n str,
+    bytes: &[u8],
+    length: u64,
+) -> Result<(), FilesRefusal<'n>> {
+    let mut locked = open(rt, name)?;
+    let replaced = match locked.settle(rt, name) {
+        Ok(()) => locked
+            .replace(rt, bytes, length)
+            .map_err(|_| FilesRefusal::CannotWrite(name)),
+        Err(refusal) => Err(refusal),
+    };
+    locked.close(rt);
+    replaced
+}

@@ -1,0 +1,82 @@
+//! Images that are only read.
+
+use crate::image_files::storing::{ImageFiles, is_log};
+use crate::image_files::{FilesRefusal, MOST_TRIES, is_at, is_taken, log_name};
+use crate::whole_file::{place_of, read};
+use image_file::{OpenRefusal, read_through};
+use std::fs::File;
+use std::io::{self, ErrorKind};
+use std::os::unix::fs::MetadataExt;
+use std::rt::Files;
+
+/// The bytes of an image, or none where it can't be read, or its log can't. Where a log lies beside it, what the log asks for is put into
+/// them; no file is changed.
+///
+/// Refused are an image that a program may be writing (`Served`), and one whose log is another image's, or none (`Foreign`).
+pub fn read_image<'n, R: Files<File = File> + AllocGlobal>(
+    rt: &R,
+    name: &'n str,
+) -> Result<Option<Vec<u8>>, FilesRefusal<'n>> {
+    match try_read(rt, name) {
+        Ok(Ok(bytes)) => Ok(Some(bytes)),
+        Ok(Err(refusal)) => Err(refusal),
+        Err(_) => Ok(None),
+    }
+}
+
+/// The same; an error where a file can't be read. Where a log comes or goes meanwhile all is read again.
+fn try_read<'n, R: Files<File = File> + AllocGlobal>(
+    rt: &R,
+    name: &'n str,
+) -> io::Result<Result<Vec<u8>, FilesRefusal<'n>>> {
+    for _ in 0..MOST_TRIES {
+        let place = place_of(rt, name)?;
+        let place = place.as_path().as_str();
+        let log_name = log_name(rt.alloc(), place)?;
+        let log = log_at(rt, &log_name)?;
+        if let Some(log) = &log {
+            if !is_taken(log.try_lock_shared())? {
+                return Ok(Err(FilesRefusal::Served(name)));
+            }
+        }
+        let bytes = read(rt, place)?;
+        if is_at(rt, log.as_ref(), &log_name)? {
+            return match log {
+                Some(log) => read_behind(rt, name, place, log, bytes),
+                None => Ok(Ok(bytes)),
+            };
+        }
+    }
+    Ok(Err(FilesRefusal::Served(name)))
+}
+
+/// The log of this name, if there is one.
+fn log_at<R: Files<File = File>>(rt: &R, name: &str) -> io::Result<Option<File>> {
+    match File::open(rt, name) {
+        Ok(log) => Ok(Some(log)),
+        Err(error) if error.kind() == ErrorKind::NotFound => Ok(None),
+        Err(error) => Err(error),
+    }
+}
+
+/// The bytes of the image at a place, with what its log asks for.
+fn read_behind<'n, R: Files<File = File> + AllocGlobal>(
+    rt: &R,
+    name: &'n str,
+    place: &str,
+    log: File,
+    bytes: Vec<u8>,
+) -> io::Result<Result<Vec<u8>, FilesRefusal<'n>>> {
+    if !is_log(&log)? {
+        return Ok(Err(FilesRefusal::Foreign(name)));
+    }
+    let image = File::open(rt, place)?;
+    let number = image.metadata()?.ino();
+    let mut files = ImageFiles::new(log, Some(image))?;
+    let mut bytes = bytes;
+    match read_through(rt.alloc(), &mut files, number, bytes.as_mut_slice()) {
+        Ok(()) => Ok(Ok(bytes)),
+        Err(OpenRefusal::Foreign) => Ok(Err(FilesRefusal::Foreign(name))),
+        Err(OpenRefusal::Io(error)) => Err(error),
+    }
+}

@@ -1,0 +1,114 @@
+//! An image and its log as storage of units.
+
+use crate::sparse::is_zero;
+use stable::{Storage, UNIT, Which};
+use std::fs::File;
+use std::io::{self, ErrorKind};
+use std::os::unix::fs::FileExt;
+
+/// How a log's head begins: the first bytes of the log's second unit.
+const HEAD: [u8; 8] = *b"MFSREDO1";
+
+/// The two files, open. The image keeps its length in bytes; behind the end of each file zeros are read.
+///
+/// Once a write of the log's first unit, its gate, or any sync has failed, each later call is refused: what the system then shows of a file
+/// may not be what is on the disk. The program has to be started again.
+#[derive(Drop)]
+pub struct ImageFiles {
+    log: File,
+    // None where there is no image yet.
+    image: Option<File>,
+    // How many bytes the image has.
+    length: u64,
+    is_doubtful: bool,
+}
+
+/// Where a unit begins in a file, in bytes.
+fn place_of(n: u64) -> io::Result<u64> {
+    n.checked_mul(UNIT as u64)
+        .ok_or(io::Error::from(ErrorKind::InvalidInput))
+}
+
+/// The unit at a place of a file of so many bytes: those that are there, and zeros behind them.
+fn unit_at(file: &File, length: u64, at: u64) -> io::Result<[u8; UNIT]> {
+    let mut unit = [0; UNIT];
+    let there = length.saturating_sub(at).min(UNIT as u64) as usize;
+    file.read_exact_at(&mut unit[..there], at)?;
+    Ok(unit)
+}
+
+/// Whether the gate of a log is shut: its first unit is zeros, or isn't there.
+pub(super) fn is_shut(log: &File) -> io::Result<bool> {
+    Ok(is_zero(&unit_at(log, log.metadata()?.len(), 0)?))
+}
+
+/// Whether this file is a log: its gate is shut, or its second unit is a log's head. A crash of a log's program leaves no other file.
+pub(super) fn is_log(log: &File) -> io::Result<bool> {
+    let length = log.metadata()?.len();
+    Ok(is_shut(log)? || unit_at(log, length, UNIT as u64)?.starts_with(&HEAD))
+}
+
+impl ImageFiles {
+    /// The storage of a log and an image, which has as many bytes as it has now.
+    pub(super) fn new(log: File, image: Option<File>) -> io::Result<ImageFiles> {
+        let length = match &image {
+            Some(image) => image.metadata()?.len(),
+            None => 0,
+        };
+        Ok(ImageFiles {
+            log,
+            image,
+            length,
+            is_doubtful: false,
+        })
+    }
+
+    /// One of the files, unless they are in doubt.
+    fn file(&self, which: Which) -> io::Result<&File> {
+        let file = match which {
+            Which::Log => Some(&self.log),
+            Which::Image => self.image.as_ref(),
+        };
+        match file {
+            Some(file) if !self.is_doubtful => Ok(file),
+            _ => Err(io::Error::from(ErrorKind::Other)),
+        }
+    }
+
+    /// Writes bytes at a place, of the image only those within its length.
+    fn write_at(&self, which: Which, at: u64, bytes: &[u8]) -> io::Result<()> {
+        let there = match which {
+            Which::Log => bytes.len(),
+            Which::Image => {
+                let rest = self.length.saturating_sub(at);
+                bytes.len().min(usize::try_from(rest).unwrap_or(usize::MAX))
+            }
+        };
+        self.file(which)?.write_all_at(&bytes[..there], at)
+    }
+}
+
+impl Storage for ImageFiles {
+    fn read(&mut self, file: Which, n: u64) -> io::Result<[u8; UNIT]> {
+        let from = self.file(file)?;
+        let length = match file {
+            Which::Log => from.metadata()?.len(),
+            Which::Image => self.length,
+        };
+        unit_at(from, length, place_of(n)?)
+    }
+
+    fn write(&mut self, file: Which, first: u64, units: &[[u8; UNIT]]) -> io::Result<()> {
+        let written = self.write_at(file, place_of(first)?, units.as_flattened());
+        if written.is_err() && first == 0 && matches!(file, Which::Log) {
+            self.is_doubtful = true;
+        }
+        written
+    }
+
+    fn sync(&mut self, file: Which) -> io::Result<()> {
+        let synced = self.file(file)?.sync_data();
+        self.is_doubtful = synced.is_err();
+        synced
+    }
+}

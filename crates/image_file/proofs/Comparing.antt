@@ -1,0 +1,76 @@
+-- The units in which an image file differs from an image, while they are looked for.
+use Rattle.std.proofs.Common.{◌≡◌, ◌⊎◌, inl, inr, ℕ, ◌+◌, ◌<◌, ◌≤◌, List, [], ◌∷◌, ◌++◌, length, refl, sym, ◌∙◌, ap, arith, Option, Some, None, Bool, true, false}
+use Rattle.std.specs.List.{zip}
+use Rattle.std.proofs.lemmas.Bool.{cases_eq, cases_order}
+use Rattle.std.proofs.lemmas.Bool.Decides.{nat_tests}
+use Rattle.stable.specs.declared.Which.TheVariants.{Image}
+use Rattle.stable.specs.Disk.{Contents, Changes, set, put}
+use Rattle.stable.specs.Runs.{Known, Knows, Reads}
+use Rattle.redo.proofs.Units.{set_same, set_other, put-append}
+use Rattle.changes.specs.Units.{unit_of}
+use Rattle.image_file.specs.Images.{ShowsImage, with_units}
+
+pub reads_image : (c : Contents) (a : Option Known) (n : ℕ) (bytes : List ℕ) → Knows (ShowsImage c) a → Reads a Image n bytes → bytes ≡ c n
+reads_image c None n bytes k r = absurd k
+reads_image c (Some a) n bytes k r = r k.sound ∙ k.shows n
+
+with_below : (count : ℕ) (image : List ℕ) (c : Contents) (n : ℕ) → n < count → with_units count image c n ≡ unit_of image n
+with_below count image c n lt = grind (arith, nat_tests)
+
+with_past : (count : ℕ) (image : List ℕ) (c : Contents) (n : ℕ) → count ≤ n → with_units count image c n ≡ c n
+with_past count image c n le = grind (arith, nat_tests)
+
+-- one unit more changes no other one
+with_other : (count : ℕ) (image : List ℕ) (c : Contents) (n : ℕ) → (n ≡ count → ⊥) → with_units count image c n ≡ with_units (count + 1) image c n
+with_other count image c n other = elim (cases_order n count) [
+  | inl same ↦ absurd (other same)
+  | inr order ↦ elim order [
+    | inl below ↦ with_below count image c n below ∙ sym (with_below (count + 1) image c n (omega arith))
+    | inr above ↦ with_past count image c n (omega arith) ∙ sym (with_past (count + 1) image c n (omega arith))
+  ]
+]
+
+abbrev pub Makes : Changes → ℕ → List ℕ → Contents → Type 0
+Makes ws count image c = (n : ℕ) → put ws c n ≡ with_units count image c n
+
+pub makes_none : (image : List ℕ) (c : Contents) → Makes [] 0 image c
+makes_none image c n = sym (with_past 0 image c n (omega arith))
+
+-- the next unit is the image's already
+pub makes_same : (ws : Changes) (count : ℕ) (image unit held : List ℕ) (c : Contents) → Makes ws count image c → unit ≡ unit_of image count → held ≡ c count → held ≡ unit
+    → Makes ws (count + 1) image c
+makes_same ws count image unit held c was is shows same n = elim (cases_eq n count) [
+  | inr other ↦ was n ∙ with_other count image c n other
+  | inl here ↦
+      was n
+      ∙ with_past count image c n (omega arith)
+      ∙ ap c here
+      ∙ sym shows
+      ∙ same
+      ∙ is
+      ∙ ap (unit_of image) (sym here)
+      ∙ sym (with_below (count + 1) image c n (omega arith))
+]
+
+zip_push : (ns : List ℕ) (us : List (List ℕ)) (n : ℕ) (u : List ℕ) → length ns ≡ length us → zip (ns ++ n ∷ []) (us ++ u ∷ []) ≡ zip ns us ++ (n, u) ∷ []
+zip_push [] [] n u same = refl
+zip_push [] (v ∷ us) n u same = cc
+zip_push (m ∷ ns) [] n u same = cc
+zip_push (m ∷ ns) (v ∷ us) n u same = ap (λ (l : Changes). (m, v) ∷ l) (zip_push ns us n u (omega arith))
+
+-- the next unit is put
+pub makes_more : (ns ns' : List ℕ) (us us' : List (List ℕ)) (count : ℕ) (image unit : List ℕ) (c : Contents) → length ns ≡ length us → ns' ≡ ns ++ count ∷ [] → us' ≡ us ++ unit ∷ []
+    → Makes (zip ns us) count image c → unit ≡ unit_of image count → Makes (zip ns' us') (count + 1) image c
+makes_more ns ns' us us' count image unit c long is_ns is_us was is n =
+    let ws : Changes = zip ns us in
+    let all : zip ns' us' ≡ ws ++ (count, unit) ∷ [] = ap (λ (l : List ℕ). zip l us') is_ns ∙ ap (λ (l : List (List ℕ)). zip (ns ++ count ∷ []) l) is_us ∙ zip_push ns us count unit long in
+    let first : put (zip ns' us') c n ≡ set (put ws c) (count, unit) n = ap (λ (l : Changes). put l c n) all ∙ ap (λ (d : Contents). d n) (put-append ws ((count, unit) ∷ []) c) in
+    elim (cases_eq n count) [
+      | inl here ↦
+          first
+          ∙ set_same (put ws c) (count, unit) n here
+          ∙ is
+          ∙ ap (unit_of image) (sym here)
+          ∙ sym (with_below (count + 1) image c n (omega arith))
+      | inr other ↦ first ∙ set_other (put ws c) (count, unit) n other ∙ was n ∙ with_other count image c n other
+    ]

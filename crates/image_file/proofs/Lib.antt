@@ -1,0 +1,4 @@
+mod Calls
+mod Putting
+mod Bytes
+mod Comparing

@@ -1,0 +1,188 @@
+//! The image that a mount keeps: what it begins with, and what is left of it.
+
+use host::image_files::FilesRefusal;
+use host::image_files::beside::{Left, leave_beside};
+use host::image_files::locked::LockedImage;
+use host::image_files::reading::read_image;
+use host::image_files::storing::ImageFiles;
+use host::play_words::mfs9p::Mfs9pWords;
+use host::whole_file::read;
+use image_file::Kept;
+use ninep_service::archive::Archive;
+use ninep_service::file_archive::FileArchive;
+use ninep_service::mount::{Ended, MountStatus, finish};
+use ninep_service::program::Came;
+use output::tell;
+use release::{Released, release, start_on};
+use std::io;
+use volume_commands::verify::{Verified, verify};
+
+/// The image that is kept.
+pub(crate) type KeptImage = FileArchive<ImageFiles>;
+
+/// What a mount begins with.
+#[derive(Drop)]
+pub(crate) struct Begun {
+    /// The image's bytes; none where it can't be read.
+    pub(crate) image: Option<Vec<u8>>,
+    /// Where the image of each sync goes, if anywhere.
+    pub(crate) archive: Option<KeptImage>,
+}
+
+/// How a mount ended that was refused, as a line on standard error says.
+pub(crate) fn refused(rt: HostRuntime, refusal: &FilesRefusal<'_>) -> MountStatus {
+    MountStatus::Refused(tell(rt.alloc(), &mut rt.stderr(), refusal))
+}
+
+/// The image that the words name, with what its log asks for, and without files that have no name; nothing is kept.
+pub(crate) fn begin(rt: HostRuntime, words: &Mfs9pWords<'_>) -> Result<Begun, MountStatus> {
+    match read_image(&rt, words.image) {
+        Ok(image) => Ok(Begun {
+            image: start_on(rt.alloc(), image, words.minor, &mut rt.stderr()),
+            archive: None,
+        }),
+        Err(refusal) => Err(refused(rt, &refusal)),
+    }
+}
+
+/// The same, and the locked image, which has this name, is kept. Where it is another one than the words name, it becomes that one first, if
+/// that one is clean; one that isn't is served by no mount, and the locked one stays.
+pub(crate) fn begin_to_keep(
+    rt: HostRuntime,
+    words: &Mfs9pWords<'_>,
+    locked: &mut LockedImage,
+    name: &str,
+) -> Result<Begun, MountStatus> {
+    if locked.is_image(&rt, words.image) {
+        return begin_in_place(rt, words, locked, name);
+    }
+    let Begun { image, .. } = begin(rt, words)?;
+    let archive = match &image {
+        Some(bytes) if is_served(rt, words, bytes)? => Some(kept_copy(rt, locked, name, bytes)?),
+        _ => None,
+    };
+    Ok(Begun { image, archive })
+}
+
+/// What a mount begins with that keeps the image which it serves. Files without a name are given back in the file, too: what changes from
+/// then on changes the same image in both.
+fn begin_in_place(
+    rt: HostRuntime,
+    words: &Mfs9pWords<'_>,
+    locked: &LockedImage,
+    name: &str,
+) -> Result<Begun, MountStatus> {
+    let mut kept = kept_image(rt, locked, name)?;
+    let mut image = read(&rt, words.image).ok();
+    if let Some(bytes) = &mut image {
+        if gives_back(rt, words, bytes) && kept.put_image(bytes).is_err() {
+            return Err(refused(rt, &FilesRefusal::CannotWrite(name)));
+        }
+    }
+    Ok(Begun {
+        image,
+        archive: Some(FileArchive::new(kept)),
+    })
+}
+
+/// Whether files without a name were given back in an image, as a line on standard error says.
+fn gives_back(rt: HostRuntime, words: &Mfs9pWords<'_>, image: &mut [u8]) -> bool {
+    match release(rt.alloc(), image, words.minor) {
+        Ok(count) if count > 0 => {
+            tell(rt.alloc(), &mut rt.stderr(), &Released { count });
+            true
+        }
+        _ => false,
+    }
+}
+
+/// The locked image, which is kept from now on.
+fn kept_image(
+    rt: HostRuntime,
+    locked: &LockedImage,
+    name: &str,
+) -> Result<Kept<ImageFiles>, MountStatus> {
+    locked
+        .keep(&rt, name)
+        .map_err(|refusal| refused(rt, &refusal))
+}
+
+/// The same, once these bytes have taken the place of the locked image.
+fn kept_copy(
+    rt: HostRuntime,
+    locked: &mut LockedImage,
+    name: &str,
+    bytes: &[u8],
+) -> Result<KeptImage, MountStatus> {
+    if let Err(refusal) = locked.settle(&rt, name) {
+        return Err(refused(rt, &refusal));
+    }
+    match locked.replace(&rt, bytes, bytes.len() as u64) {
+        Ok(()) => Ok(FileArchive::new(kept_image(rt, locked, name)?)),
+        Err(_) => Err(refused(rt, &FilesRefusal::CannotWrite(name))),
+    }
+}
+
+/// Whether a mount may serve an image: the check finds its volume clean. Where nothing can be said of it, a line on standard error says why,
+/// and that is how the mount ended.
+fn is_served(rt: HostRuntime, words: &Mfs9pWords<'_>, image: &[u8]) -> Result<bool, MountStatus> {
+    match verdict_on(rt, words, image, &mut rt.stderr()) {
+        Verified::IsClean => Ok(true),
+        Verified::HasFinding => Ok(false),
+        Verified::Refused(told) => Err(MountStatus::Refused(told)),
+    }
+}
+
+/// What the check says of the volume in an image; where it says nothing, why.
+fn verdict_on<E: io::Write>(
+    rt: HostRuntime,
+    words: &Mfs9pWords<'_>,
+    image: &[u8],
+    err: &mut E,
+) -> Verified {
+    let mut out = io::sink();
+    verify(
+        rt.alloc(),
+        words.image,
+        Some(image),
+        words.minor,
+        &mut out,
+        err,
+    )
+}
+
+/// How a mount ended that was to keep the image of this name, once that is the image that is left. Where not all went well, and the image
+/// that is left breaks a rule, it takes the place of none: it goes to the file of this name and `.given-up`, as a line on standard error
+/// says, and the image of this name is that of the last sync.
+pub(crate) fn finished<I: Drop, O: Drop, C: Drop, E: io::Write>(
+    rt: HostRuntime,
+    words: &Mfs9pWords<'_>,
+    mounted: Ended<I, O, C, KeptImage>,
+    name: &str,
+    err: &mut E,
+) -> MountStatus {
+    let Ended { status, came } = mounted;
+    let Some(came) = came else {
+        return status;
+    };
+    let Came {
+        mut streams,
+        image,
+        ..
+    } = came;
+    if status != MountStatus::Done
+        && verdict_on(rt, words, &image, &mut io::sink()) != Verified::IsClean
+    {
+        let left = leave_beside(&rt, name, &image);
+        let told = tell(rt.alloc(), err, &left);
+        return match left {
+            Left::Beside(_) => status,
+            Left::Nowhere(_) => MountStatus::Refused(told),
+        };
+    }
+    let written = match &mut streams.archive {
+        Some(archive) => archive.finish(&image).is_ok(),
+        None => false,
+    };
+    finish(rt.alloc(), status, name, written, err)
+}

@@ -1,0 +1,156 @@
+//! An image file that changes are put into: puts that are cut off, that fail, and that follow one that failed.
+use crate::crashes::{Files, NAME, Wanted, all_recover, found_after, found_after_failure, is_image};
+use changes::Changes;
+use image_file::{Kept, OpenRefusal, read_through};
+use redo::log;
+use stable::UNIT;
+use stable::memory::Memory;
+use std::alloc::{AllocError, Global};
+use std::test::Fail;
+use tests_texts::is_told;
+
+/// An image of units that are filled with these bytes.
+fn image_of(alloc: Global, bytes: &[u8]) -> Result<Vec<[u8; UNIT]>, AllocError> {
+    let mut image = Vec::new(alloc);
+    for byte in bytes {
+        image.push([*byte; UNIT])?;
+    }
+    Ok(image)
+}
+
+/// Units of these numbers, filled with these bytes.
+fn changes_of(alloc: Global, numbers: &[u32], bytes: &[u8]) -> Result<Changes, Fail> {
+    let units = image_of(alloc, bytes)?;
+    let numbers = numbers.to_vec(alloc)?;
+    if numbers.len() != units.len() || numbers.len() > 9 {
+        return Err(Fail::from("no changes"));
+    }
+    Ok(Changes { numbers, units })
+}
+
+/// An image file of three units, 1, 2 and 3, whose step of this number fails.
+fn opened(alloc: Global, fails_at: usize) -> Result<(Files, Kept<Memory>), Fail> {
+    let files = Files::new(alloc, 8, &image_of(alloc, &[1, 2, 3])?)?;
+    match Kept::open(alloc, files.open(alloc, fails_at)?, NAME) {
+        Ok(kept) => Ok((files, kept)),
+        Err(refusal) => Err(Fail::new(format_args!("not opened: {refusal}"))),
+    }
+}
+
+/// Puts the first unit as 7, where the step of this number fails. After a failure, after the put, and after each step of it a crash leaves
+/// the image before or after. Whether it was ok.
+fn cut(alloc: Global, fails_at: usize) -> Result<bool, Fail> {
+    let (mut files, mut kept) = opened(alloc, fails_at)?;
+    files.age = 1;
+    let is_ok = kept
+        .put(&changes_of(alloc, &[0], &[7])?)
+        .is_ok();
+    let mut work = Vec::new(alloc);
+    let memory = kept.into_storage();
+    if is_ok {
+        found_after(alloc, &files, memory.history(), &mut work)?;
+    } else {
+        found_after_failure(alloc, &files, memory.history(), &mut work)?;
+    }
+    let before = image_of(alloc, &[1, 2, 3])?;
+    let after = image_of(alloc, &[7, 2, 3])?;
+    all_recover(alloc, &mut work, &Wanted { before, after })?;
+    Ok(is_ok)
+}
+
+// A start syncs the log, and a put of one unit has ten steps.
+#[test]
+fn puts_survive(rt: HostRuntime) -> Result<(), Fail> {
+    for fails_at in 1..12 {
+        let is_ok = cut(rt.alloc(), fails_at)?;
+        is_told(
+            format!(in rt.alloc(); "{fails_at} {is_ok}")?.as_str(),
+            format!(in rt.alloc(); "{fails_at} {}", fails_at == 11)?.as_str(),
+        )?;
+    }
+    Ok(())
+}
+
+/// How many steps were done, and whether the file is this image.
+fn stands(rt: &HostRuntime, kept: Kept<Memory>, bytes: &[u8]) -> Result<String, Fail> {
+    let mut memory = kept.into_storage();
+    let is_image = is_image(&mut memory, &image_of(rt.alloc(), bytes)?)?;
+    Ok(format!(in rt.alloc(); "{} {is_image}", memory.history().len())?)
+}
+
+// No changes: the sync of the start is all that was asked.
+#[test]
+fn no_changes_ask_nothing(rt: HostRuntime) -> Result<(), Fail> {
+    let (_, mut kept) = opened(rt.alloc(), usize::MAX)?;
+    kept.put(&changes_of(rt.alloc(), &[], &[])?)?;
+    is_told(stands(&rt, kept, &[1, 2, 3])?.as_str(), "1 true")
+}
+
+// The write of the image fails, and the put after it does first what the log asks for: a sync, a write, a sync, and the gate's two.
+#[test]
+fn put_goes_on_after_one_that_failed(rt: HostRuntime) -> Result<(), Fail> {
+    let (_, mut kept) = opened(rt.alloc(), 8)?;
+    let first = kept.put(&changes_of(rt.alloc(), &[0], &[7])?);
+    kept.put(&changes_of(rt.alloc(), &[0, 2], &[8, 9])?)?;
+    is_told(
+        format!(in rt.alloc(); "{} {}", first.is_ok(), stands(&rt, kept, &[8, 2, 9])?)?.as_str(),
+        "false 25 true",
+    )
+}
+
+// Units 1 and 3 differ; the last one is cut, and zeros follow.
+#[test]
+fn image_is_put(rt: HostRuntime) -> Result<(), Fail> {
+    let (_, mut kept) = opened(rt.alloc(), usize::MAX)?;
+    let mut image: Vec<u8> = Vec::from_elem(rt.alloc(), 1, 8192)?;
+    image.extend_from_slice(&[3; 100])?;
+    kept.put_image(&image)?;
+    let mut last = [0; UNIT];
+    for byte in last.iter_mut().take(100) {
+        *byte = 3;
+    }
+    let mut memory = kept.into_storage();
+    let is_put = is_image(&mut memory, &[[1; UNIT], [1; UNIT], last])?;
+    is_told(
+        format!(in rt.alloc(); "{} {is_put}", memory.history().len())?.as_str(),
+        "11 true",
+    )
+}
+
+/// What an image of two units and ten bytes is when it is read under a name, where unit 1 was promised as 9 and unit 2 as 8.
+fn read_as(rt: &HostRuntime, name: u64) -> Result<String, Fail> {
+    let alloc = rt.alloc();
+    let files = Files::new(alloc, 8, &image_of(alloc, &[1, 2, 3])?)?;
+    let mut memory = files.open(alloc, usize::MAX)?;
+    log(&mut memory, NAME, &[1, 2], &[[9; UNIT], [8; UNIT]])?;
+    let steps = memory.history().len();
+    let mut image: Vec<u8> = Vec::from_elem(alloc, 1, 8202)?;
+    let text = match read_through(alloc, &mut memory, name, &mut image) {
+        Ok(()) => String::from_str(alloc, "read")?,
+        Err(refusal) => format!(in alloc; "{} {refusal}", refusal.number())?,
+    };
+    let asked = memory.history().len() - steps;
+    Ok(format!(in alloc; "{text} {asked} {} {} {} {}", image[4095], image[4096], image[8191], image[8201])?)
+}
+
+#[test]
+fn images_are_read_through(rt: HostRuntime) -> Result<(), Fail> {
+    is_told(read_as(&rt, NAME)?.as_str(), "read 0 1 9 9 8")?;
+    is_told(
+        read_as(&rt, NAME + 1)?.as_str(),
+        "1 the log is of another image 0 1 1 1 1",
+    )
+}
+
+// The log is promised for an image of another name.
+#[test]
+fn foreign_logs_are_not_opened(rt: HostRuntime) -> Result<(), Fail> {
+    let alloc = rt.alloc();
+    let files = Files::new(alloc, 8, &image_of(alloc, &[1, 2, 3])?)?;
+    let mut memory = files.open(alloc, usize::MAX)?;
+    log(&mut memory, NAME, &[1], &[[9; UNIT]])?;
+    match Kept::open(alloc, memory, NAME + 1) {
+        Err(OpenRefusal::Foreign) => Ok(()),
+        _ => Err(Fail::from("opened")),
+    }
+}
