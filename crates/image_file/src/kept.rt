@@ -1,6 +1,6 @@
 //! An image file that is kept current through its log.
 
-ghost use Rattle.std.specs.Prelude.{◌≡◌, ◌×◌, ◌≢◌, ℕ, List, length, map, is_ok, IfOk, OnOk, OnErr, Some, Err, true, false};
+ghost use Rattle.std.specs.Prelude.{◌≡◌, ◌≢◌, ℕ, List, length, map, is_ok, IfOk, OnOk, OnErr, Some, Err, true, false};
 ghost use Rattle.stable.specs.Disk.{put, Did};
 ghost use Rattle.stable.specs.Runs.{Known, now, Knows, EachMoment, Happens, Follows};
 ghost use Rattle.changes.specs.Units.{puts_of};
