@@ -128,7 +128,7 @@ fn kept_copy(
 fn is_served(rt: HostRuntime, words: &Mfs9pWords<'_>, image: &[u8]) -> Result<bool, MountStatus> {
     match verdict_on(rt, words, image, &mut rt.stderr()) {
         Verified::IsClean => Ok(true),
-        Verified::HasFinding => Ok(false),
+        Verified::HasFinding | Verified::HasWrongLinks => Ok(false),
         Verified::Refused(told) => Err(MountStatus::Refused(told)),
     }
 }
