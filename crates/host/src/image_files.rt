@@ -5,6 +5,9 @@ pub mod locked;
 pub mod reading;
 pub mod storing;
 
+ghost use Rattle.std.specs.Prelude.{◌≡◌};
+ghost use Rattle.host.specs.Refusals.{files_refusal_number};
+
 use std::alloc::{AllocError, Global};
 use std::fmt;
 use std::fs::{self, File, OpenOptions, TryLockError};
@@ -24,6 +27,19 @@ pub enum FilesRefusal<'n> {
     Served(&'n str),
     /// 3: its log is open for another image, or the file of that name is no log. It is as it was.
     Foreign(&'n str),
+}
+
+impl FilesRefusal<'_> {
+    /// Its number.
+    pub fn number(&self) -> u32
+        ensures { result ≡ files_refusal_number self.now }
+    {
+        match self {
+            FilesRefusal::CannotWrite(_) => 1,
+            FilesRefusal::Served(_) => 2,
+            FilesRefusal::Foreign(_) => 3,
+        }
+    }
 }
 
 impl fmt::Display for FilesRefusal<'_> {

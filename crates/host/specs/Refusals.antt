@@ -1,0 +1,10 @@
+-- The numbers of refusals of image files.
+use Rattle.std.specs.Prelude.{ℕ}
+use Rattle.host.specs.declared.image_files.FilesRefusal.{FilesRefusal}
+use Rattle.host.specs.declared.image_files.FilesRefusal.TheVariants.{CannotWrite, Served, Foreign}
+
+-- in the order in which they are looked for
+abbrev pub files_refusal_number : FilesRefusal → ℕ
+files_refusal_number (CannotWrite _) = 1
+files_refusal_number (Served _) = 2
+files_refusal_number (Foreign _) = 3
