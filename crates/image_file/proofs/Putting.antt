@@ -1,12 +1,13 @@
 -- Each moment of a put.
-use Rattle.std.proofs.Common.{◌≡◌, ◌⊎◌, inl, inr, ⊎_elim, ℕ, ◌^◌, ◌<◌, List, [], ◌∷◌, length, refl, sym, ◌∙◌, subst, Option, Some, None, Result, Ok, Err, OnOk}
+use Rattle.std.proofs.Common.{◌≡◌, ◌⊎◌, inl, inr, ⊎_elim, ℕ, ◌^◌, ◌<◌, List, [], ◌∷◌, ◌++◌, length, arith, refl, sym, ◌∙◌, subst, Option, Some, None, Result, Ok, Err, OnOk}
 use Rattle.std.specs.List.{zip}
-use Rattle.stable.specs.Disk.{Contents, Changes, put, Disk, Step, Leaves, run}
+use Rattle.stable.specs.Disk.{Contents, Changes, put, Disk, Step, Event, Leaves, run}
 use Rattle.stable.specs.Runs.{Known, now, Follows, Knows, EachMoment}
 use Rattle.redo.specs.Record.{recovered}
 use Rattle.redo.specs.Plans.{commit_plan}
 use Rattle.redo.specs.UnderWay.{Fits, IsAtRest, IsUnderWay, IsSure}
 use Rattle.redo.specs.Laws.{IsImage, FindsEither, RestsWithEither}
+use Rattle.redo.proofs.Left.{happens-nil}
 use Rattle.redo.proofs.Units.{put_agrees}
 use Rattle.redo.proofs.Moments.{Reaches, at_moment, run_all}
 use Rattle.redo.proofs.Calls.{each_moment, holds_after, known_now}
@@ -17,13 +18,13 @@ use Rattle.image_file.proofs.Calls.{each_as, each_then}
 -- changes that there are are put by a commit
 pub plan_of_some : (name : ℕ) (numbers : List ℕ) (units : List (List ℕ)) → 0 < length numbers → length numbers ≡ length units
     → commit_plan name (zip numbers units) ≡ put_plan name (zip numbers units)
-plan_of_some name [] units some same = cc
-plan_of_some name (n ∷ numbers) [] some same = cc
+plan_of_some name [] units some same = absurd (omega (arith, some))
+plan_of_some name (n ∷ numbers) [] some same = absurd (omega (arith, same))
 plan_of_some name (n ∷ numbers) (u ∷ units) some same = refl
 
 pub plan_of_none : (name : ℕ) (numbers : List ℕ) (units : List (List ℕ)) → length numbers ≡ 0 → put_plan name (zip numbers units) ≡ []
 plan_of_none name [] units none = refl
-plan_of_none name (n ∷ numbers) units none = cc
+plan_of_none name (n ∷ numbers) units none = absurd (omega (arith, none))
 
 pub put_reaches : (name : ℕ) (changes : Changes) (image : Contents) (d : Disk) → IsAtRest image d
     → Reaches (IsUnderWay name changes image (put changes image)) d (put_plan name changes) (IsAtRest (put changes image))
@@ -115,3 +116,19 @@ rests_as x y same (Some k) known = rest_as x y same (now k) known
 
 pub finds_as : (name : ℕ) (before x y : Contents) → ((n : ℕ) → x n ≡ y n) → (d : Disk) → FindsEither name before x d → FindsEither name before y d
 finds_as name before x y same d h log left leaves = ⊎_elim (λ is. inl is) (λ is. inr (as_image (recovered name log left) x y same is)) (h log left leaves)
+
+first_rests : (name : ℕ) (first later : List Event) (image : Contents) (k : Known) → [] ≡ first ++ later → IsAtRest image (now k) → IsUnderWay name [] image image (run first (now k))
+first_rests name [] later image k parts rest = inl (inl rest)
+first_rests name (e ∷ first) later image k parts rest = cc
+
+-- changes in numbers and units of 32 bits, put where they are changes
+pub follows_put : {T E : Type 0} (name : ℕ) (numbers : List ℕ) (units : List (List ℕ)) (old new : Option Known) (r : Result T E) → 0 < length numbers → length numbers ≡ length units
+    → Follows {T = T} {E = E} (commit_plan name (zip numbers units)) old new r → Follows {T = T} {E = E} (put_plan name (zip numbers units)) old new r
+follows_put {T} {E} name numbers units old new r some same h = subst (λ (l : List Step). Follows {T = T} {E = E} l old new r) (plan_of_some name numbers units some same) h
+
+-- no changes, and all at rest
+pub none_moments : (name : ℕ) (numbers : List ℕ) (units : List (List ℕ)) (o : Option Known) → length numbers ≡ 0 → (image : Contents) → Knows (IsAtRest image) o
+    → EachMoment (IsUnderWay name (zip numbers units) image (put (zip numbers units) image)) o o
+none_moments name [] units None none image rest = tt
+none_moments name [] units (Some k) none image rest = ([], happens-nil (Some k), λ first later parts. first_rests name first later image k parts rest)
+none_moments name (n ∷ numbers) units o none image rest = absurd (omega (arith, none))

@@ -80,7 +80,7 @@ impl<S: Storage + Drop> Kept<S> {
 
     /// The files.
     pub fn into_storage(self) -> S
-        ensures { result ≡ self.entry.storage }
+        ensures { result ≡ self.storage }
     {
         let Kept { storage, .. } = self;
         storage
