@@ -1,6 +1,6 @@
 //! An image file that is kept current through its log.
 
-ghost use Rattle.std.specs.Prelude.{◌≡◌, ◌≢◌, ℕ, List, length, map, is_ok, IfOk, OnOk, OnErr, Some, Err, true, false};
+ghost use Rattle.std.specs.Prelude.{◌≡◌, ◌≢◌, ◌<◌, ◌^◌, ℕ, List, length, map, is_ok, IfOk, OnOk, OnErr, Some, Err, true, false};
 ghost use Rattle.stable.specs.Disk.{put, Did};
 ghost use Rattle.stable.specs.Runs.{Known, now, Knows, EachMoment, Happens, Follows};
 ghost use Rattle.changes.specs.Units.{puts_of};
@@ -28,6 +28,7 @@ pub struct Kept<S> {
     name: u64,
     // Whether the last put failed: the log may ask for it still.
     unsettled: bool,
+    ghost small: { name < 2 ^ 64 },
 }
 
 /// Does what the log asks for.
@@ -121,6 +122,9 @@ impl<S: Storage + Drop> Kept<S> {
         ensures follows { Follows (put_plan self.old.name (puts_of changes.now)) (S.known self.old.storage) (S.known self.new.storage) result }
         ensures any_moment { (image : ℕ → List ℕ) → Knows (IsAtRest image) (S.known self.old.storage)
             → EachMoment (IsUnderWay self.old.name (puts_of changes.now) image (put (puts_of changes.now) image))
+            (S.known self.old.storage) (S.known self.new.storage) }
+        ensures finds { (image : ℕ → List ℕ) → Knows (IsAtRest image) (S.known self.old.storage)
+            → EachMoment (FindsEither self.old.name image (put (puts_of changes.now) image))
             (S.known self.old.storage) (S.known self.new.storage) }
         ensures ok { (image : ℕ → List ℕ) → Knows (IsAtRest image) (S.known self.old.storage)
             → OnOk result (Knows (IsAtRest (put (puts_of changes.now) image)) (S.known self.new.storage)) }

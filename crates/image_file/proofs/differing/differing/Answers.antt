@@ -1,4 +1,5 @@
 use Rattle.std.proofs.Common.{◌≡◌, ◌+◌, ◌≤◌, [], ◌∷◌, ◌++◌, List, ℕ, length, sym, ◌∙◌, arith, true}
+use Rattle.std.specs.List.{zip}
 use Rattle.std.specs.Str.{bytes_eq}
 use Rattle.std.proofs.lemmas.Slice.Eq.{bytes_eq-Decides}
 use Rattle.redo.proofs.Left.{happens-append}
@@ -30,6 +31,6 @@ loop-n-preserved g c =
             makes = λ d shows.
                 let held = reads_image d (known c.loop-n.storage) c.loop-n.n c.in_ok-held.held (known_still (ShowsImage d) (known c.args.storage.now) (known c.loop-n.storage) c.loop-n.invariant.same shows) c.in_ok-held.ensures.bytes in
                 let equal : bytes_eq c.in_ok-held.held c.unit_at-unit.result ≡ true = sym c.is_same.ensures ∙ w.if-not-is_same.false in
-                rw (w.numbers-is, w.units-is) (makes_same _ c.loop-n.n c.args.image.now c.unit_at-unit.result c.in_ok-held.held d (c.loop-n.invariant.makes d shows) c.unit_at-unit.ensures held ((bytes_eq-Decides c.in_ok-held.held c.unit_at-unit.result).0 equal));
+                rw (w.numbers-is, w.units-is) (makes_same (zip c.loop-n.numbers.items c.loop-n.units.items) c.loop-n.n c.args.image.now c.unit_at-unit.result c.in_ok-held.held d (c.loop-n.invariant.makes d shows) c.unit_at-unit.ensures held ((bytes_eq-Decides c.in_ok-held.held c.unit_at-unit.result).0 equal));
           }
     ]

@@ -2,6 +2,7 @@ use Rattle.std.proofs.Common.{◌≡◌, ℕ, List, length, refl, sym, ◌∙◌
 use Rattle.stable.specs.Disk.{Contents, Changes, put}
 use Rattle.stable.specs.Runs.{Known, now, Knows, ShowsLog}
 use Rattle.changes.specs.Units.{unit_of}
+use Rattle.redo.specs.Asked.{standing_of}
 use Rattle.redo.specs.Record.{standing, Standing, redone, Nothing, Redo}
 use Rattle.image_file.specs.Images.{IsReadThrough, within}
 use Rattle.image_file.proofs.Bytes.{unit_itself}
@@ -14,7 +15,7 @@ pub returns-in-Nothing-clause-read : goal.returns-in-Nothing-clause-read
 returns-in-Nothing-clause-read g c k is sound =
     let log : Contents = (now k).log.shows in
     let image : List ℕ = c.args.image.now in
-    let none : Nothing ≡ standing c.args.name log = c.in_ok-read_log.ensures.says log (shows_first (g.S.Storage.known c.args.storage.now) k is sound) in
+    let none : Nothing ≡ standing c.args.name log = ap standing_of (sym c.in-Nothing.is) ∙ c.in_ok-read_log.ensures.says log (shows_first (g.S.Storage.known c.args.storage.now) k is sound) in
     record {
       found = unit_of image;
       found_is = ap (λ (s : Standing). redone s (unit_of image)) (sym none);
@@ -27,7 +28,7 @@ returns-in-Changes-clause-read g c k is sound =
     let log : Contents = (now k).log.shows in
     let image : List ℕ = c.args.image.now in
     let ws : Changes = c.in-Changes.changes.items in
-    let redo : Redo ws ≡ standing c.args.name log = c.in_ok-read_log.ensures.says log (shows_first (g.S.Storage.known c.args.storage.now) k is sound) in
+    let redo : Redo ws ≡ standing c.args.name log = ap standing_of (sym c.in-Changes.is) ∙ c.in_ok-read_log.ensures.says log (shows_first (g.S.Storage.known c.args.storage.now) k is sound) in
     record {
       found = put ws (unit_of image);
       found_is = ap (λ (s : Standing). redone s (unit_of image)) (sym redo);
