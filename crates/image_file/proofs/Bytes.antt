@@ -1,9 +1,9 @@
 -- The bytes of units.
-use Rattle.std.proofs.Common.{◌≡◌, ◌⊎◌, inl, inr, ℕ, suc, ◌+◌, ◌-◌, ◌*◌, ◌<◌, ◌≤◌, List, [], ◌∷◌, ◌++◌, length, take, drop, replicate, min, get_or, refl, sym, ◌∙◌, ap, arith, length-append}
+use Rattle.std.proofs.Common.{◌≡◌, inl, inr, ℕ, ◌+◌, ◌-◌, ◌*◌, ◌<◌, ◌≤◌, List, [], ◌∷◌, ◌++◌, length, take, drop, replicate, min, get_or, refl, sym, ◌∙◌, ap, arith, length-append}
 use Rattle.std.proofs.lemmas.Bool.{cases_lt, cases_eq, cases_order}
 use Rattle.std.proofs.lemmas.List.{ext_get_or, length-take, length-drop, length-replicate, get_or-take, get_or-drop, get_or_append_left, get_or-append_right, get_or-replicate, get_or_past}
 use Rattle.stable.specs.Disk.{Contents, Changes, set, put}
-use Rattle.redo.proofs.Units.{set_same, set_other, put_agrees, put-append}
+use Rattle.redo.proofs.Units.{set_same, set_other, put-append}
 use Rattle.changes.specs.Units.{padded, unit_of}
 use Rattle.image_file.specs.Images.{within}
 

@@ -1,11 +1,11 @@
 -- Each moment of a put.
 use Rattle.std.proofs.Common.{◌≡◌, ◌⊎◌, inl, inr, ⊎_elim, ℕ, ◌^◌, ◌<◌, List, [], ◌∷◌, ◌++◌, length, arith, refl, sym, ◌∙◌, subst, Option, Some, None, Result, Ok, Err, OnOk, OnErr}
 use Rattle.std.specs.List.{zip}
-use Rattle.stable.specs.Disk.{Contents, Changes, put, Disk, Step, Event, Leaves, run}
+use Rattle.stable.specs.Disk.{Contents, Changes, put, Disk, Step, Event, run}
 use Rattle.stable.specs.Runs.{Known, now, Happens, Follows, Knows, EachMoment}
 use Rattle.redo.specs.Record.{recovered}
 use Rattle.redo.specs.Plans.{commit_plan}
-use Rattle.redo.specs.UnderWay.{Fits, IsAtRest, IsUnderWay, IsSure}
+use Rattle.redo.specs.UnderWay.{Fits, IsAtRest, IsUnderWay}
 use Rattle.redo.specs.Laws.{IsImage, FindsEither, RestsWithEither}
 use Rattle.redo.proofs.Left.{happens-nil}
 use Rattle.redo.proofs.Units.{put_agrees}

@@ -119,7 +119,8 @@ impl<S: Storage + Drop> Kept<S> {
         ensures name { self.new.name ≡ self.old.name }
         ensures settled { OnOk result (self.new.unsettled ≡ false) }
         ensures unsettled { OnErr result (self.new.unsettled ≡ true) }
-        ensures follows { Follows (put_plan self.old.name (puts_of changes.now)) (S.known self.old.storage) (S.known self.new.storage) result }
+        ensures follows { Follows (put_plan self.old.name (puts_of changes.now))
+            (S.known self.old.storage) (S.known self.new.storage) result }
         ensures any_moment { (image : ℕ → List ℕ) → Knows (IsAtRest image) (S.known self.old.storage)
             → EachMoment (IsUnderWay self.old.name (puts_of changes.now) image (put (puts_of changes.now) image))
             (S.known self.old.storage) (S.known self.new.storage) }
@@ -165,7 +166,8 @@ impl<S: Storage + Drop> Kept<S> {
             (S.known self.new.storage)) }
         ensures again_any_moment { (failed : List (ℕ × List ℕ)) (before after : ℕ → List ℕ) → self.old.unsettled ≡ true → Fits failed
             → Knows (IsRecoverable self.old.name failed before after) (S.known self.old.storage)
-            → EachMoment (FindsBetween self.old.name (puts_of changes.now) before after) (S.known self.old.storage) (S.known self.new.storage) }
+            → EachMoment (FindsBetween self.old.name (puts_of changes.now) before after)
+            (S.known self.old.storage) (S.known self.new.storage) }
         ensures again_ok { (failed : List (ℕ × List ℕ)) (before after : ℕ → List ℕ) → self.old.unsettled ≡ true → Fits failed
             → Knows (IsRecoverable self.old.name failed before after) (S.known self.old.storage)
             → OnOk result (Knows (RestsWithEither (put (puts_of changes.now) before) (put (puts_of changes.now) after))
@@ -184,7 +186,8 @@ impl<S: Storage + Drop> Kept<S> {
         ensures settled { OnOk result (self.new.unsettled ≡ false) }
         ensures any_moment { (before : ℕ → List ℕ) → self.old.unsettled ≡ false → Knows (IsAtRest before) (S.known self.old.storage)
             → Knows (ShowsImage before) (S.known self.old.storage)
-            → EachMoment (FindsEither self.old.name before (with_image image.now before)) (S.known self.old.storage) (S.known self.new.storage) }
+            → EachMoment (FindsEither self.old.name before (with_image image.now before))
+            (S.known self.old.storage) (S.known self.new.storage) }
         ensures ok { (before : ℕ → List ℕ) → self.old.unsettled ≡ false → Knows (IsAtRest before) (S.known self.old.storage)
             → Knows (ShowsImage before) (S.known self.old.storage)
             → OnOk result (Knows (IsAtRest (with_image image.now before)) (S.known self.new.storage)) }

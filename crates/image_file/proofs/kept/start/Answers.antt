@@ -1,5 +1,5 @@
-use Rattle.std.proofs.Common.{◌≡◌, List, [], ◌∷◌, refl, sym, ◌∙◌, subst, Option, Some, map}
-use Rattle.stable.specs.Disk.{Step, Sync, Did}
+use Rattle.std.proofs.Common.{◌≡◌, ◌∷◌, refl, sym, ◌∙◌, subst, Option, Some, map}
+use Rattle.stable.specs.Disk.{Sync, Did}
 use Rattle.stable.specs.declared.Which.TheVariants.{Log}
 use Rattle.stable.specs.Runs.{Known, now, Happens}
 use Rattle.redo.specs.Record.{standing, Standing, Nothing, Redo, Foreign}

@@ -4,7 +4,7 @@ use Rattle.stable.specs.Runs.{Known, now, Knows, ShowsLog}
 use Rattle.changes.specs.Units.{unit_of}
 use Rattle.redo.specs.Asked.{standing_of}
 use Rattle.redo.specs.Record.{standing, Standing, redone, Nothing, Redo}
-use Rattle.image_file.specs.Images.{IsReadThrough, within}
+use Rattle.image_file.specs.Images.{within}
 use Rattle.image_file.proofs.Bytes.{unit_itself}
 use Rattle.image_file.proofs.reading.read_through.Goals as goal
 

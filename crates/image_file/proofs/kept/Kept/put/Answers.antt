@@ -1,4 +1,4 @@
-use Rattle.std.proofs.Common.{◌≡◌, ℕ, sym, subst}
+use Rattle.std.proofs.Common.{ℕ, subst}
 use Rattle.stable.specs.Disk.{put}
 use Rattle.stable.specs.Runs.{Knows, EachMoment}
 use Rattle.redo.specs.UnderWay.{IsAtRest, IsUnderWay}

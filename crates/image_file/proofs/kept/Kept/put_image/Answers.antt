@@ -1,4 +1,4 @@
-use Rattle.std.proofs.Common.{◌≡◌, ℕ, [], sym, subst}
+use Rattle.std.proofs.Common.{ℕ, [], sym, subst}
 use Rattle.stable.specs.Disk.{put}
 use Rattle.stable.specs.Runs.{Happens, Knows, EachMoment}
 use Rattle.redo.specs.Laws.{FindsEither}
