@@ -1,27 +1,29 @@
 -- The bytes of units.
-use Rattle.std.proofs.Common.{◌≡◌, ◌⊎◌, inl, inr, ℕ, suc, ◌+◌, ◌-◌, ◌*◌, ◌<◌, ◌≤◌, List, [], ◌∷◌, ◌++◌, length, take, drop, replicate, min, get_or, refl, sym, ◌∙◌, ap, arith, length-append}
+use Rattle.std.proofs.Common.{◌≡◌, inl, inr, ℕ, ◌+◌, ◌-◌, ◌*◌, ◌<◌, ◌≤◌, List, [], ◌∷◌, ◌++◌, length, take, drop, replicate, min, get_or, refl, sym, ◌∙◌, ap, arith, length-append}
 use Rattle.std.proofs.lemmas.Bool.{cases_lt, cases_eq, cases_order}
 use Rattle.std.proofs.lemmas.List.{ext_get_or, length-take, length-drop, length-replicate, get_or-take, get_or-drop, get_or_append_left, get_or-append_right, get_or-replicate, get_or_past}
 use Rattle.stable.specs.Disk.{Contents, Changes, set, put}
-use Rattle.redo.proofs.Units.{set_same, set_other, put_agrees, put-append}
+use Rattle.redo.proofs.Units.{set_same, set_other, put-append}
 use Rattle.changes.specs.Units.{padded, unit_of}
 use Rattle.image_file.specs.Images.{within}
 
-zero_byte : (n i : ℕ) → get_or (replicate n 0) i 0 ≡ 0
-zero_byte n i = elim (cases_lt i n) [
-  | inl there ↦ get_or-replicate n i 0 0 there
-  | inr past ↦ get_or_past (replicate n 0) i 0 (omega (arith, length-replicate n 0))
+same_zero : (n i z : ℕ) → get_or (replicate n z) i z ≡ z
+same_zero n i z = elim (cases_lt i n) [
+  | inl there ↦ get_or-replicate n i z z there
+  | inr past ↦ get_or_past (replicate n z) i z (omega (arith, length-replicate n z))
 ]
 
 -- zeros behind bytes change no byte, since there is 0 where there is none
 padded_byte : (bytes : List ℕ) (i : ℕ) → get_or (padded bytes) i 0 ≡ get_or bytes i 0
 padded_byte bytes i = elim (cases_lt i (length bytes)) [
   | inl there ↦ get_or_append_left bytes (replicate (4096 - length bytes) 0) 0 i there
-  | inr past ↦ get_or-append_right bytes (replicate (4096 - length bytes) 0) (length bytes) i 0 refl past ∙ zero_byte (4096 - length bytes) (i - length bytes) ∙ sym (get_or_past bytes i 0 past)
+  | inr past ↦ get_or-append_right bytes (replicate (4096 - length bytes) 0) (length bytes) i 0 refl past ∙ same_zero (4096 - length bytes) (i - length bytes) 0 ∙ sym (get_or_past bytes i 0 past)
 ]
 
 length-padded : (bytes : List ℕ) → length bytes ≤ 4096 → length (padded bytes) ≡ 4096
-length-padded bytes few = omega (arith, length-append bytes (replicate (4096 - length bytes) 0), length-replicate (4096 - length bytes) 0)
+length-padded bytes few =
+    let zero_of : ℕ = 0 in
+    omega (arith, length-append bytes (replicate (4096 - length bytes) zero_of), length-replicate (4096 - length bytes) zero_of)
 
 length-unit : (image : List ℕ) (n : ℕ) → length (unit_of image n) ≡ 4096
 length-unit image n = length-padded (take 4096 (drop (4096 * n) image)) (omega (arith, length-take 4096 (drop (4096 * n) image)))

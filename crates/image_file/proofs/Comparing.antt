@@ -1,6 +1,7 @@
 -- The units in which an image file differs from an image, while they are looked for.
-use Rattle.std.proofs.Common.{◌≡◌, ◌⊎◌, inl, inr, ℕ, ◌+◌, ◌<◌, ◌≤◌, List, [], ◌∷◌, ◌++◌, length, refl, sym, ◌∙◌, ap, arith, Option, Some, None, Bool, true, false}
+use Rattle.std.proofs.Common.{◌≡◌, inl, inr, ℕ, ◌+◌, ◌<◌, ◌≤◌, List, [], ◌∷◌, ◌++◌, length, refl, sym, ◌∙◌, ap, arith, Option, Some, None}
 use Rattle.std.specs.List.{zip}
+use Rattle.std.proofs.lemmas.List.{length_push}
 use Rattle.std.proofs.lemmas.Bool.{cases_eq, cases_order}
 use Rattle.std.proofs.lemmas.Bool.Decides.{nat_tests}
 use Rattle.stable.specs.declared.Which.TheVariants.{Image}
@@ -74,3 +75,9 @@ makes_more ns ns' us us' count image unit c long is_ns is_us was is n =
           ∙ sym (with_below (count + 1) image c n (omega arith))
       | inr other ↦ first ∙ set_other (put ws c) (count, unit) n other ∙ was n ∙ with_other count image c n other
     ]
+
+pub long_more : (ns ns' : List ℕ) (us us' : List (List ℕ)) (n : ℕ) (u : List ℕ) → length ns ≡ length us → ns' ≡ ns ++ n ∷ [] → us' ≡ us ++ u ∷ [] → length ns' ≡ length us'
+long_more ns ns' us us' n u same is_ns is_us = ap length is_ns ∙ length_push ns n ∙ ap (λ (k : ℕ). k + 1) same ∙ sym (length_push us u) ∙ sym (ap length is_us)
+
+pub few_more : (ns ns' : List ℕ) (n count : ℕ) → length ns ≤ count → ns' ≡ ns ++ n ∷ [] → length ns' ≤ count + 1
+few_more ns ns' n count few is = omega (arith, ap length is, length_push ns n)

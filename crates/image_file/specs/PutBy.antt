@@ -1,6 +1,6 @@
 -- What a put into an image file comes to: its files before and after it, and at each moment between.
 use Rattle.std.specs.Prelude.{◌≡◌, ℕ, List, Option, Result, OnOk, false}
-use Rattle.stable.specs.Disk.{Changes, put}
+use Rattle.stable.specs.Disk.{put}
 use Rattle.stable.specs.Runs.{Known, Knows, EachMoment}
 use Rattle.redo.specs.UnderWay.{IsAtRest}
 use Rattle.redo.specs.Laws.{FindsEither}

@@ -43,7 +43,7 @@ pub(crate) fn differing<S: Storage>(
     let mut units = Vec::new(alloc);
     for n in 0..count_units(image)? {
         let unit = unit_at(image, n);
-        let held = storage.read(Which::Image, u64::from(n))?;
+        let held = storage.read(Which::Image, n as u64)?;
         if !is_same(&held, &unit) {
             numbers.push(n)?;
             units.push(unit)?;

@@ -1,6 +1,6 @@
 //! An image file that is kept current through its log.
 
-ghost use Rattle.std.specs.Prelude.{◌≡◌, ◌≢◌, ℕ, List, length, map, is_ok, IfOk, OnOk, OnErr, Some, Err, true, false};
+ghost use Rattle.std.specs.Prelude.{◌≡◌, ◌≢◌, ◌<◌, ◌^◌, ℕ, List, length, map, is_ok, IfOk, OnOk, OnErr, Some, Err, true, false};
 ghost use Rattle.stable.specs.Disk.{put, Did};
 ghost use Rattle.stable.specs.Runs.{Known, now, Knows, EachMoment, Happens, Follows};
 ghost use Rattle.changes.specs.Units.{puts_of};
@@ -28,6 +28,7 @@ pub struct Kept<S> {
     name: u64,
     // Whether the last put failed: the log may ask for it still.
     unsettled: bool,
+    ghost small: { name < 2 ^ 64 },
 }
 
 /// Does what the log asks for.
@@ -80,7 +81,7 @@ impl<S: Storage + Drop> Kept<S> {
 
     /// The files.
     pub fn into_storage(self) -> S
-        ensures { result ≡ self.entry.storage }
+        ensures { result ≡ self.storage }
     {
         let Kept { storage, .. } = self;
         storage
@@ -118,9 +119,13 @@ impl<S: Storage + Drop> Kept<S> {
         ensures name { self.new.name ≡ self.old.name }
         ensures settled { OnOk result (self.new.unsettled ≡ false) }
         ensures unsettled { OnErr result (self.new.unsettled ≡ true) }
-        ensures follows { Follows (put_plan self.old.name (puts_of changes.now)) (S.known self.old.storage) (S.known self.new.storage) result }
+        ensures follows { Follows (put_plan self.old.name (puts_of changes.now))
+            (S.known self.old.storage) (S.known self.new.storage) result }
         ensures any_moment { (image : ℕ → List ℕ) → Knows (IsAtRest image) (S.known self.old.storage)
             → EachMoment (IsUnderWay self.old.name (puts_of changes.now) image (put (puts_of changes.now) image))
+            (S.known self.old.storage) (S.known self.new.storage) }
+        ensures finds { (image : ℕ → List ℕ) → Knows (IsAtRest image) (S.known self.old.storage)
+            → EachMoment (FindsEither self.old.name image (put (puts_of changes.now) image))
             (S.known self.old.storage) (S.known self.new.storage) }
         ensures ok { (image : ℕ → List ℕ) → Knows (IsAtRest image) (S.known self.old.storage)
             → OnOk result (Knows (IsAtRest (put (puts_of changes.now) image)) (S.known self.new.storage)) }
@@ -161,7 +166,8 @@ impl<S: Storage + Drop> Kept<S> {
             (S.known self.new.storage)) }
         ensures again_any_moment { (failed : List (ℕ × List ℕ)) (before after : ℕ → List ℕ) → self.old.unsettled ≡ true → Fits failed
             → Knows (IsRecoverable self.old.name failed before after) (S.known self.old.storage)
-            → EachMoment (FindsBetween self.old.name (puts_of changes.now) before after) (S.known self.old.storage) (S.known self.new.storage) }
+            → EachMoment (FindsBetween self.old.name (puts_of changes.now) before after)
+            (S.known self.old.storage) (S.known self.new.storage) }
         ensures again_ok { (failed : List (ℕ × List ℕ)) (before after : ℕ → List ℕ) → self.old.unsettled ≡ true → Fits failed
             → Knows (IsRecoverable self.old.name failed before after) (S.known self.old.storage)
             → OnOk result (Knows (RestsWithEither (put (puts_of changes.now) before) (put (puts_of changes.now) after))
@@ -180,7 +186,8 @@ impl<S: Storage + Drop> Kept<S> {
         ensures settled { OnOk result (self.new.unsettled ≡ false) }
         ensures any_moment { (before : ℕ → List ℕ) → self.old.unsettled ≡ false → Knows (IsAtRest before) (S.known self.old.storage)
             → Knows (ShowsImage before) (S.known self.old.storage)
-            → EachMoment (FindsEither self.old.name before (with_image image.now before)) (S.known self.old.storage) (S.known self.new.storage) }
+            → EachMoment (FindsEither self.old.name before (with_image image.now before))
+            (S.known self.old.storage) (S.known self.new.storage) }
         ensures ok { (before : ℕ → List ℕ) → self.old.unsettled ≡ false → Knows (IsAtRest before) (S.known self.old.storage)
             → Knows (ShowsImage before) (S.known self.old.storage)
             → OnOk result (Knows (IsAtRest (with_image image.now before)) (S.known self.new.storage)) }

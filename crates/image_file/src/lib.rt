@@ -1,5 +1,5 @@
-//! An image file that survives a crash: what changed is put by its redo log, so that the next start finds the image of the last put that was
-//! answered ok, or of the one under way, whole.
+//! An image file that survives a crash: what changed is put by its redo log, so that the next start finds the image of the last put that
+//! was answered ok, or of the one under way, whole.
 #![tactic(auto)]
 
 mod differing;

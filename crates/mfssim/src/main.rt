@@ -2,8 +2,10 @@
 #![tactic(auto)]
 
 use host::command_line::{line_of, status_for};
+use host::image_files::reading::read_image;
 use host::play_words::mfssim::{MfssimWords, read};
 use modeldisk::supply::{drivers_for, setup_for, table_in};
+use output::tell;
 use simulation::inputs::File;
 use simulation::simulate::simulate;
 use std::process::ExitCode;
@@ -17,10 +19,13 @@ fn file<'n, 'b>(name: &'n str, bytes: &'b Option<Vec<u8>>) -> File<'n, 'b> {
     }
 }
 
-/// Runs the schedule that the words name on the image that they name.
-fn run_files(rt: HostRuntime, words: &MfssimWords<'_>) -> io::Result<ExitCode> {
+/// Runs the schedule that the words name on an image, whose bytes are none where it couldn't be read.
+fn run_on(
+    rt: HostRuntime,
+    words: &MfssimWords<'_>,
+    image: Option<Vec<u8>>,
+) -> io::Result<ExitCode> {
     let alloc = rt.alloc();
-    let image = fs::read(&rt, words.image).ok();
     let schedule = fs::read(&rt, words.schedule).ok();
     let table = table_in(image.as_deref().unwrap_or(&[]));
     let supply = drivers_for(alloc, words.spares, false, table)?;
@@ -29,6 +34,17 @@ fn run_files(rt: HostRuntime, words: &MfssimWords<'_>) -> io::Result<ExitCode> {
     let (mut out, mut err) = (io::writer(&rt), rt.stderr());
     let status = simulate(alloc, image, schedule, &setup, supply, &mut out, &mut err);
     Ok(ExitCode::from(status.number()))
+}
+
+/// The same on the image that the words name, with what its log asks for. Where it is refused a line on standard error says why.
+fn run_files(rt: HostRuntime, words: &MfssimWords<'_>) -> io::Result<ExitCode> {
+    match read_image(&rt, words.image) {
+        Ok(image) => run_on(rt, words, image),
+        Err(refusal) => {
+            tell(rt.alloc(), &mut rt.stderr(), &refusal);
+            Ok(ExitCode::from(1))
+        }
+    }
 }
 
 fn main(rt: HostRuntime) -> io::Result<ExitCode> {

@@ -17,8 +17,8 @@ pub trait Archive {
     /// How the image at the end may be put: the state before, the image's bytes, what is answered, and the state after.
     ghost ends: { Self → List ℕ → Result (Unit {0}) Errno → Self → Type 0 };
 
-    /// Puts changed units into the image that is kept, whole or not at all. Where it is refused, the error is what the sync is answered, and
-    /// the units are in the next changes again.
+    /// Puts changed units into the image that is kept, whole or not at all. Where it is refused, the error is what the sync is answered,
+    /// and the units are in the next changes again.
     fn put(&mut self, changes: &Changes) -> Result<(), Errno>
         ensures { puts self.old (puts_of changes.now) result self.new };
 

@@ -1,4 +1,5 @@
-//! Tests of the redo log and of an image file over it: crashes after every step of a commit, of its recovery and of the recovery of that, and failed writes and syncs.
+//! Tests of the redo log and of an image file over it: crashes after every step of a commit, of its recovery and of the recovery of that,
+//! and failed writes and syncs.
 #![tactic(auto)]
 
 #[cfg(test)]

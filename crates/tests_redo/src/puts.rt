@@ -1,5 +1,7 @@
 //! An image file that changes are put into: puts that are cut off, that fail, and that follow one that failed.
-use crate::crashes::{Files, NAME, Wanted, all_recover, found_after, found_after_failure, is_image};
+use crate::crashes::{
+    Files, NAME, Wanted, all_recover, found_after, found_after_failure, is_image,
+};
 use changes::Changes;
 use image_file::{Kept, OpenRefusal, read_through};
 use redo::log;
@@ -42,9 +44,7 @@ fn opened(alloc: Global, fails_at: usize) -> Result<(Files, Kept<Memory>), Fail>
 fn cut(alloc: Global, fails_at: usize) -> Result<bool, Fail> {
     let (mut files, mut kept) = opened(alloc, fails_at)?;
     files.age = 1;
-    let is_ok = kept
-        .put(&changes_of(alloc, &[0], &[7])?)
-        .is_ok();
+    let is_ok = kept.put(&changes_of(alloc, &[0], &[7])?).is_ok();
     let mut work = Vec::new(alloc);
     let memory = kept.into_storage();
     if is_ok {
@@ -130,7 +130,10 @@ fn read_as(rt: &HostRuntime, name: u64) -> Result<String, Fail> {
         Err(refusal) => format!(in alloc; "{} {refusal}", refusal.number())?,
     };
     let asked = memory.history().len() - steps;
-    Ok(format!(in alloc; "{text} {asked} {} {} {} {}", image[4095], image[4096], image[8191], image[8201])?)
+    Ok(format!(in alloc;
+        "{text} {asked} {} {} {} {}",
+        image[4095], image[4096], image[8191], image[8201]
+    )?)
 }
 
 #[test]

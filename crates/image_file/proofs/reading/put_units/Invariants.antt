@@ -4,8 +4,8 @@ use Rattle.changes.specs.Units.{unit_of}
 use Rattle.image_file.specs.Images.{within}
 use Rattle.image_file.proofs.reading.put_units.Given as goal
 
-abbrev pub invariant-loop : goal.invariant-loop
-invariant-loop l = record {
+abbrev pub invariant-loop-number : goal.invariant-loop-number
+invariant-loop-number l = record {
   size : length l.image ≡ length l.fn.image;
-  units : (n : ℕ) → unit_of l.image n ≡ within (length l.fn.image) n (put (take l.index l.items) (unit_of l.fn.image) n);
+  units : (n : ℕ) → unit_of l.image n ≡ within (length l.fn.image) n (put (take l.number-index l.changes) (unit_of l.fn.image) n);
 }
