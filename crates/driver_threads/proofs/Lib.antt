@@ -1,3 +1,0 @@
-pub mod Confining
-pub mod Marking
-pub mod Sequences

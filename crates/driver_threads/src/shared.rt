@@ -4,12 +4,12 @@ ghost use Rattle.std.specs.Prelude.{◌≡◌, IfOk};
 ghost use Rattle.std.specs.Arc.{arc_value};
 ghost use Rattle.true_replies.specs.Events.{opening_media};
 
-use crate::confined::Confined;
 use board::Board;
 use board::counting::parameters::ServiceParameters;
 use gate::Gate;
 use gate::bell::Bell;
 use media::Media;
+use shared_media::confined::Confined;
 use std::alloc::{AllocError, Global};
 use std::sync::{Arc, Mutex};
 

@@ -17,7 +17,7 @@ use Rattle.shared_server.specs.declared.locked.LastSync.{LastSync}
 use Rattle.shared_server.specs.declared.locked.LastSync.TheVariants as sync
 use Rattle.shared_server.specs.declared.refusal.SessionRefusal.{SessionRefusal}
 use Rattle.shared_server.specs.declared.refusal.SessionRefusal.TheVariants.{Stopped}
-use Rattle.driver_threads.specs.Confined.{IsImageOutside}
+use Rattle.shared_media.specs.Confined.{IsImageOutside}
 use Rattle.serve.specs.Stopping.{no_image_name}
 use Rattle.volume_mount.specs.StartupRefusals.{start_refusal_text}
 use Rattle.service_start.specs.Ran.{IsNotStarted}

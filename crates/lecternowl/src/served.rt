@@ -1,7 +1,7 @@
 //! A service, as what runs over it has it.
 
 ghost use Rattle.std.specs.Prelude.{◌≡◌, [], IfErr, IfOk};
-ghost use Rattle.driver_threads.specs.Confined.{IsImageOutside};
+ghost use Rattle.shared_media.specs.Confined.{IsImageOutside};
 ghost use Rattle.shared_server.specs.Finishing.{sync_of};
 ghost use Rattle.serve.specs.Stopping.{IsLastImage};
 ghost use Rattle.lecternowl.specs.Serving.{IsNotOpened, IsOpened};

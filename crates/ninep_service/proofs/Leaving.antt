@@ -8,7 +8,7 @@ use Rattle.records.specs.Opening.{Opening}
 use Rattle.reissue.specs.declared.link.Link.{Ghosts as LinkWords}
 use Rattle.shared_server.specs.Stopping.{Went}
 use Rattle.shared_server.specs.declared.locked.LastSync.{LastSync}
-use Rattle.driver_threads.specs.Confined.{IsImageOutside}
+use Rattle.shared_media.specs.Confined.{IsImageOutside}
 use Rattle.serve.specs.Stopping.{IsImageOf, IsLastImage, WhyNotSynced}
 use Rattle.serve.specs.declared.stopping.StopRefusal.{StopRefusal}
 use Rattle.serve.proofs.StoppingLaws.{image_given}

@@ -2,7 +2,7 @@
 use Rattle.std.specs.Prelude.{ℕ, List, Option, Result, OnOk}
 use Rattle.layout.specs.declared.Geometry.{Geometry}
 use Rattle.records.specs.Opening.{Opening}
-use Rattle.driver_threads.specs.Confined.{IsImageOutside}
+use Rattle.shared_media.specs.Confined.{IsImageOutside}
 use Rattle.ninep_stream.specs.declared.answering.StreamRefusal.{StreamRefusal}
 use Rattle.ninep_service.specs.Spoken.{Puts, IsSpoken}
 

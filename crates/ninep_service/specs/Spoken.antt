@@ -14,7 +14,7 @@ use Rattle.file_server.specs.Over.{outcome_of}
 use Rattle.shared_server.specs.Held.{HoldsIfTrue}
 use Rattle.changes.specs.declared.taken.Changes.{Changes}
 use Rattle.changes.specs.Units.{puts_of}
-use Rattle.driver_threads.specs.Marking.{AreChangesOutside}
+use Rattle.shared_media.specs.Marking.{AreChangesOutside}
 use Rattle.ninep_fids.specs.Knowledge.{Known}
 use Rattle.ninep_stream.specs.Answered.{IsAnsweredAll}
 use Rattle.ninep_stream.specs.Exchanges.{answers, nobody}

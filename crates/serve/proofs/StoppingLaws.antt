@@ -10,7 +10,7 @@ use Rattle.shared_server.specs.Finishing.{sync_of}
 use Rattle.shared_server.specs.declared.locked.LastSync.{LastSync}
 use Rattle.shared_server.specs.declared.locked.LastSync.TheVariants as sync
 use Rattle.shared_server.proofs.StoppingLaws.{line_from}
-use Rattle.driver_threads.specs.Confined.{IsImageOutside}
+use Rattle.shared_media.specs.Confined.{IsImageOutside}
 use Rattle.serve.specs.Stopping.{IsImageOf, IsLastImage, IsLeftAfter, WhyNotSynced}
 use Rattle.serve.specs.declared.stopping.StopRefusal.{StopRefusal}
 use Rattle.serve.specs.declared.stopping.StopRefusal.TheVariants.{SessionsLeft, GivenUp, OutOfMemory, LinkEnded}

@@ -8,7 +8,7 @@ use Rattle.reissue.specs.declared.link.Link.{Ghosts as LinkWords}
 use Rattle.shared_server.specs.Stopping.{IsLastLine, SyncEnd, WasGivenUp, WasCut}
 use Rattle.shared_server.specs.declared.locked.LastSync.{LastSync}
 use Rattle.shared_server.specs.declared.locked.LastSync.TheVariants as sync
-use Rattle.driver_threads.specs.Confined.{IsImageOutside, KeepsOutside}
+use Rattle.shared_media.specs.Confined.{IsImageOutside, KeepsOutside}
 use Rattle.serve.specs.declared.stopping.StopRefusal.{StopRefusal}
 use Rattle.serve.specs.declared.stopping.StopRefusal.TheVariants.{SessionsLeft, GivenUp, OutOfMemory, LinkEnded}
 use Rattle.serve.specs.declared.stopping.NoImage.{NoImage}

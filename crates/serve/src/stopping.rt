@@ -2,7 +2,7 @@
 
 ghost use Rattle.std.specs.Prelude.{◌≡◌, IfErr, IfOk, IfSome, Some};
 ghost use Rattle.media.specs.Contents.{IsWhole};
-ghost use Rattle.driver_threads.specs.Confined.{IsImageOutside, KeepsOutside};
+ghost use Rattle.shared_media.specs.Confined.{IsImageOutside, KeepsOutside};
 ghost use Rattle.serve.specs.Stopping.{IsImageOf, IsLeftAfter, IsNoImageOf, no_image_name, stop_refusal_number};
 
 use board::counting::parameters::ServiceParameters;

@@ -13,7 +13,7 @@ use Rattle.shared_server.specs.Finishing.{sync_of}
 use Rattle.shared_server.specs.declared.locked.LastSync.{LastSync}
 use Rattle.shared_server.specs.declared.locked.LastSync.TheVariants as sync
 use Rattle.shared_server.specs.declared.refusal.SessionRefusal.TheVariants.{Stopped}
-use Rattle.driver_threads.specs.Confined.{IsImageOutside}
+use Rattle.shared_media.specs.Confined.{IsImageOutside}
 use Rattle.serve.specs.Stopping.{no_image_name}
 use Rattle.call_text.specs.declared.scripts.timed.TimedCall.{TimedCall}
 use Rattle.reply_text.specs.declared.answers.Played.{Played}

@@ -15,9 +15,9 @@ use Rattle.bdev.specs.Promises.{StepKeeps, StepsAt, MovesBytes, IsNext}
 use Rattle.changes.specs.declared.taken.Changes.{Changes}
 use Rattle.changes.specs.Units.{units_in, is_marked, with_mark, with_marks, AreTaken}
 use Rattle.changes.proofs.Marking.{length-with_marks, still_set, still_marks}
-use Rattle.driver_threads.specs.Confined.{KeepsOutside, StaysInVolume}
-use Rattle.driver_threads.specs.Marking.{ConfinedState, MarksChanges, AreChangesOutside, units_of, marked_for}
-use Rattle.driver_threads.proofs.Confining.{keeps_stepped}
+use Rattle.shared_media.specs.Confined.{KeepsOutside, StaysInVolume}
+use Rattle.shared_media.specs.Marking.{ConfinedState, MarksChanges, AreChangesOutside, units_of, marked_for}
+use Rattle.shared_media.proofs.Confining.{keeps_stepped}
 
 -- media with marks
 abbrev with : MediaState → List Bool → ConfinedState

@@ -8,7 +8,7 @@ use Rattle.changes.proofs.Taking.{taken_is_all}
 use Rattle.changes.proofs.UnitBytes.{stays_unchanged}
 use Rattle.changes.specs.Units.{unit_of}
 use Rattle.std.specs.List.{concat}
-use Rattle.driver_threads.specs.Marking.{ConfinedState, MarksChanges, EachMarks, AgreesWith, AgreesOn, TakenAfterSteps, MarkedAgain, unmarked, units_of}
+use Rattle.shared_media.specs.Marking.{ConfinedState, MarksChanges, EachMarks, AgreesWith, AgreesOn, TakenAfterSteps, MarkedAgain, unmarked, units_of}
 
 joined : (a b c : ConfinedState) → MarksChanges a b → MarksChanges b c → MarksChanges a c
 joined a b c p q = record {

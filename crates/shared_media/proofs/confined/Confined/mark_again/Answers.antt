@@ -1,5 +1,5 @@
-use Rattle.driver_threads.proofs.Marking.{marked_again}
-use Rattle.driver_threads.proofs.confined.Confined.mark_again.Goals as goal
+use Rattle.shared_media.proofs.Marking.{marked_again}
+use Rattle.shared_media.proofs.confined.Confined.mark_again.Goals as goal
 
 pub returns-clause-changed : goal.returns-clause-changed
 returns-clause-changed g c =

@@ -6,7 +6,7 @@ use Rattle.records.specs.Opening.{Opening}
 use Rattle.stable.specs.Disk.{Contents, put}
 use Rattle.changes.specs.declared.taken.Changes.{Changes}
 use Rattle.changes.specs.Units.{units_in, is_marked, with_mark, with_marks, AgreesBut, AreTaken, puts_of, unit_of}
-use Rattle.driver_threads.specs.Confined.{IsImageOutside}
+use Rattle.shared_media.specs.Confined.{IsImageOutside}
 
 -- the media, and a mark for each unit of eight sectors
 pub record ConfinedState : Type 0 where

@@ -7,8 +7,8 @@ ghost use Rattle.true_replies.specs.Events.{opening_media};
 ghost use Rattle.bdev.specs.Promises.{StepKeeps};
 ghost use Rattle.bdev.specs.Stepping.{step_with};
 ghost use Rattle.changes.specs.Units.{AreTaken, with_marks};
-ghost use Rattle.driver_threads.specs.Confined.{KeepsOutside, IsImageOutside, IsInVolume, StaysInVolume, step_of};
-ghost use Rattle.driver_threads.specs.Marking.{AreChangesOutside, MarksChanges, marked_for, units_of, unmarked};
+ghost use Rattle.shared_media.specs.Confined.{KeepsOutside, IsImageOutside, IsInVolume, StaysInVolume, step_of};
+ghost use Rattle.shared_media.specs.Marking.{AreChangesOutside, MarksChanges, marked_for, units_of, unmarked};
 
 use bdev::{BlockDriver, Stepped};
 use board::counting::parameters::ServiceParameters;
@@ -36,8 +36,8 @@ pub struct Confined<N: ServiceParameters> {
 
 impl<N: ServiceParameters> Model for Confined<N> {
     ghost use Rattle.std.specs.Prelude.{◌≡◌, length};
-    ghost use Rattle.driver_threads.specs.Confined.{KeepsOutside};
-    ghost use Rattle.driver_threads.specs.Marking.{ConfinedState, units_of};
+    ghost use Rattle.shared_media.specs.Confined.{KeepsOutside};
+    ghost use Rattle.shared_media.specs.Marking.{ConfinedState, units_of};
 
     ghost Value = { ConfinedState };
 

@@ -1,7 +1,7 @@
 use Rattle.std.proofs.Common.{◌≡◌, ◌∙◌, ap, ℕ, Option}
-use Rattle.driver_threads.specs.Marking.{marked_for}
-use Rattle.driver_threads.proofs.Marking.{marks_step}
-use Rattle.driver_threads.proofs.confined.Confined.step.Goals as goal
+use Rattle.shared_media.specs.Marking.{marked_for}
+use Rattle.shared_media.proofs.Marking.{marks_step}
+use Rattle.shared_media.proofs.confined.Confined.step.Goals as goal
 
 pub returns-clause-changed : goal.returns-clause-changed
 returns-clause-changed g c =

@@ -1,6 +1,6 @@
 //! What marks beside the media are good for.
 
-ghost use Rattle.driver_threads.specs.Marking.{AgreesOn, MarkedAgain, TakenAfterSteps};
+ghost use Rattle.shared_media.specs.Marking.{AgreesOn, MarkedAgain, TakenAfterSteps};
 
 /// An image that agrees with the media but in marked units does so after any number of steps of drivers.
 pub fn agreement_stays()

@@ -11,7 +11,7 @@ use Rattle.bdev.specs.declared.Run.{Run}
 use Rattle.bdev.specs.DriverState.{DriverState, Work, chunk}
 use Rattle.bdev.specs.Promises.{StepKeeps, StepsAt, MovesBytes, IsNext}
 use Rattle.true_replies.specs.Events.{opening_media}
-use Rattle.driver_threads.specs.Confined.{KeepsOutside, IsInVolume, StaysInVolume}
+use Rattle.shared_media.specs.Confined.{KeepsOutside, IsInVolume, StaysInVolume}
 
 -- the media as they were handed in
 pub keeps_given : (v : Opening) (m : MediaState) → m ≡ opening_media v → KeepsOutside v m

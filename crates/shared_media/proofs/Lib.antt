@@ -1,0 +1,3 @@
+pub mod Confining
+pub mod Marking
+pub mod Sequences

@@ -1,0 +1,5 @@
+//! The media that the drivers of one volume share: they write in its partition alone, and what may have changed is marked.
+#![tactic(auto)]
+
+pub mod confined;
+pub mod laws;
