@@ -8,9 +8,11 @@ use Rattle.image_file.specs.declared.kept.Kept.{Kept}
 use Rattle.image_file.specs.Images.{ShowsImage, with_image}
 
 -- Where no put has failed and all is at rest: at each moment a crash leaves the image before or the image with these changes, and after an
--- ok all is at rest with the changes.
+-- ok all is at rest with the changes, for the next put.
 pub record IsPutBy {S E : Type 0} (known : S → Option Known) (old : Kept S) (changes : List (ℕ × List ℕ)) (answer : Result (Unit {0}) E)
     (new : Kept S) : Type 0 where
+  pub name : new.name ≡ old.name
+  pub settled : OnOk answer (new.unsettled ≡ false)
   pub any_moment : (image : ℕ → List ℕ) → old.unsettled ≡ false → Knows (IsAtRest image) (known old.storage)
       → EachMoment (FindsEither old.name image (put changes image)) (known old.storage) (known new.storage)
   pub ok : (image : ℕ → List ℕ) → old.unsettled ≡ false → Knows (IsAtRest image) (known old.storage)
@@ -19,6 +21,8 @@ pub record IsPutBy {S E : Type 0} (known : S → Option Known) (old : Kept S) (c
 -- The same of a whole image, where nothing asked of the image file has failed.
 pub record IsImagePutBy {S E : Type 0} (known : S → Option Known) (old : Kept S) (image : List ℕ) (answer : Result (Unit {0}) E)
     (new : Kept S) : Type 0 where
+  pub name : new.name ≡ old.name
+  pub settled : OnOk answer (new.unsettled ≡ false)
   pub any_moment : (before : ℕ → List ℕ) → old.unsettled ≡ false → Knows (IsAtRest before) (known old.storage)
       → Knows (ShowsImage before) (known old.storage)
       → EachMoment (FindsEither old.name before (with_image image before)) (known old.storage) (known new.storage)

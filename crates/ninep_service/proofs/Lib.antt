@@ -1,3 +1,4 @@
+mod Answering
 mod Putting
 mod Speaking
 mod Leaving
