@@ -1,9 +1,7 @@
 -- A sync that is answered ok was put into the archive.
-use Rattle.std.proofs.Common.{◌≡◌, ℕ, refl, subst, inl, inr}
+use Rattle.std.proofs.Common.{◌≡◌, refl, subst, inl, inr}
 use Rattle.std.specs.Prelude.{⊤, Option, Some, Result, Ok, Err}
-use Rattle.layout.specs.declared.Geometry.{Geometry}
 use Rattle.errno.specs.declared.Errno.{Errno}
-use Rattle.tree.specs.declared.Call.TheVariants.{Sync}
 use Rattle.tree.specs.declared.Outcome.{Outcome}
 use Rattle.tree.specs.declared.Outcome.TheVariants.{Reply}
 use Rattle.tree.specs.declared.Reply.TheVariants.{Done}

@@ -1,5 +1,5 @@
 -- What is spoken by sessions, by a part of their states: the archive.
-use Rattle.std.proofs.Common.{◌≡◌, ℕ, Bool, true, false, List, [], ◌∷◌, refl, ap, sym, subst, inl, inr}
+use Rattle.std.proofs.Common.{◌≡◌, ℕ, Bool, true, false, List, [], ◌∷◌, ap, sym, subst, inl, inr}
 use Rattle.std.specs.Prelude.{Option, Result, Ok, Err, OnOk}
 use Rattle.layout.specs.declared.Geometry.{Geometry}
 use Rattle.records.specs.Opening.{Opening}
