@@ -1,2 +1,1 @@
 pub mod Sparse
-pub mod Refusals

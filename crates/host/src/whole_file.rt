@@ -92,7 +92,7 @@ fn new_beside<R: Files + Alloc>(rt: &R, place: &str) -> io::Result<(R::File, Str
 }
 
 /// The name of the file itself, past symbolic links; the name as it was given where there is no file.
-pub(crate) fn place_of<R: Files + Alloc>(rt: &R, name: &str) -> io::Result<PathBuf<R::A>> {
+pub fn place_of<R: Files + Alloc>(rt: &R, name: &str) -> io::Result<PathBuf<R::A>> {
     match fs::canonicalize(rt, name) {
         Ok(path) => Ok(path),
         Err(error) if error.kind() == ErrorKind::NotFound => {
@@ -147,7 +147,7 @@ fn put<R: Files>(
 }
 
 /// Waits until the disk has the names of the folder in which a file lies.
-pub(crate) fn flush_folder<R: Files>(rt: &R, place: &str) -> io::Result<()> {
+pub fn flush_folder<R: Files>(rt: &R, place: &str) -> io::Result<()> {
     let folder = match Path::new(place).parent() {
         Some(folder) if !folder.as_str().is_empty() => folder.as_str(),
         _ => ".",

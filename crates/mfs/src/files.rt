@@ -1,10 +1,10 @@
 //! The files that a play reads, and the one that it leaves.
 
 use call_text::scripts::script_files::File;
-use host::image_files::beside::{Left, leave_beside};
-use host::image_files::locked::LockedImage;
 use host::play_words::mfs::MfsWords;
 use host::whole_file::read;
+use locked_image::beside::{Left, leave_beside};
+use locked_image::locked::LockedImage;
 use output::tell;
 use std::alloc::{AllocError, Global};
 use std::io;

@@ -1,13 +1,13 @@
 //! The image that a mount keeps: what it begins with, and what is left of it.
 
-use host::image_files::FilesRefusal;
-use host::image_files::beside::{Left, leave_beside};
-use host::image_files::locked::LockedImage;
-use host::image_files::reading::read_image;
-use host::image_files::storing::ImageFiles;
 use host::play_words::mfs9p::Mfs9pWords;
 use host::whole_file::read;
 use image_file::Kept;
+use locked_image::FilesRefusal;
+use locked_image::beside::{Left, leave_beside};
+use locked_image::locked::LockedImage;
+use locked_image::reading::read_image;
+use locked_image::storing::ImageFiles;
 use ninep_service::archive::Archive;
 use ninep_service::file_archive::FileArchive;
 use ninep_service::mount::{Ended, MountStatus, finish};

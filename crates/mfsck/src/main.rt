@@ -2,8 +2,8 @@
 #![tactic(auto)]
 
 use host::command_line::{line_of, status_for};
-use host::image_files::reading::read_image;
 use host::volume_words::mfsck::{MfsckWords, read as read_words};
+use locked_image::reading::read_image;
 use output::tell;
 use std::io;
 use std::process::ExitCode;

@@ -2,8 +2,8 @@
 #![tactic(auto)]
 
 use host::command_line::{line_of, status_for};
-use host::image_files::reading::read_image;
 use host::play_words::mfssim::{MfssimWords, read};
+use locked_image::reading::read_image;
 use modeldisk::supply::{drivers_for, setup_for, table_in};
 use output::tell;
 use simulation::inputs::File;

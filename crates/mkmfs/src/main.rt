@@ -2,8 +2,8 @@
 #![tactic(auto)]
 
 use host::command_line::{line_of, status_for};
-use host::image_files::locked::replace_image;
 use host::volume_words::mkmfs::{MkmfsWords, read};
+use locked_image::locked::replace_image;
 use output::tell;
 use std::io;
 use std::process::ExitCode;

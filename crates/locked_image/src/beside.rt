@@ -1,6 +1,6 @@
 //! An image that takes the place of none: it is left beside.
 
-use crate::whole_file::replace;
+use host::whole_file::replace;
 use std::fmt;
 use std::rt::Files;
 

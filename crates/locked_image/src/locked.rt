@@ -1,8 +1,8 @@
 //! An image that one program alone may write: it holds the lock of the image's log.
 
-use crate::image_files::storing::{ImageFiles, is_log, is_shut};
-use crate::image_files::{FilesRefusal, MOST_TRIES, image_at, is_at, is_taken, log_name};
-use crate::whole_file::{flush_folder, place_of, replace_filled};
+use crate::storing::{ImageFiles, is_log, is_shut};
+use crate::{FilesRefusal, MOST_TRIES, image_at, is_at, is_taken, log_name};
+use host::whole_file::{flush_folder, place_of, replace_filled};
 use image_file::{Kept, OpenRefusal};
 use std::alloc::Global;
 use std::fs::{self, File, OpenOptions};

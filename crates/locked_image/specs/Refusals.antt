@@ -1,7 +1,7 @@
 -- The numbers of refusals of image files.
 use Rattle.std.specs.Prelude.{ℕ}
-use Rattle.host.specs.declared.image_files.FilesRefusal.{FilesRefusal}
-use Rattle.host.specs.declared.image_files.FilesRefusal.TheVariants.{CannotWrite, Served, Foreign}
+use Rattle.locked_image.specs.declared.FilesRefusal.{FilesRefusal}
+use Rattle.locked_image.specs.declared.FilesRefusal.TheVariants.{CannotWrite, Served, Foreign}
 
 -- in the order in which they are looked for
 abbrev pub files_refusal_number : FilesRefusal → ℕ

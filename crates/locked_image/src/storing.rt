@@ -1,6 +1,6 @@
 //! An image and its log as storage of units.
 
-use crate::sparse::is_zero;
+use host::sparse::is_zero;
 use stable::{Storage, UNIT, Which};
 use std::fs::File;
 use std::io::{self, ErrorKind};
@@ -38,19 +38,19 @@ fn unit_at(file: &File, length: u64, at: u64) -> io::Result<[u8; UNIT]> {
 }
 
 /// Whether the gate of a log is shut: its first unit is zeros, or isn't there.
-pub(super) fn is_shut(log: &File) -> io::Result<bool> {
+pub(crate) fn is_shut(log: &File) -> io::Result<bool> {
     Ok(is_zero(&unit_at(log, log.metadata()?.len(), 0)?))
 }
 
 /// Whether this file is a log: its gate is shut, or its second unit is a log's head. A crash of a log's program leaves no other file.
-pub(super) fn is_log(log: &File) -> io::Result<bool> {
+pub(crate) fn is_log(log: &File) -> io::Result<bool> {
     let length = log.metadata()?.len();
     Ok(is_shut(log)? || unit_at(log, length, UNIT as u64)?.starts_with(&HEAD))
 }
 
 impl ImageFiles {
     /// The storage of a log and an image, which has as many bytes as it has now.
-    pub(super) fn new(log: File, image: Option<File>) -> io::Result<ImageFiles> {
+    pub(crate) fn new(log: File, image: Option<File>) -> io::Result<ImageFiles> {
         let length = match &image {
             Some(image) => image.metadata()?.len(),
             None => 0,

@@ -1,4 +1,5 @@
 //! The image of a volume as two files: the image, and beside it its redo log, which is locked while a program may write the image.
+#![tactic(auto)]
 
 pub mod beside;
 pub mod locked;
@@ -6,7 +7,7 @@ pub mod reading;
 pub mod storing;
 
 ghost use Rattle.std.specs.Prelude.{◌≡◌};
-ghost use Rattle.host.specs.Refusals.{files_refusal_number};
+ghost use Rattle.locked_image.specs.Refusals.{files_refusal_number};
 
 use std::alloc::{AllocError, Global};
 use std::fmt;

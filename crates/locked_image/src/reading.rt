@@ -1,8 +1,8 @@
 //! Images that are only read.
 
-use crate::image_files::storing::{ImageFiles, is_log};
-use crate::image_files::{FilesRefusal, MOST_TRIES, is_at, is_taken, log_name};
-use crate::whole_file::{place_of, read};
+use crate::storing::{ImageFiles, is_log};
+use crate::{FilesRefusal, MOST_TRIES, is_at, is_taken, log_name};
+use host::whole_file::{place_of, read};
 use image_file::{OpenRefusal, read_through};
 use std::fs::File;
 use std::io::{self, ErrorKind};
