@@ -129,7 +129,7 @@ fn read_as(rt: &HostRuntime, name: u64) -> Result<String, Fail> {
         Ok(()) => String::from_str(alloc, "read")?,
         Err(refusal) => format!(in alloc; "{} {refusal}", refusal.number())?,
     };
-    let asked = memory.history().len() - steps;
+    let asked = memory.history().len().wrapping_sub(steps);
     Ok(format!(in alloc;
         "{text} {asked} {} {} {} {}",
         image[4095], image[4096], image[8191], image[8201]
