@@ -54,20 +54,21 @@ pub(crate) fn write_left(
     name: &str,
     played: Ended,
 ) -> PlayStatus {
-    let Some(image) = played.image else {
-        return played.status;
+    let Ended { status, image } = played;
+    let Some(image) = image else {
+        return status;
     };
     let mut err = rt.stderr();
     if locked.has_image() && !is_clean(rt, &image, words.minor) {
         let left = leave_beside(&rt, name, &image);
         let told = tell(rt.alloc(), &mut err, &left);
         return match left {
-            Left::Beside(_) => played.status,
+            Left::Beside(_) => status,
             Left::Nowhere(_) => PlayStatus::Refused(told),
         };
     }
     let written = locked.replace(&rt, &image, image.len() as u64).is_ok();
-    finish(rt.alloc(), played.status, name, written, &mut err)
+    finish(rt.alloc(), status, name, written, &mut err)
 }
 
 /// Whether the check finds the volume of a minor in an image clean; not where no memory is found for it.
