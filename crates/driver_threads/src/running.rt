@@ -31,11 +31,44 @@ use std::thread::{JoinHandle, Threads};
 /// How many messages the lines of the server and of the reincarnation server hold (own).
 const LINE: usize = 64;
 
+/// The media that drivers share, as a thread has them that takes their changes while the drivers run. The media are given back, when the
+/// threads are stopped, once each of these was let go.
+#[derive(Drop)]
+pub struct MediaHandle<N: ServiceParameters> {
+    media: Arc<Mutex<Confined<N>>>,
+}
+
+impl<N: ServiceParameters> MediaHandle<N> {
+    /// Takes the changes of the media since they were last taken, since the start at first: the units of 4096 bytes that drivers may have
+    /// written since, in ascending order, with their bytes as they stand while the threads run. They are units of an image as `image` gives
+    /// one. It waits for the step of a driver, and drivers wait for it, while these units alone are copied. Refused where no memory was
+    /// found for them: the next call takes them.
+    pub fn changes<R: Wait>(&self, rt: &R, alloc: Global) -> Result<Changes, AllocError>
+        ensures { IfOk result (AreChangesOutside N.opening) }
+    {
+        let mut media = self.media.lock(rt);
+        (&mut *media).take_changes(alloc)
+    }
+
+    /// Says that changes which were taken were not kept: the next call of `changes` takes their units again.
+    pub fn mark_again<R: Wait>(&self, rt: &R, changes: &Changes) {
+        let mut media = self.media.lock(rt);
+        (&mut *media).mark_again(changes);
+    }
+
+    /// A further handle of the same media. Refused where no memory was found.
+    pub fn another(&self) -> Result<MediaHandle<N>, AllocError> {
+        Ok(MediaHandle {
+            media: Arc::try_clone(&self.media)?,
+        })
+    }
+}
+
 /// The thread of the reincarnation server, which has those of the drivers, and the media that they share. Where it is let go and not
 /// stopped, all its threads are told to end, and end by themselves.
 pub struct Running<N: ServiceParameters> {
     supervisor: JoinHandle<()>,
-    media: Arc<Mutex<Confined<N>>>,
+    media: MediaHandle<N>,
     ending: Arc<Bell>,
 }
 
@@ -104,7 +137,9 @@ pub fn start_drivers<
     ensures truth { IfOk result (λ r. (v : Opening) → ⟦<ChannelLink<R> as Link>⟧.truth r.0 v []) }
 {
     let shared = Shared::new(alloc, media, range, board, gate)?;
-    let media = Arc::try_clone(&shared.media)?;
+    let media = MediaHandle {
+        media: Arc::try_clone(&shared.media)?,
+    };
     let ending = Arc::try_clone(&shared.ending)?;
     let (link, lines) = open_lines(alloc, rt)?;
     let supervisor = Supervisor::new(alloc, reincarnation, lines, shared, seat);
@@ -126,31 +161,19 @@ impl<N: ServiceParameters> Running<N> {
     pub fn image<R: Wait>(&self, rt: &R, alloc: Global) -> Result<Vec<u8>, AllocError>
         ensures { IfOk result (λ image. IsImageOutside N.opening image.items) }
     {
-        let media = self.media.lock(rt);
+        let media = self.media.media.lock(rt);
         (&*media).image(alloc)
     }
 
-    /// Takes the changes of the media since they were last taken, since the start at first: the units of 4096 bytes that drivers may have
-    /// written since, in ascending order, with their bytes as they stand while the threads run. They are units of an image as `image` gives
-    /// one. It waits for the step of a driver, and drivers wait for it, while these units alone are copied. Refused where no memory was
-    /// found for them: the next call takes them.
-    pub fn changes<R: Wait>(&self, rt: &R, alloc: Global) -> Result<Changes, AllocError>
-        ensures { IfOk result (AreChangesOutside N.opening) }
-    {
-        let mut media = self.media.lock(rt);
-        (&mut *media).take_changes(alloc)
-    }
-
-    /// Says that changes which were taken were not kept: the next call of `changes` takes their units again.
-    pub fn mark_again<R: Wait>(&self, rt: &R, changes: &Changes) {
-        let mut media = self.media.lock(rt);
-        (&mut *media).mark_again(changes);
+    /// The media, of which other threads may have handles.
+    pub fn media(&self) -> &MediaHandle<N> {
+        &self.media
     }
 
     /// Ends all drivers, joins all threads, and gives the media back: as many sectors as were handed in, and outside of the volume's range
     /// each as it was handed in. The link has to be let go of before, since else a driver may wait for room in it.
     ///
-    /// None where somebody else still has the media; by the code nobody has.
+    /// None where a `MediaHandle` is left.
     pub fn stop<R: Threads>(self, rt: &R) -> Option<Media>
         ensures { IfSome result (KeepsOutside N.opening) }
     {
@@ -161,6 +184,7 @@ impl<N: ServiceParameters> Running<N> {
         } = self;
         ending.ring();
         supervisor.join(rt);
+        let MediaHandle { media } = media;
         match Arc::try_unwrap(media) {
             Ok(media) => Some(media.into_inner().into_media()),
             Err(_) => None,

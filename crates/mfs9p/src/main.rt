@@ -57,6 +57,7 @@ fn mount_image<W: Threads + Wait + Copy + Send + Sync + 'static, E: Write>(
         output: rt.stdout(),
         clock: rt,
         archive,
+        sync_every: words.sync_every,
     };
     Ok(mount(
         alloc,

@@ -1,4 +1,6 @@
 mod Answering
+mod Keeping
+mod Owning
 mod Putting
 mod Speaking
 mod Leaving

@@ -1,4 +1,4 @@
--- What is spoken by sessions, by a part of their states: the archive.
+-- What is spoken by sessions, by a part of their states.
 use Rattle.std.proofs.Common.{◌≡◌, ℕ, Bool, true, false, List, [], ◌∷◌, ap, sym, subst, inl, inr}
 use Rattle.std.specs.Prelude.{Option, Result, Ok, Err, OnOk}
 use Rattle.layout.specs.declared.Geometry.{Geometry}
@@ -14,7 +14,7 @@ use Rattle.ninep_fids.specs.Plans.{Plan, Says, Asks, Changes, OrNoMemory, Follow
 use Rattle.ninep_fids.specs.declared.answer.Said.{Said}
 use Rattle.ninep_stream.specs.Answered.{IsAnsweredAll, Lead}
 use Rattle.ninep_stream.specs.Exchanges.{answers, nobody}
-use Rattle.ninep_service.specs.Spoken.{Puts, IsSpoken, MayAnswer}
+use Rattle.ninep_service.specs.Spoken.{Puts, IsSpoken, MayAnswer, IsEntered, HaveLeft, Users, users}
 
 -- exchanges, by a part of the states of the sessions
 leads_part : {S P : Type 0} (part : S → P) (may : S → Ask → Heard → S → Type 0) (plain : P → Ask → Heard → P → Type 0)
@@ -55,11 +55,10 @@ lead_part part R Q f (m ∷ ms) (r ∷ rs) s t (u, first, rest) =
     ((part u.0, u.1), f m r s u first, lead_part part R Q f ms rs u t rest)
 
 -- what a service's sessions may answer, by it
-hear_part : {S A : Type 0} (part : S → Option A) (puts : Puts A) (g : Geometry) (v : Opening) (now : ℕ) (s t : S) (a : Ask) (h : Heard)
-    → MayHear (λ s session now call outcome t. MayAnswer puts g v (part s) now call outcome (part t)) (λ s uid gid result t. part t ≡ part s)
-    (λ s t. part t ≡ part s) now s a h t
-    → MayHear {S = Option A} (λ s session now call outcome t. MayAnswer puts g v s now call outcome t) (λ s uid gid result t. t ≡ s)
-    (λ s t. t ≡ s) now (part s) a h (part t)
+hear_part : {S A : Type 0} (part : S → Users) (puts : Puts A) (g : Geometry) (v : Opening) (now : ℕ) (s t : S) (a : Ask) (h : Heard)
+    → MayHear (λ s session now call outcome t. MayAnswer puts g v (part s) session now call outcome (part t))
+    (λ s uid gid result t. IsEntered (part s) uid gid result (part t)) (λ s t. HaveLeft (part s) (part t)) now s a h t
+    → MayHear (MayAnswer puts g v) IsEntered HaveLeft now (part s) a h (part t)
 hear_part part puts g v now s t (ask.Enter uid gid) (heard.Entered r) it = it
 hear_part part puts g v now s t (ask.Enter uid gid) heard.Left it = absurd it
 hear_part part puts g v now s t (ask.Enter uid gid) (heard.Outcome o) it = absurd it
@@ -71,11 +70,10 @@ hear_part part puts g v now s t (ask.Call session c) heard.Left it = absurd it
 hear_part part puts g v now s t (ask.Call session c) (heard.Outcome o) it = it
 
 -- an answer, by it
-answers_part : {S A : Type 0} (part : S → Option A) (puts : Puts A) (g : Geometry) (v : Opening) (message answer : List ℕ) (s t : S × Known)
-    → answers (λ s session now call outcome t. MayAnswer puts g v (part s) now call outcome (part t)) (λ s uid gid result t. part t ≡ part s)
-    (λ s t. part t ≡ part s) message answer s t
-    → answers {S = Option A} (λ s session now call outcome t. MayAnswer puts g v s now call outcome t) (λ s uid gid result t. t ≡ s)
-    (λ s t. t ≡ s) message answer (part s.0, s.1) (part t.0, t.1)
+answers_part : {S A : Type 0} (part : S → Users) (puts : Puts A) (g : Geometry) (v : Opening) (message answer : List ℕ) (s t : S × Known)
+    → answers (λ s session now call outcome t. MayAnswer puts g v (part s) session now call outcome (part t))
+    (λ s uid gid result t. IsEntered (part s) uid gid result (part t)) (λ s t. HaveLeft (part s) (part t)) message answer s t
+    → answers (MayAnswer puts g v) IsEntered HaveLeft message answer (part s.0, s.1) (part t.0, t.1)
 answers_part part puts g v message answer s t (now, capacity, (said, (log, leads, sync), written), (it, has_room, followed, room, here)) = (
   now,
   capacity,
@@ -84,28 +82,32 @@ answers_part part puts g v message answer s t (now, capacity, (said, (log, leads
 )
 
 -- what was spoken, by it
-spoken : {S A : Type 0} (part : S → Option A) (puts : Puts A) (g : Geometry) (v : Opening) (stream old new : Option (List ℕ)) (s t : S)
-    → IsAnsweredAll (answers (λ s session now call outcome t. MayAnswer puts g v (part s) now call outcome (part t))
-    (λ s uid gid result t. part t ≡ part s) (λ s t. part t ≡ part s)) stream old new (s, nobody) t
-    → IsSpoken puts g v stream old new (part s) (part t)
-spoken part puts g v stream old new s t (l, it) = (
-  l,
-  record {
-    messages = it.messages;
-    replies = it.replies;
-    whole = it.whole;
-    taken = it.taken;
-    given = it.given;
-    leads = lead_part part _ _ (answers_part part puts g v) it.messages it.replies (s, nobody) (t, l) it.leads;
-  },
+spoken : {S A : Type 0} (part : S → Users) (puts : Puts A) (g : Geometry) (v : Opening) (stream old new : Option (List ℕ)) (s t : S)
+    (kept : Bool) → part s ≡ users [] kept
+    → IsAnsweredAll (answers (λ s session now call outcome t. MayAnswer puts g v (part s) session now call outcome (part t))
+    (λ s uid gid result t. IsEntered (part s) uid gid result (part t)) (λ s t. HaveLeft (part s) (part t))) stream old new (s, nobody) t
+    → IsSpoken puts g v stream old new kept
+spoken part puts g v stream old new s t kept first (l, it) = (
+  part t,
+  (
+    l,
+    record {
+      messages = it.messages;
+      replies = it.replies;
+      whole = it.whole;
+      taken = it.taken;
+      given = it.given;
+      leads = subst (λ (u : Users). Lead {S = Users × Known} (answers (MayAnswer puts g v) IsEntered HaveLeft) it.messages it.replies
+          (u, nobody) (part t, l)) first
+          (lead_part part _ _ (answers_part part puts g v) it.messages it.replies (s, nobody) (t, l) it.leads);
+    },
+  ),
 )
 
-pub spoken_ok : {S A E : Type 0} (result : Result (Unit {0}) E) (part : S → Option A) (puts : Puts A) (g : Geometry) (v : Opening)
-    (stream old new : Option (List ℕ)) (s t : S) (before after : Option A) → part s ≡ before → after ≡ part t
-    → OnOk result (IsAnsweredAll (answers (λ s session now call outcome t. MayAnswer puts g v (part s) now call outcome (part t))
-    (λ s uid gid result t. part t ≡ part s) (λ s t. part t ≡ part s)) stream old new (s, nobody) t)
-    → OnOk result (IsSpoken puts g v stream old new before after)
-spoken_ok {S} {A} (Ok done) part puts g v stream old new s t before after first last it =
-    subst (λ (x : Option A). IsSpoken puts g v stream old new x after) first
-    (subst (λ (y : Option A). IsSpoken puts g v stream old new (part s) y) (sym last) (spoken part puts g v stream old new s t it))
-spoken_ok (Err e) part puts g v stream old new s t before after first last it = tt
+pub spoken_ok : {S A E : Type 0} (result : Result (Unit {0}) E) (part : S → Users) (puts : Puts A) (g : Geometry) (v : Opening)
+    (stream old new : Option (List ℕ)) (s t : S) (kept : Bool) → part s ≡ users [] kept
+    → OnOk result (IsAnsweredAll (answers (λ s session now call outcome t. MayAnswer puts g v (part s) session now call outcome (part t))
+    (λ s uid gid result t. IsEntered (part s) uid gid result (part t)) (λ s t. HaveLeft (part s) (part t))) stream old new (s, nobody) t)
+    → OnOk result (IsSpoken puts g v stream old new kept)
+spoken_ok (Ok done) part puts g v stream old new s t kept first it = spoken part puts g v stream old new s t kept first it
+spoken_ok (Err e) part puts g v stream old new s t kept first it = tt

@@ -3,10 +3,12 @@
 
 pub mod archive;
 pub mod file_archive;
+mod keeper;
 pub mod mortal;
 pub mod mount;
 pub mod program;
 pub mod sessions;
+pub mod shared_archive;
 pub mod starting;
 pub mod teller;
 pub mod telling_gate;

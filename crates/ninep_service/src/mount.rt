@@ -100,7 +100,7 @@ pub fn mount<
     I: BufRead + Drop,
     O: Write + Drop,
     C: Clock + Drop,
-    A: Archive + Drop,
+    A: Archive + Drop + Send + 'static,
     E: Write,
 >(
     alloc: Global,
@@ -160,7 +160,7 @@ fn run<
     I: BufRead + Drop,
     O: Write + Drop,
     C: Clock + Drop,
-    A: Archive + Drop,
+    A: Archive + Drop + Send + 'static,
 >(
     alloc: Global,
     rt: R,

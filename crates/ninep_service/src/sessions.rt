@@ -1,9 +1,11 @@
 //! The sessions of a service that a connection calls by, one for each user who is attached, and the changes behind each sync.
 
-ghost use Rattle.std.specs.Prelude.{◌≡◌, ◌↔◌, IsTrue};
-ghost use Rattle.ninep_service.specs.Spoken.{IsArchived, IsSynced};
+ghost use Rattle.std.specs.Prelude.{◌≡◌, ◌≢◌, ◌↔◌, ℕ, [], IfNone, IfSome, IsTrue, Some, slice_get};
+ghost use Rattle.records.specs.Session.{SessionState};
+ghost use Rattle.tree.specs.declared.Call.TheVariants.{Sync};
 
 use crate::archive::Archive;
+use crate::shared_archive::{Begins, SharedArchive};
 use board::counting::parameters::ServiceParameters;
 use board::counting::recorder::Recorder;
 use errno::Errno;
@@ -13,11 +15,11 @@ use serve::service::{Service, Shared};
 use serve::session::Session;
 use shared_server::refusal::SessionRefusal;
 use std::alloc::Global;
-use std::sync::Wait;
+use std::sync::{Arc, Wait};
 use std::thread::Threads;
 use tree::{Call, Outcome, Reply};
 
-/// Sessions of a service, which were made one after the other, and where the changes are put behind a sync, if anywhere.
+/// Sessions of a service, which were made one after the other, and the archive into which changes are put behind a sync, if there is one.
 #[derive(Drop)]
 pub struct ServiceSessions<
     's,
@@ -25,12 +27,12 @@ pub struct ServiceSessions<
     R: Wait + Copy,
     L: Recorder<N>,
     S: FileServer<L>,
-    A,
+    F: Begins<A>,
+    A: Archive + Drop,
 > {
-    alloc: Global,
     service: &'s Service<N, R, L, S>,
     sessions: Vec<Session<N, Shared<N, R, L, S>>>,
-    pub(crate) archive: Option<A>,
+    pub(crate) shared: Option<Arc<SharedArchive<N, R, F, A>>>,
 }
 
 impl<
@@ -39,49 +41,28 @@ impl<
     R: Threads + Wait + Copy,
     L: Recorder<N>,
     S: FileServer<L>,
+    F: Begins<A>,
     A: Archive + Drop,
-> ServiceSessions<'s, N, R, L, S, A> {
+> ServiceSessions<'s, N, R, L, S, F, A> {
     /// None of this service. Its changes go to this archive.
-    pub fn new(
+    pub(crate) fn new(
         alloc: Global,
         service: &'s Service<N, R, L, S>,
-        archive: Option<A>,
-    ) -> ServiceSessions<'s, N, R, L, S, A>
-        ensures { result.archive ≡ archive }
+        shared: Option<Arc<SharedArchive<N, R, F, A>>>,
+    ) -> ServiceSessions<'s, N, R, L, S, F, A>
+        ensures sessions { result.sessions.items ≡ [] }
+        ensures shared { result.shared ≡ shared }
     {
         ServiceSessions {
-            alloc,
             service,
             sessions: Vec::new(alloc),
-            archive,
+            shared,
         }
     }
 
-    /// Ends all sessions, and gives the archive back.
-    pub fn end(mut self) -> Option<A>
-        ensures { result ≡ self.entry.archive }
-    {
+    /// Ends all sessions.
+    pub(crate) fn end(mut self) {
         end_all(&mut self.sessions);
-        let ServiceSessions { archive, .. } = self;
-        archive
-    }
-
-    /// Puts the changes of the media since the last put into the archive, where there is one. Where that is refused, the next changes have
-    /// them again. ENOMEM where no memory was found for them.
-    fn archived(&mut self) -> Result<(), Errno>
-        ensures { IsArchived A.puts N.opening self.old.archive result self.new.archive }
-    {
-        let Some(archive) = &mut self.archive else {
-            return Ok(());
-        };
-        let Ok(changes) = self.service.changes(self.alloc) else {
-            return Err(Errno::ENOMEM);
-        };
-        let answer = archive.put(&changes);
-        if answer.is_err() {
-            self.service.mark_again(&changes);
-        }
-        answer
     }
 }
 
@@ -90,16 +71,19 @@ impl<
     R: Threads + Wait + Copy + Send + Sync + 'static,
     L: Recorder<N> + Send + 'static,
     S: FileServer<L> + Send + 'static,
-    A: Archive + Drop,
-> Sessions for ServiceSessions<'_, N, R, L, S, A> {
-    ghost use Rattle.std.specs.Prelude.{◌≡◌};
-    ghost use Rattle.ninep_service.specs.Spoken.{MayAnswer};
+    F: Begins<A> + Send + Sync + 'static,
+    A: Archive + Drop + Send + 'static,
+> Sessions for ServiceSessions<'_, N, R, L, S, F, A> {
+    ghost use Rattle.std.specs.Prelude.{is_some};
+    ghost use Rattle.ninep_service.specs.Spoken.{MayAnswer, IsEntered, HaveLeft, users};
 
-    ghost called = { λ s session now call outcome t. MayAnswer A.puts N.geometry N.opening s.archive now call outcome t.archive };
+    ghost called = { λ s session now call outcome t. MayAnswer A.puts N.geometry N.opening (users s.sessions.items (is_some s.shared)) session
+        now call outcome (users t.sessions.items (is_some t.shared)) };
 
-    ghost entered = { λ s uid gid result t. t.archive ≡ s.archive };
+    ghost entered = { λ s uid gid result t. IsEntered (users s.sessions.items (is_some s.shared)) uid gid result
+        (users t.sessions.items (is_some t.shared)) };
 
-    ghost left = { λ s t. t.archive ≡ s.archive };
+    ghost left = { λ s t. HaveLeft (users s.sessions.items (is_some s.shared)) (users t.sessions.items (is_some t.shared)) };
 
     /// A session of the service, as it makes one.
     fn enter(&mut self, uid: u16, gid: u16) -> Result<u8, EnterRefusal> {
@@ -119,16 +103,17 @@ impl<
     /// A call of the session of this number; EINVAL where there is none. Behind a sync that was done the changes are put into the archive,
     /// and where that is refused, so is the sync.
     fn call(&mut self, session: u8, now: u32, call: &Call<'_>) -> Outcome {
-        let Some(session) = session_of(&mut self.sessions, session) else {
+        let Some(place) = place_of(self.sessions.as_slice(), session) else {
             return Outcome::Reply(Reply::Refused(Errno::EINVAL));
         };
-        let outcome = session.call(now, call);
-        if !is_synced(call, &outcome) {
-            return outcome;
-        }
-        match self.archived() {
-            Ok(()) => outcome,
-            Err(errno) => Outcome::Reply(Reply::Refused(errno)),
+        let session = &mut self.sessions[place];
+        let Some(shared) = &self.shared else {
+            return session.call(now, call);
+        };
+        if is_sync(call) {
+            shared.sync(session, now)
+        } else {
+            shared.call_in_turn(session, now, call)
         }
     }
 
@@ -138,31 +123,35 @@ impl<
     }
 }
 
-/// The session of this number.
-fn session_of<N: ServiceParameters, S>(
-    sessions: &mut Vec<Session<N, S>>,
-    number: u8,
-) -> Option<&mut Session<N, S>> {
-    let place = sessions
-        .iter()
-        .position(|session| session.number() == number)?;
-    Some(&mut sessions[place])
+/// The place of the session of this number.
+fn place_of<N: ServiceParameters, S>(sessions: &[Session<N, S>], number: u8) -> Option<usize>
+    ensures some { IfSome result (λ place. (it : SessionState) × (slice_get sessions.now place ≡ Some it) × (it.knows.number ≡ number)) }
+    ensures none { IfNone result ((place : ℕ) (it : SessionState) → slice_get sessions.now place ≡ Some it → it.knows.number ≢ number) }
+{
+    for place in 0..sessions.len() {
+        if sessions[place].number() == number {
+            return Some(place);
+        }
+    }
+    None
 }
 
 /// Ends all sessions, the last one first.
 fn end_all<N: ServiceParameters, R: Wait + Copy, L: Recorder<N>, S: FileServer<L>>(
     sessions: &mut Vec<Session<N, Shared<N, R, L, S>>>,
-) {
+)
+    ensures { sessions.new.items ≡ [] }
+{
     while let Some(session) = sessions.pop() {
         session.end();
     }
 }
 
-/// Whether a call was a sync that was done.
-fn is_synced(call: &Call<'_>, outcome: &Outcome) -> bool
-    ensures { IsTrue result ↔ IsSynced call.now outcome.now }
+/// Whether a call is a sync.
+fn is_sync(call: &Call<'_>) -> bool
+    ensures { IsTrue result ↔ (call.now ≡ Sync) }
 {
-    matches!(call, Call::Sync) && matches!(outcome, Outcome::Reply(Reply::Done))
+    matches!(call, Call::Sync)
 }
 
 /// Why a service made no session, as a connection has it.

@@ -40,7 +40,7 @@ fn mount_and_answer<
     I: BufRead + Drop,
     O: Write + Drop,
     C: Clock + Drop,
-    A: Archive + Drop,
+    A: Archive + Drop + Send + 'static,
 >(
     alloc: Global,
     rt: R,
@@ -62,7 +62,7 @@ fn mount_and_answer<
     match mounted_server::<N, L>(alloc, link, minor, frames) {
         Ok(server) => {
             let service = Service::over(alloc, rt, board, server, running, gate)?;
-            Ok(answer_on(alloc, service, streams))
+            Ok(answer_on(alloc, rt, service, streams)?)
         }
         Err(refusal) => {
             let _ = running.stop(&rt);
@@ -80,7 +80,7 @@ fn start_and_answer<
     I: BufRead + Drop,
     O: Write + Drop,
     C: Clock + Drop,
-    A: Archive + Drop,
+    A: Archive + Drop + Send + 'static,
 >(
     alloc: Global,
     rt: R,
@@ -127,7 +127,7 @@ pub fn answer_messages<
     I: BufRead + Drop,
     O: Write + Drop,
     C: Clock + Drop,
-    A: Archive + Drop,
+    A: Archive + Drop + Send + 'static,
 >(
     alloc: Global,
     rt: R,

@@ -20,7 +20,7 @@ use board::Board;
 use board::counting::parameters::ServiceParameters;
 use board::counting::recorder::Recorder;
 use changes::Changes;
-use driver_threads::running::Running;
+use driver_threads::running::{MediaHandle, Running};
 use file_server::FileServer;
 use gate::Gate;
 use shared_server::left_open::LeftOpen;
@@ -206,13 +206,19 @@ impl<N: ServiceParameters, R: Threads + Wait + Copy, L: Recorder<N>, S: FileServ
     pub fn changes(&self, alloc: Global) -> Result<Changes, AllocError>
         ensures { IfOk result (AreChangesOutside N.opening) }
     {
-        self.running.changes(&self.rt, alloc)
+        self.running.media().changes(&self.rt, alloc)
     }
 
     /// Says that changes which were taken were not kept, as where an image file could not be written: the next call of `changes` takes their
     /// units again. It waits for the step of a driver, and for no call.
     pub fn mark_again(&self, changes: &Changes) {
-        self.running.mark_again(&self.rt, changes);
+        self.running.media().mark_again(&self.rt, changes);
+    }
+
+    /// The media, for another thread that takes their changes. It is to be let go before the service is stopped. Refused where no memory was
+    /// found.
+    pub fn media(&self) -> Result<MediaHandle<N>, AllocError> {
+        self.running.media().another()
     }
 
     /// Whether a session is left.
@@ -225,7 +231,7 @@ impl<N: ServiceParameters, R: Threads + Wait + Copy, L: Recorder<N>, S: FileServ
     /// bytes of all sectors, as they stand. The media become the image: it takes no memory.
     ///
     /// It is refused: 1 SessionsLeft, where some session neither ended nor was let go, which hands the service back; 3 OutOfMemory, where
-    /// somebody else still has the media, which by the code nobody has; 2 GivenUp and 4 LinkEnded, where the last sync wasn't made, with
+    /// a handle of the media is left; 2 GivenUp and 4 LinkEnded, where the last sync wasn't made, with
     /// the image as the media stand. The first of these that holds is answered.
     pub fn stop(self) -> Result<Vec<u8>, StopRefusal<Service<N, R, L, S>>>
         ensures image { IfOk result (λ image. IsLastImage L.Link N.geometry N.opening [] Went image.items) }

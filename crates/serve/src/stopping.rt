@@ -17,8 +17,7 @@ pub enum StopRefusal<S> {
     SessionsLeft(S),
     /// The device was given up, so not all may have been written. With it comes the image, as the media stand.
     GivenUp(Vec<u8>),
-    /// Somebody else still has the media, which by the code nobody has; None comes with it. The image takes no memory: the media become
-    /// it. The last sync was tried.
+    /// A handle of the media is left; None comes with it. The image takes no memory: the media become it. The last sync was tried.
     OutOfMemory(Option<Media>),
     /// The link to the drivers has ended, so not all may have been written. With it comes the image, as the media stand.
     LinkEnded(Vec<u8>),
@@ -43,7 +42,7 @@ impl<S> StopRefusal<S> {
 pub enum NoImage {
     /// The service isn't stopped, since a session is left.
     SessionsLeft,
-    /// Somebody else still has the media, which by the code nobody has.
+    /// A handle of the media is left.
     OutOfMemory,
 }
 

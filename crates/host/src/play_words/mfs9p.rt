@@ -7,6 +7,9 @@ use std::alloc::{AllocError, Global};
 /// The most drivers that stand by (own).
 const MOST_SPARES: u64 = 4095;
 
+/// The most seconds between two writes of changes: a day (own).
+const MOST_SECONDS: u64 = 86_400;
+
 /// What the help says of mounting.
 const MOUNTING: &str =
     "Messages of 9P2000.L are read from standard input, and answered on standard output, until the input ends. With socat, and as root:
@@ -34,7 +37,8 @@ fn command<'a>(alloc: Global) -> Result<Command<'a>, AllocError> {
         .arg(spares(alloc))?
         .arg(frames(alloc))?
         .arg(model(alloc))?
-        .arg(die_every(alloc))
+        .arg(die_every(alloc))?
+        .arg(sync_every(alloc))
 }
 
 /// The word that says how many drivers stand by.
@@ -49,6 +53,13 @@ fn die_every<'a>(alloc: Global) -> Arg<'a> {
     number(alloc, "die-every", "N", 4294967295)
         .default_value("0")
         .help("Each driver dies in the N-th request that it takes; 0: none does")
+}
+
+/// The word by which changes are written without an fsync.
+fn sync_every<'a>(alloc: Global) -> Arg<'a> {
+    number(alloc, "sync-every", "SECONDS", MOST_SECONDS)
+        .default_value("5")
+        .help("How often changes are written to --out's file without an fsync; 0: never")
 }
 
 /// What the words say.
@@ -68,6 +79,8 @@ pub struct Mfs9pWords<'a> {
     pub model: bool,
     /// In which of the requests that it takes each driver dies, counted from 1; 0: none does.
     pub die_every: u32,
+    /// After how many seconds changes are written without an fsync, 1 to 86,400; 0: never.
+    pub sync_every: u32,
 }
 
 impl<'a> Mfs9pWords<'a> {
@@ -81,6 +94,7 @@ impl<'a> Mfs9pWords<'a> {
             frames: matches.get_one::<u32>("frames").unwrap_or(64),
             model: matches.get_flag("model"),
             die_every: matches.get_one::<u32>("die-every").unwrap_or(0),
+            sync_every: matches.get_one::<u32>("sync-every").unwrap_or(0),
         }
     }
 }

@@ -1,8 +1,13 @@
-use Rattle.std.proofs.Common.{◌∙◌}
+use Rattle.std.proofs.Common.{◌∙◌, [], ap}
+use Rattle.std.specs.Prelude.{is_some}
+use Rattle.ninep_service.specs.Spoken.{users}
 use Rattle.ninep_service.proofs.Speaking.{spoken_ok}
 use Rattle.ninep_service.proofs.program.answer_by.Goals as goal
 
-pub returns : goal.returns
-returns g c =
-    spoken_ok _ (λ s. s.archive) g.A.Archive.puts g.N.ServiceParameters.geometry g.N.ServiceParameters.opening _ _ _ _ _ _ _
-    (c.new-sessions.ensures ∙ c.take.ensures.value) c.end.ensures c.answer_all-answered.ensures.whole
+pub returns-clause-spoken : goal.returns-clause-spoken
+returns-clause-spoken g c =
+    let new = c.new-sessions in
+    spoken_ok _ (λ s. users s.sessions.items (is_some s.shared)) g.A.Archive.puts g.N.ServiceParameters.geometry
+    g.N.ServiceParameters.opening _ _ _ _ _ _
+    (ap (λ sessions. users sessions (is_some new.result.shared)) new.ensures.sessions ∙ ap (λ shared. users [] (is_some shared)) new.ensures.shared)
+    c.answer_all-answered.ensures.whole
