@@ -1,0 +1,19 @@
+pub mod Small
+pub mod Making
+pub mod Drivers
+pub mod Beginning
+pub mod DeathRow
+pub mod Only
+pub mod HungRow
+pub mod GivenUpRow
+pub mod CutRow
+pub mod RefusedRow
+pub mod Whole
+pub mod Determined
+pub mod Telling
+pub mod WrongEvents
+pub mod Stepping
+mod WrongSteps
+mod WrongEnds
+mod WrongRuns
+mod LeftOpen
