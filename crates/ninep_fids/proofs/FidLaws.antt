@@ -6,8 +6,8 @@ use Rattle.ninep_fids.specs.Fids.{IsRenamed}
 use Rattle.ninep_fids.specs.Knowledge.{File}
 
 pub goes_along : (old new rest : List ℕ) (f g : File) → f.path ≡ old ++ rest → IsRest rest → g.path ≡ new ++ rest
-    → g.gone ≡ f.gone → g.node ≡ f.node → g.user ≡ f.user → g.descriptor ≡ f.descriptor → IsRenamed old new f g
-goes_along old new rest f g e h p gone node user descriptor = record {
+    → g.gone ≡ f.gone → g.node ≡ f.node → g.user ≡ f.user → g.descriptor ≡ f.descriptor → g.entries ≡ f.entries → IsRenamed old new f g
+goes_along old new rest f g e h p gone node user descriptor entries = record {
   moved = λ other is o. inr (p ∙ ap (λ (r : List ℕ). new ++ r) (append_cancel_left old rest other (sym e ∙ o)), gone);
   replaced = λ other is elsewhere o. absurd (elsewhere rest h e);
   others = λ elsewhere other. absurd (elsewhere rest h e);
@@ -15,4 +15,5 @@ goes_along old new rest f g e h p gone node user descriptor = record {
   node = node;
   user = user;
   descriptor = descriptor;
+  entries = entries;
 }

@@ -2,6 +2,7 @@
 
 ghost use Rattle.std.specs.Prelude.{◌≡◌};
 
+use crate::entries::Listed;
 use crate::paths::{joined, rest};
 use crate::users::User;
 use ninep::reply::Qid;
@@ -69,11 +70,14 @@ pub struct Fid {
     pub descriptor: Option<u32>,
     /// Whether the node has lost that name: then only the descriptor leads to it.
     pub gone: bool,
+    /// The entries of an open directory, once they were asked for: later offsets of a listing are told from these.
+    pub listed: Option<Listed>,
 }
 
 impl Fid {
     ghost use Rattle.ninep_fids.specs.Fids.{IsRenamed, IsUnlinked};
-    ghost use Rattle.ninep_fids.specs.Knowledge.{file_of, file_at, file_open};
+    ghost use Rattle.ninep_fids.specs.Directories.{entries_of};
+    ghost use Rattle.ninep_fids.specs.Knowledge.{file_of, file_at, file_open, file_listed};
 
     /// A fid that isn't open.
     pub fn closed(user: User, path: Vec<u8>, node: Node) -> Fid
@@ -85,6 +89,7 @@ impl Fid {
             node,
             descriptor: None,
             gone: false,
+            listed: None,
         }
     }
 
@@ -98,6 +103,17 @@ impl Fid {
             node,
             descriptor: Some(fd),
             gone: false,
+            listed: None,
+        }
+    }
+
+    /// An open directory whose entries were taken.
+    pub fn listed(user: User, path: Vec<u8>, node: Node, fd: u32, listed: Listed) -> Fid
+        ensures { file_of result ≡ file_listed user path.items node fd (entries_of node.inode listed.above listed.names.items) }
+    {
+        Fid {
+            listed: Some(listed),
+            ..Fid::open(user, path, node, fd)
         }
     }
 

@@ -18,7 +18,8 @@ use Rattle.ninep_fids.specs.Nodes.{node_of, qid_of}
 use Rattle.ninep_fids.specs.Checks.{user_number, enters, place, not_link, changeable, named_for, unopened}
 use Rattle.ninep_fids.specs.Flags.{open_bits, flags_by, group_of, is_set, flag_for}
 use Rattle.ninep_fids.specs.Changes.{in_order, changes_wanted}
-use Rattle.ninep_fids.specs.Entries.{any_long, entries_of}
+use Rattle.ninep_fids.specs.Directories.{entries_of}
+use Rattle.ninep_fids.specs.Entries.{any_long}
 use Rattle.ninep_fids.specs.declared.refused.Refused.{Refused}
 use Rattle.ninep_fids.specs.declared.users.User.{User}
 use Rattle.ninep_fids.specs.declared.fid.Node.{Node}
@@ -33,7 +34,7 @@ use Rattle.ninep_server.specs.Walks.{with_name, walking}
 use Rattle.ninep_server.specs.Opens.{opening, opens, or_closes, looking_at_file, made_file, making_file, creates, was_made, making}
 use Rattle.ninep_server.specs.Naming.{linking, renaming, unlinking, removed, removing_file}
 use Rattle.ninep_server.specs.Settings.{changing, looking_first}
-use Rattle.ninep_server.specs.Listings.{listing, listing_names}
+use Rattle.ninep_server.specs.Listings.{listing, listing_by, listing_names, kept_for}
 use Rattle.ninep_server.specs.Messages.{moving, transferring, looking, attributes_of, of_file, of_name, of_node, of_fid, plan_of}
 use Rattle.ninep_server.specs.Progress.{Within, left_of, left_of_turn, left_at_stage, left_at_change}
 use Rattle.ninep_server.specs.declared.transfer.Moved.{Moved}
@@ -194,15 +195,21 @@ setting_within : (session : ℕ) (path : List ℕ) (wanted : Wanted) → Within 
 setting_within session path wanted = λ h. it_within 15 (attributes_in h) _ (λ a. it_within 15 (changes_wanted wanted a) _
     (λ c. changing_within 15 session path (in_order c) (omega (arith, few_changes c))))
 
-names_within : (n session fd own offset limit above : ℕ) → Within (listing_names session fd own offset limit above) (suc n)
-names_within n session fd own offset limit above = λ h. it_within n (names_heard h) _
-    (λ names. either_within n (any_long (drop offset (entries_of own above names))) _ _ tt tt)
+names_within : (n fid : ℕ) (user : User) (path : List ℕ) (node : Node) (fd offset limit above : ℕ)
+    → Within (listing_names fid user path node fd offset limit above) (suc n)
+names_within n fid user path node fd offset limit above = λ h. it_within n (names_heard h) _
+    (λ names. either_within n (any_long (drop offset (entries_of node.inode above names))) _ _ tt tt)
 
-listing_within : (n session : ℕ) (path : List ℕ) (fd own offset limit : ℕ) (above : Option ℕ)
-    → Within (listing session path fd own offset limit above) (suc (suc n))
-listing_within n session path fd own offset limit None =
-    λ h. it_within (suc n) (attributes_in h) _ (λ a. names_within n session fd own offset limit a.inode)
-listing_within n session path fd own offset limit (Some above) = names_within (suc n) session fd own offset limit above
+listing_within : (n fid : ℕ) (user : User) (path : List ℕ) (node : Node) (fd offset limit : ℕ) (above : Option ℕ)
+    → Within (listing fid user path node fd offset limit above) (suc (suc n))
+listing_within n fid user path node fd offset limit None =
+    λ h. it_within (suc n) (attributes_in h) _ (λ a. names_within n fid user path node fd offset limit a.inode)
+listing_within n fid user path node fd offset limit (Some above) = names_within (suc n) fid user path node fd offset limit above
+
+by_kept_within : (n fid : ℕ) (file : File) (fd offset limit : ℕ) (kept : Option (List (ℕ × List ℕ)))
+    → Within (listing_by fid file fd offset limit kept) (suc (suc n))
+by_kept_within n fid file fd offset limit (Some es) = either_within (suc (suc n)) (any_long (drop offset es)) _ _ tt tt
+by_kept_within n fid file fd offset limit None = listing_within n fid file.user file.path file.node fd offset limit None
 
 opens_within : (k : Known) (fid flags : ℕ) → Within (opens k fid flags) 16
 opens_within k fid flags = it_within 16 (unopened k.fids fid) _ (λ file. it_within 16 (not_link file.node.kind) _
@@ -224,7 +231,7 @@ file_within k (request.Write fid offset bytes) = it_within 16 (opened k.fids fid
     (transferring_within 14 file.0 file.1 (Some (pos offset)) (moved.Write (at (take 65536 bytes.now)))))
 file_within k (request.Readdir fid offset count) = it_within 16 (opened k.fids fid) _ (λ used. it_within 16 (named k.fids fid) _
     (λ file. either_within 16 (nat_lt (min count (k.message_size - 24)) 84) _ _ tt
-    (listing_within 14 used.0 file.path used.1 file.node.inode offset (min count (k.message_size - 24)) _)))
+    (by_kept_within 14 fid file used.1 offset (min count (k.message_size - 24)) (kept_for offset file.entries))))
 file_within k (request.Lock fid kind flags start length process client) = it_within 16 (opened k.fids fid) _ (λ file. tt)
 file_within k (request.Getlock fid kind start length process client) = it_within 16 (opened k.fids fid) _ (λ file. tt)
 file_within k r = tt
@@ -307,7 +314,8 @@ asks_setting : (x : Setattr) (change : Option Change) → Within (left_at_change
 asks_setting x None few = few
 asks_setting x (Some c) few = few
 
-asks_listing : (l : Listing) (above : Option ℕ) → Within (listing l.session l.path.items l.fd l.inode l.offset l.limit above) 0 → ⊥
+asks_listing : (l : Listing) (above : Option ℕ)
+    → Within (listing l.fid l.user l.path.items l.node l.fd l.offset l.limit above) 0 → ⊥
 asks_listing l None few = few
 asks_listing l (Some above) few = few
 

@@ -117,7 +117,7 @@ abbrev pub left_of_setattr : Setattr → Plan
 left_of_setattr s = left_at_change s s.change
 
 abbrev pub left_of_listing : Listing → Plan
-left_of_listing l = listing l.session l.path.items l.fd l.inode l.offset l.limit l.above
+left_of_listing l = listing l.fid l.user l.path.items l.node l.fd l.offset l.limit l.above
 
 abbrev pub left_of_fid_work : FidWork → Plan
 left_of_fid_work (fid_work.Version v) = left_of_version v

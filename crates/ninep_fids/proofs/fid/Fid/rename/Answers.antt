@@ -4,4 +4,4 @@ use Rattle.ninep_fids.proofs.fid.Fid.rename.Goals as goal
 
 pub returns-in-Ok : goal.returns-in-Ok
 returns-in-Ok c = goes_along _ _ c.in-Some.rest.now _ _ (sym c.deref.ensures.value ∙ c.in-Some.ensures.some.0) c.in-Some.ensures.some.1
-    c.in-Ok.ensures refl refl refl refl
+    c.in-Ok.ensures refl refl refl refl refl
