@@ -16,7 +16,7 @@ use Rattle.ninep_fids.specs.Hearing.{done_in, attributes_in, position_in, bytes_
 use Rattle.ninep_fids.specs.Plans.{Plan, closing, with_it, at}
 use Rattle.ninep_fids.specs.Nodes.{node_of, qid_of}
 use Rattle.ninep_fids.specs.Checks.{user_number, enters, place, not_link, changeable, named_for, unopened}
-use Rattle.ninep_fids.specs.Flags.{open_bits, flags_by, group_of, is_set, flag_for}
+use Rattle.ninep_fids.specs.Flags.{open_bits, flags_by, group_of, is_set}
 use Rattle.ninep_fids.specs.Changes.{in_order, changes_wanted}
 use Rattle.ninep_fids.specs.Directories.{entries_of}
 use Rattle.ninep_fids.specs.Entries.{any_long}
@@ -31,7 +31,8 @@ use Rattle.ninep_fids.specs.declared.answer.NinepAnswer.{NinepAnswer}
 use Rattle.ninep_fids.specs.declared.answer.NinepAnswer.TheVariants as answer
 use Rattle.ninep_server.specs.Attaching.{begins, entering, looking_at_root, attaching_as}
 use Rattle.ninep_server.specs.Walks.{with_name, walking}
-use Rattle.ninep_server.specs.Opens.{opening, opens, or_closes, looking_at_file, made_file, making_file, creates, was_made, making}
+use Rattle.ninep_server.specs.Opens.{opening, opens, or_closes, looking_at_file, made_file, opening_taken, is_taken, not_made, made_or_not}
+use Rattle.ninep_server.specs.Opens.{making_file, taken_by, creates, was_made, making}
 use Rattle.ninep_server.specs.Naming.{linking, renaming, unlinking, removed, removing_file}
 use Rattle.ninep_server.specs.Settings.{changing, looking_first}
 use Rattle.ninep_server.specs.Listings.{listing, listing_by, listing_names, kept_for}
@@ -132,10 +133,20 @@ made_file_within n fid user path None fd = file_look_within (suc n) fid user pat
 made_file_within n fid user path (Some gid) fd = λ h. or_closes_within (suc n) user.session fd (done_in h) _
     (λ _. file_look_within n fid user path fd)
 
-making_file_within : (n fid : ℕ) (user : User) (path : List ℕ) (flags : OpenFlags) (mode : ℕ) (group : Option ℕ)
-    → Within (making_file fid user path flags mode group) (suc (suc (suc (suc n))))
-making_file_within n fid user path flags mode group =
-    λ h. it_within (suc (suc (suc n))) (descriptor_in h) _ (made_file_within n fid user path group)
+opening_taken_within : (n fid : ℕ) (user : User) (path : List ℕ) (flags : OpenFlags)
+    → Within (opening_taken fid user path flags) (suc (suc (suc n)))
+opening_taken_within n fid user path flags = λ h. it_within (suc (suc n)) (descriptor_in h) _ (file_look_within n fid user path)
+
+made_or_not_within : (n fid : ℕ) (user : User) (path : List ℕ) (taken : Option OpenFlags) (group : Option ℕ) (r : Result ℕ Refused)
+    → Within (made_or_not fid user path taken group r) (suc (suc (suc n)))
+made_or_not_within n fid user path taken group (Ok fd) = made_file_within n fid user path group fd
+made_or_not_within n fid user path None group (Err refused) = tt
+made_or_not_within n fid user path (Some flags) group (Err refused) =
+    either_within (suc (suc (suc n))) (is_taken refused) _ _ (opening_taken_within n fid user path flags) tt
+
+making_file_within : (n fid : ℕ) (user : User) (path : List ℕ) (flags : OpenFlags) (mode : ℕ) (taken : Option OpenFlags) (group : Option ℕ)
+    → Within (making_file fid user path flags mode taken group) (suc (suc (suc (suc n))))
+making_file_within n fid user path flags mode taken group = λ h. made_or_not_within n fid user path taken group (descriptor_in h)
 
 was_made_within : (n session : ℕ) (path : List ℕ) (what : Made) (group : Option ℕ) → Within (was_made session path what group) (suc (suc n))
 was_made_within n session path what None = λ h. it_within (suc n) (attributes_in h) _ (λ a. tt)
@@ -218,7 +229,7 @@ opens_within k fid flags = it_within 16 (unopened k.fids fid) _ (λ file. it_wit
 creates_within : (k : Known) (fid : ℕ) (name : List ℕ) (flags mode gid : ℕ) → Within (creates k fid name flags mode gid) 16
 creates_within k fid name flags mode gid = it_within 16 (unopened k.fids fid) _ (λ directory. it_within 16 (checked name) _
     (λ _. it_within 16 (open_bits flags) _ (λ bits. making_file_within 12 fid directory.user (below directory.path name)
-    (flags_by (bits + (8 + flag_for flags 0x80 16))) (mode % 4096) (group_of directory.user gid))))
+    (flags_by (bits + 24)) (mode % 4096) (taken_by flags bits) (group_of directory.user gid))))
 
 file_within : (k : Known) (r : Request) → Within (of_file k r) 16
 file_within k (request.Open fid flags) = opens_within k fid flags
@@ -331,7 +342,8 @@ none_left (work.Fid (fid_work.Attach (attach.Enter fid uid))) few = few
 none_left (work.Fid (fid_work.Attach (attach.Root fid user))) few = few
 none_left (work.Fid (fid_work.Walk w)) few = few
 none_left (work.Open (open_work.Open o)) few = few
-none_left (work.Open (open_work.Create (creation.Open file flags mode group))) few = few
+none_left (work.Open (open_work.Create (creation.Make file flags mode taken group))) few = few
+none_left (work.Open (open_work.Create (creation.Open file flags))) few = few
 none_left (work.Open (open_work.Create (creation.Chown file fd gid))) few = few
 none_left (work.Open (open_work.Create (creation.Look file fd))) few = few
 none_left (work.Open (open_work.Make m)) few = asks_making m m.stage few

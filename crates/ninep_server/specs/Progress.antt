@@ -16,7 +16,8 @@ use Rattle.ninep_fids.specs.declared.knows.Knows.{Knows}
 use Rattle.ninep_fids.specs.declared.changes.Change.{Change}
 use Rattle.ninep_server.specs.Attaching.{beginning, entering, looking_at_root}
 use Rattle.ninep_server.specs.Walks.{looking_at, walking}
-use Rattle.ninep_server.specs.Opens.{opening, making_file, giving_group, looking_at_file, making, giving_made_group, looking_at_made}
+use Rattle.ninep_server.specs.Opens.{opening, making_file, opening_taken, giving_group, looking_at_file, making, giving_made_group}
+use Rattle.ninep_server.specs.Opens.{looking_at_made}
 use Rattle.ninep_server.specs.Naming.{linking, renaming, unlinking, removing}
 use Rattle.ninep_server.specs.Settings.{looking_first, changing}
 use Rattle.ninep_server.specs.Listings.{listing}
@@ -85,7 +86,8 @@ abbrev pub left_of_opening : Opening → Plan
 left_of_opening o = opening o.fid o.user o.path.items o.node o.flags
 
 abbrev pub left_of_creation : Creation → Plan
-left_of_creation (creation.Open file flags mode group) = making_file file.fid file.user file.path.items flags mode group
+left_of_creation (creation.Make file flags mode taken group) = making_file file.fid file.user file.path.items flags mode taken group
+left_of_creation (creation.Open file flags) = opening_taken file.fid file.user file.path.items flags
 left_of_creation (creation.Chown file fd gid) = giving_group file.fid file.user file.path.items fd gid
 left_of_creation (creation.Look file fd) = looking_at_file file.fid file.user file.path.items fd
 

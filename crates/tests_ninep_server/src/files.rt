@@ -149,6 +149,32 @@ fn files_are_made(rt: HostRuntime) -> Result<(), Fail> {
     )
 }
 
+/// A name that is taken is EEXIST where a new file alone is asked for; else what has it is opened, and keeps its owner and group.
+#[test]
+fn taken_names_are_opened(rt: HostRuntime) -> Result<(), Fail> {
+    let mut talk = Talk::attached(rt.alloc())?;
+    talk.gives(refused(Errno::EEXIST))?;
+    talk.hears(
+        b"\x0e\x01\0\x01\0\0\0\x01\0n\xc1\0\0\0\xa0\x81\0\0\x07\0\0\0",
+        "0 open /n 26 416;",
+        b"\x07\x01\0\x11\0\0\0",
+    )?;
+    talk.gives(refused(Errno::EACCES))?;
+    talk.hears(
+        b"\x0e\x01\0\x01\0\0\0\x01\0n\x41\x02\0\0\xa0\x81\0\0\x07\0\0\0",
+        "0 open /n 58 416;",
+        b"\x07\x01\0\x0d\0\0\0",
+    )?;
+    talk.gives(refused(Errno::EEXIST))?;
+    talk.gives(descriptor(3))?;
+    talk.gives(node(4, 0o100640))?;
+    talk.hears(
+        b"\x0e\x01\0\x01\0\0\0\x01\0n\x41\x02\0\0\xa0\x81\0\0\x07\0\0\0",
+        "0 open /n 58 416;0 open /n 34 0;0 Fstat { fd: 3 };",
+        b"\x0f\x01\0\0\0\0\0\0\x04\0\0\0\0\0\0\0\0\0\0\0",
+    )
+}
+
 /// A file that can't be given its group, or looked at, is closed again.
 #[test]
 fn files_are_given_up(rt: HostRuntime) -> Result<(), Fail> {
@@ -158,7 +184,7 @@ fn files_are_given_up(rt: HostRuntime) -> Result<(), Fail> {
     talk.gives(done())?;
     talk.hears(
         b"\x0e\x01\0\x01\0\0\0\x01\0n\x01\0\0\0\xa0\x81\0\0\0\0\0\0",
-        "0 open /n 10 416;0 Fstat { fd: 9 };0 Close { fd: 9 };",
+        "0 open /n 26 416;0 Fstat { fd: 9 };0 Close { fd: 9 };",
         b"\x07\x01\0\x05\0\0\0",
     )
 }
