@@ -9,6 +9,7 @@ use Rattle.ninep.proofs.TextLaws.{count_is}
 use Rattle.ninep.specs.declared.request.Request.{Request}
 use Rattle.ninep.specs.declared.request.Request.TheVariants as request
 use Rattle.tree.specs.declared.OpenFlags.{OpenFlags}
+use Rattle.tree.specs.declared.Attributes.{Attributes}
 use Rattle.tree.specs.declared.Reply.{Reply}
 use Rattle.ninep_fids.specs.Paths.{below, checked, stepped}
 use Rattle.ninep_fids.specs.Knowledge.{Known, File, found, named, opened, new_fid, user_of, closed}
@@ -33,11 +34,11 @@ use Rattle.ninep_server.specs.Attaching.{begins, entering, looking_at_root, atta
 use Rattle.ninep_server.specs.Walks.{with_name, walking}
 use Rattle.ninep_server.specs.Opens.{opening, opens, or_closes, looking_at_file, made_file, opening_taken, is_taken, not_made, made_or_not}
 use Rattle.ninep_server.specs.Opens.{making_file, taken_by, creates, was_made, making}
-use Rattle.ninep_server.specs.Naming.{linking, renaming, unlinking, removed, removing_file}
+use Rattle.ninep_server.specs.Naming.{linking, renamed, looking_back, renaming, unlinking, removed, removing_file}
 use Rattle.ninep_server.specs.Settings.{changing, looking_first}
 use Rattle.ninep_server.specs.Listings.{listing, listing_by, listing_names, kept_for}
 use Rattle.ninep_server.specs.Messages.{moving, transferring, looking, attributes_of, of_file, of_name, of_node, of_fid, plan_of}
-use Rattle.ninep_server.specs.Progress.{Within, left_of, left_of_turn, left_at_stage, left_at_change}
+use Rattle.ninep_server.specs.Progress.{Within, left_of, left_of_turn, left_at_stage, left_at_change, left_at_rename}
 use Rattle.ninep_server.specs.declared.transfer.Moved.{Moved}
 use Rattle.ninep_server.specs.declared.transfer.Moved.TheVariants as moved
 use Rattle.ninep_server.specs.declared.attach.Attach.TheVariants as attach
@@ -48,6 +49,7 @@ use Rattle.ninep_server.specs.declared.making.Making.{Making}
 use Rattle.ninep_server.specs.declared.making.Stage.{Stage}
 use Rattle.ninep_server.specs.declared.making.Stage.TheVariants as stage
 use Rattle.ninep_server.specs.declared.listing.Listing.{Listing}
+use Rattle.ninep_server.specs.declared.naming.Rename.{Rename}
 use Rattle.ninep_server.specs.declared.attributes.Setattr.{Setattr}
 use Rattle.ninep_server.specs.declared.work.Work.{Work}
 use Rattle.ninep_server.specs.declared.work.Work.TheVariants as work
@@ -158,8 +160,15 @@ making_within n session path what group = λ h. it_within (suc (suc n)) (done_in
 linking_within : (n session : ℕ) (old new : List ℕ) → Within (linking session old new) (suc n)
 linking_within n session old new = λ h. it_within n (done_in h) _ (λ _. tt)
 
-renaming_within : (n session : ℕ) (old new : List ℕ) (a : NinepAnswer) → Within (renaming session old new a) (suc n)
-renaming_within n session old new a = λ h. it_within n (done_in h) _ (λ _. tt)
+renamed_within : (n : ℕ) (old new : List ℕ) (a : NinepAnswer) (r : Result Attributes Refused) → Within (renamed old new a r) n
+renamed_within n old new a (Ok still_there) = tt
+renamed_within n old new a (Err refused) = tt
+
+looking_back_within : (n session : ℕ) (old new : List ℕ) (a : NinepAnswer) → Within (looking_back session old new a) (suc n)
+looking_back_within n session old new a = λ h. renamed_within n old new a (attributes_in h)
+
+renaming_within : (n session : ℕ) (old new : List ℕ) (a : NinepAnswer) → Within (renaming session old new a) (suc (suc n))
+renaming_within n session old new a = λ h. it_within (suc n) (done_in h) _ (λ _. looking_back_within n session old new a)
 
 unlinking_within : (n session : ℕ) (path : List ℕ) (directory : Bool) → Within (unlinking session path directory) (suc n)
 unlinking_within n session path directory = λ h. it_within n (done_in h) _ (λ _. tt)
@@ -258,10 +267,10 @@ name_within k (request.Link directory fid name) = it_within 16 (named k.fids dir
     (λ _. linking_within 15 parent.user.session file.path (below parent.path name.now))))
 name_within k (request.Rename fid directory name) = it_within 16 (named k.fids fid) _
     (λ file. it_within 16 (named_for k.fids directory name.now) _
-    (λ parent. renaming_within 15 parent.user.session file.path (below parent.path name.now) answer.Rename))
+    (λ parent. renaming_within 14 parent.user.session file.path (below parent.path name.now) answer.Rename))
 name_within k (request.Renameat old_directory old_name new_directory new_name) = it_within 16 (named k.fids old_directory) _
     (λ from. it_within 16 (named k.fids new_directory) _ (λ to. it_within 16 (checked old_name.now) _ (λ _. it_within 16
-    (checked new_name.now) _ (λ _. renaming_within 15 from.user.session (below from.path old_name.now)
+    (checked new_name.now) _ (λ _. renaming_within 14 from.user.session (below from.path old_name.now)
     (below to.path new_name.now) answer.Renameat))))
 name_within k (request.Unlinkat directory name flags) = it_within 16 (named_for k.fids directory name.now) _
     (λ parent. unlinking_within 15 parent.user.session (below parent.path name.now) (is_set flags 0x200))
@@ -325,6 +334,10 @@ asks_setting : (x : Setattr) (change : Option Change) → Within (left_at_change
 asks_setting x None few = few
 asks_setting x (Some c) few = few
 
+asks_renaming : (r : Rename) (done : Bool) → Within (left_at_rename r done) 0 → ⊥
+asks_renaming r false few = few
+asks_renaming r true few = few
+
 asks_listing : (l : Listing) (above : Option ℕ)
     → Within (listing l.fid l.user l.path.items l.node l.fd l.offset l.limit above) 0 → ⊥
 asks_listing l None few = few
@@ -348,7 +361,7 @@ none_left (work.Open (open_work.Create (creation.Chown file fd gid))) few = few
 none_left (work.Open (open_work.Create (creation.Look file fd))) few = few
 none_left (work.Open (open_work.Make m)) few = asks_making m m.stage few
 none_left (work.Name (name_work.Link l)) few = few
-none_left (work.Name (name_work.Rename r)) few = few
+none_left (work.Name (name_work.Rename r)) few = asks_renaming r r.done few
 none_left (work.Name (name_work.Unlink u)) few = few
 none_left (work.Name (name_work.Remove r)) few = few
 none_left (work.Attribute (attribute_work.Setattr x)) few = asks_setting x x.change few

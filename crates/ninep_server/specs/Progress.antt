@@ -1,5 +1,5 @@
 -- How far an answer is: what it still has to ask and to say.
-use Rattle.std.specs.Prelude.{⊤, ◌≡◌, ◌⊎◌, ℕ, zero, suc, ◌∷◌, Option, Some, None, Result, Ok, Err}
+use Rattle.std.specs.Prelude.{⊤, ◌≡◌, ◌⊎◌, ℕ, zero, suc, ◌∷◌, Bool, true, false, Option, Some, None, Result, Ok, Err}
 use Rattle.errno.specs.declared.Errno.TheVariants.{ENOMEM}
 use Rattle.ninep.specs.Requests.{Body, names_in}
 use Rattle.tree.specs.declared.Call.TheVariants as call
@@ -18,7 +18,7 @@ use Rattle.ninep_server.specs.Attaching.{beginning, entering, looking_at_root}
 use Rattle.ninep_server.specs.Walks.{looking_at, walking}
 use Rattle.ninep_server.specs.Opens.{opening, making_file, opening_taken, giving_group, looking_at_file, making, giving_made_group}
 use Rattle.ninep_server.specs.Opens.{looking_at_made}
-use Rattle.ninep_server.specs.Naming.{linking, renaming, unlinking, removing}
+use Rattle.ninep_server.specs.Naming.{linking, renaming, looking_back, unlinking, removing}
 use Rattle.ninep_server.specs.Settings.{looking_first, changing}
 use Rattle.ninep_server.specs.Listings.{listing}
 use Rattle.ninep_server.specs.Messages.{transferring, looking, measuring, reading_link, syncing}
@@ -102,8 +102,12 @@ left_of_making m = left_at_stage m m.stage
 abbrev pub left_of_link : Link → Plan
 left_of_link l = linking l.session l.old.items l.new.items
 
+abbrev pub left_at_rename : Rename → Bool → Plan
+left_at_rename r false = renaming r.session r.old.items r.new.items r.then
+left_at_rename r true = looking_back r.session r.old.items r.new.items r.then
+
 abbrev pub left_of_rename : Rename → Plan
-left_of_rename r = renaming r.session r.old.items r.new.items r.then
+left_of_rename r = left_at_rename r r.done
 
 abbrev pub left_of_unlink : Unlink → Plan
 left_of_unlink u = unlinking u.session u.path.items u.directory
