@@ -18,7 +18,7 @@ use Rattle.ninep_fids.specs.Plans.{Plan, closing, with_it, at}
 use Rattle.ninep_fids.specs.Nodes.{node_of, qid_of}
 use Rattle.ninep_fids.specs.Checks.{user_number, enters, place, not_link, changeable, named_for, unopened}
 use Rattle.ninep_fids.specs.Flags.{open_bits, flags_by, group_of, is_set}
-use Rattle.ninep_fids.specs.Changes.{in_order, changes_wanted}
+use Rattle.ninep_fids.specs.Changes.{in_order, changes_wanted, may_change}
 use Rattle.ninep_fids.specs.Directories.{entries_of}
 use Rattle.ninep_fids.specs.Entries.{any_long}
 use Rattle.ninep_fids.specs.declared.refused.Refused.{Refused}
@@ -211,9 +211,9 @@ changing_within (suc n) session path (c ∷ changes) few =
     let fewer : length changes ≤ n = omega (arith, few) in
     λ h. it_within n (done_in h) _ (λ _. changing_within n session path changes fewer)
 
-setting_within : (session : ℕ) (path : List ℕ) (wanted : Wanted) → Within (looking_first session path wanted) 16
-setting_within session path wanted = λ h. it_within 15 (attributes_in h) _ (λ a. it_within 15 (changes_wanted wanted a) _
-    (λ c. changing_within 15 session path (in_order c) (omega (arith, few_changes c))))
+setting_within : (user : User) (path : List ℕ) (wanted : Wanted) → Within (looking_first user path wanted) 16
+setting_within user path wanted = λ h. it_within 15 (attributes_in h) _ (λ a. it_within 15 (changes_wanted wanted a) _
+    (λ c. it_within 15 (may_change user a c) _ (λ _. changing_within 15 user.session path (in_order c) (omega (arith, few_changes c)))))
 
 names_within : (n fid : ℕ) (user : User) (path : List ℕ) (node : Node) (fd offset limit above : ℕ)
     → Within (listing_names fid user path node fd offset limit above) (suc n)
@@ -280,7 +280,7 @@ node_within : (k : Known) (now : ℕ) (r : Request) → Within (of_node k now r)
 node_within k now (request.Getattr fid mask) =
     it_within 16 (found k.fids fid) _ (λ file. attributes_within 15 file file.descriptor file.gone)
 node_within k now (request.Setattr fid valid mode uid gid size atime mtime) = it_within 16 (named k.fids fid) _
-    (λ file. it_within 16 (changeable file.node.kind) _ (λ _. setting_within file.user.session file.path (record {
+    (λ file. it_within 16 (changeable file.node.kind) _ (λ _. setting_within file.user file.path (record {
       valid = valid;
       mode = mode;
       uid = uid;

@@ -116,8 +116,8 @@ abbrev pub left_of_remove : Remove → Plan
 left_of_remove r = removing r.session r.path.items r.directory r.descriptor
 
 abbrev pub left_at_change : Setattr → Option Change → Plan
-left_at_change s None = looking_first s.session s.path.items s.wanted
-left_at_change s (Some c) = changing s.session s.path.items (c ∷ in_order s.left)
+left_at_change s None = looking_first s.user s.path.items s.wanted
+left_at_change s (Some c) = changing s.user.session s.path.items (c ∷ in_order s.left)
 
 abbrev pub left_of_setattr : Setattr → Plan
 left_of_setattr s = left_at_change s s.change

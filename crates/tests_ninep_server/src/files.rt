@@ -222,6 +222,47 @@ fn attributes_are_changed(rt: HostRuntime) -> Result<(), Fail> {
     )
 }
 
+/// A mode that another user may not change, or that has other bits than permissions, is refused before the size is changed; behind a size,
+/// the time of the change isn't changed by itself.
+#[test]
+fn refused_changes_leave_all(rt: HostRuntime) -> Result<(), Fail> {
+    let mut talk = with_file(rt.alloc())?;
+    talk.gives(node(3, 0o100644))?;
+    talk.hears(
+        b"\x1a\x01\0\x02\0\0\0\x09\0\0\0\xed\x09\0\0\0\0\0\0\0\0\0\0\x64\0\0\0\0\0\0\0\0\0\0\0\0\0\0\0\0\0\0\0\0\0\0\0\0\
+          \0\0\0\0\0\0\0\0\0\0\0\0\0\0\0",
+        "0 lstat /f;",
+        b"\x07\x01\0\x16\0\0\0",
+    )?;
+    talk.gives(node(1, 0o40755))?;
+    talk.hears(
+        b"\x68\x03\0\x03\0\0\0\xff\xff\xff\xff\0\0\0\0\xe8\x03\0\0",
+        "enter 1000 1000;1 lstat /;",
+        b"\x69\x03\0\x80\0\0\0\0\x01\0\0\0\0\0\0\0",
+    )?;
+    talk.gives(node(3, 0o100666))?;
+    talk.hears(
+        b"\x6e\x05\0\x03\0\0\0\x04\0\0\0\x01\0\x01\0f",
+        "1 lstat /f;",
+        b"\x6f\x05\0\x01\0\0\0\0\0\0\x03\0\0\0\0\0\0\0",
+    )?;
+    talk.gives(node(3, 0o100666))?;
+    talk.hears(
+        b"\x1a\x01\0\x04\0\0\0\x09\0\0\0\xa4\x01\0\0\0\0\0\0\0\0\0\0\x64\0\0\0\0\0\0\0\0\0\0\0\0\0\0\0\0\0\0\0\0\0\0\0\0\
+          \0\0\0\0\0\0\0\0\0\0\0\0\0\0\0",
+        "1 lstat /f;",
+        b"\x07\x01\0\x01\0\0\0",
+    )?;
+    talk.gives(node(3, 0o100666))?;
+    talk.gives(done())?;
+    talk.hears(
+        b"\x1a\x01\0\x04\0\0\0\x68\0\0\0\0\0\0\0\0\0\0\0\0\0\0\0\x64\0\0\0\0\0\0\0\0\0\0\0\0\0\0\0\0\0\0\0\0\0\0\0\0\0\0\
+          \0\0\0\0\0\0\0\0\0\0\0\0\0",
+        "1 lstat /f;1 truncate /f 100;",
+        b"\x1b\x01\0",
+    )
+}
+
 /// The room of the volume.
 #[test]
 fn the_room_is_told(rt: HostRuntime) -> Result<(), Fail> {
