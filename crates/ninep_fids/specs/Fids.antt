@@ -1,16 +1,18 @@
 -- What becomes of fids when names change.
-use Rattle.std.specs.Prelude.{⊤, ◌≡◌, ◌⊎◌, ◌++◌, ℕ, List, [], ◌∷◌, true}
+use Rattle.std.specs.Prelude.{⊤, ◌≡◌, ◌≤◌, ◌⊎◌, ◌++◌, ℕ, List, [], ◌∷◌, length, true}
 use Rattle.ninep_fids.specs.Paths.{IsRest, IsElsewhere}
 use Rattle.ninep_fids.specs.Knowledge.{File}
 
--- A name became another one. A fid at the old name or below it goes along, unless no memory was found for its path: then it is gone. What
--- stood at the new name or below it is gone. Any other stays, and each keeps its user, its node, its descriptor and its entries.
+-- A name became another one. A fid at the old name or below it goes along, unless no memory was found for its path, or that had more bytes
+-- than a call's path may have: then it is gone. What stood at the new name or below it is gone. Any other stays, and each keeps its user,
+-- its node, its descriptor and its entries.
 pub record IsRenamed (old new : List ℕ) (f g : File) : Type 0 where
   pub moved : (rest : List ℕ) → IsRest rest → f.path ≡ old ++ rest
       → (g.gone ≡ true) ⊎ ((g.path ≡ new ++ rest) × (g.gone ≡ f.gone))
   pub replaced : (rest : List ℕ) → IsRest rest → IsElsewhere old f.path → f.path ≡ new ++ rest → g.gone ≡ true
   pub others : IsElsewhere old f.path → IsElsewhere new f.path → g.gone ≡ f.gone
   pub path : IsElsewhere old f.path → g.path ≡ f.path
+  pub short : (g.path ≡ f.path) ⊎ (length g.path ≤ 1024)
   pub node : g.node ≡ f.node
   pub user : g.user ≡ f.user
   pub descriptor : g.descriptor ≡ f.descriptor

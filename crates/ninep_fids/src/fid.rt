@@ -7,7 +7,7 @@ use crate::paths::{joined, rest};
 use crate::users::User;
 use ninep::reply::Qid;
 use std::alloc::Global;
-use tree::Attributes;
+use tree::{Attributes, MAX_PATH};
 
 /// What kind of node a fid stands on.
 #[derive(Clone, Copy)]
@@ -118,14 +118,14 @@ impl Fid {
     }
 
     /// The old name is the new one now, and what stood at the new one is gone: the fid stays on its node. Where no memory is found for
-    /// its path, it counts as gone.
+    /// its path, or that is longer than a call's may be, it counts as gone.
     pub fn rename(&mut self, alloc: Global, old: &[u8], new: &[u8])
         ensures { IsRenamed old.now new.now (file_of self.old) (file_of self.new) }
     {
         if let Some(rest) = rest(&self.path, old) {
             match joined(alloc, new, rest) {
-                Ok(path) => self.path = path,
-                Err(_) => self.gone = true,
+                Ok(path) if path.len() <= MAX_PATH => self.path = path,
+                _ => self.gone = true,
             }
         } else if rest(&self.path, new).is_some() {
             self.gone = true;
