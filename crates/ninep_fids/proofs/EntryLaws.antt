@@ -1,14 +1,16 @@
 -- The entries of a directory, as they are put one behind the other.
 use Rattle.std.proofs.Common.{◌≡◌, ◌<◌, ◌≤◌, ◌+◌, ◌-◌, ◌∙◌, ◌⊎◌, inl, inr, min, ℕ, zero, suc, Bool, true, false, List, [], ◌∷◌, ◌++◌, length, map, drop, take}
-use Rattle.std.proofs.Common.{if◌then◌else◌, nat_lt, slice_index_or, refl, sym, ap, subst, append_assoc, arith}
+use Rattle.std.proofs.Common.{if◌then◌else◌, ◌||◌, nat_lt, slice_index_or, refl, sym, ap, subst, append_assoc, arith}
 use Rattle.std.proofs.lemmas.Bool.{cases_lt}
 use Rattle.std.proofs.lemmas.Bool.Decides.{nat_tests}
-use Rattle.std.proofs.lemmas.List.{append-nil, drop_all, length-append, length-map, take_all}
-use Rattle.std.specs.List.{concat}
+use Rattle.std.proofs.lemmas.List.{append-nil, drop_all, length-append, length-drop, length-map, take_all}
+use Rattle.std.specs.List.{AllByRecursion, concat}
 use Rattle.ninep.specs.Fields.{One, Two, Four, Eight, number_bytes}
 use Rattle.ninep.proofs.FieldLaws.{number_length}
 use Rattle.tree.specs.declared.Entry.{Entry}
-use Rattle.ninep_fids.specs.Entries.{any_long, bytes_each, entries_of, entry_bytes, fitting, stands, EntriesStandWhole}
+use Rattle.ninep_fids.specs.Directories.{entries_of}
+use Rattle.ninep_fids.specs.Entries.{any_long, bytes_each, entry_bytes, fitting, how_many, stands, told_in_turn}
+use Rattle.ninep_fids.specs.Entries.{EntriesStandWhole, EachIsToldOnce}
 use Rattle.ninep_fids.specs.declared.entries.Entries.{Entries}
 
 -- how many bytes an entry has
@@ -197,3 +199,66 @@ entries_stand_whole limit most es less =
     let it = first_fit limit es in
     let few : length (fitting limit es) ≤ most = omega (arith, it.2, less) in
     (it.0, take_all most (fitting limit es) few ∙ it.1, it.2, it.3)
+
+-- what one answer tells, and then all that are left, are all: where one entry stands before others for which that is so
+one_more_told : (b : Bool) (left offset : ℕ) (x : List ℕ) (e : ℕ × List ℕ) (es : List (ℕ × List ℕ)) → entry_bytes e.0 (offset + 1) e.1 ≡ x
+    → fitting left (bytes_each (offset + 1) es) ++ concat (bytes_each (offset + 1 + how_many left (bytes_each (offset + 1) es))
+    (drop (how_many left (bytes_each (offset + 1) es)) es)) ≡ concat (bytes_each (offset + 1) es)
+    → (if b then [] else x ++ fitting left (bytes_each (offset + 1) es))
+    ++ concat (bytes_each (offset + (if b then 0 else suc (how_many left (bytes_each (offset + 1) es))))
+    (drop (if b then 0 else suc (how_many left (bytes_each (offset + 1) es))) (e ∷ es)))
+    ≡ x ++ concat (bytes_each (offset + 1) es)
+one_more_told true left offset x e es is rest =
+    let same : offset + 0 ≡ offset = omega arith in
+    rw (same, is) refl
+one_more_told false left offset x e es is rest =
+    let n = how_many left (bytes_each (offset + 1) es) in
+    let same : offset + suc n ≡ offset + 1 + n = omega arith in
+    rw same (append_assoc x (fitting left (bytes_each (offset + 1) es)) _ ∙ ap (λ l. x ++ l) rest)
+
+one_told : (room offset : ℕ) (es : List (ℕ × List ℕ))
+    → fitting room (bytes_each offset es)
+    ++ concat (bytes_each (offset + how_many room (bytes_each offset es)) (drop (how_many room (bytes_each offset es)) es))
+    ≡ concat (bytes_each offset es)
+one_told room offset [] = refl
+one_told room offset (e ∷ es) =
+    let x = entry_bytes e.0 (offset + 1) e.1 in
+    one_more_told (nat_lt room (length x)) (room - length x) offset x e es refl (one_told (room - length x) (offset + 1) es)
+
+-- an answer with room for the longest entry tells one at least
+some_told : (room offset : ℕ) (e : ℕ × List ℕ) (es : List (ℕ × List ℕ)) → 84 ≤ room → nat_lt 60 (length e.1) ≡ false
+    → 1 ≤ how_many room (bytes_each offset (e ∷ es))
+some_told room offset e es least short =
+    let few : length e.1 ≤ 60 = grind (arith, nat_tests) in
+    let fits : length (entry_bytes e.0 (offset + 1) e.1) ≤ room = omega (arith, least, few, entry_length e.0 (offset + 1) e.1) in
+    let no : nat_lt room (length (entry_bytes e.0 (offset + 1) e.1)) ≡ false = grind (arith, nat_tests) in
+    rw no (omega arith)
+
+none_long_behind : (n : ℕ) (es : List (ℕ × List ℕ)) → any_long es ≡ false → any_long (drop n es) ≡ false
+none_long_behind zero es h = h
+none_long_behind (suc n) [] h = refl
+none_long_behind (suc n) (e ∷ es) h = none_long_behind n es (second (nat_lt 60 (length e.1)) (any_long es) h) where
+  second : (a b : Bool) → a || b ≡ false → b ≡ false
+  second true b h = absurd (no h) where
+    no : true ≡ false → ⊥
+    no e = cc
+  second false b h = h
+
+turns_tell_all : (rooms : List ℕ) (offset : ℕ) (es : List (ℕ × List ℕ)) → AllByRecursion (λ room. 84 ≤ room) rooms
+    → any_long es ≡ false → length es ≤ length rooms → told_in_turn rooms offset es ≡ concat (bytes_each offset es)
+turns_tell_all [] offset [] least short few = refl
+turns_tell_all [] offset (e ∷ es) least short few = absurd (omega (arith, few))
+turns_tell_all (room ∷ rooms) offset [] least short few = turns_tell_all rooms (offset + 0) [] least.1 short (omega arith)
+turns_tell_all (room ∷ rooms) offset (e ∷ es) least short few =
+    let n = how_many room (bytes_each offset (e ∷ es)) in
+    let one : 1 ≤ n = some_told room offset e es least.0 (first (nat_lt 60 (length e.1)) (any_long es) short) in
+    let fewer : length (drop n (e ∷ es)) ≤ length rooms = omega (arith, few, one, length-drop n (e ∷ es)) in
+    ap (λ l. fitting room (bytes_each offset (e ∷ es)) ++ l)
+    (turns_tell_all rooms (offset + n) (drop n (e ∷ es)) least.1 (none_long_behind n (e ∷ es) short) fewer)
+    ∙ one_told room offset (e ∷ es) where
+      first : (a b : Bool) → a || b ≡ false → a ≡ false
+      first true b h = h
+      first false b h = refl
+
+pub each_is_told_once : EachIsToldOnce
+each_is_told_once rooms es least short few = turns_tell_all rooms 0 es least short few

@@ -1,7 +1,8 @@
 -- Changes of attributes, as a message says them.
-use Rattle.std.specs.Prelude.{ℕ, ◌%◌, List, ◌++◌, nat_lt, Option, Some, None, Result, Ok, Err, if◌then◌else◌}
-use Rattle.std.specs.Option.{option_map, option_to_list}
-use Rattle.errno.specs.declared.Errno.TheVariants.{EINVAL, EFBIG}
+use Rattle.std.specs.Prelude.{⊤, ℕ, ◌%◌, List, ◌++◌, nat_lt, Bool, not, ◌&&◌, ◌||◌, ◌==◌, Option, Some, None, Result, Ok, Err}
+use Rattle.std.specs.Prelude.{if◌then◌else◌}
+use Rattle.std.specs.Option.{is_some, option_map, option_to_list}
+use Rattle.errno.specs.declared.Errno.TheVariants.{EPERM, EINVAL, EFBIG}
 use Rattle.tree.specs.declared.Attributes.{Attributes}
 use Rattle.tree.specs.declared.Call.{Call}
 use Rattle.tree.specs.declared.Call.TheVariants as call
@@ -11,16 +12,21 @@ use Rattle.ninep_fids.specs.Knowledge.{then_of}
 use Rattle.ninep_fids.specs.Plans.{at}
 use Rattle.ninep_fids.specs.declared.refused.Refused.{Refused}
 use Rattle.ninep_fids.specs.declared.refused.Refused.TheVariants.{By}
+use Rattle.ninep_fids.specs.declared.users.User.{User}
 use Rattle.ninep_fids.specs.declared.changes.Wanted.{Wanted}
 use Rattle.ninep_fids.specs.declared.changes.Change.{Change}
 use Rattle.ninep_fids.specs.declared.changes.Change.TheVariants as change
 use Rattle.ninep_fids.specs.declared.changes.Changes.{Changes}
 
 -- A message says by the bits of `valid` what is changed: 1 the mode, 2 the owner, 4 the group, 8 the size, 16 and 32 the times, which are
--- those of the message where 128 and 256 are set, and now else. What it doesn't name stays.
+-- those of the message where 128 and 256 are set, and now else. What it doesn't name stays. A mode has permissions alone.
 abbrev pub size_wanted : ℕ → ℕ → Result (Option ℕ) Refused
 size_wanted valid given =
     if is_set valid 8 then (if nat_lt given 0x100000000 then Ok (Some given) else Err (By EFBIG)) else Ok None
+
+abbrev pub mode_wanted : ℕ → ℕ → Result (Option ℕ) Refused
+mode_wanted valid given =
+    if is_set valid 1 then (if nat_lt (given % 4096) 512 then Ok (Some (given % 4096)) else Err (By EINVAL)) else Ok None
 
 abbrev pub owner_wanted : ℕ → ℕ → ℕ → ℕ → Result ℕ Refused
 owner_wanted valid bit given was =
@@ -31,10 +37,15 @@ time_wanted valid bits given now was =
     if is_set valid bits.0 then (if is_set valid bits.1 then (if nat_lt given 0x100000000 then Ok given else Err (By EINVAL)) else Ok now)
     else Ok was
 
+-- the time of a change, now, which a change of size sets by itself
+abbrev pub comes_with_size : ℕ → Bool
+comes_with_size valid = is_set valid 8 && not (is_set valid 0x110)
+
 -- the changes that a message wants of a node with these attributes
 abbrev pub changes_wanted : Wanted → Attributes → Result Changes Refused
 changes_wanted w was =
     then_of (size_wanted w.valid w.size) (λ size.
+    then_of (mode_wanted w.valid w.mode) (λ mode.
     then_of (owner_wanted w.valid 2 w.uid was.uid) (λ uid.
     then_of (owner_wanted w.valid 4 w.gid was.gid) (λ gid.
     then_of (time_wanted w.valid (16, 128) w.atime w.now was.atime) (λ atime.
@@ -42,11 +53,21 @@ changes_wanted w was =
     Ok (record {
       size = size;
       owners = if is_set w.valid 6 then Some (uid, gid) else None;
-      mode = if is_set w.valid 1 then Some (w.mode % 4096) else None;
-      times = if is_set w.valid 48 then Some (atime, mtime) else None;
-    }))))))
+      mode = mode;
+      times = if is_set w.valid 48 && not (comes_with_size w.valid) then Some (atime, mtime) else None;
+    })))))))
 
--- in this order
+-- User 0 may change all, and an owner all but owners: the server refuses the others. A size is left to the server.
+abbrev pub owns : User → Attributes → Bool
+owns user was = (user.uid == 0) || (user.uid == was.uid)
+
+abbrev pub may_change : User → Attributes → Changes → Result ⊤ Refused
+may_change user was c =
+    if is_some c.owners && not (user.uid == 0) then Err (By EPERM)
+    else if (is_some c.mode || is_some c.times) && not (owns user was) then Err (By EPERM)
+    else Ok tt
+
+-- In this order: behind the size, which alone may still be refused for what the user may do, all others are granted.
 abbrev pub in_order : Changes → List Change
 in_order c =
     option_to_list (option_map (λ size. change.Size size) c.size)

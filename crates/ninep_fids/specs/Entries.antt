@@ -1,20 +1,15 @@
 -- The entries of a directory, as they are told.
-use Rattle.std.specs.Prelude.{ℕ, ◌+◌, ◌-◌, nat_lt, Bool, List, [], ◌∷◌, ◌++◌, length, map, take, codes}
+use Rattle.std.specs.Prelude.{ℕ, suc, ◌+◌, ◌-◌, nat_lt, Bool, List, [], ◌∷◌, ◌++◌, length, take, drop}
 use Rattle.std.specs.Prelude.{if◌then◌else◌, ◌||◌, false, true, ◌≡◌, ◌⊎◌, ◌<◌, ◌≤◌, Result, MatchResult}
 use Rattle.std.specs.Global.{Vec}
-use Rattle.std.specs.List.{concat}
+use Rattle.std.specs.List.{AllByRecursion, concat}
 use Rattle.errno.specs.declared.Errno.TheVariants.{ENOMEM}
 use Rattle.ninep.specs.Fields.{One, Eight, Number, Text, fields_bytes}
 use Rattle.ninep.specs.Replies.{qid_fields}
-use Rattle.tree.specs.declared.Entry.{Entry}
 use Rattle.ninep_fids.specs.Hearing.{eio}
 use Rattle.ninep_fids.specs.declared.refused.Refused.{Refused}
 use Rattle.ninep_fids.specs.declared.refused.Refused.TheVariants.{By}
 use Rattle.ninep_fids.specs.declared.entries.Entries.{Entries}
-
--- The entries of a directory, each by its inode and its name: itself, the one above, and its names, in their order. An offset counts them.
-abbrev pub entries_of : ℕ → ℕ → List Entry → List (ℕ × List ℕ)
-entries_of own above names = (own, codes ".") ∷ (above, codes "..") ∷ map (λ (e : Entry). (e.inode, e.name.items)) names
 
 -- The bytes of an entry: a qid that has the number of its inode alone, the offset of the next entry, no type (the client asks for
 -- attributes), and its name.
@@ -38,10 +33,28 @@ abbrev pub EntriesStandWhole : Type 0
 EntriesStandWhole = (limit most : ℕ) (es : List (List ℕ)) → limit ≤ most → (n : ℕ) × (take most (fitting limit es) ≡ concat (take n es))
     × (length (fitting limit es) ≤ limit) × ((n ≡ length es) ⊎ (limit < length (concat (take (n + 1) es))))
 
+-- how many of these fit
+abbrev pub how_many : ℕ → List (List ℕ) → ℕ
+how_many room [] = 0
+how_many room (e ∷ es) = if nat_lt room (length e) then 0 else suc (how_many (room - length e) es)
+
+-- What is told of these entries, the first of which stands at this offset, by one answer after the other, each with its room, and each from
+-- the offset on that the last entry of the one before it has for the next.
+abbrev pub told_in_turn : List ℕ → ℕ → List (ℕ × List ℕ) → List ℕ
+told_in_turn [] offset es = []
+told_in_turn (room ∷ rooms) offset es =
+    let n = how_many room (bytes_each offset es) in
+    fitting room (bytes_each offset es) ++ told_in_turn rooms (offset + n) (drop n es)
+
 -- whether one has a longer name than names of the server are
 abbrev pub any_long : List (ℕ × List ℕ) → Bool
 any_long [] = false
 any_long (e ∷ es) = nat_lt 60 (length e.1) || any_long es
+
+-- Where each answer has room for the longest entry, as many answers as there are entries tell each entry, once.
+abbrev pub EachIsToldOnce : Type 0
+EachIsToldOnce = (rooms : List ℕ) (es : List (ℕ × List ℕ)) → AllByRecursion (λ room. 84 ≤ room) rooms → any_long es ≡ false
+    → length es ≤ length rooms → told_in_turn rooms 0 es ≡ concat (bytes_each 0 es)
 
 -- what stands at the end, where these entries come behind those that a row has
 abbrev pub stands : Entries → List (List ℕ) → List ℕ

@@ -1,12 +1,14 @@
 -- What a connection knows: its users, and what its fids stand for.
 use Rattle.std.specs.Prelude.{⊤, ℕ, Bool, true, false, List, map, length, nat_lt, Option, Some, None, Result, Ok, Err, if◌then◌else◌, ◌==◌}
 use Rattle.std.specs.Borrow.{Bor}
-use Rattle.std.specs.Option.{ok_or, is_some}
+use Rattle.std.specs.Option.{ok_or, is_some, option_map}
 use Rattle.std.specs.List.{find}
 use Rattle.std.specs.Ordering.{nat_cmp}
 use Rattle.std.specs.BTreeMap.{is_at}
 use Rattle.std.specs.Map.{lookup}
 use Rattle.errno.specs.declared.Errno.TheVariants.{EBADF, EINVAL, ENFILE}
+use Rattle.ninep_fids.specs.Directories.{entries_of}
+use Rattle.ninep_fids.specs.declared.entries.Listed.{Listed}
 use Rattle.ninep_fids.specs.declared.refused.Refused.{Refused}
 use Rattle.ninep_fids.specs.declared.refused.Refused.TheVariants.{By, Stale}
 use Rattle.ninep_fids.specs.declared.users.User.{User}
@@ -15,14 +17,15 @@ use Rattle.ninep_fids.specs.declared.fid.Fid.{Fid}
 use Rattle.ninep_fids.specs.declared.fids.Fids.{Fids}
 use Rattle.ninep_fids.specs.declared.knows.Knows.{Knows}
 
--- What a fid stands for: the user whose session uses it, where its node's name is, the node, its descriptor if it is open, and whether the
--- node has lost that name.
+-- What a fid stands for: the user whose session uses it, where its node's name is, the node, its descriptor if it is open, whether the node
+-- has lost that name, and the entries of an open directory, if they were taken, as they were then.
 pub record File : Type 0 where
   pub user : User
   pub path : List ℕ
   pub node : Node
   pub descriptor : Option ℕ
   pub gone : Bool
+  pub entries : Option (List (ℕ × List ℕ))
 
 -- the most bytes of a message, the users who are attached, and the fids by their numbers, in order
 pub record Known : Type 0 where
@@ -31,7 +34,14 @@ pub record Known : Type 0 where
   pub fids : List (ℕ × File)
 
 abbrev pub file_of : Fid → File
-file_of f = record { user = f.user; path = f.path.items; node = f.node; descriptor = f.descriptor; gone = f.gone }
+file_of f = record {
+  user = f.user;
+  path = f.path.items;
+  node = f.node;
+  descriptor = f.descriptor;
+  gone = f.gone;
+  entries = option_map (λ (l : Listed). entries_of f.node.inode l.above l.names.items) f.listed;
+}
 
 abbrev pub entry_of : ℕ × Fid → ℕ × File
 entry_of e = (e.0, file_of e.1)
@@ -85,11 +95,15 @@ closed (Some fd) = Err (By EINVAL)
 
 -- a file that isn't open
 abbrev pub file_at : User → List ℕ → Node → File
-file_at user path node = record { user = user; path = path; node = node; descriptor = None; gone = false }
+file_at user path node = record { user = user; path = path; node = node; descriptor = None; gone = false; entries = None }
 
 -- one that is
 abbrev pub file_open : User → List ℕ → Node → ℕ → File
-file_open user path node fd = record { user = user; path = path; node = node; descriptor = Some fd; gone = false }
+file_open user path node fd = record { user = user; path = path; node = node; descriptor = Some fd; gone = false; entries = None }
+
+-- an open directory whose entries were taken
+abbrev pub file_listed : User → List ℕ → Node → ℕ → List (ℕ × List ℕ) → File
+file_listed user path node fd entries = record (file_open user path node fd) { entries = Some entries }
 
 -- the user with this number, if it is attached
 abbrev pub user_of : List User → ℕ → Option User

@@ -5,6 +5,7 @@ pub mod Talks
 pub mod Written
 pub mod Sending
 pub mod Fids
+pub mod Directories
 pub mod Knowledge
 pub mod Hearing
 pub mod Plans

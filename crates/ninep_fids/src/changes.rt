@@ -2,13 +2,15 @@
 
 ghost use Rattle.std.specs.Prelude.{◌≡◌, [], ◌∷◌, MatchOption, Ok};
 ghost use Rattle.ninep_fids.specs.Plans.{plain_call};
-ghost use Rattle.ninep_fids.specs.Changes.{size_wanted, owner_wanted, time_wanted, changes_wanted, in_order, change_call};
+ghost use Rattle.ninep_fids.specs.Changes.{size_wanted, mode_wanted, owner_wanted, time_wanted, comes_with_size, changes_wanted};
+ghost use Rattle.ninep_fids.specs.Changes.{may_change, in_order, change_call};
 
 use crate::flags::{has, mode_of};
 use crate::paths::called;
 use crate::refused::Refused;
+use crate::users::User;
 use errno::Errno;
-use tree::{Attributes, Call};
+use tree::{Attributes, Call, MAX_PERMISSIONS};
 
 /// The bits that say which attributes are changed, and whether times are given or are now.
 const MODE: u32 = 0x1;
@@ -53,6 +55,27 @@ fn size(valid: u32, given: u64) -> Result<Option<u32>, Refused>
         Ok(size) => Ok(Some(size)),
         Err(_) => Err(Refused::By(Errno::EFBIG)),
     }
+}
+
+/// What a mode becomes, if it changes. EINVAL where it has other bits than permissions.
+fn mode(valid: u32, given: u32) -> Result<Option<u16>, Refused>
+    ensures { result ≡ mode_wanted valid given }
+{
+    if !has(valid, MODE) {
+        return Ok(None);
+    }
+    let mode = mode_of(given);
+    if mode > MAX_PERMISSIONS {
+        return Err(Refused::By(Errno::EINVAL));
+    }
+    Ok(Some(mode))
+}
+
+/// Whether the only time that is wanted is that of the change of size that is wanted, now: the server sets it with the size.
+fn comes_with_size(valid: u32) -> bool
+    ensures { result ≡ comes_with_size valid }
+{
+    has(valid, SIZE) && !has(valid, ATIME | MTIME_SET)
 }
 
 /// What a time becomes: the given one, now, or what it was. EINVAL where it doesn't fit the volume.
@@ -118,12 +141,13 @@ pub struct Changes {
 }
 
 impl Wanted {
-    /// The changes, where the node is so.
+    /// The changes, where the node is so. EFBIG, EINVAL: a number doesn't fit the volume.
     pub fn changes(&self, was: &Attributes) -> Result<Changes, Refused>
         ensures { result ≡ changes_wanted self.entry.now was.now }
     {
         let valid = self.valid;
         let size = size(valid, self.size)?;
+        let mode = mode(valid, self.mode)?;
         let uid = owner(valid, UID, self.uid, was.uid)?;
         let gid = owner(valid, GID, self.gid, was.gid)?;
         let atime = time(valid, (ATIME, ATIME_SET), self.atime, self.now, was.atime)?;
@@ -135,12 +159,8 @@ impl Wanted {
             } else {
                 None
             },
-            mode: if has(valid, MODE) {
-                Some(mode_of(self.mode))
-            } else {
-                None
-            },
-            times: if has(valid, ATIME | MTIME) {
+            mode,
+            times: if has(valid, ATIME | MTIME) && !comes_with_size(valid) {
                 Some((atime, mtime))
             } else {
                 None
@@ -160,6 +180,20 @@ impl Changes {
             mode: None,
             times: None,
         }
+    }
+
+    /// Refuses what the server would refuse of them to a user, but for the size, where the node is so. EPERM.
+    pub fn check(&self, user: User, was: &Attributes) -> Result<(), Refused>
+        ensures { result ≡ may_change user was.now self.now }
+    {
+        let owns = user.uid == 0 || user.uid == was.uid;
+        if self.owners.is_some() && user.uid != 0 {
+            return Err(Refused::By(Errno::EPERM));
+        }
+        if (self.mode.is_some() || self.times.is_some()) && !owns {
+            return Err(Refused::By(Errno::EPERM));
+        }
+        Ok(())
     }
 
     /// The first of them, and those behind it.

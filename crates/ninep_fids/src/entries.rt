@@ -2,7 +2,8 @@
 
 ghost use Rattle.std.specs.Prelude.{◌≡◌, ◌<◌, ◌+◌, ◌⊎◌, ◌∷◌, ℕ, List, drop, length, min, nat_lt, true, false, OnOk, IfErr};
 ghost use Rattle.ninep_fids.specs.Hearing.{eio};
-ghost use Rattle.ninep_fids.specs.Entries.{AreTold, entries_of, entry_bytes, stands};
+ghost use Rattle.ninep_fids.specs.Directories.{entries_of};
+ghost use Rattle.ninep_fids.specs.Entries.{AreTold, entry_bytes, stands};
 
 use crate::refused::Refused;
 use errno::Errno;
@@ -13,6 +14,15 @@ use tree::MAX_NAME;
 
 /// How many bytes an entry has without its name.
 pub const ENTRY_HEAD: usize = 24;
+
+/// The entries of a directory, as they were at a time.
+#[derive(Drop)]
+pub struct Listed {
+    /// The number of the directory in which it stood.
+    pub above: u16,
+    /// Its names, in the order of their bytes.
+    pub names: Vec<tree::Entry>,
+}
 
 /// The bytes of entries, at most so many.
 #[derive(Drop)]

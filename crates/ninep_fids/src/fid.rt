@@ -2,11 +2,12 @@
 
 ghost use Rattle.std.specs.Prelude.{◌≡◌};
 
+use crate::entries::Listed;
 use crate::paths::{joined, rest};
 use crate::users::User;
 use ninep::reply::Qid;
 use std::alloc::Global;
-use tree::Attributes;
+use tree::{Attributes, MAX_PATH};
 
 /// What kind of node a fid stands on.
 #[derive(Clone, Copy)]
@@ -69,11 +70,14 @@ pub struct Fid {
     pub descriptor: Option<u32>,
     /// Whether the node has lost that name: then only the descriptor leads to it.
     pub gone: bool,
+    /// The entries of an open directory, once they were asked for: later offsets of a listing are told from these.
+    pub listed: Option<Listed>,
 }
 
 impl Fid {
     ghost use Rattle.ninep_fids.specs.Fids.{IsRenamed, IsUnlinked};
-    ghost use Rattle.ninep_fids.specs.Knowledge.{file_of, file_at, file_open};
+    ghost use Rattle.ninep_fids.specs.Directories.{entries_of};
+    ghost use Rattle.ninep_fids.specs.Knowledge.{file_of, file_at, file_open, file_listed};
 
     /// A fid that isn't open.
     pub fn closed(user: User, path: Vec<u8>, node: Node) -> Fid
@@ -85,6 +89,7 @@ impl Fid {
             node,
             descriptor: None,
             gone: false,
+            listed: None,
         }
     }
 
@@ -98,18 +103,29 @@ impl Fid {
             node,
             descriptor: Some(fd),
             gone: false,
+            listed: None,
+        }
+    }
+
+    /// An open directory whose entries were taken.
+    pub fn listed(user: User, path: Vec<u8>, node: Node, fd: u32, listed: Listed) -> Fid
+        ensures { file_of result ≡ file_listed user path.items node fd (entries_of node.inode listed.above listed.names.items) }
+    {
+        Fid {
+            listed: Some(listed),
+            ..Fid::open(user, path, node, fd)
         }
     }
 
     /// The old name is the new one now, and what stood at the new one is gone: the fid stays on its node. Where no memory is found for
-    /// its path, it counts as gone.
+    /// its path, or that is longer than a call's may be, it counts as gone.
     pub fn rename(&mut self, alloc: Global, old: &[u8], new: &[u8])
         ensures { IsRenamed old.now new.now (file_of self.old) (file_of self.new) }
     {
         if let Some(rest) = rest(&self.path, old) {
             match joined(alloc, new, rest) {
-                Ok(path) => self.path = path,
-                Err(_) => self.gone = true,
+                Ok(path) if path.len() <= MAX_PATH => self.path = path,
+                _ => self.gone = true,
             }
         } else if rest(&self.path, new).is_some() {
             self.gone = true;

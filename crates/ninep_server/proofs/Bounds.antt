@@ -9,6 +9,7 @@ use Rattle.ninep.proofs.TextLaws.{count_is}
 use Rattle.ninep.specs.declared.request.Request.{Request}
 use Rattle.ninep.specs.declared.request.Request.TheVariants as request
 use Rattle.tree.specs.declared.OpenFlags.{OpenFlags}
+use Rattle.tree.specs.declared.Attributes.{Attributes}
 use Rattle.tree.specs.declared.Reply.{Reply}
 use Rattle.ninep_fids.specs.Paths.{below, checked, stepped}
 use Rattle.ninep_fids.specs.Knowledge.{Known, File, found, named, opened, new_fid, user_of, closed}
@@ -16,9 +17,10 @@ use Rattle.ninep_fids.specs.Hearing.{done_in, attributes_in, position_in, bytes_
 use Rattle.ninep_fids.specs.Plans.{Plan, closing, with_it, at}
 use Rattle.ninep_fids.specs.Nodes.{node_of, qid_of}
 use Rattle.ninep_fids.specs.Checks.{user_number, enters, place, not_link, changeable, named_for, unopened}
-use Rattle.ninep_fids.specs.Flags.{open_bits, flags_by, group_of, is_set, flag_for}
-use Rattle.ninep_fids.specs.Changes.{in_order, changes_wanted}
-use Rattle.ninep_fids.specs.Entries.{any_long, entries_of}
+use Rattle.ninep_fids.specs.Flags.{open_bits, flags_by, group_of, is_set}
+use Rattle.ninep_fids.specs.Changes.{in_order, changes_wanted, may_change}
+use Rattle.ninep_fids.specs.Directories.{entries_of}
+use Rattle.ninep_fids.specs.Entries.{any_long}
 use Rattle.ninep_fids.specs.declared.refused.Refused.{Refused}
 use Rattle.ninep_fids.specs.declared.users.User.{User}
 use Rattle.ninep_fids.specs.declared.fid.Node.{Node}
@@ -30,12 +32,13 @@ use Rattle.ninep_fids.specs.declared.answer.NinepAnswer.{NinepAnswer}
 use Rattle.ninep_fids.specs.declared.answer.NinepAnswer.TheVariants as answer
 use Rattle.ninep_server.specs.Attaching.{begins, entering, looking_at_root, attaching_as}
 use Rattle.ninep_server.specs.Walks.{with_name, walking}
-use Rattle.ninep_server.specs.Opens.{opening, opens, or_closes, looking_at_file, made_file, making_file, creates, was_made, making}
-use Rattle.ninep_server.specs.Naming.{linking, renaming, unlinking, removed, removing_file}
+use Rattle.ninep_server.specs.Opens.{opening, opens, or_closes, looking_at_file, made_file, opening_taken, is_taken, not_made, made_or_not}
+use Rattle.ninep_server.specs.Opens.{making_file, taken_by, creates, was_made, making}
+use Rattle.ninep_server.specs.Naming.{linking, renamed, looking_back, renaming, unlinking, removed, removing_file}
 use Rattle.ninep_server.specs.Settings.{changing, looking_first}
-use Rattle.ninep_server.specs.Listings.{listing, listing_names}
+use Rattle.ninep_server.specs.Listings.{listing, listing_by, listing_names, kept_for}
 use Rattle.ninep_server.specs.Messages.{moving, transferring, looking, attributes_of, of_file, of_name, of_node, of_fid, plan_of}
-use Rattle.ninep_server.specs.Progress.{Within, left_of, left_of_turn, left_at_stage, left_at_change}
+use Rattle.ninep_server.specs.Progress.{Within, left_of, left_of_turn, left_at_stage, left_at_change, left_at_rename}
 use Rattle.ninep_server.specs.declared.transfer.Moved.{Moved}
 use Rattle.ninep_server.specs.declared.transfer.Moved.TheVariants as moved
 use Rattle.ninep_server.specs.declared.attach.Attach.TheVariants as attach
@@ -46,6 +49,7 @@ use Rattle.ninep_server.specs.declared.making.Making.{Making}
 use Rattle.ninep_server.specs.declared.making.Stage.{Stage}
 use Rattle.ninep_server.specs.declared.making.Stage.TheVariants as stage
 use Rattle.ninep_server.specs.declared.listing.Listing.{Listing}
+use Rattle.ninep_server.specs.declared.naming.Rename.{Rename}
 use Rattle.ninep_server.specs.declared.attributes.Setattr.{Setattr}
 use Rattle.ninep_server.specs.declared.work.Work.{Work}
 use Rattle.ninep_server.specs.declared.work.Work.TheVariants as work
@@ -131,10 +135,20 @@ made_file_within n fid user path None fd = file_look_within (suc n) fid user pat
 made_file_within n fid user path (Some gid) fd = λ h. or_closes_within (suc n) user.session fd (done_in h) _
     (λ _. file_look_within n fid user path fd)
 
-making_file_within : (n fid : ℕ) (user : User) (path : List ℕ) (flags : OpenFlags) (mode : ℕ) (group : Option ℕ)
-    → Within (making_file fid user path flags mode group) (suc (suc (suc (suc n))))
-making_file_within n fid user path flags mode group =
-    λ h. it_within (suc (suc (suc n))) (descriptor_in h) _ (made_file_within n fid user path group)
+opening_taken_within : (n fid : ℕ) (user : User) (path : List ℕ) (flags : OpenFlags)
+    → Within (opening_taken fid user path flags) (suc (suc (suc n)))
+opening_taken_within n fid user path flags = λ h. it_within (suc (suc n)) (descriptor_in h) _ (file_look_within n fid user path)
+
+made_or_not_within : (n fid : ℕ) (user : User) (path : List ℕ) (taken : Option OpenFlags) (group : Option ℕ) (r : Result ℕ Refused)
+    → Within (made_or_not fid user path taken group r) (suc (suc (suc n)))
+made_or_not_within n fid user path taken group (Ok fd) = made_file_within n fid user path group fd
+made_or_not_within n fid user path None group (Err refused) = tt
+made_or_not_within n fid user path (Some flags) group (Err refused) =
+    either_within (suc (suc (suc n))) (is_taken refused) _ _ (opening_taken_within n fid user path flags) tt
+
+making_file_within : (n fid : ℕ) (user : User) (path : List ℕ) (flags : OpenFlags) (mode : ℕ) (taken : Option OpenFlags) (group : Option ℕ)
+    → Within (making_file fid user path flags mode taken group) (suc (suc (suc (suc n))))
+making_file_within n fid user path flags mode taken group = λ h. made_or_not_within n fid user path taken group (descriptor_in h)
 
 was_made_within : (n session : ℕ) (path : List ℕ) (what : Made) (group : Option ℕ) → Within (was_made session path what group) (suc (suc n))
 was_made_within n session path what None = λ h. it_within (suc n) (attributes_in h) _ (λ a. tt)
@@ -146,8 +160,15 @@ making_within n session path what group = λ h. it_within (suc (suc n)) (done_in
 linking_within : (n session : ℕ) (old new : List ℕ) → Within (linking session old new) (suc n)
 linking_within n session old new = λ h. it_within n (done_in h) _ (λ _. tt)
 
-renaming_within : (n session : ℕ) (old new : List ℕ) (a : NinepAnswer) → Within (renaming session old new a) (suc n)
-renaming_within n session old new a = λ h. it_within n (done_in h) _ (λ _. tt)
+renamed_within : (n : ℕ) (old new : List ℕ) (a : NinepAnswer) (r : Result Attributes Refused) → Within (renamed old new a r) n
+renamed_within n old new a (Ok still_there) = tt
+renamed_within n old new a (Err refused) = tt
+
+looking_back_within : (n session : ℕ) (old new : List ℕ) (a : NinepAnswer) → Within (looking_back session old new a) (suc n)
+looking_back_within n session old new a = λ h. renamed_within n old new a (attributes_in h)
+
+renaming_within : (n session : ℕ) (old new : List ℕ) (a : NinepAnswer) → Within (renaming session old new a) (suc (suc n))
+renaming_within n session old new a = λ h. it_within (suc n) (done_in h) _ (λ _. looking_back_within n session old new a)
 
 unlinking_within : (n session : ℕ) (path : List ℕ) (directory : Bool) → Within (unlinking session path directory) (suc n)
 unlinking_within n session path directory = λ h. it_within n (done_in h) _ (λ _. tt)
@@ -190,19 +211,25 @@ changing_within (suc n) session path (c ∷ changes) few =
     let fewer : length changes ≤ n = omega (arith, few) in
     λ h. it_within n (done_in h) _ (λ _. changing_within n session path changes fewer)
 
-setting_within : (session : ℕ) (path : List ℕ) (wanted : Wanted) → Within (looking_first session path wanted) 16
-setting_within session path wanted = λ h. it_within 15 (attributes_in h) _ (λ a. it_within 15 (changes_wanted wanted a) _
-    (λ c. changing_within 15 session path (in_order c) (omega (arith, few_changes c))))
+setting_within : (user : User) (path : List ℕ) (wanted : Wanted) → Within (looking_first user path wanted) 16
+setting_within user path wanted = λ h. it_within 15 (attributes_in h) _ (λ a. it_within 15 (changes_wanted wanted a) _
+    (λ c. it_within 15 (may_change user a c) _ (λ _. changing_within 15 user.session path (in_order c) (omega (arith, few_changes c)))))
 
-names_within : (n session fd own offset limit above : ℕ) → Within (listing_names session fd own offset limit above) (suc n)
-names_within n session fd own offset limit above = λ h. it_within n (names_heard h) _
-    (λ names. either_within n (any_long (drop offset (entries_of own above names))) _ _ tt tt)
+names_within : (n fid : ℕ) (user : User) (path : List ℕ) (node : Node) (fd offset limit above : ℕ)
+    → Within (listing_names fid user path node fd offset limit above) (suc n)
+names_within n fid user path node fd offset limit above = λ h. it_within n (names_heard h) _
+    (λ names. either_within n (any_long (drop offset (entries_of node.inode above names))) _ _ tt tt)
 
-listing_within : (n session : ℕ) (path : List ℕ) (fd own offset limit : ℕ) (above : Option ℕ)
-    → Within (listing session path fd own offset limit above) (suc (suc n))
-listing_within n session path fd own offset limit None =
-    λ h. it_within (suc n) (attributes_in h) _ (λ a. names_within n session fd own offset limit a.inode)
-listing_within n session path fd own offset limit (Some above) = names_within (suc n) session fd own offset limit above
+listing_within : (n fid : ℕ) (user : User) (path : List ℕ) (node : Node) (fd offset limit : ℕ) (above : Option ℕ)
+    → Within (listing fid user path node fd offset limit above) (suc (suc n))
+listing_within n fid user path node fd offset limit None =
+    λ h. it_within (suc n) (attributes_in h) _ (λ a. names_within n fid user path node fd offset limit a.inode)
+listing_within n fid user path node fd offset limit (Some above) = names_within (suc n) fid user path node fd offset limit above
+
+by_kept_within : (n fid : ℕ) (file : File) (fd offset limit : ℕ) (kept : Option (List (ℕ × List ℕ)))
+    → Within (listing_by fid file fd offset limit kept) (suc (suc n))
+by_kept_within n fid file fd offset limit (Some es) = either_within (suc (suc n)) (any_long (drop offset es)) _ _ tt tt
+by_kept_within n fid file fd offset limit None = listing_within n fid file.user file.path file.node fd offset limit None
 
 opens_within : (k : Known) (fid flags : ℕ) → Within (opens k fid flags) 16
 opens_within k fid flags = it_within 16 (unopened k.fids fid) _ (λ file. it_within 16 (not_link file.node.kind) _
@@ -211,7 +238,7 @@ opens_within k fid flags = it_within 16 (unopened k.fids fid) _ (λ file. it_wit
 creates_within : (k : Known) (fid : ℕ) (name : List ℕ) (flags mode gid : ℕ) → Within (creates k fid name flags mode gid) 16
 creates_within k fid name flags mode gid = it_within 16 (unopened k.fids fid) _ (λ directory. it_within 16 (checked name) _
     (λ _. it_within 16 (open_bits flags) _ (λ bits. making_file_within 12 fid directory.user (below directory.path name)
-    (flags_by (bits + (8 + flag_for flags 0x80 16))) (mode % 4096) (group_of directory.user gid))))
+    (flags_by (bits + 24)) (mode % 4096) (taken_by flags bits) (group_of directory.user gid))))
 
 file_within : (k : Known) (r : Request) → Within (of_file k r) 16
 file_within k (request.Open fid flags) = opens_within k fid flags
@@ -224,7 +251,7 @@ file_within k (request.Write fid offset bytes) = it_within 16 (opened k.fids fid
     (transferring_within 14 file.0 file.1 (Some (pos offset)) (moved.Write (at (take 65536 bytes.now)))))
 file_within k (request.Readdir fid offset count) = it_within 16 (opened k.fids fid) _ (λ used. it_within 16 (named k.fids fid) _
     (λ file. either_within 16 (nat_lt (min count (k.message_size - 24)) 84) _ _ tt
-    (listing_within 14 used.0 file.path used.1 file.node.inode offset (min count (k.message_size - 24)) _)))
+    (by_kept_within 14 fid file used.1 offset (min count (k.message_size - 24)) (kept_for offset file.entries))))
 file_within k (request.Lock fid kind flags start length process client) = it_within 16 (opened k.fids fid) _ (λ file. tt)
 file_within k (request.Getlock fid kind start length process client) = it_within 16 (opened k.fids fid) _ (λ file. tt)
 file_within k r = tt
@@ -240,10 +267,10 @@ name_within k (request.Link directory fid name) = it_within 16 (named k.fids dir
     (λ _. linking_within 15 parent.user.session file.path (below parent.path name.now))))
 name_within k (request.Rename fid directory name) = it_within 16 (named k.fids fid) _
     (λ file. it_within 16 (named_for k.fids directory name.now) _
-    (λ parent. renaming_within 15 parent.user.session file.path (below parent.path name.now) answer.Rename))
+    (λ parent. renaming_within 14 parent.user.session file.path (below parent.path name.now) answer.Rename))
 name_within k (request.Renameat old_directory old_name new_directory new_name) = it_within 16 (named k.fids old_directory) _
     (λ from. it_within 16 (named k.fids new_directory) _ (λ to. it_within 16 (checked old_name.now) _ (λ _. it_within 16
-    (checked new_name.now) _ (λ _. renaming_within 15 from.user.session (below from.path old_name.now)
+    (checked new_name.now) _ (λ _. renaming_within 14 from.user.session (below from.path old_name.now)
     (below to.path new_name.now) answer.Renameat))))
 name_within k (request.Unlinkat directory name flags) = it_within 16 (named_for k.fids directory name.now) _
     (λ parent. unlinking_within 15 parent.user.session (below parent.path name.now) (is_set flags 0x200))
@@ -253,7 +280,7 @@ node_within : (k : Known) (now : ℕ) (r : Request) → Within (of_node k now r)
 node_within k now (request.Getattr fid mask) =
     it_within 16 (found k.fids fid) _ (λ file. attributes_within 15 file file.descriptor file.gone)
 node_within k now (request.Setattr fid valid mode uid gid size atime mtime) = it_within 16 (named k.fids fid) _
-    (λ file. it_within 16 (changeable file.node.kind) _ (λ _. setting_within file.user.session file.path (record {
+    (λ file. it_within 16 (changeable file.node.kind) _ (λ _. setting_within file.user file.path (record {
       valid = valid;
       mode = mode;
       uid = uid;
@@ -307,7 +334,12 @@ asks_setting : (x : Setattr) (change : Option Change) → Within (left_at_change
 asks_setting x None few = few
 asks_setting x (Some c) few = few
 
-asks_listing : (l : Listing) (above : Option ℕ) → Within (listing l.session l.path.items l.fd l.inode l.offset l.limit above) 0 → ⊥
+asks_renaming : (r : Rename) (done : Bool) → Within (left_at_rename r done) 0 → ⊥
+asks_renaming r false few = few
+asks_renaming r true few = few
+
+asks_listing : (l : Listing) (above : Option ℕ)
+    → Within (listing l.fid l.user l.path.items l.node l.fd l.offset l.limit above) 0 → ⊥
 asks_listing l None few = few
 asks_listing l (Some above) few = few
 
@@ -323,12 +355,13 @@ none_left (work.Fid (fid_work.Attach (attach.Enter fid uid))) few = few
 none_left (work.Fid (fid_work.Attach (attach.Root fid user))) few = few
 none_left (work.Fid (fid_work.Walk w)) few = few
 none_left (work.Open (open_work.Open o)) few = few
-none_left (work.Open (open_work.Create (creation.Open file flags mode group))) few = few
+none_left (work.Open (open_work.Create (creation.Make file flags mode taken group))) few = few
+none_left (work.Open (open_work.Create (creation.Open file flags))) few = few
 none_left (work.Open (open_work.Create (creation.Chown file fd gid))) few = few
 none_left (work.Open (open_work.Create (creation.Look file fd))) few = few
 none_left (work.Open (open_work.Make m)) few = asks_making m m.stage few
 none_left (work.Name (name_work.Link l)) few = few
-none_left (work.Name (name_work.Rename r)) few = few
+none_left (work.Name (name_work.Rename r)) few = asks_renaming r r.done few
 none_left (work.Name (name_work.Unlink u)) few = few
 none_left (work.Name (name_work.Remove r)) few = few
 none_left (work.Attribute (attribute_work.Setattr x)) few = asks_setting x x.change few

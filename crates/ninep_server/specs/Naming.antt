@@ -2,10 +2,11 @@
 use Rattle.std.specs.Prelude.{ℕ, Bool, true, false, List, Option, Result, Ok, Err}
 use Rattle.tree.specs.declared.Call.{Call}
 use Rattle.tree.specs.declared.Call.TheVariants as call
+use Rattle.tree.specs.declared.Attributes.{Attributes}
 use Rattle.tree.specs.declared.Reply.{Reply}
 use Rattle.ninep_fids.specs.Paths.{called, below, checked}
 use Rattle.ninep_fids.specs.Knowledge.{Known, File, found, named}
-use Rattle.ninep_fids.specs.Hearing.{done_in}
+use Rattle.ninep_fids.specs.Hearing.{done_in, attributes_in}
 use Rattle.ninep_fids.specs.Flags.{is_set}
 use Rattle.ninep_fids.specs.Plans.{Plan, Changes, OrNoMemory, Drops, Renames, Unlinks, error, closing, with_it, calls, at}
 use Rattle.ninep_fids.specs.Nodes.{says, said_of}
@@ -25,10 +26,20 @@ abbrev pub links : Known → ℕ → ℕ → List ℕ → Plan
 links k directory fid name = with_it (named k.fids directory) (λ parent. with_it (named k.fids fid) (λ file. with_it (checked name)
     (λ _. OrNoMemory (linking parent.user.session file.path (below parent.path name)))))
 
--- a name becomes another one, and each fid stays on its file
+-- A rename was done. If the old name is still there, both were names of one file: then nothing was changed, and no fid is. Else the name
+-- became the new one, and each fid stays on its file.
+abbrev pub renamed : List ℕ → List ℕ → NinepAnswer → Result Attributes Refused → Plan
+renamed old new a (Ok still_there) = says a
+renamed old new a (Err refused) = Changes (Renames old new) (says a)
+
+-- the old name is looked at
+abbrev pub looking_back : ℕ → List ℕ → List ℕ → NinepAnswer → Plan
+looking_back session old new a = calls session (call.Lstat (at (called old))) (λ h. renamed old new a (attributes_in h))
+
+-- a name becomes another one
 abbrev pub renaming : ℕ → List ℕ → List ℕ → NinepAnswer → Plan
 renaming session old new a = calls session (call.Rename (at (called old)) (at (called new)))
-    (λ h. with_it (done_in h) (λ _. Changes (Renames old new) (says a)))
+    (λ h. with_it (done_in h) (λ _. looking_back session old new a))
 
 -- Trename: that of a fid's file
 abbrev pub renames : Known → ℕ → ℕ → List ℕ → Plan

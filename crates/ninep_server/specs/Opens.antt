@@ -1,16 +1,18 @@
 -- Opening, making files, directories and symbolic links.
-use Rattle.std.specs.Prelude.{◌+◌, ◌%◌, ℕ, List, Option, Some, None, Result, Ok, Err}
+use Rattle.std.specs.Prelude.{◌+◌, ◌%◌, ℕ, List, Bool, true, false, Option, Some, None, Result, Ok, Err, if◌then◌else◌}
+use Rattle.errno.specs.declared.Errno.TheVariants.{EEXIST}
 use Rattle.ninep.specs.declared.reply.Qid.{Qid}
 use Rattle.tree.specs.declared.OpenFlags.{OpenFlags}
 use Rattle.tree.specs.declared.Call.{Call}
 use Rattle.tree.specs.declared.Call.TheVariants as call
-use Rattle.ninep_fids.specs.Flags.{flag_for, open_bits, flags_by, group_of}
+use Rattle.ninep_fids.specs.Flags.{is_set, open_bits, flags_by, group_of}
 use Rattle.ninep_fids.specs.Paths.{called, below, checked}
 use Rattle.ninep_fids.specs.Knowledge.{Known, file_open}
 use Rattle.ninep_fids.specs.Hearing.{done_in, attributes_in, descriptor_in}
-use Rattle.ninep_fids.specs.Plans.{Plan, Changes, OrNoMemory, Becomes, error, closing, with_it, calls, at}
+use Rattle.ninep_fids.specs.Plans.{Plan, Changes, OrNoMemory, Becomes, error, refuses, closing, with_it, calls, at}
 use Rattle.ninep_fids.specs.Nodes.{says, node_of, qid_of}
 use Rattle.ninep_fids.specs.declared.refused.Refused.{Refused}
+use Rattle.ninep_fids.specs.declared.refused.Refused.TheVariants.{By}
 use Rattle.ninep_fids.specs.declared.users.User.{User}
 use Rattle.ninep_fids.specs.declared.fid.Kind.TheVariants as kind
 use Rattle.ninep_fids.specs.declared.fid.Node.{Node}
@@ -29,7 +31,7 @@ abbrev pub opens : Known → ℕ → ℕ → Plan
 opens k fid flags = with_it (unopened k.fids fid) (λ file. with_it (not_link file.node.kind)
     (λ _. with_it (open_bits flags) (λ bits. OrNoMemory (opening fid file.user file.path file.node (flags_by bits)))))
 
--- a file that was made is closed where it goes on no further
+-- a file that was opened is closed where it goes on no further
 abbrev pub or_closes : {A : Type 0} → ℕ → ℕ → Result A Refused → (A → Plan) → Plan
 or_closes session fd (Ok a) next = next a
 or_closes session fd (Err refused) next = closing session (Some fd) (error refused)
@@ -51,15 +53,39 @@ abbrev pub made_file : ℕ → User → List ℕ → Option ℕ → ℕ → Plan
 made_file fid user path None fd = looking_at_file fid user path fd
 made_file fid user path (Some gid) fd = giving_group fid user path fd gid
 
-abbrev pub making_file : ℕ → User → List ℕ → OpenFlags → ℕ → Option ℕ → Plan
-making_file fid user path flags mode group = calls user.session (call.Open (at (called path)) flags mode)
-    (λ h. with_it (descriptor_in h) (made_file fid user path group))
+-- what has the name already is opened, and given no group
+abbrev pub opening_taken : ℕ → User → List ℕ → OpenFlags → Plan
+opening_taken fid user path flags = calls user.session (call.Open (at (called path)) flags 0)
+    (λ h. with_it (descriptor_in h) (looking_at_file fid user path))
 
--- Tlcreate: the flags of an open that makes a file, at a new name alone where that is asked for
+-- the name is taken
+abbrev pub is_taken : Refused → Bool
+is_taken (By EEXIST) = true
+is_taken r = false
+
+-- Nothing was made: what has the name is opened by these flags, if any.
+abbrev pub not_made : ℕ → User → List ℕ → Option OpenFlags → Refused → Plan
+not_made fid user path None refused = refuses refused
+not_made fid user path (Some flags) refused = if is_taken refused then opening_taken fid user path flags else refuses refused
+
+abbrev pub made_or_not : ℕ → User → List ℕ → Option OpenFlags → Option ℕ → Result ℕ Refused → Plan
+made_or_not fid user path taken group (Ok fd) = made_file fid user path group fd
+made_or_not fid user path taken group (Err refused) = not_made fid user path taken refused
+
+-- a file is made at a new name, and opened
+abbrev pub making_file : ℕ → User → List ℕ → OpenFlags → ℕ → Option OpenFlags → Option ℕ → Plan
+making_file fid user path flags mode taken group = calls user.session (call.Open (at (called path)) flags mode)
+    (λ h. made_or_not fid user path taken group (descriptor_in h))
+
+-- the flags by which a name that is taken is opened: none where a message wants a new one alone (its flag 0x80)
+abbrev pub taken_by : ℕ → ℕ → Option OpenFlags
+taken_by flags bits = if is_set flags 0x80 then None else Some (flags_by bits)
+
+-- Tlcreate: the flags of an open that makes a file (8) at a new name alone (16)
 abbrev pub creates : Known → ℕ → List ℕ → ℕ → ℕ → ℕ → Plan
 creates k fid name flags mode gid = with_it (unopened k.fids fid) (λ directory. with_it (checked name)
     (λ _. with_it (open_bits flags) (λ bits. OrNoMemory (making_file fid directory.user (below directory.path name)
-    (flags_by (bits + (8 + flag_for flags 0x80 16))) (mode % 4096) (group_of directory.user gid)))))
+    (flags_by (bits + 24)) (mode % 4096) (taken_by flags bits) (group_of directory.user gid)))))
 
 -- the call that makes a directory or a symbolic link
 abbrev pub making_call : List ℕ → Made → Call

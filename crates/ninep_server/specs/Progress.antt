@@ -1,5 +1,5 @@
 -- How far an answer is: what it still has to ask and to say.
-use Rattle.std.specs.Prelude.{⊤, ◌≡◌, ◌⊎◌, ℕ, zero, suc, ◌∷◌, Option, Some, None, Result, Ok, Err}
+use Rattle.std.specs.Prelude.{⊤, ◌≡◌, ◌⊎◌, ℕ, zero, suc, ◌∷◌, Bool, true, false, Option, Some, None, Result, Ok, Err}
 use Rattle.errno.specs.declared.Errno.TheVariants.{ENOMEM}
 use Rattle.ninep.specs.Requests.{Body, names_in}
 use Rattle.tree.specs.declared.Call.TheVariants as call
@@ -16,8 +16,9 @@ use Rattle.ninep_fids.specs.declared.knows.Knows.{Knows}
 use Rattle.ninep_fids.specs.declared.changes.Change.{Change}
 use Rattle.ninep_server.specs.Attaching.{beginning, entering, looking_at_root}
 use Rattle.ninep_server.specs.Walks.{looking_at, walking}
-use Rattle.ninep_server.specs.Opens.{opening, making_file, giving_group, looking_at_file, making, giving_made_group, looking_at_made}
-use Rattle.ninep_server.specs.Naming.{linking, renaming, unlinking, removing}
+use Rattle.ninep_server.specs.Opens.{opening, making_file, opening_taken, giving_group, looking_at_file, making, giving_made_group}
+use Rattle.ninep_server.specs.Opens.{looking_at_made}
+use Rattle.ninep_server.specs.Naming.{linking, renaming, looking_back, unlinking, removing}
 use Rattle.ninep_server.specs.Settings.{looking_first, changing}
 use Rattle.ninep_server.specs.Listings.{listing}
 use Rattle.ninep_server.specs.Messages.{transferring, looking, measuring, reading_link, syncing}
@@ -85,7 +86,8 @@ abbrev pub left_of_opening : Opening → Plan
 left_of_opening o = opening o.fid o.user o.path.items o.node o.flags
 
 abbrev pub left_of_creation : Creation → Plan
-left_of_creation (creation.Open file flags mode group) = making_file file.fid file.user file.path.items flags mode group
+left_of_creation (creation.Make file flags mode taken group) = making_file file.fid file.user file.path.items flags mode taken group
+left_of_creation (creation.Open file flags) = opening_taken file.fid file.user file.path.items flags
 left_of_creation (creation.Chown file fd gid) = giving_group file.fid file.user file.path.items fd gid
 left_of_creation (creation.Look file fd) = looking_at_file file.fid file.user file.path.items fd
 
@@ -100,8 +102,12 @@ left_of_making m = left_at_stage m m.stage
 abbrev pub left_of_link : Link → Plan
 left_of_link l = linking l.session l.old.items l.new.items
 
+abbrev pub left_at_rename : Rename → Bool → Plan
+left_at_rename r false = renaming r.session r.old.items r.new.items r.then
+left_at_rename r true = looking_back r.session r.old.items r.new.items r.then
+
 abbrev pub left_of_rename : Rename → Plan
-left_of_rename r = renaming r.session r.old.items r.new.items r.then
+left_of_rename r = left_at_rename r r.done
 
 abbrev pub left_of_unlink : Unlink → Plan
 left_of_unlink u = unlinking u.session u.path.items u.directory
@@ -110,14 +116,14 @@ abbrev pub left_of_remove : Remove → Plan
 left_of_remove r = removing r.session r.path.items r.directory r.descriptor
 
 abbrev pub left_at_change : Setattr → Option Change → Plan
-left_at_change s None = looking_first s.session s.path.items s.wanted
-left_at_change s (Some c) = changing s.session s.path.items (c ∷ in_order s.left)
+left_at_change s None = looking_first s.user s.path.items s.wanted
+left_at_change s (Some c) = changing s.user.session s.path.items (c ∷ in_order s.left)
 
 abbrev pub left_of_setattr : Setattr → Plan
 left_of_setattr s = left_at_change s s.change
 
 abbrev pub left_of_listing : Listing → Plan
-left_of_listing l = listing l.session l.path.items l.fd l.inode l.offset l.limit l.above
+left_of_listing l = listing l.fid l.user l.path.items l.node l.fd l.offset l.limit l.above
 
 abbrev pub left_of_fid_work : FidWork → Plan
 left_of_fid_work (fid_work.Version v) = left_of_version v

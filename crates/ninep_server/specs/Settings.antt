@@ -1,13 +1,14 @@
 -- Attributes that are changed.
 use Rattle.std.specs.Prelude.{ℕ, List, [], ◌∷◌}
 use Rattle.tree.specs.declared.Call.TheVariants as call
-use Rattle.ninep_fids.specs.Changes.{changes_wanted, in_order, change_call}
+use Rattle.ninep_fids.specs.Changes.{changes_wanted, may_change, in_order, change_call}
 use Rattle.ninep_fids.specs.Paths.{called}
 use Rattle.ninep_fids.specs.Knowledge.{Known, named}
 use Rattle.ninep_fids.specs.Hearing.{done_in, attributes_in}
 use Rattle.ninep_fids.specs.Plans.{Plan, OrNoMemory, with_it, calls, at}
 use Rattle.ninep_fids.specs.Nodes.{says}
 use Rattle.ninep_fids.specs.declared.fid.Kind.TheVariants as kind
+use Rattle.ninep_fids.specs.declared.users.User.{User}
 use Rattle.ninep_fids.specs.declared.changes.Wanted.{Wanted}
 use Rattle.ninep_fids.specs.declared.changes.Change.{Change}
 use Rattle.ninep_fids.specs.declared.answer.NinepAnswer.TheVariants as answer
@@ -19,11 +20,12 @@ changing session path [] = says answer.Setattr
 changing session path (c ∷ changes) =
     calls session (change_call path c) (λ h. with_it (done_in h) (λ _. changing session path changes))
 
-abbrev pub looking_first : ℕ → List ℕ → Wanted → Plan
-looking_first session path wanted = calls session (call.Lstat (at (called path))) (λ h. with_it (attributes_in h)
-    (λ a. with_it (changes_wanted wanted a) (λ c. changing session path (in_order c))))
+-- First it is looked at what the user may change: a refusal leaves all as it was, unless it is for something else than the message.
+abbrev pub looking_first : User → List ℕ → Wanted → Plan
+looking_first user path wanted = calls user.session (call.Lstat (at (called path))) (λ h. with_it (attributes_in h)
+    (λ a. with_it (changes_wanted wanted a) (λ c. with_it (may_change user a c) (λ _. changing user.session path (in_order c)))))
 
 -- Tsetattr
 abbrev pub sets : Known → ℕ → Wanted → Plan
 sets k fid wanted = with_it (named k.fids fid) (λ file. with_it (changeable file.node.kind)
-    (λ _. OrNoMemory (looking_first file.user.session file.path wanted)))
+    (λ _. OrNoMemory (looking_first file.user file.path wanted)))

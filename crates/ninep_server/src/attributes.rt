@@ -17,6 +17,7 @@ use ninep_fids::knows::Knows;
 use ninep_fids::paths::called;
 use ninep_fids::refused::Refused;
 use ninep_fids::told::told;
+use ninep_fids::users::User;
 use tree::Call;
 
 /// The attributes of a fid are asked for: by its descriptor where it is open, else by its path.
@@ -65,10 +66,10 @@ impl Getattr {
     }
 }
 
-/// Attributes of a fid are changed: first it is looked at, and then one change is made after the other.
+/// Attributes of a fid are changed: first it is looked at, and at whether they may be, and then one change is made after the other.
 #[derive(Drop)]
 pub(crate) struct Setattr {
-    session: u8,
+    user: User,
     path: Vec<u8>,
     wanted: Wanted,
     /// The change that is made; none at the look.
@@ -85,7 +86,7 @@ impl Setattr {
         let file = knows.fids.named(fid)?;
         check_changeable(file.node.kind)?;
         Ok(Next::Go(Work::Attribute(AttributeWork::Setattr(Setattr {
-            session: file.user.session,
+            user: file.user,
             path: file.path.to_vec(knows.alloc)?,
             wanted,
             change: None,
@@ -95,7 +96,7 @@ impl Setattr {
 
     /// The call of its stage.
     fn call(&self) -> Call<'_>
-        ensures { AsksNext (left_of_setattr self.now) (Ask.Call self.now.session result) }
+        ensures { AsksNext (left_of_setattr self.now) (Ask.Call self.now.user.session result) }
     {
         match &self.change {
             Some(change) => change.call(&self.path),
@@ -109,14 +110,14 @@ impl Setattr {
         ensures { AsksNext (left_of_setattr self.now) result }
     {
         Ask::Call {
-            session: self.session,
+            session: self.user.session,
             call: self.call(),
         }
     }
 
     /// Goes on to what is left to change, or to the end.
     fn onward<'m>(self, left: Changes) -> Next<'m>
-        ensures { (k : Known) → Leaves (changing self.session self.path.items (in_order left)) k (left_of_next (Ok result)) k }
+        ensures { (k : Known) → Leaves (changing self.user.session self.path.items (in_order left)) k (left_of_next (Ok result)) k }
     {
         match left.split_first() {
             Some((change, left)) => Next::Go(Work::Attribute(AttributeWork::Setattr(Setattr {
@@ -133,7 +134,9 @@ impl Setattr {
     {
         match self.change {
             None => {
-                let left = self.wanted.changes(&heard.attributes()?)?;
+                let was = heard.attributes()?;
+                let left = self.wanted.changes(&was)?;
+                left.check(self.user, &was)?;
                 Ok(self.onward(left))
             }
             Some(_) => {

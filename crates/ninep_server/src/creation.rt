@@ -4,16 +4,17 @@ ghost use Rattle.std.specs.Prelude.{◌≡◌, Ok, Some};
 ghost use Rattle.ninep_fids.specs.Knowledge.{Known, known_of};
 ghost use Rattle.ninep_fids.specs.Plans.{closing, error};
 ghost use Rattle.ninep_fids.specs.Flags.{group_of};
-ghost use Rattle.ninep_server.specs.Opens.{creates, made_file};
+ghost use Rattle.ninep_server.specs.Opens.{creates, is_taken, made_file};
 ghost use Rattle.ninep_server.specs.Progress.{AsksNext, BeginsAs, Leaves, behind, left_of_creation, left_of_next};
 
 use crate::opening::Close;
 use crate::work::{Next, OpenWork, Work};
 use bitflags::Flags;
+use errno::Errno;
 use ninep_fids::answer::NinepAnswer;
 use ninep_fids::ask::Ask;
 use ninep_fids::fid::{Fid, Node};
-use ninep_fids::flags::{EXCLUSIVE, bits_of, flag_for, group_of, mode_of};
+use ninep_fids::flags::{EXCLUSIVE, bits_of, group_of, has, mode_of};
 use ninep_fids::heard::Heard;
 use ninep_fids::knows::Knows;
 use ninep_fids::paths::{below, called, check_name};
@@ -21,7 +22,7 @@ use ninep_fids::refused::Refused;
 use ninep_fids::users::User;
 use tree::{Call, OpenFlags};
 
-/// The flag of the server's open that makes a file, and the one by which it refuses one that is there.
+/// The flag of the server's open that makes a file, and the one by which it refuses a name that is taken.
 const CREATE: u8 = 8;
 
 const ONLY_NEW: u8 = 16;
@@ -37,12 +38,19 @@ pub(crate) struct NewFile {
 /// How far the making is.
 #[derive(Drop)]
 pub(crate) enum Creation {
-    /// It is made and opened.
-    Open {
+    /// It is made, at a new name, and opened.
+    Make {
         file: NewFile,
         flags: OpenFlags,
         mode: u16,
+        /// By what flags a file is opened that has the name already; none where it isn't.
+        taken: Option<OpenFlags>,
         group: Option<u16>,
+    },
+    /// What has the name already is opened. It is given no group.
+    Open {
+        file: NewFile,
+        flags: OpenFlags,
     },
     /// It is given its group.
     Chown {
@@ -57,7 +65,15 @@ pub(crate) enum Creation {
     },
 }
 
+/// Whether something has the name already.
+fn is_taken(refused: Refused) -> bool
+    ensures { result ≡ is_taken refused }
+{
+    matches!(refused, Refused::By(Errno::EEXIST))
+}
+
 impl Creation {
+    /// Where the name is taken what has it is opened, unless a new file alone is asked for.
     pub(crate) fn begin<'m>(
         knows: &Knows,
         fid: u32,
@@ -70,13 +86,19 @@ impl Creation {
     {
         let directory = knows.fids.unopened(fid)?;
         check_name(name)?;
-        let bits = bits_of(flags)? + (CREATE + flag_for(flags, EXCLUSIVE, ONLY_NEW));
+        let bits = bits_of(flags)?;
+        let taken = if has(flags, EXCLUSIVE) {
+            None
+        } else {
+            Some(OpenFlags::from_bits_retain(bits))
+        };
         let user = directory.user;
         let path = below(knows.alloc, &directory.path, name)?;
-        Ok(Next::Go(Work::Open(OpenWork::Create(Creation::Open {
+        Ok(Next::Go(Work::Open(OpenWork::Create(Creation::Make {
             file: NewFile { fid, user, path },
-            flags: OpenFlags::from_bits_retain(bits),
+            flags: OpenFlags::from_bits_retain(bits + (CREATE + ONLY_NEW)),
             mode: mode_of(mode),
+            taken,
             group: group_of(user, gid),
         }))))
     }
@@ -85,7 +107,15 @@ impl Creation {
         ensures { AsksNext (left_of_creation self.now) result }
     {
         match self {
-            Creation::Open {
+            Creation::Open { file, flags } => Ask::Call {
+                session: file.user.session,
+                call: Call::Open {
+                    path: called(&file.path),
+                    flags: *flags,
+                    mode: 0,
+                },
+            },
+            Creation::Make {
                 file,
                 flags,
                 mode,
@@ -117,9 +147,18 @@ impl Creation {
         ensures { Leaves (behind (left_of_creation self) heard) (known_of knows.old) (left_of_next result) (known_of knows.new) }
     {
         match self {
-            Creation::Open { file, group, .. } => {
+            Creation::Make {
+                file,
+                taken,
+                group,
+                ..
+            } => match heard.descriptor() {
+                Ok(fd) => Ok(file.opened(fd, group)),
+                Err(refused) => file.not_made(taken, refused),
+            },
+            Creation::Open { file, .. } => {
                 let fd = heard.descriptor()?;
-                Ok(file.opened(fd, group))
+                Ok(file.opened(fd, None))
             }
             Creation::Chown { file, fd, .. } => match heard.done() {
                 Ok(()) => Ok(Next::Go(Work::Open(OpenWork::Create(Creation::Look { file, fd })))),
@@ -134,7 +173,19 @@ impl Creation {
 }
 
 impl NewFile {
-    ghost use Rattle.ninep_server.specs.Opens.{became};
+    ghost use Rattle.ninep_server.specs.Opens.{became, not_made};
+
+    /// It wasn't made: where the name is taken, what has it is opened by these flags, if any.
+    fn not_made<'m>(self, taken: Option<OpenFlags>, refused: Refused) -> Result<Next<'m>, Refused>
+        ensures { left_of_next result ≡ not_made self.fid self.user self.path.items taken refused }
+    {
+        match taken {
+            Some(flags) if is_taken(refused) => {
+                Ok(Next::Go(Work::Open(OpenWork::Create(Creation::Open { file: self, flags }))))
+            }
+            _ => Err(refused),
+        }
+    }
 
     /// It was made and opened: it is given its group, where it is given one, or looked at.
     fn opened<'m>(self, fd: u32, group: Option<u16>) -> Next<'m>

@@ -1,29 +1,33 @@
-//! The entries of a directory: `.`, `..`, and the names in the order of their bytes. An offset counts them.
+//! The entries of a directory: `.`, `..`, and the names in the order of their bytes. An offset counts them, as they were when the first of
+//! them was told: so each entry that stays is told once, whatever is made or removed meanwhile.
 
 ghost use Rattle.std.specs.Prelude.{◌<◌, ◌+◌, List};
 ghost use Rattle.ninep_fids.specs.Knowledge.{known_of};
 ghost use Rattle.ninep_server.specs.Listings.{lists};
-ghost use Rattle.ninep_server.specs.Progress.{AsksNext, BeginsAs, GoesOnAs, left_of_listing};
+ghost use Rattle.ninep_server.specs.Progress.{AsksNext, BeginsAs, Leaves, behind, left_of_listing, left_of_next};
 
 use crate::transfer::least;
 use crate::work::{DataWork, Next, Work};
 use errno::Errno;
 use ninep_fids::answer::NinepAnswer;
 use ninep_fids::ask::Ask;
-use ninep_fids::entries::{ENTRY_HEAD, entries_from};
+use ninep_fids::entries::{ENTRY_HEAD, Listed, entries_from};
+use ninep_fids::fid::{Fid, Node};
 use ninep_fids::heard::Heard;
 use ninep_fids::knows::Knows;
 use ninep_fids::paths::{called, parent};
 use ninep_fids::refused::Refused;
+use ninep_fids::users::User;
 use tree::{Call, MAX_NAME};
 
-/// The names of a directory are told.
+/// The names of a directory are asked for, kept with its fid, and told.
 #[derive(Drop)]
 pub(crate) struct Listing {
-    session: u8,
-    fd: u32,
+    fid: u32,
+    user: User,
     path: Vec<u8>,
-    inode: u16,
+    node: Node,
+    fd: u32,
     /// The number of the directory in which it stands, once it is known.
     above: Option<u16>,
     offset: u64,
@@ -31,7 +35,8 @@ pub(crate) struct Listing {
 }
 
 impl Listing {
-    /// EINVAL where not even the longest entry has room.
+    /// Tells the entries that the fid keeps; at offset 0, or where it keeps none, they are asked for. EINVAL where not even the longest entry
+    /// has room.
     pub(crate) fn begin<'m>(
         knows: &Knows,
         fid: u32,
@@ -40,18 +45,27 @@ impl Listing {
     ) -> Result<Next<'m>, Refused>
         ensures { BeginsAs (lists (known_of knows.now) fid offset count) knows.now knows.now result }
     {
-        let (session, fd) = knows.fids.open(fid)?;
+        let (_, fd) = knows.fids.open(fid)?;
         let directory = knows.fids.named(fid)?;
         let limit = least(count, knows.most());
         if (limit as usize) < ENTRY_HEAD + MAX_NAME {
             return Err(Refused::By(Errno::EINVAL));
         }
+        let (user, node) = (directory.user, directory.node);
+        if offset > 0 {
+            if let Some(Listed { above, names }) = &directory.listed {
+                let room = limit as usize;
+                let bytes = entries_from(knows.alloc, node.inode, *above, names, offset, room)?;
+                return Ok(Next::Done(NinepAnswer::Readdir(bytes)));
+            }
+        }
         Ok(Next::Go(Work::Data(DataWork::List(Listing {
-            session,
-            fd,
+            fid,
+            user,
             path: directory.path.to_vec(knows.alloc)?,
-            inode: directory.node.inode,
-            above: if offset > 1 { Some(0) } else { None },
+            node,
+            fd,
+            above: None,
             offset,
             limit,
         }))))
@@ -67,21 +81,24 @@ impl Listing {
             Some(_) => Call::Readdir { fd: self.fd },
         };
         Ask::Call {
-            session: self.session,
+            session: self.user.session,
             call,
         }
     }
 
-    pub(crate) fn hear<'m>(mut self, knows: &Knows, heard: Heard) -> Result<Next<'m>, Refused>
-        ensures { GoesOnAs (left_of_listing self) heard result }
+    pub(crate) fn hear<'m>(mut self, knows: &mut Knows, heard: Heard) -> Result<Next<'m>, Refused>
+        ensures { Leaves (behind (left_of_listing self) heard) (known_of knows.old) (left_of_next result) (known_of knows.new) }
     {
         let Some(above) = self.above else {
             self.above = Some(heard.attributes()?.inode);
             return Ok(Next::Go(Work::Data(DataWork::List(self))));
         };
         let names = heard.names()?;
-        let limit = self.limit as usize;
-        let bytes = entries_from(knows.alloc, self.inode, above, &names, self.offset, limit)?;
-        Ok(Next::Done(NinepAnswer::Readdir(bytes)))
+        let (node, room) = (self.node, self.limit as usize);
+        let told = entries_from(knows.alloc, node.inode, above, &names, self.offset, room);
+        let listed = Listed { above, names };
+        let kept = Fid::listed(self.user, self.path, node, self.fd, listed);
+        knows.fids.replace(self.fid, kept);
+        Ok(Next::Done(NinepAnswer::Readdir(told?)))
     }
 }

@@ -67,12 +67,14 @@ impl Link {
     }
 }
 
-/// A name is changed, which one of two requests asks for.
+/// A name is changed, which one of two requests asks for. Then the old name is looked at: a rename of two names of one file leaves both.
 #[derive(Drop)]
 pub(crate) struct Rename {
     session: u8,
     old: Vec<u8>,
     new: Vec<u8>,
+    /// Whether the rename was done.
+    done: bool,
     then: NinepAnswer,
 }
 
@@ -92,6 +94,7 @@ impl Rename {
             session: parent.user.session,
             old: file.path.to_vec(knows.alloc)?,
             new: below(knows.alloc, &parent.path, name)?,
+            done: false,
             then: NinepAnswer::Rename,
         }))))
     }
@@ -112,6 +115,7 @@ impl Rename {
             session: from.user.session,
             old: below(knows.alloc, &from.path, old.1)?,
             new: below(knows.alloc, &to.path, new.1)?,
+            done: false,
             then: NinepAnswer::Renameat,
         }))))
     }
@@ -119,12 +123,18 @@ impl Rename {
     pub(crate) fn ask(&self) -> Ask<'_>
         ensures { AsksNext (left_of_rename self.now) result }
     {
+        let old = called(&self.old);
+        let call = if self.done {
+            Call::Lstat { path: old }
+        } else {
+            Call::Rename {
+                old,
+                new: called(&self.new),
+            }
+        };
         Ask::Call {
             session: self.session,
-            call: Call::Rename {
-                old: called(&self.old),
-                new: called(&self.new),
-            },
+            call,
         }
     }
 
@@ -132,8 +142,13 @@ impl Rename {
     pub(crate) fn hear<'m>(self, knows: &mut Knows, heard: Heard) -> Result<Next<'m>, Refused>
         ensures { Leaves (behind (left_of_rename self) heard) (known_of knows.old) (left_of_next result) (known_of knows.new) }
     {
-        heard.done()?;
-        knows.fids.rename(knows.alloc, &self.old, &self.new);
+        if !self.done {
+            heard.done()?;
+            return Ok(Next::Go(Work::Name(NameWork::Rename(Rename { done: true, ..self }))));
+        }
+        if heard.attributes().is_err() {
+            knows.fids.rename(knows.alloc, &self.old, &self.new);
+        }
         Ok(Next::Done(self.then))
     }
 }

@@ -1,6 +1,6 @@
 //! Entries of a directory: which are told from an offset on, in so many bytes.
 
-use crate::talk::{ATTACH, Talk, descriptor, node};
+use crate::talk::{ATTACH, Talk, descriptor, done, node};
 use std::alloc::{AllocError, Global};
 use std::test::Fail;
 use tree::{Entry, Outcome, Reply};
@@ -54,18 +54,71 @@ fn entries_are_told(rt: HostRuntime) -> Result<(), Fail> {
           \0\0\0\0\0\0\0\0\x02\0..\0\0\0\0\0\x08\0\0\0\0\0\0\0\x03\0\0\0\0\0\0\0\0\x01\0a\0\0\0\0\0\x09\0\0\0\0\0\0\0\
           \x04\0\0\0\0\0\0\0\0\x02\0bc",
     )?;
-    talk.gives(node(1, 0o40755))?;
-    talk.gives(names(alloc)?)?;
     talk.hears(
         b"\x28\x02\0\x01\0\0\0\x01\0\0\0\0\0\0\0\x54\0\0\0",
-        "0 lstat /;0 Readdir { fd: 0 };",
+        "",
         b"\x29\x02\0\x4d\0\0\0\0\0\0\0\0\x01\0\0\0\0\0\0\0\x02\0\0\0\0\0\0\0\0\x02\0..\0\0\0\0\0\x08\0\0\0\0\0\0\0\x03\
           \0\0\0\0\0\0\0\0\x01\0a\0\0\0\0\0\x09\0\0\0\0\0\0\0\x04\0\0\0\0\0\0\0\0\x02\0bc",
     )?;
-    talk.gives(names(alloc)?)?;
     talk.hears(
         b"\x28\x02\0\x01\0\0\0\x03\0\0\0\0\0\0\0\0\x10\0\0",
-        "0 Readdir { fd: 0 };",
+        "",
+        b"\x29\x02\0\x1a\0\0\0\0\0\0\0\0\x09\0\0\0\0\0\0\0\x04\0\0\0\0\0\0\0\0\x02\0bc",
+    )
+}
+
+/// The names as they were at offset 0 are told to the end, once each, whatever becomes of them meanwhile; at offset 0, and of a fid that is
+/// opened again, they are asked for anew.
+#[test]
+fn names_that_stay_are_told_once(rt: HostRuntime) -> Result<(), Fail> {
+    let alloc = rt.alloc();
+    let mut talk = with_open_root(alloc)?;
+    talk.gives(node(1, 0o40755))?;
+    talk.gives(names(alloc)?)?;
+    talk.hears(
+        b"\x28\x02\0\x01\0\0\0\0\0\0\0\0\0\0\0\x65\0\0\0",
+        "0 lstat /;0 Readdir { fd: 0 };",
+        b"\x29\x02\0\x4c\0\0\0\0\0\0\0\0\x01\0\0\0\0\0\0\0\x01\0\0\0\0\0\0\0\0\x01\0.\0\0\0\0\0\x01\0\0\0\0\0\0\0\x02\
+          \0\0\0\0\0\0\0\0\x02\0..\0\0\0\0\0\x08\0\0\0\0\0\0\0\x03\0\0\0\0\0\0\0\0\x01\0a",
+    )?;
+    talk.gives(done())?;
+    talk.hears(
+        b"\x4c\x07\0\x01\0\0\0\x01\0a\0\0\0\0",
+        "0 unlink /a;",
+        b"\x4d\x07\0",
+    )?;
+    talk.hears(
+        b"\x28\x02\0\x01\0\0\0\x03\0\0\0\0\0\0\0\0\x10\0\0",
+        "",
+        b"\x29\x02\0\x1a\0\0\0\0\0\0\0\0\x09\0\0\0\0\0\0\0\x04\0\0\0\0\0\0\0\0\x02\0bc",
+    )?;
+    talk.gives(node(1, 0o40755))?;
+    let mut one = Vec::new(alloc);
+    put(&mut one, alloc, b"bc", 9)?;
+    talk.gives(Outcome::Reply(Reply::Names(one)))?;
+    talk.hears(
+        b"\x28\x02\0\x01\0\0\0\0\0\0\0\0\0\0\0\x66\0\0\0",
+        "0 lstat /;0 Readdir { fd: 0 };",
+        b"\x29\x02\0\x4d\0\0\0\0\0\0\0\0\x01\0\0\0\0\0\0\0\x01\0\0\0\0\0\0\0\0\x01\0.\0\0\0\0\0\x01\0\0\0\0\0\0\0\x02\
+          \0\0\0\0\0\0\0\0\x02\0..\0\0\0\0\0\x09\0\0\0\0\0\0\0\x03\0\0\0\0\0\0\0\0\x02\0bc",
+    )?;
+    talk.hears(
+        b"\x28\x02\0\x01\0\0\0\x03\0\0\0\0\0\0\0\0\x10\0\0",
+        "",
+        b"\x29\x02\0\0\0\0\0",
+    )?;
+    talk.hears(b"\x6e\x05\0\x01\0\0\0\x02\0\0\0\0\0", "", b"\x6f\x05\0\0\0")?;
+    talk.gives(descriptor(7))?;
+    talk.hears(
+        b"\x0c\x01\0\x02\0\0\0\0\0\x01\0",
+        "0 open / 1 0;",
+        b"\x0d\x01\0\x80\0\0\0\0\x01\0\0\0\0\0\0\0\0\0\0\0",
+    )?;
+    talk.gives(node(1, 0o40755))?;
+    talk.gives(names(alloc)?)?;
+    talk.hears(
+        b"\x28\x02\0\x02\0\0\0\x03\0\0\0\0\0\0\0\0\x10\0\0",
+        "0 lstat /;0 Readdir { fd: 7 };",
         b"\x29\x02\0\x1a\0\0\0\0\0\0\0\0\x09\0\0\0\0\0\0\0\x04\0\0\0\0\0\0\0\0\x02\0bc",
     )
 }
@@ -75,16 +128,16 @@ fn entries_are_told(rt: HostRuntime) -> Result<(), Fail> {
 fn the_rest_may_be_empty(rt: HostRuntime) -> Result<(), Fail> {
     let alloc = rt.alloc();
     let mut talk = with_open_root(alloc)?;
+    talk.gives(node(1, 0o40755))?;
     talk.gives(names(alloc)?)?;
     talk.hears(
         b"\x28\x02\0\x01\0\0\0\x04\0\0\0\0\0\0\0\0\x10\0\0",
-        "0 Readdir { fd: 0 };",
+        "0 lstat /;0 Readdir { fd: 0 };",
         b"\x29\x02\0\0\0\0\0",
     )?;
-    talk.gives(names(alloc)?)?;
     talk.hears(
         b"\x28\x02\0\x01\0\0\0\xff\xff\xff\xff\xff\xff\xff\xff\0\x10\0\0",
-        "0 Readdir { fd: 0 };",
+        "",
         b"\x29\x02\0\0\0\0\0",
     )
 }
@@ -118,10 +171,11 @@ fn as_many_as_have_room_are_told(rt: HostRuntime) -> Result<(), Fail> {
 fn the_longest_entry_has_room(rt: HostRuntime) -> Result<(), Fail> {
     let alloc = rt.alloc();
     let mut talk = with_open_root(alloc)?;
+    talk.gives(node(1, 0o40755))?;
     talk.gives(long_and_short(alloc, 60)?)?;
     talk.hears(
         b"\x28\x02\0\x01\0\0\0\x02\0\0\0\0\0\0\0\x54\0\0\0",
-        "0 Readdir { fd: 0 };",
+        "0 lstat /;0 Readdir { fd: 0 };",
         b"\x29\x02\0\x54\0\0\0\0\0\0\0\0\x08\0\0\0\0\0\0\0\x03\0\0\0\0\0\0\0\0\x3c\0\
           llllllllllllllllllllllllllllllllllllllllllllllllllllllllllll",
     )?;
@@ -151,16 +205,16 @@ fn none_is_passed_over(rt: HostRuntime) -> Result<(), Fail> {
 fn longer_names_are_eio(rt: HostRuntime) -> Result<(), Fail> {
     let alloc = rt.alloc();
     let mut talk = with_open_root(alloc)?;
+    talk.gives(node(1, 0o40755))?;
     talk.gives(long_and_short(alloc, 61)?)?;
     talk.hears(
         b"\x28\x02\0\x01\0\0\0\x02\0\0\0\0\0\0\0\0\x10\0\0",
-        "0 Readdir { fd: 0 };",
+        "0 lstat /;0 Readdir { fd: 0 };",
         b"\x07\x02\0\x05\0\0\0",
     )?;
-    talk.gives(long_and_short(alloc, 61)?)?;
     talk.hears(
         b"\x28\x02\0\x01\0\0\0\x03\0\0\0\0\0\0\0\0\x10\0\0",
-        "0 Readdir { fd: 0 };",
+        "",
         b"\x29\x02\0\x19\0\0\0\0\0\0\0\0\x09\0\0\0\0\0\0\0\x04\0\0\0\0\0\0\0\0\x01\0s",
     )
 }
@@ -199,10 +253,11 @@ fn the_settled_size_is_kept(rt: HostRuntime) -> Result<(), Fail> {
             told.extend_from_slice(&name)?;
         }
     }
+    talk.gives(node(1, 0o40755))?;
     talk.gives(Outcome::Reply(Reply::Names(names)))?;
     talk.hears(
         b"\x28\x02\0\x01\0\0\0\x02\0\0\0\0\0\0\0\xff\xff\xff\xff",
-        "0 Readdir { fd: 0 };",
+        "0 lstat /;0 Readdir { fd: 0 };",
         &told,
     )
 }

@@ -149,6 +149,32 @@ fn files_are_made(rt: HostRuntime) -> Result<(), Fail> {
     )
 }
 
+/// A name that is taken is EEXIST where a new file alone is asked for; else what has it is opened, and keeps its owner and group.
+#[test]
+fn taken_names_are_opened(rt: HostRuntime) -> Result<(), Fail> {
+    let mut talk = Talk::attached(rt.alloc())?;
+    talk.gives(refused(Errno::EEXIST))?;
+    talk.hears(
+        b"\x0e\x01\0\x01\0\0\0\x01\0n\xc1\0\0\0\xa0\x81\0\0\x07\0\0\0",
+        "0 open /n 26 416;",
+        b"\x07\x01\0\x11\0\0\0",
+    )?;
+    talk.gives(refused(Errno::EACCES))?;
+    talk.hears(
+        b"\x0e\x01\0\x01\0\0\0\x01\0n\x41\x02\0\0\xa0\x81\0\0\x07\0\0\0",
+        "0 open /n 58 416;",
+        b"\x07\x01\0\x0d\0\0\0",
+    )?;
+    talk.gives(refused(Errno::EEXIST))?;
+    talk.gives(descriptor(3))?;
+    talk.gives(node(4, 0o100640))?;
+    talk.hears(
+        b"\x0e\x01\0\x01\0\0\0\x01\0n\x41\x02\0\0\xa0\x81\0\0\x07\0\0\0",
+        "0 open /n 58 416;0 open /n 34 0;0 Fstat { fd: 3 };",
+        b"\x0f\x01\0\0\0\0\0\0\x04\0\0\0\0\0\0\0\0\0\0\0",
+    )
+}
+
 /// A file that can't be given its group, or looked at, is closed again.
 #[test]
 fn files_are_given_up(rt: HostRuntime) -> Result<(), Fail> {
@@ -158,7 +184,7 @@ fn files_are_given_up(rt: HostRuntime) -> Result<(), Fail> {
     talk.gives(done())?;
     talk.hears(
         b"\x0e\x01\0\x01\0\0\0\x01\0n\x01\0\0\0\xa0\x81\0\0\0\0\0\0",
-        "0 open /n 10 416;0 Fstat { fd: 9 };0 Close { fd: 9 };",
+        "0 open /n 26 416;0 Fstat { fd: 9 };0 Close { fd: 9 };",
         b"\x07\x01\0\x05\0\0\0",
     )
 }
@@ -192,6 +218,47 @@ fn attributes_are_changed(rt: HostRuntime) -> Result<(), Fail> {
         b"\x1a\x01\0\x02\0\0\0\x20\x01\0\0\0\0\0\0\0\0\0\0\0\0\0\0\0\0\0\0\0\0\0\0\x63\0\0\0\0\0\0\0\0\0\0\0\0\0\0\0\
           \x62\0\0\0\0\0\0\0\0\0\0\0\0\0\0\0",
         "0 lstat /f;0 utime /f 10 98;",
+        b"\x1b\x01\0",
+    )
+}
+
+/// A mode that another user may not change, or that has other bits than permissions, is refused before the size is changed; behind a size,
+/// the time of the change isn't changed by itself.
+#[test]
+fn refused_changes_leave_all(rt: HostRuntime) -> Result<(), Fail> {
+    let mut talk = with_file(rt.alloc())?;
+    talk.gives(node(3, 0o100644))?;
+    talk.hears(
+        b"\x1a\x01\0\x02\0\0\0\x09\0\0\0\xed\x09\0\0\0\0\0\0\0\0\0\0\x64\0\0\0\0\0\0\0\0\0\0\0\0\0\0\0\0\0\0\0\0\0\0\0\0\
+          \0\0\0\0\0\0\0\0\0\0\0\0\0\0\0",
+        "0 lstat /f;",
+        b"\x07\x01\0\x16\0\0\0",
+    )?;
+    talk.gives(node(1, 0o40755))?;
+    talk.hears(
+        b"\x68\x03\0\x03\0\0\0\xff\xff\xff\xff\0\0\0\0\xe8\x03\0\0",
+        "enter 1000 1000;1 lstat /;",
+        b"\x69\x03\0\x80\0\0\0\0\x01\0\0\0\0\0\0\0",
+    )?;
+    talk.gives(node(3, 0o100666))?;
+    talk.hears(
+        b"\x6e\x05\0\x03\0\0\0\x04\0\0\0\x01\0\x01\0f",
+        "1 lstat /f;",
+        b"\x6f\x05\0\x01\0\0\0\0\0\0\x03\0\0\0\0\0\0\0",
+    )?;
+    talk.gives(node(3, 0o100666))?;
+    talk.hears(
+        b"\x1a\x01\0\x04\0\0\0\x09\0\0\0\xa4\x01\0\0\0\0\0\0\0\0\0\0\x64\0\0\0\0\0\0\0\0\0\0\0\0\0\0\0\0\0\0\0\0\0\0\0\0\
+          \0\0\0\0\0\0\0\0\0\0\0\0\0\0\0",
+        "1 lstat /f;",
+        b"\x07\x01\0\x01\0\0\0",
+    )?;
+    talk.gives(node(3, 0o100666))?;
+    talk.gives(done())?;
+    talk.hears(
+        b"\x1a\x01\0\x04\0\0\0\x68\0\0\0\0\0\0\0\0\0\0\0\0\0\0\0\x64\0\0\0\0\0\0\0\0\0\0\0\0\0\0\0\0\0\0\0\0\0\0\0\0\0\0\
+          \0\0\0\0\0\0\0\0\0\0\0\0\0",
+        "1 lstat /f;1 truncate /f 100;",
         b"\x1b\x01\0",
     )
 }

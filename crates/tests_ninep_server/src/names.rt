@@ -45,9 +45,10 @@ fn is_stale(talk: &mut Talk, fid: u8) -> Result<(), Fail> {
 fn directories_move(rt: HostRuntime) -> Result<(), Fail> {
     let mut talk = with_three(rt.alloc())?;
     talk.gives(done())?;
+    talk.gives(refused(Errno::ENOENT))?;
     talk.hears(
         b"\x4a\x06\0\x01\0\0\0\x01\0d\x01\0\0\0\x02\0xy",
-        "0 rename /d /xy;",
+        "0 rename /d /xy;0 lstat /d;",
         b"\x4b\x06\0",
     )?;
     stands(&mut talk, 2, "0 readlink /xy;")?;
@@ -73,13 +74,64 @@ fn refused_moves_change_nothing(rt: HostRuntime) -> Result<(), Fail> {
 fn files_are_replaced(rt: HostRuntime) -> Result<(), Fail> {
     let mut talk = with_three(rt.alloc())?;
     talk.gives(done())?;
+    talk.gives(refused(Errno::ENOENT))?;
     talk.hears(
         b"\x14\x06\0\x03\0\0\0\x01\0\0\0\x02\0df",
-        "0 rename /d/f /df;",
+        "0 rename /d/f /df;0 lstat /d/f;",
         b"\x15\x06\0",
     )?;
     stands(&mut talk, 3, "0 readlink /df;")?;
     is_stale(&mut talk, 4)
+}
+
+/// A rename of two names of one file changes nothing: the old name is still there, and each fid stays where it was.
+#[test]
+fn two_names_of_one_file_stay(rt: HostRuntime) -> Result<(), Fail> {
+    let mut talk = with_three(rt.alloc())?;
+    talk.gives(done())?;
+    talk.gives(node(3, 0o100644))?;
+    talk.hears(
+        b"\x14\x06\0\x03\0\0\0\x01\0\0\0\x02\0df",
+        "0 rename /d/f /df;0 lstat /d/f;",
+        b"\x15\x06\0",
+    )?;
+    stands(&mut talk, 3, "0 readlink /d/f;")?;
+    stands(&mut talk, 4, "0 readlink /df;")
+}
+
+/// The directory `/d` gets a name of so many bytes.
+fn with_long_name(alloc: Global, len: u16) -> Result<Talk, Fail> {
+    let mut talk = with_three(alloc)?;
+    let mut message = b"\x4a\x06\0\x01\0\0\0\x01\0d\x01\0\0\0".to_vec(alloc)?;
+    let mut asked = String::new(alloc);
+    asked.push_str("0 rename /d /")?;
+    message.extend_from_slice(&len.to_le_bytes())?;
+    for _ in 0..len {
+        message.push(b'x')?;
+        asked.push('x')?;
+    }
+    asked.push_str(";0 lstat /d;")?;
+    talk.gives(done())?;
+    talk.gives(refused(Errno::ENOENT))?;
+    talk.hears(&message, asked.as_str(), b"\x4b\x06\0")?;
+    Ok(talk)
+}
+
+/// A path of 1024 bytes is that of a call; what would get a longer one has lost its name.
+#[test]
+fn long_paths_are_let_go(rt: HostRuntime) -> Result<(), Fail> {
+    let alloc = rt.alloc();
+    let mut talk = with_long_name(alloc, 1021)?;
+    let mut asked = String::new(alloc);
+    asked.push_str("0 readlink /")?;
+    for _ in 0..1021u16 {
+        asked.push('x')?;
+    }
+    asked.push_str("/f;")?;
+    stands(&mut talk, 3, asked.as_str())?;
+    let mut talk = with_long_name(alloc, 1022)?;
+    is_stale(&mut talk, 3)?;
+    stands(&mut talk, 4, "0 readlink /df;")
 }
 
 /// A removed file: its fid is stale, but an open one still tells its attributes and is closed.

@@ -1,5 +1,5 @@
 use Rattle.std.proofs.Common.{false, refl}
-use Rattle.ninep_fids.specs.Entries.{entries_of}
+use Rattle.ninep_fids.specs.Directories.{entries_of}
 use Rattle.ninep_fids.proofs.EntryLaws.{begins_there, long_there, ends_there, goes_on, none_longer}
 use Rattle.ninep_fids.proofs.entries.entries_from.Goals as goal
 

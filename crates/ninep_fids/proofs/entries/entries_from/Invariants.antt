@@ -1,5 +1,6 @@
 use Rattle.std.proofs.Common.{◌≡◌, drop}
-use Rattle.ninep_fids.specs.Entries.{any_long, bytes_each, entries_of, fitting, stands}
+use Rattle.ninep_fids.specs.Directories.{entries_of}
+use Rattle.ninep_fids.specs.Entries.{any_long, bytes_each, fitting, stands}
 use Rattle.ninep_fids.proofs.entries.entries_from.Given as goal
 
 -- what is told in the end, and whether it is, is settled by what stands and by the entries that are left
