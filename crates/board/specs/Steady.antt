@@ -1,5 +1,7 @@
 -- What a link's guarantee doesn't rest on.
-use Rattle.std.proofs.Common.{ℕ, ◌≤◌, List, ◌∷◌, le-add_right}
+use Rattle.std.proofs.Common.{◌≢◌, ℕ, ◌≤◌, List, ◌∷◌, le-add_right}
+use Rattle.message.specs.declared.Incoming.{Incoming}
+use Rattle.message.specs.declared.Incoming.TheVariants.{End, GaveUp}
 use Rattle.tree.specs.declared.Who.{Who}
 use Rattle.tree.specs.declared.Call.{Call}
 use Rattle.tree.specs.Answers.{Answer}
@@ -20,3 +22,7 @@ RestsNotOnFlushes guarantee = (v : Opening) (marks : List Mark) → guarantee v 
 -- room for what is done on a message
 abbrev pub enough_room : 33 ≤ 34
 enough_room = le-add_right 33 1
+
+-- a message that may be handed over between two calls: that the device was given up is told to a call, and an End is none
+abbrev pub IsAside : Incoming → Type 0
+IsAside message = (message ≢ End) × (message ≢ GaveUp)

@@ -1,5 +1,5 @@
 -- The rule of the server's line.
-use Rattle.std.specs.Prelude.{◌≡◌, ℕ, true, false, List, [], ◌∷◌}
+use Rattle.std.specs.Prelude.{◌≡◌, ℕ, Bool, true, false, List, [], ◌∷◌}
 use mathlib.Core.Option.{some}
 use lib.ListN.{get_elem?}
 use Rattle.message.specs.declared.endpoint.Endpoint.{Endpoint}
@@ -28,6 +28,12 @@ sent_by v x = record { drives = v.drives; endpoint = v.endpoint; sent = x ∷ v.
 
 abbrev pub got_by : NewsView → News → NewsView
 got_by v x = record { drives = v.drives; endpoint = v.endpoint; sent = v.sent; gets = v.gets; got = x ∷ v.got }
+
+-- what was given of what was received, the newest first: all, or all but the newest, which is held back
+abbrev pub given : Bool → List News → List News
+given false got = got
+given true [] = []
+given true (x ∷ got) = got
 
 -- an answer bears this endpoint
 abbrev pub Bears : Endpoint → News → Type 0

@@ -1,12 +1,12 @@
 //! The link over channels.
 
-ghost use Rattle.std.specs.Prelude.{◌≡◌, ◌≤◌, ◌<◌, ◌+◌, ◌^◌, ◌∷◌, List, [], length, refl, IfOk, IsTrue, is_ok, true};
+ghost use Rattle.std.specs.Prelude.{◌≡◌, ◌≤◌, ◌<◌, ◌+◌, ◌^◌, ◌∷◌, List, [], length, refl, IfNone, IfOk, IfSome, IsTrue, is_ok, true};
 ghost use Rattle.channel_link.specs.News.{incoming_of};
 ghost use Rattle.records.specs.Marks.{Mark, Took, Flush};
 ghost use Rattle.records.specs.Opening.{Opening};
 ghost use Rattle.records.specs.Told.{Told, heard, received, took_end};
 ghost use Rattle.channel_link.specs.Received.{AreReceived, Other};
-ghost use Rattle.board.specs.Steady.{enough_room};
+ghost use Rattle.board.specs.Steady.{IsAside, enough_room};
 
 use crate::channel::{NotSent, Sender};
 use crate::messages::{Exchange, News, Report};
@@ -30,6 +30,7 @@ const BUDGET: u64 = 1099511627776;
 ///   ended, else `Full` where as many requests are under way to it as may be. It doesn't wait.
 /// - `complain` tells the reincarnation server. It doesn't wait: where its line is full, the complaint is made at the next message.
 /// - `take` waits for the next message. It costs one of the budget, 2^40 at first; once that is spent, and not before, it gives End.
+/// - `aside` gives the next message where it has come, at the same cost. It doesn't wait. A giving up it keeps for `take`.
 ///
 /// What it guarantees of a record is that each start, each answer and each giving up in it is a message that it received, unchanged and in
 /// their order. Of what drivers answer it guarantees nothing. It takes memory when it is made, and none from then on.
@@ -135,6 +136,25 @@ impl<R: Wait + Copy> ChannelLink<R> {
         self.keep(news);
     }
 
+    // One message is received, if it has come already and is for a server between two calls; it costs one of the budget.
+    fn receive_aside(&mut self) -> Option<Incoming>
+        requires { 0 < self.old.budget }
+        ensures budget { self.new.budget ≤ self.old.budget }
+        ensures history { self.new.history ≡ self.old.history }
+        ensures message { IfSome result IsAside }
+        ensures some { IfSome result (λ m. (marks : List Mark) → AreReceived marks self.old.line
+            → AreReceived (received m marks) self.new.line) }
+        ensures none { IfNone result (self.new.line ≡ self.old.line) }
+    {
+        let rt = self.rt;
+        let news = self.line.next_aside(&rt)?;
+        self.budget -= 1;
+        let mut message = Incoming::End;
+        put_message(&news, &mut message);
+        self.keep(news);
+        Some(message)
+    }
+
     // Keeps what came with news: the line of a driver that was started, and the exchange of an answer, if it is one of that line's.
     fn keep(&mut self, news: News)
         ensures { (self.new.line ≡ self.old.line) × (self.new.budget ≡ self.old.budget) × (self.new.history ≡ self.old.history) }
@@ -213,6 +233,14 @@ impl<R: Wait + Copy> Link for ChannelLink<R> {
 }
 
 impl<R: Wait + Copy> Steady for ChannelLink<R> {
+    fn aside(&mut self) -> Option<Incoming> {
+        self.report();
+        if self.budget > 0 {
+            return self.receive_aside();
+        }
+        None
+    }
+
     ghost rests = { λ l v marks who now call answer kept. Other marks l.line (Took who now call answer) refl kept };
 
     ghost flushes = { λ l v marks kept. Other marks l.line Flush refl kept };

@@ -1,5 +1,5 @@
 //! The server's line: each answer on it bears the endpoint of the driver whose end it was sent by.
-ghost use Rattle.std.specs.Prelude.{◌≡◌, ◌<◌, [], ◌∷◌, IfOk, IfSome, IfNone, OnErr, true};
+ghost use Rattle.std.specs.Prelude.{◌≡◌, ◌≢◌, ◌<◌, [], ◌∷◌, IfOk, IfSome, IfNone, OnErr, true};
 ghost use Rattle.crossbeam_channel.specs.Claims.{view, IsSeatAt};
 ghost use Rattle.crossbeam_channel.specs.Ends.{sends_on};
 ghost use Rattle.channel_link.specs.News.{reader, driver, Bears, incoming_of};
@@ -82,12 +82,12 @@ impl<K: Named> Split<NewsView> for Fresh<K> {
 
 /// The receiving end of the server's line, with the pass that knows what was received. Contracts see what it received, the newest first.
 #[derive(Drop)]
-pub struct NewsReceiver {
+struct NewsEnd {
     receiver: RuledReceiver<News, NewsView, LineLaw>,
     pass: Pass<News, NewsView>,
 }
 
-impl Model for NewsReceiver {
+impl Model for NewsEnd {
     ghost use Rattle.std.specs.Prelude.{◌≡◌, List, true};
     ghost use Rattle.crossbeam_channel.specs.Claims.{view as known, IsSeatAt};
     ghost use Rattle.crossbeam_channel.specs.Ends.{receives_on};
@@ -98,6 +98,27 @@ impl Model for NewsReceiver {
     ghost view = { λ r. (known r.pass).got };
 
     ghost invariant = { λ r. IsSeatAt (receives_on r.receiver) r.pass × ((known r.pass).gets ≡ true) };
+}
+
+/// The receiving end of the server's line, as its link has it. Contracts see what it gave, the newest first.
+#[derive(Drop)]
+pub struct NewsReceiver {
+    end: NewsEnd,
+    // That the device was given up was received between two calls, and isn't given yet.
+    holds_back: bool,
+}
+
+impl Model for NewsReceiver {
+    ghost use Rattle.std.specs.Prelude.{◌≡◌, ◌∷◌, List, true};
+    ghost use Rattle.channel_link.specs.News.{given};
+    ghost use Rattle.channel_link.specs.declared.messages.News.{News};
+    ghost use Rattle.channel_link.specs.declared.messages.News.TheVariants.{GaveUp};
+
+    ghost Value = { List News };
+
+    ghost view = { λ r. given r.holds_back r.end };
+
+    ghost invariant = { λ r. r.holds_back ≡ true → r.end ≡ GaveUp ∷ given r.holds_back r.end };
 }
 
 /// A sending end of the server's line, for a driver or for the reincarnation server. The answers that it sends bear its endpoint.
@@ -130,7 +151,10 @@ pub fn open_line(
             sender,
             pass: other,
         },
-        NewsReceiver { receiver, pass },
+        NewsReceiver {
+            end: NewsEnd { receiver, pass },
+            holds_back: false,
+        },
     ))
 }
 
@@ -215,7 +239,7 @@ impl NewsSender {
     }
 }
 
-impl NewsReceiver {
+impl NewsEnd {
     fn receive<R: Wait>(&mut self, rt: &R) -> Option<News>
         ensures some { IfSome result (λ news. self.new ≡ news ∷ self.old) }
         ensures none { IfNone result (self.new ≡ self.old) }
@@ -247,9 +271,9 @@ impl NewsReceiver {
         None
     }
 
-    /// The next of what is sent, for which it waits; it looks for it some times before it sleeps. A failed receive is tried again: where no
-    /// sending end is left, for ever.
-    pub fn next<R: Wait>(&mut self, rt: &R) -> News
+    // The next of what is sent, for which it waits; it looks for it some times before it sleeps. A failed receive is tried again: where no
+    // sending end is left, for ever.
+    fn next<R: Wait>(&mut self, rt: &R) -> News
         ensures { self.new ≡ result ∷ self.old }
     {
         if let Some(news) = self.look(rt) {
@@ -262,6 +286,37 @@ impl NewsReceiver {
             thread::yield_now();
         }
         unreachable!()
+    }
+}
+
+impl NewsReceiver {
+    /// The next of what is sent, for which it waits; it looks for it some times before it sleeps. Where no sending end is left, it waits
+    /// for ever.
+    pub fn next<R: Wait>(&mut self, rt: &R) -> News
+        ensures { self.new ≡ result ∷ self.old }
+    {
+        if self.holds_back {
+            self.holds_back = false;
+            return News::GaveUp;
+        }
+        self.end.next(rt)
+    }
+
+    /// The next of what is sent, if it has come already: an answer or a start. That the device was given up is held back for `next`, and
+    /// nothing comes before it. It waits for none.
+    pub fn next_aside<R: Wait>(&mut self, rt: &R) -> Option<News>
+        ensures some { IfSome result (λ news. (news ≢ News.GaveUp) × (self.new ≡ news ∷ self.old)) }
+        ensures none { IfNone result (self.new ≡ self.old) }
+    {
+        if self.holds_back {
+            return None;
+        }
+        let news = self.end.try_receive(rt)?;
+        if matches!(news, News::GaveUp) {
+            self.holds_back = true;
+            return None;
+        }
+        Some(news)
     }
 }
 

@@ -1,6 +1,6 @@
 //! What the reincarnation server's thread does.
 
-ghost use Rattle.std.specs.Prelude.{◌≡◌, ◌<◌, ◌^◌};
+ghost use Rattle.std.specs.Prelude.{◌≡◌, ◌<◌, ◌≤◌, ◌^◌};
 ghost use Rattle.std.specs.Arc.{arc_value};
 ghost use Rattle.reincarnate.specs.Laws.{tick_of};
 
@@ -97,11 +97,13 @@ pub(crate) struct Supervisor<N: ServiceParameters, D: BlockDriver, G: Gate> {
     lines: Lines,
     shared: Shared<N, G>,
     seat: Seat,
-    // The number of the next tick.
+    // The number of the next tick, and of the last one that passed, which is 0 before the first.
     ticks: u64,
+    last: u64,
     running: Option<Pinging>,
     ghost seated: { seat.table ≡ arc_value shared.board },
     ghost low: { ticks < 2 ^ 48 },
+    ghost passed: { last ≤ ticks },
 }
 
 impl<
@@ -126,15 +128,9 @@ impl<
             shared,
             seat,
             ticks: 0,
+            last: 0,
             running: None,
         }
-    }
-
-    // The last tick that passed; 0 before the first.
-    fn last_tick(&self) -> u64
-        ensures { result < 2 ^ 48 }
-    {
-        self.ticks.saturating_sub(1)
     }
 
     // What a driver's thread works with. Refused where no memory was found: the driver is dropped then.
@@ -202,7 +198,7 @@ impl<
                 return;
             }
         }
-        self.fault(rt, Event::Exit(endpoint, self.last_tick()));
+        self.fault(rt, Event::Exit(endpoint, self.last));
     }
 
     // An exit or a complaint, at which no driver is started.
@@ -219,7 +215,7 @@ impl<
         let Some(report) = self.lines.heard.try_receive(rt) else {
             return false;
         };
-        let tick = self.last_tick();
+        let tick = self.last;
         let event = match report {
             Report::Exit(endpoint) => Event::Exit(endpoint, tick),
             Report::Complaint(endpoint) => Event::Complaint(endpoint, tick),
@@ -260,6 +256,7 @@ impl<
         self.hear(rt);
         let pulse = self.shared.board.pulse(&mut self.seat);
         let tick = self.ticks;
+        self.last = tick;
         self.ticks = (tick + 1).min(LAST_TICK);
         match self.reincarnation.on(Event::Tick(tick, pulse)) {
             Action::Start(endpoint, driver) => self.start(rt, endpoint, driver, workers),

@@ -2,12 +2,13 @@
 
 ghost use Rattle.std.specs.Prelude.{◌≡◌, ◌↔◌, IsOk, is_some, not, ◌==◌};
 
+use bdev::BlockDriver;
 use call_text::scripts::script_files::File;
 use fixtures::gates::Ticking;
 use fixtures::{patient, supply_at};
 use fsck::{Verdict, check};
 use gate::Gate;
-use modeldisk::{FaultKind, ScriptedDriver};
+use modeldisk::FaultKind;
 use reincarnate::policy::Setup;
 use std::alloc::{AllocError, Global};
 use std::io::{self, Write};
@@ -163,13 +164,17 @@ impl Write for Sink {
 
 /// Plays the scripts of files on an image, of each the bytes if it can be read, under this gate, into writers with this room; and how it
 /// ended.
-fn play_into<R: Threads + Wait + Copy + Send + Sync + 'static, G: Gate + 'static>(
+fn play_into<
+    R: Threads + Wait + Copy + Send + Sync + 'static,
+    D: BlockDriver + 'static,
+    G: Gate + 'static,
+>(
     alloc: Global,
     rt: R,
     image: Option<&[u8]>,
     scripts: &[Option<&[u8]>],
     setup: &Setup,
-    supply: Vec<ScriptedDriver>,
+    supply: Vec<D>,
     gate: Arc<G>,
     room: WriterLimits,
 ) -> Result<(Played, PlayStatus), AllocError> {
@@ -232,12 +237,10 @@ impl<'p> Play<'p> {
     }
 
     /// What it gives over other drivers.
-    pub(crate) fn played_over<R: Threads + Wait + Clock + Copy + Send + Sync + 'static>(
-        &self,
-        alloc: Global,
-        rt: R,
-        supply: Vec<ScriptedDriver>,
-    ) -> Result<Played, AllocError> {
+    pub fn played_over<
+        R: Threads + Wait + Clock + Copy + Send + Sync + 'static,
+        D: BlockDriver + 'static,
+    >(&self, alloc: Global, rt: R, supply: Vec<D>) -> Result<Played, AllocError> {
         let (image, scripts, setup) = (self.image, self.scripts, &self.setup);
         let gate = Arc::new(alloc, Ticking::new(rt, self.pace))?;
         let (played, _) = play_into(alloc, rt, image, scripts, setup, supply, gate, FREE)?;

@@ -62,6 +62,10 @@ impl Link for Silent {
 }
 
 impl Steady for Silent {
+    fn aside(&mut self) -> Option<Incoming> {
+        None
+    }
+
     ghost rests = { λ l v marks who now call answer kept. tt };
 
     ghost flushes = { λ l v marks kept. tt };

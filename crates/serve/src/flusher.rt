@@ -66,7 +66,7 @@ impl Flusher {
     }
 }
 
-/// Has the server take a Flush at each turn that the gate passes, until it is to end.
+/// Has the server take what has come, and a Flush, at each turn that the gate passes, until it is to end.
 fn flush_on<N: ServiceParameters, R: Wait + Copy, L: Recorder<N>, S: FileServer<L>, G: Gate>(
     rt: &R,
     shared: &Shared<N, R, L, S>,

@@ -50,7 +50,7 @@ pub struct Shared<N: ServiceParameters, R: Wait + Copy, L: Recorder<N>, S: FileS
 }
 
 impl<N: ServiceParameters, R: Wait + Copy, L: Recorder<N>, S: FileServer<L>> Shared<N, R, L, S> {
-    /// The server takes a Flush. It may wait for the calls of sessions.
+    /// The server takes what has come from drivers, and a Flush. It may wait for the calls of sessions, and for no driver.
     pub(crate) fn flush(&self) {
         self.server.lock(&self.rt).flush();
     }

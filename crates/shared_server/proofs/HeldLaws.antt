@@ -31,7 +31,7 @@ use Rattle.records.specs.ServerCall.{Serving, Outcome, Replied, Cut, with_outcom
 use Rattle.records.specs.Session.{SessionCallKeeps, went_on}
 use Rattle.reissue.specs.declared.link.Link.{Ghosts as LinkWords}
 use Rattle.reissue.specs.Calls.{Truth}
-use Rattle.file_server.specs.Over.{CallSpecification, Stands, outcome_of}
+use Rattle.file_server.specs.Over.{CallSpecification, SameServing, Stands, outcome_of}
 use Rattle.file_server.specs.Leaving.{IsEndLast}
 use Rattle.file_server.proofs.Leaving.{cut_leaves, took_either}
 use Rattle.file_server.proofs.Standing.{serves_same, same_stands}
@@ -192,29 +192,41 @@ ends_after room link serving line is_ready knows runs_on record_in who now call 
     ends_called room link serving line is_ready knows runs_on record_in who now call outcome old mid kept.tells c.calls held
 
 -- where the link alone changed, and guarantees what it did
+pub held_served : {N S L : Type 0} (room : RoomWords N) (link : LinkWords L) (serving : S → Serving) (line : S → L) (is_ready : S → Type 0)
+    (knows : Call → Type 0) (runs_on : L → Policy → List DriverState → Type 0) (record_in : L → List Mark)
+    (old new : S) → SameServing (serving old) (serving new) → is_ready new → link.history (line new) ≡ link.history (line old)
+    → runs_on (line new) room.policy room.supply
+    → ((older : List Mark) → link.truth (line old) room.opening older → link.truth (line new) room.opening older)
+    → record_in (line new) ≡ record_in (line old) → IsHeld room link serving line is_ready knows runs_on record_in old
+    → IsHeld room link serving line is_ready knows runs_on record_in new
+held_served room link serving line is_ready knows runs_on record_in old new served ready told drivers truth none held =
+    let v = room.opening in
+    let marks = record_in (line old) in
+    record {
+      ready = ready;
+      knows_each = held.knows_each;
+      ends = served.ended ∙ held.ends ∙ ap took_end (sym told);
+      drivers = drivers;
+      tree = held.tree;
+      at_first = λ replies.
+          let h = held.at_first (subst (λ (ms : List Mark). HasTrueReplies (contents_at v) ms) none replies) in
+          (served.geometry ∙ h.0, h.1);
+      stands =
+          subst (λ (ms : List Mark). Stands (serving new) (link.truth (line new)) v held.tree ms) (sym none)
+          (same_stands serving link.truth old new (line old) (line new) v held.tree marks served (truth marks held.stands.truth) held.stands);
+      answered = subst (λ (ms : List Mark). gave_up ms ≡ true → went_on ms ≡ true) (sym none) held.answered;
+      either = λ over. ap gave_up none ∙ held.either (sym served.ended ∙ over);
+    }
+
+-- so it is where contracts see the server as it was, but for its link
 pub held_same : {N S L : Type 0} (room : RoomWords N) (link : LinkWords L) (serving : S → Serving) (line : S → L) (is_ready : S → Type 0)
     (knows : Call → Type 0) (runs_on : L → Policy → List DriverState → Type 0) (record_in : L → List Mark)
     (old new : S) → Kept room link serving line runs_on record_in → SameServer link serving line is_ready runs_on old new
     → ((older : List Mark) → link.truth (line old) room.opening older → link.truth (line new) room.opening older)
     → record_in (line new) ≡ record_in (line old) → IsHeld room link serving line is_ready knows runs_on record_in old → IsHeld room link serving line is_ready knows runs_on record_in new
 held_same room link serving line is_ready knows runs_on record_in old new kept same truth none held =
-    let v = room.opening in
-    let marks = record_in (line old) in
-    record {
-      ready = same.may held.ready;
-      knows_each = held.knows_each;
-      ends = same.served.ended ∙ held.ends ∙ ap took_end (sym same.at_link.same_history);
-      drivers = same.at_link.runs room.policy room.supply held.drivers;
-      tree = held.tree;
-      at_first = λ replies.
-          let h = held.at_first (subst (λ (ms : List Mark). HasTrueReplies (contents_at v) ms) none replies) in
-          (same.served.geometry ∙ h.0, h.1);
-      stands =
-          subst (λ (ms : List Mark). Stands (serving new) (link.truth (line new)) v held.tree ms) (sym none)
-          (same_stands serving link.truth old new (line old) (line new) v held.tree marks same.served (truth marks held.stands.truth) held.stands);
-      answered = subst (λ (ms : List Mark). gave_up ms ≡ true → went_on ms ≡ true) (sym none) held.answered;
-      either = λ over. ap gave_up none ∙ held.either (sym same.served.ended ∙ over);
-    }
+    held_served room link serving line is_ready knows runs_on record_in old new same.served (same.may held.ready) same.at_link.same_history
+    (same.at_link.runs room.policy room.supply held.drivers) truth none held
 
 -- true replies were true before a call's own mark, and before what was done in it
 pub true_outcome : (image : Contents) (who : Who) (now : ℕ) (call : Call) (outcome : Outcome) (marks : List Mark)

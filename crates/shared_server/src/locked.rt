@@ -15,7 +15,7 @@ ghost use Rattle.shared_server.specs.Finishing.{sync_of};
 ghost use Rattle.board.specs.Keeper.{AreAllUsed, IsLowestFree, IsOneFree};
 
 use crate::calling::make_call;
-use crate::flushing::take_flush;
+use crate::flushing::{take_aside, take_flush};
 use crate::left_open::{is_cut, was_done};
 use crate::refusal::SessionRefusal;
 use crate::sharing::{admit, release, show};
@@ -26,8 +26,11 @@ use file_server::{Ending, FileServer};
 use std::marker::{Model, PhantomData};
 use tree::{Call, Outcome, Reply, Who};
 
-/// How many Flushes are taken at most (own).
-const MOST_FLUSHES: u64 = 281474976710656;
+/// How many messages the server is handed between two calls at most (own).
+const MOST_ABSORBED: u64 = 281474976710656;
+
+/// How many messages it is handed before a Flush at most (own): sixteen answers may have come, and starts.
+const MOST_ASIDE: u32 = 64;
 
 /// What came of the last sync of a service.
 #[derive(Clone, Copy, Debug, PartialEq, Eq)]
@@ -44,8 +47,8 @@ pub enum LastSync {
 #[derive(Drop)]
 pub struct Locked<N: ServiceParameters, L: Recorder<N>, S: FileServer<L>> {
     server: S,
-    // How many Flushes it took between two calls, at least.
-    flushes: u64,
+    // How many messages it was handed between two calls, at least.
+    absorbed: u64,
     of: PhantomData<N>,
     over: PhantomData<L>,
 }
@@ -59,7 +62,7 @@ impl<N: ServiceParameters, L: Recorder<N>, S: FileServer<L>> Model for Locked<N,
     ghost view = { λ d. S.line d.server };
 
     ghost invariant = { λ d. IsHeldFor N.ServiceParameters L.Link S.Serve.serving S.line S.is_ready S.knows L.runs_on L.marks d.server
-        × (S.absorbed d.server ≤ d.flushes) };
+        × (S.absorbed d.server ≤ d.absorbed) };
 }
 
 impl<N: ServiceParameters, L: Recorder<N>, S: FileServer<L>> Locked<N, L, S> {
@@ -71,7 +74,7 @@ impl<N: ServiceParameters, L: Recorder<N>, S: FileServer<L>> Locked<N, L, S> {
     {
         Locked {
             server,
-            flushes: 0,
+            absorbed: 0,
             of: PhantomData,
             over: PhantomData,
         }
@@ -106,14 +109,31 @@ impl<N: ServiceParameters, L: Recorder<N>, S: FileServer<L>> Locked<N, L, S> {
         make_call(&mut self.server, seat, who, now, call, reply, tally)
     }
 
-    /// A Flush is taken between two calls, while fewer than 2^48 were. The numbers of sessions stay.
+    /// The server is handed what came meanwhile, 64 messages at most, and a Flush, while fewer than 2^48 were: so what a Flush began to
+    /// write is settled at the next one, and more can be begun, though nothing is called. The numbers of sessions stay.
     pub fn flush(&mut self)
         ensures { L.numbers self.new ≡ L.numbers self.old }
     {
-        if self.flushes < MOST_FLUSHES {
-            take_flush(&mut self.server);
-            self.flushes += 1;
+        for _ in 0..MOST_ASIDE {
+            if !self.absorb_next() {
+                break;
+            }
         }
+        if self.absorbed < MOST_ABSORBED {
+            take_flush(&mut self.server);
+            self.absorbed += 1;
+        }
+    }
+
+    /// The server is handed the next message, if it has come already and fewer than 2^48 were. Whether it was.
+    fn absorb_next(&mut self) -> bool
+        ensures { L.numbers self.new ≡ L.numbers self.old }
+    {
+        if self.absorbed < MOST_ABSORBED && take_aside(&mut self.server) {
+            self.absorbed += 1;
+            return true;
+        }
+        false
     }
 
     /// A last sync, after which the server is let go with its link: how it went.
@@ -122,7 +142,7 @@ impl<N: ServiceParameters, L: Recorder<N>, S: FileServer<L>> Locked<N, L, S> {
     {
         let Locked {
             mut server,
-            flushes: _,
+            absorbed: _,
             of: _,
             over: _,
         } = self;

@@ -2,9 +2,10 @@
 
 ghost use Rattle.std.specs.Prelude.{◌≡◌};
 
-use bdev::{Accept, BlockDriver, Step};
+use bdev::{Accept, BlockDriver, Driver, Step};
 use media::Media;
 use message::BlockRequest;
+use std::alloc::{AllocError, Global};
 use std::sync::Arc;
 use std::sync::atomic::{AtomicU64, Ordering};
 
@@ -49,4 +50,17 @@ impl<D: BlockDriver> BlockDriver for Counted<D> {
     fn step(&mut self, media: &mut Media, generation: u32) -> Step {
         self.driver.step(media, generation)
     }
+}
+
+/// The drivers, of which each adds one to the count as it is dropped.
+pub(crate) fn each_counted(
+    alloc: Global,
+    drivers: Vec<Driver>,
+    gone: &Arc<AtomicU64>,
+) -> Result<Vec<Counted<Driver>>, AllocError> {
+    let mut all: Vec<Counted<Driver>> = Vec::new(alloc);
+    for driver in drivers {
+        all.push(Counted::new(driver, Arc::try_clone(gone)?))?;
+    }
+    Ok(all)
 }

@@ -1,6 +1,6 @@
 //! The threads behind a link end, whatever their drivers do.
 
-use crate::counted::Counted;
+use crate::counted::{Counted, each_counted};
 use crate::setting::{DRIVERS, Ending, Plan, SECTORS, filled_up, play, write_of};
 use crate::watch::{Watch, is_reached};
 use bdev::Driver;
@@ -34,19 +34,6 @@ impl<R: Wait + Abort + Copy + Send + Sync> Plan<R> for LeftAtWork<R> {
     }
 }
 
-// The drivers, of which each adds one to the count as it is dropped.
-fn counted(
-    alloc: Global,
-    drivers: Vec<Driver>,
-    gone: &Arc<AtomicU64>,
-) -> Result<Vec<Counted<Driver>>, AllocError> {
-    let mut all: Vec<Counted<Driver>> = Vec::new(alloc);
-    for driver in drivers {
-        all.push(Counted::new(driver, Arc::try_clone(gone)?))?;
-    }
-    Ok(all)
-}
-
 fn is_zero(image: &[u8]) -> bool {
     image.iter().all(|byte| *byte == 0)
 }
@@ -62,7 +49,7 @@ fn stopped_while_held(rt: HostRuntime) -> Result<(), Fail> {
         gate: Arc::try_clone(&gate)?,
         steps: 1,
     };
-    let drivers = counted(alloc, filled_up(alloc, Vec::new(alloc))?, &gone)?;
+    let drivers = each_counted(alloc, filled_up(alloc, Vec::new(alloc))?, &gone)?;
     let (came, image) = play(alloc, rt, SECTORS, drivers, &gate, plan, Ending::Stopped).ok_or(
         "not stopped",
     )?;
@@ -84,7 +71,7 @@ fn never_done(alloc: Global, gone: &Arc<AtomicU64>) -> Result<Vec<Counted<Driver
     let first: Driver = Box::new(alloc, ScriptedDriver::new(inner, faults))?;
     let mut drivers: Vec<Driver> = Vec::new(alloc);
     drivers.push(first)?;
-    counted(alloc, filled_up(alloc, drivers)?, gone)
+    each_counted(alloc, filled_up(alloc, drivers)?, gone)
 }
 
 #[test]
@@ -144,7 +131,7 @@ fn ends_idle<R: Threads + Wait + Abort + Copy + Send + Sync + 'static>(
 ) -> Result<(), Fail> {
     let gone = Arc::new(alloc, AtomicU64::new(0))?;
     let gate = Arc::new(alloc, Watch::open(rt))?;
-    let drivers = counted(alloc, filled_up(alloc, Vec::new(alloc))?, &gone)?;
+    let drivers = each_counted(alloc, filled_up(alloc, Vec::new(alloc))?, &gone)?;
     let (came, image) = play(
         alloc,
         rt,

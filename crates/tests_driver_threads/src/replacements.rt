@@ -38,7 +38,7 @@ fn asked_until_answered<R: Wait + Copy>(
 }
 
 // The first driver that is started, which is asked this.
-fn first_asked<R: Wait + Copy>(
+pub(crate) fn first_asked<R: Wait + Copy>(
     link: &mut ChannelLink<R>,
     request: &BlockRequest,
 ) -> Option<Endpoint> {
@@ -134,7 +134,7 @@ impl<R: Wait + Copy> Plan<R> for AskedUntilAnswered {
 }
 
 // A driver that dies at its first request, at the step after this many of its sectors were moved.
-fn dying(alloc: Global, after: u32) -> Result<Driver, AllocError> {
+pub(crate) fn dying(alloc: Global, after: u32) -> Result<Driver, AllocError> {
     let mut faults: Vec<Fault> = Vec::new(alloc);
     faults.push(Fault {
         request: 1,

@@ -16,7 +16,7 @@ const MOST: u32 = 40;
 const ROUNDS: usize = 3;
 
 // Posts requests under rising ids until one is refused as Full: how many were accepted.
-fn posted_until_full<R: Wait + Copy>(
+pub(crate) fn posted_until_full<R: Wait + Copy>(
     link: &mut ChannelLink<R>,
     to: Endpoint,
     id: &mut u64,

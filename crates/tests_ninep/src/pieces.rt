@@ -1,6 +1,6 @@
 //! Messages that come in pieces, are cut short, or whose answers can't be written.
 
-use crate::streams::{Fixed, Idle, Narrow, Piecemeal};
+use crate::streams::{Fixed, Held, Idle, Interrupted, Narrow, Piecemeal, Standing, Timed};
 use ninep_stream::answering::{StreamRefusal, answer_all};
 use ninep_stream::framing::InputRefusal;
 use std::alloc::Global;
@@ -100,4 +100,75 @@ fn answers_are_refused(rt: HostRuntime) -> Result<(), Fail> {
         is_answered(rt.alloc(), "refused", ASKED, 64, room, wanted)?;
     }
     is_answered(rt.alloc(), "taken", ASKED, 64, 21, (Ok(()), TOLD))
+}
+
+/// It is an error where the one message wasn't answered, or another answer came out.
+fn is_whole(ended: Result<(), StreamRefusal>, told: &[u8]) -> Result<(), Fail> {
+    if ended == Ok(()) && told == TOLD {
+        return Ok(());
+    }
+    Err(Fail::new(format_args!("{ended:?}: {told:?}")))
+}
+
+/// A message is answered though reads are interrupted, at each of its bytes.
+#[test]
+fn reads_are_interrupted(rt: HostRuntime) -> Result<(), Fail> {
+    let alloc = rt.alloc();
+    let rest = Piecemeal {
+        bytes: ASKED,
+        piece: 1,
+    };
+    let interrupted = Interrupted {
+        rest,
+        is_late: false,
+    };
+    let mut input = BufReader::with_capacity(alloc, 16, interrupted)?;
+    let mut output = Narrow::new(alloc, 1000);
+    let ended = answer_all(alloc, &mut input, &mut output, &Fixed, &mut Idle);
+    is_whole(ended, output.taken.as_slice())
+}
+
+/// An answer is flushed.
+#[test]
+fn answers_are_flushed(rt: HostRuntime) -> Result<(), Fail> {
+    let alloc = rt.alloc();
+    let mut input = ASKED;
+    let mut output = Held::new(alloc);
+    let ended = answer_all(alloc, &mut input, &mut output, &Fixed, &mut Idle);
+    is_whole(ended, output.flushed.as_slice())
+}
+
+/// What a clock tells, and the time of a call then: before and behind the middle of what 32 bits count, and at and behind its end.
+const TIMES: [(Option<u64>, u32); 6] = [
+    (Some(0), 0),
+    (Some(0x7fff_ffff), 0x7fff_ffff),
+    (Some(0x8000_0000), 0x8000_0000),
+    (Some(0xffff_ffff), 0xffff_ffff),
+    (Some(0x1_0000_0000), 0xffff_ffff),
+    (None, 0),
+];
+
+/// A version, and user 0 attaches, for whom the root is looked at.
+const ATTACHED: &[u8] = b"\x15\0\0\0\x64\xff\xff\0\0\x01\0\x08\09P2000.L\
+      \x17\0\0\0\x68\x01\0\0\0\0\0\xff\xff\xff\xff\0\0\0\0\0\0\0\0";
+
+#[test]
+fn calls_have_the_time_of_the_clock(rt: HostRuntime) -> Result<(), Fail> {
+    let alloc = rt.alloc();
+    for (told, now) in &TIMES {
+        let mut input = ATTACHED;
+        let mut output = Narrow::new(alloc, 1000);
+        let mut sessions = Timed { now: None };
+        let ended = answer_all(
+            alloc,
+            &mut input,
+            &mut output,
+            &Standing(*told),
+            &mut sessions,
+        );
+        if ended != Ok(()) || sessions.now != Some(*now) {
+            return Err(Fail::new(format_args!("{told:?}")));
+        }
+    }
+    Ok(())
 }

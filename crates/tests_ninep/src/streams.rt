@@ -24,6 +24,53 @@ impl Read for Piecemeal<'_> {
     }
 }
 
+/// The same, but each other read, the first among them, is interrupted.
+#[derive(Drop)]
+pub struct Interrupted<'b> {
+    pub rest: Piecemeal<'b>,
+    pub is_late: bool,
+}
+
+impl Read for Interrupted<'_> {
+    fn read(&mut self, buf: &mut [u8]) -> io::Result<usize> {
+        self.is_late = !self.is_late;
+        if self.is_late {
+            return Err(io::Error::from(ErrorKind::Interrupted));
+        }
+        self.rest.read(buf)
+    }
+}
+
+/// A writer that hands on what it took once it is flushed.
+#[derive(Drop)]
+pub struct Held {
+    held: Vec<u8>,
+    pub flushed: Vec<u8>,
+}
+
+impl Held {
+    /// A writer that has taken nothing.
+    pub fn new(alloc: Global) -> Held {
+        Held {
+            held: Vec::new(alloc),
+            flushed: Vec::new(alloc),
+        }
+    }
+}
+
+impl Write for Held {
+    fn write(&mut self, buf: &[u8]) -> io::Result<usize> {
+        self.held.extend_from_slice(buf)?;
+        Ok(buf.len())
+    }
+
+    fn flush(&mut self) -> io::Result<()> {
+        self.flushed.extend_from_slice(&self.held)?;
+        self.held.clear();
+        Ok(())
+    }
+}
+
 /// A writer that takes so many bytes, at most seven at a time, and refuses more.
 #[derive(Drop)]
 pub struct Narrow {
@@ -69,6 +116,48 @@ impl Clock for Fixed {
     fn since_1970(&self) -> io::Result<Duration> {
         Ok(Duration::from_secs(100))
     }
+}
+
+/// A clock that stands at so many seconds since 1970, or tells no time.
+#[derive(Drop)]
+pub struct Standing(pub Option<u64>);
+
+impl Clock for Standing {
+    fn monotonic(&self) -> io::Result<Duration> {
+        Ok(Duration::from_secs(100))
+    }
+
+    fn since_1970(&self) -> io::Result<Duration> {
+        match self.0 {
+            Some(seconds) => Ok(Duration::from_secs(seconds)),
+            None => Err(io::Error::from(ErrorKind::Unsupported)),
+        }
+    }
+}
+
+/// A session of each user, whose calls are cut, and the time of the last one.
+#[derive(Drop)]
+pub struct Timed {
+    pub now: Option<u32>,
+}
+
+impl Sessions for Timed {
+    ghost called = { λ s session now call outcome t. Unit {0} };
+
+    ghost entered = { λ s uid gid result t. Unit {0} };
+
+    ghost left = { λ s t. Unit {0} };
+
+    fn enter(&mut self, _uid: u16, _gid: u16) -> Result<u8, EnterRefusal> {
+        Ok(0)
+    }
+
+    fn call(&mut self, _session: u8, now: u32, _call: &Call<'_>) -> Outcome {
+        self.now = Some(now);
+        Outcome::Cut
+    }
+
+    fn leave(&mut self) {}
 }
 
 /// Sessions that are never made.

@@ -91,7 +91,28 @@ pub(crate) static TREE: Image = Image {
     length: 65536,
 };
 
-/// The same, but the image ends behind the root's entries.
+/// The root has eighteen entries: sixteen in the last zone, which is all that its first page holds, and in zone 6 `/f` (inode 3, a file)
+/// and `/g` (inode 4, a file).
+pub(crate) static TWO_PAGES: Image = Image {
+    parts: &[
+        (1024, &SUPERBLOCK),
+        (4096, &[0xed, 0x41, 2, 0, 0, 0, 0, 0, 0x80, 4]),
+        (4120, &[63, 0, 0, 0, 6]),
+        (4224, &[0xa4, 0x81, 1]),
+        (4288, &[0xa4, 0x81, 1]),
+        (6144, &[3, 0, 0, 0, b'f']),
+        (6208, &[4, 0, 0, 0, b'g']),
+        (LAST_ZONE, &[1, 0, 0, 0, b'.']),
+        (64576, &[1, 0, 0, 0, b'.', b'.']),
+    ],
+    filled: 65536,
+    length: 65536,
+};
+
+/// Where the last zone begins.
+pub(crate) const LAST_ZONE: usize = 64512;
+
+/// The same as `TREE`, but the image ends behind the root's entries.
 pub(crate) static CUT_TREE: Image = Image {
     parts: &TREE_PARTS,
     filled: 65536,

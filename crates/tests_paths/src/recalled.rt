@@ -1,7 +1,8 @@
 //! A cache of names, and walks of names that changed.
 
-use crate::images::{ROOT_ALONE, volume};
+use crate::images::{LAST_ZONE, ROOT_ALONE, TWO_PAGES, volume};
 use crate::volumes::{Call, DONE, Seen, Step};
+use block_store::{Cut, Halt};
 use errno::Errno;
 use path::Stop;
 use std::test::Fail;
@@ -71,4 +72,25 @@ fn at_most_256_names_are_kept(rt: HostRuntime) -> Result<(), Fail> {
         &[(Call::Walk(ROOT, b"/000"), Ok(Seen::There(1)))],
     )?;
     tree.gives("as many names", &[(Call::Kept, Ok(Seen::Kept(256)))])
+}
+
+/// A name that was walked is read again where it stands, and no page before it: that one is gone by then. Another name isn't found.
+static WALKED: [Step; 3] = [
+    (Call::Walk(ROOT, b"/f"), Ok(Seen::There(3))),
+    (Call::LookUp(ROOT, b"/f"), Ok(Seen::There(3))),
+    (
+        Call::Walk(ROOT, b"/g"),
+        Err(Stop::Halted(Halt::Cut(Cut::Eio))),
+    ),
+];
+
+#[test]
+fn a_second_walk_reads_one_page(rt: HostRuntime) -> Result<(), Fail> {
+    let mut tree = volume(rt.alloc(), &TWO_PAGES, &[])?;
+    tree.gives(
+        "the first walk",
+        &[(Call::Walk(ROOT, b"/f"), Ok(Seen::There(3)))],
+    )?;
+    tree.cut(rt.alloc(), LAST_ZONE)?
+        .gives("the second walk", &WALKED)
 }

@@ -9,7 +9,7 @@ use directory::{find, insert, parent, remove, replace, set_parent};
 use inode::inode_table::load;
 use layout::Geometry;
 use path::{Found, NameCache, Path, Stop, find_place, look_up, walk};
-use std::alloc::Global;
+use std::alloc::{AllocError, Global};
 use std::test::Fail;
 use tree::User;
 
@@ -96,6 +96,22 @@ impl Volume {
             names: NameCache::new(alloc),
             geometry,
         }
+    }
+
+    /// The volume with the names that it keeps, whose image ends here.
+    pub(crate) fn cut(self, alloc: Global, length: usize) -> Result<Volume, AllocError> {
+        let Volume {
+            blocks,
+            names,
+            geometry,
+        } = self;
+        let mut image = blocks.image().to_vec(alloc)?;
+        image.truncate(length);
+        Ok(Volume {
+            blocks: Memory::new(geometry.block_size, image),
+            names,
+            geometry,
+        })
     }
 
     /// Makes the calls of a row one after the other: each gives what stands beside it.

@@ -5,6 +5,8 @@
 #[cfg(test)]
 mod attributes;
 #[cfg(test)]
+mod boxed;
+#[cfg(test)]
 mod bytes;
 #[cfg(test)]
 mod calls;

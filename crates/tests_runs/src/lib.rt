@@ -5,6 +5,8 @@
 
 mod compared;
 #[cfg(test)]
+mod evicted;
+#[cfg(test)]
 mod faults;
 #[cfg(test)]
 mod largest;

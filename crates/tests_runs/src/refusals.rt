@@ -2,6 +2,8 @@
 
 use crate::compared::refused::{Refused, Told, is_refused, is_told_first};
 use media::MediaRefusal;
+use media::partition::PartitionRefusal;
+use media::partition::place::PlaceRefusal;
 use simulation::world::RunRefusal;
 use std::test::Fail;
 use volume::Finding;
@@ -39,8 +41,13 @@ fn runs_are_refused(rt: HostRuntime) -> Result<(), Fail> {
     Ok(())
 }
 
-static NUMBERS: [(RunRefusal, u32); 6] = [
+static NUMBERS: [(RunRefusal, u32); 8] = [
     (FOUND, 3),
+    (
+        RunRefusal::Partition(PlaceRefusal::Table(PartitionRefusal::NoSignature)),
+        2,
+    ),
+    (RunRefusal::Partition(PlaceRefusal::NoPartition), 2),
     (RunRefusal::Media(MediaRefusal::NotWholeSectors), 1),
     (RunRefusal::Media(MediaRefusal::TooLarge), 1),
     (RunRefusal::BadSetup, 4),

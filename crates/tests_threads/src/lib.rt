@@ -5,7 +5,11 @@
 #[cfg(test)]
 mod at_once;
 #[cfg(test)]
+mod boxed;
+#[cfg(test)]
 mod held;
+#[cfg(test)]
+mod idle;
 #[cfg(test)]
 mod many;
 #[cfg(test)]

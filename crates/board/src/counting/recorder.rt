@@ -4,9 +4,10 @@ ghost use Rattle.std.specs.Prelude.{◌≡◌, ◌↔◌, ◌<◌, ◌≤◌, �
 ghost use Rattle.tree.specs.Answers.{answer_of};
 ghost use Rattle.records.specs.Marks.{Mark, Took, Flush};
 ghost use Rattle.records.specs.Opening.{Opening};
-ghost use Rattle.records.specs.Told.{took_end};
+ghost use Rattle.records.specs.Told.{received, took_end};
 ghost use Rattle.records.specs.Session.{tally_of};
 ghost use Rattle.board.specs.View.{without};
+ghost use Rattle.board.specs.Steady.{IsAside};
 ghost use Rattle.board.specs.Steps.{SessionLearns, SessionIsNew};
 ghost use Rattle.board.specs.Keeper.{AreAllUsed, IsLowestFree};
 ghost use Rattle.board.specs.Recorder.{SameLink};
@@ -15,6 +16,7 @@ ghost use Rattle.file_server.specs.Leaving.{IsEndLast};
 use crate::Seat;
 use crate::counting::parameters::ServiceParameters;
 use crate::counting::steady::Supplied;
+use message::Incoming;
 use tree::{Call, Reply, Who};
 
 /// A link that keeps the record of a service on the service's board, and gives its sessions their numbers.
@@ -66,6 +68,16 @@ pub trait Recorder<N: ServiceParameters>: Supplied + Drop {
         ensures truth { (v : Opening) (older : List Mark) → Self.truth self.old v older → Self.truth self.new v (Flush ∷ older) }
         ensures marks { marks self.new ≡ Flush ∷ marks self.old }
         ensures numbers { numbers self.new ≡ numbers self.old };
+
+    /// The next message, if it has come already: as `Steady::aside` of a link that keeps no record. The message leaves its mark.
+    fn aside(&mut self) -> Option<Incoming>
+        ensures told { Self.Link.history self.new ≡ Self.Link.history self.old }
+        ensures budget { Self.Link.budget_left self.new ≤ Self.Link.budget_left self.old }
+        ensures goes { Self.Link.goes_on self.old self.new }
+        ensures message { IfSome result IsAside }
+        ensures some { IfSome result (λ m. (v : Opening) (older : List Mark) → Self.truth self.old v older
+            → Self.truth self.new v (received m older)) }
+        ensures none { IfNone result ((v : Opening) (older : List Mark) → Self.truth self.old v older → Self.truth self.new v older) };
 
     /// Whether a take gave End. Nothing is taken then any more.
     fn has_ended(&self) -> bool

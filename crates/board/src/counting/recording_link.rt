@@ -166,6 +166,15 @@ impl<N: ServiceParameters, L: Steady + Supplied + Drop> Recorder<N> for Recordin
         self.heard.takes(&Incoming::Flush);
     }
 
+    fn aside(&mut self) -> Option<Incoming> {
+        let message = self.link.aside()?;
+        if self.heard.leaves_mark(&message) {
+            self.keeper.note(&message);
+            self.heard.takes(&message);
+        }
+        Some(message)
+    }
+
     fn has_ended(&self) -> bool {
         self.ended
     }

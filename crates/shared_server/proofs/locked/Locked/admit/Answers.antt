@@ -15,7 +15,7 @@ invariant_of-self g c = (
         keeps_on = λ l m goes runs. g.met.L.Supplied.keeps_on l m g.N.ServiceParameters.policy g.N.ServiceParameters.supply goes runs;
       })
       c.admit.ensures.same (λ older truth. c.admit.ensures.truth g.N.ServiceParameters.opening older truth) c.admit.ensures.marks c.self.invariant.0,
-  subst (λ (n : ℕ). n ≤ c.self.inside.flushes) (sym c.admit.ensures.absorbed) c.self.invariant.1,
+  subst (λ (n : ℕ). n ≤ c.self.inside.absorbed) (sym c.admit.ensures.absorbed) c.self.invariant.1,
 )
 
 pub returns-clause-refusal : goal.returns-clause-refusal

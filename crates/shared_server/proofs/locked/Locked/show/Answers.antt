@@ -15,5 +15,5 @@ invariant_of-self g c = (
         keeps_on = λ l m goes runs. g.met.L.Supplied.keeps_on l m g.N.ServiceParameters.policy g.N.ServiceParameters.supply goes runs;
       })
       c.show.ensures.same (λ older truth. c.show.ensures.truth g.N.ServiceParameters.opening older truth) c.show.ensures.marks c.self.invariant.0,
-  subst (λ (n : ℕ). n ≤ c.self.inside.flushes) (sym c.show.ensures.absorbed) c.self.invariant.1,
+  subst (λ (n : ℕ). n ≤ c.self.inside.absorbed) (sym c.show.ensures.absorbed) c.self.invariant.1,
 )

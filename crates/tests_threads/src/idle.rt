@@ -1,0 +1,247 @@
+//! A service on which no call is made writes back what was changed, by itself.
+
+use board::counting::parameters::ServiceParameters;
+use board::counting::recorder::Recorder;
+use file_server::FileServer;
+use fixtures::gates::{Ticking, until};
+use fixtures_sessions::callers::Caller;
+use fixtures_sessions::stage::{Stage, patient};
+use fixtures_sessions::watch::Holds;
+use gate::{Gate, Point};
+use new_volume::mkfs;
+use reincarnate::policy::Setup;
+use serve::service::Service;
+use serve::stopping::StopRefusal;
+use service_start::program::Program;
+use service_start::start::serve;
+use std::alloc::Global;
+use std::process::Abort;
+use std::sync::atomic::{AtomicBool, Ordering};
+use std::sync::{Arc, Wait};
+use std::test::*;
+use std::thread;
+use std::thread::Threads;
+use std::time::{Clock, Duration};
+use tree::{Call, OpenFlags, Outcome, Reply};
+
+/// How many blocks the volume has.
+const BLOCKS: u32 = 512;
+
+/// How many blocks the cache may hold: all of them.
+const FRAMES: usize = 512;
+
+/// How many bytes a block has.
+const BLOCK: usize = 1024;
+
+/// How many pages the file gets, each of a block.
+const PAGES: usize = 200;
+
+/// Each byte of them.
+const BYTE: u8 = 0xa5;
+
+/// How long a tick is, and a turn of the flusher, in milliseconds.
+const PACE: u64 = 20;
+
+/// How often a test looks at most whether all is on the media. Between two looks it rests as long as a turn of the flusher takes, which
+/// begins to write sixteen blocks: fourteen turns do where no thread waits for a processor.
+const LOOKS: u32 = 1000;
+
+/// Whether a block is another one once the file is there: both maps and the first inodes, the root's entries, the pages, and the block of
+/// numbers that they take from the eighth on.
+fn is_changed(block: usize) -> bool {
+    matches!(block, 2..=4) || matches!(block, 6..=207)
+}
+
+/// Whether just these blocks of an image are others than they were, and all pages of the file are among them.
+fn is_written(image: &[u8], opening: &[u8]) -> bool {
+    let (blocks, _) = image.as_chunks::<BLOCK>();
+    let (before, _) = opening.as_chunks::<BLOCK>();
+    let are_changed = blocks
+        .iter()
+        .zip(before.iter())
+        .enumerate()
+        .all(|(number, (is, was))| (is != was) == is_changed(number));
+    let pages = blocks
+        .iter()
+        .filter(|block| block.iter().all(|byte| *byte == BYTE))
+        .count();
+    blocks.len() == before.len() && are_changed && pages == PAGES
+}
+
+/// Makes a file, and writes its pages. Whether each call was answered so.
+fn writes<C: Caller>(session: &mut C) -> bool {
+    let open = Call::Open {
+        path: b"/f",
+        flags: OpenFlags::WRITE | OpenFlags::CREATE,
+        mode: 0o644,
+    };
+    let mut is_right = session.make(100, &open) == Outcome::Reply(Reply::Descriptor(0));
+    let page = [BYTE; BLOCK];
+    for _ in 0..PAGES {
+        let write = Call::Write {
+            fd: 0,
+            bytes: &page,
+        };
+        let written = session.make(100, &write);
+        is_right = is_right && written == Outcome::Reply(Reply::Wrote(BLOCK as u32));
+    }
+    is_right
+}
+
+/// A gate under which the flusher takes no turn before it is let go.
+#[derive(Drop)]
+struct Late<R: Clock + Copy> {
+    ticking: Ticking<R>,
+    let_go: AtomicBool,
+}
+
+impl<R: Clock + Copy + Send + Sync> Gate for Late<R> {
+    fn pass(&self, at: Point) {
+        if at == Point::FlusherTurn {
+            until(&self.let_go);
+        }
+        self.ticking.pass(at);
+    }
+}
+
+/// A service whose flusher is held until a file was written. Then nothing is called any more.
+#[derive(Drop)]
+struct Idle<R: Clock + Copy> {
+    alloc: Global,
+    rt: R,
+    gate: Arc<Late<R>>,
+    /// The image that was handed in.
+    opening: Vec<u8>,
+    /// Whether a stop is asked for before, which is refused since the session is left.
+    is_stopped: bool,
+}
+
+/// What came of it.
+#[derive(Drop)]
+struct Came {
+    /// Whether each call was answered as it should be.
+    is_answered: bool,
+    /// The image of the idle service.
+    idle: Vec<u8>,
+    /// The image that is left.
+    left: Vec<u8>,
+}
+
+impl<R: Clock + Copy> Idle<R> {
+    /// The service, of which a stop may have been refused.
+    fn kept<N: ServiceParameters, L: Recorder<N>, S: FileServer<L>>(
+        &self,
+        service: Service<N, R, L, S>,
+    ) -> Option<Service<N, R, L, S>>
+    where
+        R: Threads + Wait,
+    {
+        if !self.is_stopped {
+            return Some(service);
+        }
+        match service.stop() {
+            Err(StopRefusal::SessionsLeft(service)) => Some(service),
+            _ => None,
+        }
+    }
+
+    /// The image of the media once all is there, or after the last look.
+    fn image<N: ServiceParameters, L: Recorder<N>, S: FileServer<L>>(
+        &self,
+        service: &Service<N, R, L, S>,
+    ) -> Option<Vec<u8>>
+    where
+        R: Threads + Wait,
+    {
+        for _ in 0..LOOKS {
+            let image = service.image(self.alloc).ok()?;
+            if is_written(&image, &self.opening) {
+                return Some(image);
+            }
+            thread::sleep(&self.rt, Duration::from_millis(PACE));
+        }
+        service.image(self.alloc).ok()
+    }
+}
+
+impl<R: Threads + Wait + Clock + Copy + Send + Sync + 'static> Program<R> for Idle<R> {
+    type Output = Option<Came>;
+
+    ghost gives = { λ program geometry opening output. Unit {0} };
+
+    fn run<N: ServiceParameters, L: Recorder<N>, S: FileServer<L>>(
+        self,
+        service: Service<N, R, L, S>,
+    ) -> Option<Came>
+        ensures { Unit {0} }
+    {
+        let mut session = service.session(0, 0).ok()?;
+        let is_answered = writes(&mut session);
+        self.gate.let_go.store(true, Ordering::SeqCst);
+        let service = self.kept(service)?;
+        let idle = self.image(&service)?;
+        session.end();
+        let left = service.stop().ok()?;
+        Some(Came {
+            is_answered,
+            idle,
+            left,
+        })
+    }
+}
+
+/// What comes of it on a stage.
+fn came_of<R: Threads + Wait + Clock + Copy + Send + Sync + 'static>(
+    stage: &Stage<R>,
+    is_stopped: bool,
+) -> Result<Came, Fail> {
+    let gate = Late {
+        ticking: Ticking::new(stage.rt, PACE),
+        let_go: AtomicBool::new(false),
+    };
+    let gate = Arc::new(stage.alloc, gate)?;
+    let program = Idle {
+        alloc: stage.alloc,
+        rt: stage.rt,
+        gate: Arc::try_clone(&gate)?,
+        opening: Vec::from_slice(stage.alloc, &stage.image)?,
+        is_stopped,
+    };
+    let setup = Setup {
+        frames: FRAMES,
+        ..patient()
+    };
+    let supply = stage.supply(&[])?;
+    let image = Vec::from_slice(stage.alloc, &stage.image)?;
+    match serve(stage.alloc, stage.rt, image, &setup, supply, gate, program) {
+        Ok(came) => Ok(came.ok_or("not stopped")?),
+        Err(refusal) => Err(Fail::new(format_args!("{refusal}"))),
+    }
+}
+
+/// All that was changed is on the media of the idle service, and a last sync writes nothing more.
+fn is_written_back<R: Threads + Wait + Abort + Clock + Copy + Send + Sync + 'static>(
+    alloc: Global,
+    rt: R,
+    is_stopped: bool,
+) -> Result<(), Fail> {
+    let image = mkfs(alloc, BLOCKS, BLOCK as u32, 32, 50)?;
+    let stage = Stage::new(alloc, rt, image, Holds::Flusher)?;
+    let came = came_of(&stage, is_stopped)?;
+    assert!(rt; came.is_answered);
+    assert!(rt; is_written(&came.idle, &stage.image));
+    assert!(rt; came.left.as_slice() == came.idle.as_slice());
+    stage.check_left(&came.left)
+}
+
+/// Two hundred pages and what leads to them are written by the flusher alone.
+#[test]
+fn idle_service(rt: HostRuntime) -> Result<(), Fail> {
+    is_written_back(rt.alloc(), rt, false)
+}
+
+/// The same of a service whose stop was refused: its flusher goes on.
+#[test]
+fn service_that_was_kept(rt: HostRuntime) -> Result<(), Fail> {
+    is_written_back(rt.alloc(), rt, true)
+}
