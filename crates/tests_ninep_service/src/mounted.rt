@@ -80,6 +80,7 @@ pub(crate) fn answers<R: Threads + Wait + Clock + Copy + Send + Sync + 'static>(
         output: Vec::new(alloc),
         clock: Fixed,
         archive: None::<Nowhere>,
+        sync_every: 0,
     };
     let image = new_volume(alloc, 1024)?;
     let supply = supply_of(alloc, 128, &[None; 8])?;
