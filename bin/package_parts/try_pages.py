@@ -1,6 +1,6 @@
 """Whether the installed man pages are shown, and all that pages name is there."""
 import gzip, os, re, shutil
-from .common import NAME, PROGRAMS, ROOT, run, said, told
+from .common import NAME, PROGRAMS, ROOT, run, told
 
 SHOWERS = ("man", "mandoc", "groff")
 DOC = f"usr/share/doc/{NAME}"
@@ -34,7 +34,8 @@ def try_man(tally, root):
             text = plain(done.stdout)
             wanted = ("NAME", f"{name} [–—-] ", "SYNOPSIS", "--help", "EXIT STATUS", "DIAGNOSTICS")
             lacks = [it for it in wanted if not re.search(it, text)]
-            fault = said(done) if done.returncode != 0 or done.stderr else f"lacks {lacks}" if lacks else ""
+            warnings = " ".join(done.stderr.decode("utf-8", "replace").split())
+            fault = warnings or (f"status {done.returncode}" if done.returncode != 0 else f"lacks {lacks}" if lacks else "")
             tally.judge(f"{command} shows {name}(1) without a warning", fault)
 
 

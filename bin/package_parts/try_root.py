@@ -127,6 +127,13 @@ def owner_of(library):
     refuse(f"no package of this machine has {library}")
 
 
+def misplaced(paths):
+    """The files that lie in another place than Debian has for their kind, and those of each program that are missing."""
+    kinds = ("usr/bin/{}", "usr/share/man/man1/{}.1.gz", "usr/share/bash-completion/completions/{}", "usr/share/zsh/vendor-completions/_{}")
+    wanted = {kind.format(it) for kind in kinds for it in PROGRAMS}
+    return sorted(wanted ^ {it for it in paths if not it.startswith(f"usr/share/doc/{NAME}/")})
+
+
 def try_installing(tally, packages, root):
     """The package is installed, and what came is what it names."""
     done = root.install(packages.deb)
@@ -136,6 +143,7 @@ def try_installing(tally, packages, root):
     came = sorted(it for it in root.held().keys() - root.before.keys() if not (root.folder / it).is_dir())
     wanted = sorted(f"usr/{it}" for it in packages.paths())
     tally.judge(f"{len(wanted)} files came, and no others", "" if came == wanted else f"{set(came) ^ set(wanted)}")
+    tally.judge("each program has its page and completions, and all else is in its folder of pages", ", ".join(misplaced(wanted)))
     changed = sorted(it for it, seen in root.before.items() if root.held().get(it) != seen)
     tally.judge("no other file was changed", f"{changed}" if changed else "")
     status = root.dpkg("--status", NAME).stdout.decode()
