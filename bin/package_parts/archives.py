@@ -1,7 +1,7 @@
 """The two archives of a release, whose bytes depend on the files and the commit's time alone."""
-import hashlib, os, pathlib, shutil, subprocess
-from .common import NAME, refuse, said, run
-from .content import DOC, debian_changelog, zipped
+import hashlib, os, pathlib
+from .common import DOC, NAME, refuse, run, said
+from .content import debian_changelog, zipped
 
 CONTROL = """Package: {name}
 Version: {version}
@@ -67,7 +67,7 @@ def write_tar(release, content, folder, out):
     put(folder / "tar" / top, plain, release.seconds)
     words = ["tar", "-C", folder / "tar", "--format=gnu", "--sort=name", f"--mtime=@{release.seconds}", "--owner=root:0", "--group=root:0",
              "--numeric-owner", "--mode=u+rwX,go=rX", "-cf", "-", top]
-    done = run(words, env={**os.environ, "LC_ALL": "C"})
+    done = run(words, env={**os.environ, "LC_ALL": "C", "TAR_OPTIONS": ""})
     if done.returncode != 0:
         refuse(f"tar: {said(done)}")
     made = out / f"{top}.tar.gz"

@@ -3,6 +3,7 @@ import os, pathlib, shutil, subprocess, sys
 
 ROOT = pathlib.Path(__file__).resolve().parent.parent.parent
 NAME = "lecternowl"
+DOC = f"usr/share/doc/{NAME}"
 PROGRAMS = ("mkmfs", "mfsck", "mfs", "mfs9p", "mfmig", "mfssim")
 
 

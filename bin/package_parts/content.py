@@ -1,9 +1,8 @@
-"""The files of a package: by its path each one's bytes, and whether it is a program."""
+"""The files of a package: by its path each one's bytes."""
 import gzip, pathlib, posixpath, re, textwrap, time
-from .common import NAME, PROGRAMS, ROOT, refuse, run, said, told
+from .common import DOC, NAME, PROGRAMS, ROOT, refuse, run, said, told
 from .help_words import Help, bash_completion, zsh_completion
 
-DOC = f"usr/share/doc/{NAME}"
 PAGES = ("README.md", *(f"docs/{it}.md" for it in ("CALLS", "FAULTS", "FORMAT", "LIMITS", "MOUNT", "PROGRAMS", "SPEED")))
 LINK = re.compile(r"\[([^\]]*)\]\(([^)\s]+)\)")
 RIGHTS = """{name} {version}

@@ -1,9 +1,9 @@
 """Whether the packages are made of the same bytes each time, and hold the same files."""
-import hashlib, os, pathlib, shutil, tarfile, tempfile
-from .common import NAME, PROGRAMS, ROOT, refuse, run, said
+import os, pathlib, shutil, tarfile, tempfile
+from .common import DOC, NAME, PROGRAMS, ROOT, refuse, run, said
 
 # Where bin/package is run the second time, and how: nothing of it may be seen in the packages.
-OTHERS = {"TZ": "Pacific/Auckland", "LC_ALL": "C.UTF-8", "HOME": "/nonexistent", "GZIP": "-1", "XZ_DEFAULTS": "-0"}
+OTHERS = {"TZ": "Pacific/Auckland", "LC_ALL": "C.UTF-8", "SOURCE_DATE_EPOCH": "1", "TAR_OPTIONS": "--exclude=*.gz --format=pax"}
 
 
 class Packages:
@@ -50,14 +50,14 @@ def try_bytes(tally, packages):
 
 
 def try_archive(tally, packages, root):
-    """The plain archive has the files of the other package, with their rights; unpacked into /usr/local it runs."""
+    """The plain archive has the files of the other package, with their rights, and its programs run."""
     top, theirs = packages.archive.name.removesuffix(".tar.gz"), packages.paths()
     with tarfile.open(packages.archive) as archive:
         members = {it.name.removeprefix(f"{top}/"): it for it in archive.getmembers() if it.isfile()}
         ours = {it.replace("zsh/site-functions", "zsh/vendor-completions"): archive.extractfile(at).read() for it, at in members.items()}
         owners = {(it.uid, it.gid) for it in archive.getmembers()}
         runs = {it for it, at in members.items() if at.mode & 0o111}
-    debian = f"share/doc/{NAME}/changelog.Debian.gz"
+    debian = f"{DOC}/changelog.Debian.gz".removeprefix("usr/")
     wanted = {it: at.read_bytes() for it, at in theirs.items() if it != debian}
     differs = sorted(it for it in ours.keys() | wanted.keys() if ours.get(it) != wanted.get(it))
     tally.judge(f"{packages.archive.name} has the same {len(wanted)} files", f"not {differs}" if differs else "")

@@ -1,9 +1,8 @@
 """Whether the installed man pages are shown, and all that pages name is there."""
 import gzip, os, re, shutil
-from .common import NAME, PROGRAMS, ROOT, run, told
+from .common import DOC, NAME, PROGRAMS, ROOT, run, told
 
 SHOWERS = ("man", "mandoc", "groff")
-DOC = f"usr/share/doc/{NAME}"
 WHERE = {"PATH": os.environ.get("PATH", ""), "LC_ALL": "C.UTF-8", "MANWIDTH": "80", "MAN_KEEP_FORMATTING": "1", "TERM": "dumb"}
 
 

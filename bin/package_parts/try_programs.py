@@ -1,8 +1,7 @@
 """What the installed programs print and make, beside what the pages, the examples and the definitions say."""
 import hashlib, os, re
-from .common import NAME, PROGRAMS, ROOT, said
+from .common import DOC, NAME, PROGRAMS, ROOT, said
 
-DOC = f"usr/share/doc/{NAME}"
 VOLUME = ("--blocks", "64", "--inodes", "32", "--block-size", "1024", "--now", "50")
 EXAMPLES = f"/{DOC}/examples"
 # A file of 5000 bytes takes five of the 57 free zones, and one of the 31 free inodes.

@@ -1,6 +1,6 @@
 """A fresh root: how it comes to be, what runs there, what is installed and taken away."""
 import os, pathlib, re, shutil
-from .common import NAME, PROGRAMS, refuse, run, said
+from .common import DOC, NAME, PROGRAMS, refuse, run, said
 
 NOBODY = 65534
 # What dpkg keeps for itself, besides what a package brings.
@@ -131,7 +131,7 @@ def misplaced(paths):
     """The files that lie in another place than Debian has for their kind, and those of each program that are missing."""
     kinds = ("usr/bin/{}", "usr/share/man/man1/{}.1.gz", "usr/share/bash-completion/completions/{}", "usr/share/zsh/vendor-completions/_{}")
     wanted = {kind.format(it) for kind in kinds for it in PROGRAMS}
-    return sorted(wanted ^ {it for it in paths if not it.startswith(f"usr/share/doc/{NAME}/")})
+    return sorted(wanted ^ {it for it in paths if not it.startswith(f"{DOC}/")})
 
 
 def try_installing(tally, packages, root):
