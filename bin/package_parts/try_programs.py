@@ -1,6 +1,6 @@
 """What the installed programs print and make, beside what the pages, the examples and the definitions say."""
 import hashlib, os, re
-from .common import DOC, NAME, PROGRAMS, ROOT, said
+from .common import DOC, PROGRAMS, ROOT, said
 
 VOLUME = ("--blocks", "64", "--inodes", "32", "--block-size", "1024", "--now", "50")
 EXAMPLES = f"/{DOC}/examples"
