@@ -22,6 +22,8 @@ Description: file server for MINIX 3 volumes whose disk drivers may die
  serves a volume by 9P, so that Linux mounts it, and mfssim plays schedules of
  faults.
 """
+# The programs are those that were proved, byte for byte, with the symbols that their makers left in them.
+UNSTRIPPED = "# The program is packed byte for byte as it was proved and built.\n{name}: unstripped-binary-or-object [{path}]\n"
 
 
 def put(folder, files, seconds):
@@ -37,6 +39,11 @@ def put(folder, files, seconds):
             os.utime(os.path.join(at, name), (seconds, seconds))
 
 
+def overrides(files):
+    """What lintian isn't to tell of: of each program that has a table of symbols, that it has one."""
+    return "".join(UNSTRIPPED.format(name=NAME, path=it) for it in sorted(files) if "/bin/" in it and b"\0.symtab\0" in files[it])
+
+
 def size_of(files):
     """What the files take, in KiB as Debian counts: each begun one of a file, and one of each folder."""
     folders = {str(at) for it in files for at in pathlib.PurePosixPath(it).parents}
@@ -46,6 +53,8 @@ def size_of(files):
 def write_deb(release, content, folder, out):
     """Writes the package of Debian into the folder `out`, and returns its path."""
     files = content | {f"{DOC}/changelog.Debian.gz": zipped(debian_changelog(release).encode())}
+    if lintian := overrides(content):
+        files[f"usr/share/lintian/overrides/{NAME}"] = lintian.encode()
     depends = f"Depends: {release.needs}\n" if release.needs else ""
     control = CONTROL.format(name=NAME, version=release.version, maker=release.maker, size=size_of(files), depends=depends)
     sums = "".join(f"{hashlib.md5(files[it]).hexdigest()}  {it}\n" for it in sorted(files))

@@ -57,8 +57,8 @@ def try_archive(tally, packages, root):
         ours = {it.replace("zsh/site-functions", "zsh/vendor-completions"): archive.extractfile(at).read() for it, at in members.items()}
         owners = {(it.uid, it.gid) for it in archive.getmembers()}
         runs = {it for it, at in members.items() if at.mode & 0o111}
-    debian = f"{DOC}/changelog.Debian.gz".removeprefix("usr/")
-    wanted = {it: at.read_bytes() for it, at in theirs.items() if it != debian}
+    debian = (f"{DOC}/changelog.Debian.gz".removeprefix("usr/"), f"share/lintian/overrides/{NAME}")
+    wanted = {it: at.read_bytes() for it, at in theirs.items() if it not in debian}
     differs = sorted(it for it in ours.keys() | wanted.keys() if ours.get(it) != wanted.get(it))
     tally.judge(f"{packages.archive.name} has the same {len(wanted)} files", f"not {differs}" if differs else "")
     tally.judge("in it all belongs to root", f"also to {owners}" if owners != {(0, 0)} else "")

@@ -131,7 +131,8 @@ def misplaced(paths):
     """The files that lie in another place than Debian has for their kind, and those of each program that are missing."""
     kinds = ("usr/bin/{}", "usr/share/man/man1/{}.1.gz", "usr/share/bash-completion/completions/{}", "usr/share/zsh/vendor-completions/_{}")
     wanted = {kind.format(it) for kind in kinds for it in PROGRAMS}
-    return sorted(wanted ^ {it for it in paths if not it.startswith(f"{DOC}/")})
+    own = (f"{DOC}/", "usr/share/lintian/overrides/")
+    return sorted(wanted ^ {it for it in paths if not it.startswith(own)})
 
 
 def try_installing(tally, packages, root):
