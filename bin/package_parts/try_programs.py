@@ -9,8 +9,8 @@ PATTERN = bytes((at * 7 + at // 251) & 255 for at in range(5000))
 WRITES = f"user 0 0\n100 open /b rwc 644\n100 write 0 {PATTERN.hex()}\n100 statfs\n100 sync\n"
 WROTE = "session 0\nfd 0\nwrote 5000\nblock 1024 zones 58 free 52 inodes 32 free 30\nok\n"
 READS = "user 7 7\n200 open /b r 0\n200 read 0 5000\n200 open /b w 0\n"
-# What examples/fill.txt is answered: two folders and a file take a zone and an inode each.
-FILLED = "session 0\nok\nok\nok\nfd 0\nwrote 7\nok\nblock 1024 zones 58 free 54 inodes 32 free 28\n"
+# What examples/fill.txt is answered: two folders and a file of 8 bytes take a zone and an inode each.
+FILLED = "session 0\nok\nok\nok\nfd 0\nwrote 8\nok\nblock 1024 zones 58 free 54 inodes 32 free 28\n"
 
 
 class Trial:
