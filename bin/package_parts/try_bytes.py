@@ -1,6 +1,6 @@
 """Whether the packages are made of the same bytes each time, and hold the same files."""
 import os, pathlib, shutil, tarfile, tempfile
-from .common import DOC, NAME, PROGRAMS, ROOT, refuse, run, said
+from .common import DOC, NAME, PROGRAMS, ROOT, refuse, run, said, told
 
 # Where bin/package is run the second time, and how: nothing of it may be seen in the packages.
 OTHERS = {"TZ": "Pacific/Auckland", "LC_ALL": "C.UTF-8", "SOURCE_DATE_EPOCH": "1", "TAR_OPTIONS": "--exclude=*.gz --format=pax"}
@@ -12,6 +12,7 @@ class Packages:
     def __init__(self, programs, folder):
         self.programs = programs.resolve() if programs else None
         self.folder = folder
+        self.commit = told(["git", "-C", ROOT, "rev-parse", "HEAD"])
         self.deb, self.archive = self.made("packages")
         self.files = folder / "files"
         done = run(["dpkg-deb", "--extract", self.deb, self.files])

@@ -1,6 +1,6 @@
 """Whether the installed man pages are shown, and all that pages name is there."""
 import gzip, os, re, shutil
-from .common import DOC, NAME, PROGRAMS, ROOT, run, told
+from .common import DOC, NAME, PROGRAMS, run, told
 
 SHOWERS = ("man", "mandoc", "groff")
 WHERE = {"PATH": os.environ.get("PATH", ""), "LC_ALL": "C.UTF-8", "MANWIDTH": "80", "MAN_KEEP_FORMATTING": "1", "TERM": "dumb"}
@@ -56,6 +56,5 @@ def try_pages(tally, packages, root):
     dead = list(dead_links(root))
     tally.judge("what pages and man pages name is there", "; ".join(dead))
     text = (root.folder / DOC / "VERSION").read_text()
-    head = told(["git", "-C", ROOT, "rev-parse", "HEAD"])
-    right = text.startswith(f"{NAME} {packages.version}\ncommit {head}") and f"\nkit {told(['rt', 'version'])}\n" in text
+    right = text.startswith(f"{NAME} {packages.version}\ncommit {packages.commit}") and f"\nkit {told(['rt', 'version'])}\n" in text
     tally.judge("VERSION has the version, the commit and the kit", "" if right else text.replace("\n", "; "))
