@@ -1,0 +1,88 @@
+"""What a release is made of: its programs, version, commit and kit."""
+import os, pathlib, re, subprocess
+from .common import NAME, PROGRAMS, ROOT, refuse, run, said, told
+
+# The package of Debian that has a library which a program may need.
+LIBRARIES = {"libc.so.6": "libc6", "libm.so.6": "libc6", "ld-linux-x86-64.so.2": "libc6", "libgcc_s.so.1": "libgcc-s1"}
+SOURCES = ("crates", "crates.txt")
+MADE_OF = (*SOURCES, "bin", "man", "docs", "examples", "README.md", "CHANGELOG.md")
+GIVEN = "programs of a folder that was named; nothing shows that they are of this commit"
+SAME = "programs of a clone with the same crates"
+BUILT = "programs proved and built of these sources by bin/NAME"
+
+
+class Release:
+    """The programs' files, and what is said of them."""
+
+    def __init__(self, folder):
+        self.programs = {it: program_of(folder, it) for it in PROGRAMS}
+        self.version = version_of(self.programs)
+        commit, seconds, self.maker = told(["git", "-C", ROOT, "log", "-1", "--format=%H%n%ct%n%an <%ae>"]).split("\n")
+        self.seconds = int(seconds)
+        self.commit = commit + (", and what was changed since" if changed(ROOT, MADE_OF) else "")
+        self.kit = told(["rt", "version"])
+        self.source = BUILT if folder is None else SAME if is_same(folder) else GIVEN
+        self.needs = libraries(self.programs)
+
+    def text(self):
+        """The file VERSION."""
+        return f"{NAME} {self.version}\ncommit {self.commit}\nkit {self.kit}\n{self.source}\n"
+
+
+def changed(clone, paths):
+    """Whether something of these paths differs from the commit of a clone."""
+    return bool(told(["git", "-C", clone, "status", "--porcelain", "--", *paths]))
+
+
+def program_of(folder, name):
+    """The file of a program, which is built where that is needed and no folder is named."""
+    if folder is None:
+        if subprocess.run([ROOT / "bin" / name, "--version"], stdout=subprocess.DEVNULL).returncode != 0:
+            refuse(f"{name} couldn't be built")
+        return ROOT / "crates" / name / "out" / name
+    places = [folder / name, folder / "crates" / name / "out" / name]
+    for place in places:
+        if place.is_file() and os.access(place, os.X_OK):
+            return place.resolve()
+    refuse(f"there is no program {' or '.join(map(str, places))}")
+
+
+def version_of(programs):
+    """The version that each program says."""
+    versions = set()
+    for name, program in programs.items():
+        done = run([program, "--version"])
+        found = re.fullmatch(rf"{name} (\d+\.\d+\.\d+)\n", done.stdout.decode("utf-8", "replace"))
+        if done.returncode != 0 or not found:
+            refuse(f"{name} --version doesn't say its version: {said(done)}")
+        versions.add(found[1])
+    if len(versions) != 1:
+        refuse(f"the programs are of several versions: {' '.join(sorted(versions))}")
+    return versions.pop()
+
+
+def is_same(folder):
+    """Whether a folder is a clone whose commit has the same crates as this one's, and no file of the two is changed."""
+    top = run(["git", "-C", folder, "rev-parse", "--show-toplevel"]).stdout.decode().strip()
+    if not top or pathlib.Path(top) != folder.resolve():
+        return False
+    ours, theirs = (run(["git", "-C", it, "rev-parse", *(f"HEAD:{path}" for path in SOURCES)]).stdout for it in (ROOT, folder))
+    return ours == theirs and not changed(ROOT, SOURCES) and not changed(folder, SOURCES)
+
+
+def libraries(programs):
+    """The packages of Debian that the programs need, as the field Depends has them; none where all programs are static."""
+    found, newest = set(), (0, 0)
+    for name, program in programs.items():
+        done = run(["ldd", program])
+        lines = done.stdout.decode("utf-8", "replace")
+        if done.returncode != 0 and "not a dynamic executable" not in lines + done.stderr.decode("utf-8", "replace"):
+            refuse(f"ldd {program}: {said(done)}")
+        for library in re.findall(r"^\s+(?:\S*/)?(\S+\.so\S*)(?: =>| \()", lines, re.M):
+            if library not in LIBRARIES and not library.startswith("linux-vdso"):
+                refuse(f"{name} needs {library}, and bin/package knows no package of Debian that has it")
+            found.add(LIBRARIES.get(library))
+        versions = re.findall(rb"GLIBC_(\d+)\.(\d+)", program.read_bytes())
+        newest = max([newest, *(tuple(map(int, it)) for it in versions)])
+    exact = {"libc6": f"libc6 (>= {newest[0]}.{newest[1]})"}
+    return ", ".join(exact.get(it, it) for it in sorted(found - {None}))
