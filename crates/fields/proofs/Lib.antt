@@ -1,0 +1,4 @@
+pub mod FieldLaws
+mod NameLaws
+pub mod ReaderLaws
+pub mod WritingLaws

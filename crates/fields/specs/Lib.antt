@@ -1,0 +1,4 @@
+pub mod Fields
+pub mod Parts
+pub mod Readers
+pub mod Puts

@@ -1,0 +1,4 @@
+mod EndLaws
+mod ForgetLaws
+mod RequestLaws
+mod ReplyLaws

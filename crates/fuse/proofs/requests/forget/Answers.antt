@@ -1,0 +1,5 @@
+use Rattle.std.proofs.Common.{refl}
+use Rattle.fuse.proofs.requests.forget.Goals as goal
+
+pub returns : goal.returns
+returns c = c.ended.ensures.plain c.args.input _ refl refl (λ n. refl) (_, c.u64-count.ensures, refl)

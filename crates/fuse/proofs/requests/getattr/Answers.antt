@@ -1,0 +1,7 @@
+use Rattle.std.proofs.Common.{refl}
+use Rattle.fuse.proofs.requests.getattr.Goals as goal
+
+pub returns : goal.returns
+returns c =
+    c.ended.ensures.plain c.args.input _ refl refl (λ n. refl)
+    (_, c.u32-flags.ensures, (_, c.unused_u32.ensures, (_, c.u64-handle.ensures, refl)))

@@ -1,0 +1,5 @@
+use Rattle.std.proofs.Common.{refl}
+use Rattle.fuse.proofs.requests.unlink.Goals as goal
+
+pub returns : goal.returns
+returns c = c.ended.ensures.plain c.args.input _ refl refl (λ n. refl) (_, c.name-name.ensures, refl)
