@@ -91,19 +91,19 @@ pub(crate) static TREE: Image = Image {
     length: 65536,
 };
 
-/// The root has eighteen entries: sixteen in the last zone, which is all that its first page holds, and in zone 6 `/f` (inode 3, a file)
-/// and `/g` (inode 4, a file).
+/// The root has eighteen entries: in zone 6, which its first page is, `/f` (inode 3, a file) and `/g` (inode 4, a file); and two empty ones
+/// in the last zone, which a search reads first.
 pub(crate) static TWO_PAGES: Image = Image {
     parts: &[
         (1024, &SUPERBLOCK),
         (4096, &[0xed, 0x41, 2, 0, 0, 0, 0, 0, 0x80, 4]),
-        (4120, &[63, 0, 0, 0, 6]),
+        (4120, &[6, 0, 0, 0, 63]),
         (4224, &[0xa4, 0x81, 1]),
         (4288, &[0xa4, 0x81, 1]),
-        (6144, &[3, 0, 0, 0, b'f']),
-        (6208, &[4, 0, 0, 0, b'g']),
-        (LAST_ZONE, &[1, 0, 0, 0, b'.']),
-        (64576, &[1, 0, 0, 0, b'.', b'.']),
+        (6144, &[1, 0, 0, 0, b'.']),
+        (6208, &[1, 0, 0, 0, b'.', b'.']),
+        (6272, &[3, 0, 0, 0, b'f']),
+        (6336, &[4, 0, 0, 0, b'g']),
     ],
     filled: 65536,
     length: 65536,

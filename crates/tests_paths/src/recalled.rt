@@ -74,7 +74,7 @@ fn at_most_256_names_are_kept(rt: HostRuntime) -> Result<(), Fail> {
     tree.gives("as many names", &[(Call::Kept, Ok(Seen::Kept(256)))])
 }
 
-/// A name that was walked is read again where it stands, and no page before it: that one is gone by then. Another name isn't found.
+/// A name that was walked is read again where it stands, and no page behind it: that one is gone by then. Another name isn't found.
 static WALKED: [Step; 3] = [
     (Call::Walk(ROOT, b"/f"), Ok(Seen::There(3))),
     (Call::LookUp(ROOT, b"/f"), Ok(Seen::There(3))),
