@@ -31,8 +31,8 @@ impl Drop for Keeper {
 }
 
 impl Keeper {
-    /// Starts it: it makes a sync by this session every so many seconds, 1 at least, and has its changes put into the archive. A sync that is
-    /// refused is made again with the next one. Refused where no memory or no thread was found.
+    /// Starts it: it makes a sync by this session every so many seconds, 1 at least, and has its changes put into the archive. What a
+    /// refused put had is in the next one. Refused where no memory or no thread was found.
     pub(crate) fn start<
         N: ServiceParameters + Send + Sync + 'static,
         R: Threads + Wait + Copy + Send + Sync + 'static,

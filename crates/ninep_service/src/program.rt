@@ -52,8 +52,9 @@ pub struct Came<I, O, C, A> {
     pub image: Vec<u8>,
 }
 
-/// Answers the messages of a stream by sessions of this service, and stops it. What came of it. Where there is an archive, syncs and changes go
-/// into it, those of a keeper, too, if there is to be one. Refused where no memory or no thread was found: then nothing is answered.
+/// Answers the messages of a stream by sessions of this service, and stops it. What came of it. Where there is an archive, changes go into
+/// it behind each sync, and behind those of a keeper, if there is to be one. Refused where no memory or no thread was found: then nothing
+/// is answered.
 pub(crate) fn answer_on<
     N: ServiceParameters + Send + Sync + 'static,
     R: Threads + Wait + Copy + Send + Sync + 'static,

@@ -62,7 +62,21 @@ impl<
 
     /// Ends all sessions.
     pub(crate) fn end(mut self) {
-        end_all(&mut self.sessions);
+        self.end_in_turn();
+    }
+
+    /// Ends all sessions, between syncs of the keeper: what they left open is closed, which changes the volume.
+    fn end_in_turn(&mut self)
+        ensures sessions { self.new.sessions.items ≡ [] }
+        ensures shared { self.new.shared ≡ self.old.shared }
+    {
+        match &self.shared {
+            Some(shared) => {
+                let _turn = shared.turn();
+                end_all(&mut self.sessions);
+            }
+            None => end_all(&mut self.sessions),
+        }
     }
 }
 
@@ -77,8 +91,8 @@ impl<
     ghost use Rattle.std.specs.Prelude.{is_some};
     ghost use Rattle.ninep_service.specs.Spoken.{MayAnswer, IsEntered, HaveLeft, users};
 
-    ghost called = { λ s session now call outcome t. MayAnswer A.puts N.geometry N.opening (users s.sessions.items (is_some s.shared)) session
-        now call outcome (users t.sessions.items (is_some t.shared)) };
+    ghost called = { λ s session now call outcome t. MayAnswer A.puts N.geometry N.opening (users s.sessions.items (is_some s.shared))
+        session now call outcome (users t.sessions.items (is_some t.shared)) };
 
     ghost entered = { λ s uid gid result t. IsEntered (users s.sessions.items (is_some s.shared)) uid gid result
         (users t.sessions.items (is_some t.shared)) };
@@ -119,7 +133,7 @@ impl<
 
     /// Ends all sessions, the last one first.
     fn leave(&mut self) {
-        end_all(&mut self.sessions);
+        self.end_in_turn();
     }
 }
 

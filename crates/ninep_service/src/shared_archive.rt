@@ -20,7 +20,7 @@ use serve::service::Shared;
 use serve::session::Session;
 use std::alloc::{AllocError, Global};
 use std::marker::{Brand, PhantomData};
-use std::sync::{Arc, Mutex, Wait};
+use std::sync::{Arc, Mutex, MutexGuard, Wait};
 use tree::{Call, Outcome, Reply};
 
 /// What an archive begins as, before a mount puts anything into it: a name that stands in proofs alone.
@@ -97,6 +97,11 @@ impl<N: ServiceParameters, R: Wait + Copy, F: Begins<A>, A: Archive + Drop> Shar
         }
     }
 
+    /// The turn: while it is held the keeper makes no sync and takes no changes.
+    pub(crate) fn turn(&self) -> MutexGuard<'_, ()> {
+        self.turn.lock(&self.rt)
+    }
+
     /// A call of a session, between syncs of the keeper.
     pub(crate) fn call_in_turn<L: Recorder<N>, S: FileServer<L>>(
         &self,
@@ -106,7 +111,7 @@ impl<N: ServiceParameters, R: Wait + Copy, F: Begins<A>, A: Archive + Drop> Shar
     ) -> Outcome
         ensures { IsAnsweredBy N.geometry N.opening session.old now call.now result session.new }
     {
-        let _turn = self.turn.lock(&self.rt);
+        let _turn = self.turn();
         session.call(now, call)
     }
 
@@ -143,7 +148,7 @@ impl<N: ServiceParameters, R: Wait + Copy, F: Begins<A>, A: Archive + Drop> Shar
         ensures else_answered { IfErr result (λ outcome.
             IsAnsweredBy N.geometry N.opening session.old now Sync outcome session.new × ¬ (IsSynced Sync outcome)) }
     {
-        let _turn = self.turn.lock(&self.rt);
+        let _turn = self.turn();
         let outcome = session.call(now, &Call::Sync);
         match outcome {
             Outcome::Reply(Reply::Done) => Ok(self.media.changes(&self.rt, self.alloc)),
