@@ -1,8 +1,8 @@
 //! Messages that come in pieces, are cut short, or whose answers can't be written.
 
 use crate::streams::{Fixed, Held, Idle, Interrupted, Narrow, Piecemeal, Standing, Timed};
-use ninep_stream::answering::{StreamRefusal, answer_all};
-use ninep_stream::framing::InputRefusal;
+use message_stream::answering::{StreamRefusal, answer_all};
+use message_stream::framing::InputRefusal;
 use std::alloc::Global;
 use std::io::BufReader;
 use std::test::Fail;

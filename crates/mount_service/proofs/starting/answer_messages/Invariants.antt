@@ -1,0 +1,16 @@
+use Rattle.std.specs.Prelude.{map}
+use Rattle.std.specs.List.{concat}
+use Rattle.records.specs.Opening.{contents_at}
+use Rattle.volume_mount.specs.Laws.{sizes_in}
+use Rattle.volume_mount.specs.Starting.{opening_of}
+use Rattle.mount_service.proofs.starting.answer_messages.Given as goal
+
+-- the service's board, its volume and the sizes that its superblock gives, the policy and the drivers, from what is handed over
+abbrev pub ghosts-start_and_answer : goal.ghosts-start_and_answer
+ghosts-start_and_answer g a = record {
+  table = a.board;
+  opening = opening_of (concat a.prepared.media.sectors) a.setup.now.minor a.prepared.range;
+  geometry = sizes_in (contents_at (opening_of (concat a.prepared.media.sectors) a.setup.now.minor a.prepared.range));
+  policy = a.setup.now.policy;
+  supply = map g.D.BlockDriver.state a.supply.items;
+}

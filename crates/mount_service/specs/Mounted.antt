@@ -1,0 +1,54 @@
+-- What mounting the volume of an image comes to.
+use Rattle.std.specs.Prelude.{⊤, ◌≡◌, ℕ, List, Option, Some, None, Result, Ok, Err}
+use Rattle.std.specs.Borrow.{Bor}
+use Rattle.std.specs.Global.{Vec}
+use Rattle.bdev.specs.DriverState.{DriverState}
+use Rattle.reincarnate.specs.declared.policy.Setup.{Setup}
+use Rattle.shared_server.specs.declared.locked.LastSync.{LastSync}
+use Rattle.shared_server.specs.declared.locked.LastSync.TheVariants as sync
+use Rattle.service_start.specs.Ran.{HasRun, IsNotStarted}
+use Rattle.message_stream.specs.declared.answering.StreamRefusal.{StreamRefusal}
+use Rattle.mount_service.specs.Left.{IsLeftBy}
+use Rattle.mount_service.specs.Spoken.{Puts}
+use Rattle.mount_service.specs.declared.mount.MountStatus.{MountStatus}
+use Rattle.mount_service.specs.declared.mount.MountStatus.TheVariants.{Done, Refused, GivenUp, Cut}
+use Rattle.mount_service.specs.declared.mount.MountRefusal.{MountRefusal}
+use Rattle.mount_service.specs.declared.mount.MountRefusal.TheVariants as no
+
+-- A service started on the volume in the image, answered the messages of a stream, all of it where it says so, and left an image.
+pub record IsMounted {A : Type 0} (puts : Puts A) (image : Option (Vec ℕ)) (setup : Setup) (supply : List DriverState)
+    (stream old new : Option (List ℕ)) (before after : Option A) (answered : Result (Unit {0}) StreamRefusal) (left : List ℕ) : Type 0 where
+  pub bytes : Vec ℕ
+  pub read : image ≡ Some bytes
+  pub ran : HasRun bytes.items setup supply (λ g v. IsLeftBy puts g v stream old new before after answered left)
+
+-- why no service answered, or none left an image, in the order in which faults are looked for
+abbrev pub IsUnmounted : Option (Vec ℕ) → Bor (List ℕ) → Setup → List DriverState → MountRefusal → Type 0
+IsUnmounted image name setup supply (no.CannotRead it) = (image ≡ None) × (it ≡ name)
+IsUnmounted image name setup supply (no.Start refusal) =
+    (bytes : Vec ℕ) × (image ≡ Some bytes) × IsNotStarted bytes.items setup supply refusal
+IsUnmounted image name setup supply (no.NoImage refusal) =
+    (bytes : Vec ℕ) × (image ≡ Some bytes) × HasRun bytes.items setup supply (λ g v. ⊤)
+IsUnmounted image name setup supply (no.Stream refusal) = ⊥
+IsUnmounted image name setup supply no.GivenUp = ⊥
+IsUnmounted image name setup supply no.Cut = ⊥
+
+-- how a mount ended that left an image: not all was answered, or the last sync wasn't made, or neither
+abbrev pub IsStatus : Result (Unit {0}) StreamRefusal → LastSync → MountStatus → Type 0
+IsStatus (Err refusal) last (Refused told) = ⊤
+IsStatus (Ok done) sync.Done Done = ⊤
+IsStatus (Ok done) sync.GivenUp GivenUp = ⊤
+IsStatus (Ok done) sync.Cut Cut = ⊤
+IsStatus _ _ _ = ⊥
+
+-- the status of the process
+abbrev pub status_number : MountStatus → ℕ
+status_number Done = 0
+status_number (Refused told) = 1
+status_number GivenUp = 3
+status_number Cut = 3
+
+-- nothing was left, and a line was to say why
+abbrev pub IsRefused : MountStatus → Type 0
+IsRefused (Refused told) = ⊤
+IsRefused _ = ⊥

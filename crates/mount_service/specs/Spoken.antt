@@ -1,0 +1,131 @@
+-- What the sessions of a service answer to a connection, the changes that are put behind syncs, and so what is spoken on its streams.
+use Rattle.std.specs.Prelude.{◌≡◌, ◌≢◌, ◌⊎◌, ◌++◌, ℕ, Bool, true, false, List, [], ◌∷◌, slice_get, slice_set, Option, Some, Result, Ok, Err}
+use Rattle.layout.specs.declared.Geometry.{Geometry}
+use Rattle.errno.specs.declared.Errno.{Errno}
+use Rattle.errno.specs.declared.Errno.TheVariants.{EINVAL, ENOMEM}
+use Rattle.tree.specs.declared.Call.{Call}
+use Rattle.tree.specs.declared.Call.TheVariants.{Sync}
+use Rattle.tree.specs.declared.Outcome.{Outcome}
+use Rattle.tree.specs.declared.Outcome.TheVariants.{Reply}
+use Rattle.tree.specs.declared.Reply.TheVariants.{Done, Refused}
+use Rattle.records.specs.Opening.{Opening, contents_at}
+use Rattle.records.specs.Session.{SessionState, SessionCallKeeps, caller_of}
+use Rattle.file_server.specs.Over.{outcome_of}
+use Rattle.shared_server.specs.Held.{HoldsIfTrue}
+use Rattle.changes.specs.declared.taken.Changes.{Changes}
+use Rattle.changes.specs.Units.{puts_of}
+use Rattle.shared_media.specs.Marking.{AreChangesOutside}
+use Rattle.ninep_fids.specs.Knowledge.{Known}
+use Rattle.ninep_fids.specs.declared.sessions.EnterRefusal.{EnterRefusal}
+use Rattle.message_stream.specs.Answered.{IsAnsweredAll}
+use Rattle.message_stream.specs.Exchanges.{answers, nobody}
+
+-- A session of a service on this volume made a call, and was answered so: the answer is the last mark of what it has then seen. Where the
+-- replies of drivers in that are true, the volume held a tree as it was handed in, and whichever that was, what was seen is legal from that
+-- on: so the answer is the file tree's.
+pub record IsAnsweredBy (g : Geometry) (v : Opening) (before : SessionState) (now : ℕ) (call : Call) (outcome : Outcome)
+    (after : SessionState) : Type 0 where
+  pub keeps : SessionCallKeeps g (contents_at v) before (caller_of before) now call (outcome_of outcome) after
+  pub holds : HoldsIfTrue g v after.knows.seen
+
+-- how changes may be put into an archive: the state before, units' numbers with their bytes, what is answered, the state after
+abbrev pub Puts : Type 0 → Type 1
+Puts A = A → List (ℕ × List ℕ) → Result (Unit {0}) Errno → A → Type 0
+
+-- Changes of the media were put into an archive, and this was answered: changes of an image of as many sectors as were handed in, and
+-- outside of the volume each as it was handed in.
+pub record IsPut {A : Type 0} (puts : Puts A) (v : Opening) (s : A) (answer : Result (Unit {0}) Errno) (t : A) : Type 0 where
+  pub changes : Changes
+  pub outside : AreChangesOutside v changes
+  pub put : puts s (puts_of changes) answer t
+
+-- what came of the changes behind a sync: they were put into the archive, or no memory was found for them
+abbrev pub IsArchived : {A : Type 0} → Puts A → Opening → Result (Unit {0}) Errno → Type 0
+IsArchived {A} puts v answer = ((s : A) × (t : A) × IsPut puts v s answer t) ⊎ (answer ≡ Err ENOMEM)
+
+-- what the sync is answered then
+abbrev pub outcome_then : Result (Unit {0}) Errno → Outcome
+outcome_then (Ok done) = Reply Done
+outcome_then (Err e) = Reply (Refused e)
+
+-- a call was a sync, and was done
+abbrev pub IsSynced : Call → Outcome → Type 0
+IsSynced call outcome = (call ≡ Sync) × (outcome ≡ Reply Done)
+
+-- a session made a sync, which was done, and behind it changes were put into the archive: what came of that is answered
+pub record IsAnsweredSync {A : Type 0} (puts : Puts A) (g : Geometry) (v : Opening) (before : SessionState) (now : ℕ) (call : Call)
+    (outcome : Outcome) (after : SessionState) : Type 0 where
+  pub sync : call ≡ Sync
+  pub done : IsAnsweredBy g v before now Sync (Reply Done) after
+  pub put : Result (Unit {0}) Errno
+  pub archived : IsArchived puts v put
+  pub answer : outcome ≡ outcome_then put
+
+-- what a session is answered where there is an archive: such a sync, or a call that was no sync, or none that was done
+abbrev pub IsAnsweredKept : {A : Type 0} → Puts A → Geometry → Opening → SessionState → ℕ → Call → Outcome → SessionState → Type 0
+IsAnsweredKept puts g v before now call outcome after =
+    (IsAnsweredBy g v before now call outcome after × ¬ (IsSynced call outcome)) ⊎ IsAnsweredSync puts g v before now call outcome after
+
+-- the same, with an archive or without
+abbrev pub IsAnswered : {A : Type 0} → Puts A → Geometry → Opening → Bool → SessionState → ℕ → Call → Outcome → SessionState → Type 0
+IsAnswered puts g v true before now call outcome after = IsAnsweredKept puts g v before now call outcome after
+IsAnswered puts g v false before now call outcome after = IsAnsweredBy g v before now call outcome after
+
+-- A sync that is answered ok where there is an archive: the session was answered ok, and behind that the archive took changes.
+abbrev pub OkMeansPut : {A : Type 0} → Puts A → Type 0
+OkMeansPut {A} puts = (g : Geometry) (v : Opening) (before : SessionState) (now : ℕ) (after : SessionState)
+    → IsAnswered puts g v true before now Sync (Reply Done) after
+    → IsAnsweredBy g v before now Sync (Reply Done) after × ((s : A) × (t : A) × IsPut puts v s (Ok tt) t)
+
+-- the sessions of a connection, each with what it has seen, in the order in which they were made; and whether there is an archive
+pub record Users : Type 0 where
+  pub sessions : List SessionState
+  pub kept : Bool
+
+abbrev pub users : List SessionState → Bool → Users
+users sessions kept = record { sessions = sessions; kept = kept }
+
+-- the session of this number made the call; the others stay
+pub record IsOwnAnswer {A : Type 0} (puts : Puts A) (g : Geometry) (v : Opening) (s : Users) (session now : ℕ) (call : Call)
+    (outcome : Outcome) (t : Users) : Type 0 where
+  pub place : ℕ
+  pub before : SessionState
+  pub after : SessionState
+  pub is : slice_get s.sessions place ≡ Some before
+  pub number : before.knows.number ≡ session
+  pub answered : IsAnswered puts g v s.kept before now call outcome after
+  pub others : t ≡ users (slice_set s.sessions place after) s.kept
+
+-- no session has this number, which is EINVAL
+pub record HasNone (s : Users) (session : ℕ) (outcome : Outcome) (t : Users) : Type 0 where
+  pub none : (place : ℕ) (it : SessionState) → slice_get s.sessions place ≡ Some it → it.knows.number ≢ session
+  pub answer : outcome ≡ Reply (Refused EINVAL)
+  pub same : t ≡ s
+
+-- what a call of the session of this number is answered
+abbrev pub MayAnswer : {A : Type 0} → Puts A → Geometry → Opening → Users → ℕ → ℕ → Call → Outcome → Users → Type 0
+MayAnswer puts g v s session now call outcome t = IsOwnAnswer puts g v s session now call outcome t ⊎ HasNone s session outcome t
+
+-- a new session, which is this user's and this group's, has this number, and has made no call
+pub record IsNew (s : Users) (uid gid number : ℕ) (t : Users) : Type 0 where
+  pub session : SessionState
+  pub user : session.uid ≡ uid
+  pub group : session.gid ≡ gid
+  pub named : session.knows.number ≡ number
+  pub none : session.knows.mine ≡ []
+  pub last : t ≡ users (s.sessions ++ session ∷ []) s.kept
+
+-- a user and a group got a session, or none
+abbrev pub IsEntered : Users → ℕ → ℕ → Result ℕ EnterRefusal → Users → Type 0
+IsEntered s uid gid (Ok number) t = IsNew s uid gid number t
+IsEntered s uid gid (Err e) t = t ≡ s
+
+-- all sessions ended
+abbrev pub HaveLeft : Users → Users → Type 0
+HaveLeft s t = t ≡ users [] s.kept
+
+-- A stream was messages, one after the other, and an answer to each went out, in the same order: as the plan of each message says, by what
+-- is known of users and fids, from nobody on, and by what was asked of the connection's sessions and nothing else, from none on.
+abbrev pub IsSpoken : {A : Type 0} → Puts A → Geometry → Opening → Option (List ℕ) → Option (List ℕ) → Option (List ℕ) → Bool → Type 0
+IsSpoken puts g v stream old new kept = (last : Users) × IsAnsweredAll {S = Users} {K = Known}
+    (answers (MayAnswer puts g v) IsEntered HaveLeft) stream old new (users [] kept, nobody) last

@@ -1,0 +1,214 @@
+//! What is done with a service: its sessions answer the messages of a stream until that ends; then the service is stopped.
+
+ghost use Rattle.std.specs.Prelude.{◌≡◌, IfOk, OnOk, Some, is_some};
+ghost use Rattle.shared_media.specs.Confined.{IsImageOutside};
+ghost use Rattle.mount_service.specs.Left.{IsLeftBy};
+ghost use Rattle.mount_service.specs.Spoken.{IsSpoken};
+
+use crate::archive::Archive;
+use crate::keeper::Keeper;
+use crate::sessions::ServiceSessions;
+use crate::shared_archive::{Begins, SharedArchive};
+use board::counting::parameters::ServiceParameters;
+use board::counting::recorder::Recorder;
+use file_server::FileServer;
+use message_stream::answering::{StreamRefusal, answer_all};
+use serve::service::Service;
+use serve::stopping::{NoImage, image_left};
+use shared_server::locked::LastSync;
+use shared_server::refusal::SessionRefusal;
+use std::alloc::{AllocError, Global};
+use std::io::{BufRead, Write};
+use std::marker::Brand;
+use std::sync::{Arc, Wait};
+use std::thread::Threads;
+use std::time::Clock;
+
+/// The streams of messages and answers, the clock that says when calls are made, and where changes are put.
+#[derive(Drop)]
+pub struct Streams<I, O, C, A> {
+    /// Where messages come from.
+    pub input: I,
+    /// Where answers go.
+    pub output: O,
+    /// What the time of a call is.
+    pub clock: C,
+    /// Where the changes are put behind each sync that was done, if anywhere.
+    pub archive: Option<A>,
+    /// After how many seconds the mount makes a sync of its own where there is an archive; 0: it makes none.
+    pub sync_every: u32,
+}
+
+/// What came of the messages of a stream.
+#[derive(Drop)]
+pub struct Came<I, O, C, A> {
+    /// The streams, as far as they were read and written.
+    pub streams: Streams<I, O, C, A>,
+    /// Whether all messages were answered, and why not.
+    pub answered: Result<(), StreamRefusal>,
+    /// How the last sync went.
+    pub last_sync: LastSync,
+    /// The bytes of the image as the media stand once the service was stopped.
+    pub image: Vec<u8>,
+}
+
+/// Answers the messages of a stream by sessions of this service, and stops it. What came of it. Where there is an archive, changes go into
+/// it behind each sync, and behind those of a keeper, if there is to be one. Refused where no memory or no thread was found: then nothing
+/// is answered.
+pub(crate) fn answer_on<
+    N: ServiceParameters + Send + Sync + 'static,
+    R: Threads + Wait + Copy + Send + Sync + 'static,
+    L: Recorder<N> + Send + 'static,
+    S: FileServer<L> + Send + 'static,
+    I: BufRead + Drop,
+    O: Write + Drop,
+    C: Clock + Drop,
+    A: Archive + Drop + Send + 'static,
+>(
+    alloc: Global,
+    rt: R,
+    service: Service<N, R, L, S>,
+    streams: Streams<I, O, C, A>,
+) -> Result<Result<Came<I, O, C, A>, NoImage>, AllocError>
+    ensures { IfOk result (λ o. IfOk o (λ came. IsLeftBy A.puts N.geometry N.opening (I.Read.remaining streams.input)
+        (O.contents streams.output) (O.contents came.streams.output) streams.archive came.streams.archive came.answered came.image.items)) }
+{
+    let mut streams = streams;
+    match streams.archive.take() {
+        Some(archive) => {
+            answer_and_keep::<N, R, L, S, Brand, I, O, C, A>(alloc, rt, service, streams, archive)
+        }
+        None => {
+            let answered = answer_by::<N, R, L, S, Brand, I, O, C, A>(
+                alloc,
+                &service,
+                &mut streams,
+                None,
+            );
+            Ok(came_of(service, streams, answered))
+        }
+    }
+}
+
+/// The same with an archive, which takes its place among the streams again.
+fn answer_and_keep<
+    N: ServiceParameters + Send + Sync + 'static,
+    R: Threads + Wait + Copy + Send + Sync + 'static,
+    L: Recorder<N> + Send + 'static,
+    S: FileServer<L> + Send + 'static,
+    F: Begins<A> + Send + Sync + 'static,
+    I: BufRead + Drop,
+    O: Write + Drop,
+    C: Clock + Drop,
+    A: Archive + Drop + Send + 'static,
+>(
+    alloc: Global,
+    rt: R,
+    service: Service<N, R, L, S>,
+    streams: Streams<I, O, C, A>,
+    archive: A,
+) -> Result<Result<Came<I, O, C, A>, NoImage>, AllocError>
+    requires { F.first ≡ Some archive }
+    ensures { IfOk result (λ o. IfOk o (λ came. IsLeftBy A.puts N.geometry N.opening (I.Read.remaining streams.input)
+        (O.contents streams.output) (O.contents came.streams.output) (Some archive) came.streams.archive came.answered came.image.items)) }
+{
+    let mut streams = streams;
+    let shared = SharedArchive::<N, R, F, A>::new(alloc, rt, service.media()?, archive);
+    let shared = Arc::new(alloc, shared)?;
+    let asked = Arc::try_clone(&shared)?;
+    let keeper = keeper_of(alloc, &rt, &service, &shared, streams.sync_every)?;
+    let answered = answer_by(alloc, &service, &mut streams, Some(asked));
+    if let Some(keeper) = keeper {
+        keeper.end(&rt);
+    }
+    streams.archive = SharedArchive::into_archive(shared);
+    Ok(came_of(service, streams, answered))
+}
+
+/// The keeper of an archive, which makes a sync every so many seconds; none where that is 0, or where the link to the drivers has ended.
+fn keeper_of<
+    N: ServiceParameters + Send + Sync + 'static,
+    R: Threads + Wait + Copy + Send + Sync + 'static,
+    L: Recorder<N> + Send + 'static,
+    S: FileServer<L> + Send + 'static,
+    F: Begins<A> + Send + Sync + 'static,
+    A: Archive + Drop + Send + 'static,
+>(
+    alloc: Global,
+    rt: &R,
+    service: &Service<N, R, L, S>,
+    shared: &Arc<SharedArchive<N, R, F, A>>,
+    every: u32,
+) -> Result<Option<Keeper>, AllocError> {
+    if every == 0 {
+        return Ok(None);
+    }
+    match service.session(0, 0) {
+        Ok(session) => {
+            let shared = Arc::try_clone(shared)?;
+            Ok(Some(Keeper::start(alloc, rt, shared, session, every)?))
+        }
+        Err(SessionRefusal::OutOfMemory) => Err(AllocError),
+        Err(_) => Ok(None),
+    }
+}
+
+/// Answers the messages of a stream by sessions of this service, which end then.
+fn answer_by<
+    N: ServiceParameters + Send + Sync + 'static,
+    R: Threads + Wait + Copy + Send + Sync + 'static,
+    L: Recorder<N> + Send + 'static,
+    S: FileServer<L> + Send + 'static,
+    F: Begins<A> + Send + Sync + 'static,
+    I: BufRead,
+    O: Write,
+    C: Clock,
+    A: Archive + Drop + Send + 'static,
+>(
+    alloc: Global,
+    service: &Service<N, R, L, S>,
+    streams: &mut Streams<I, O, C, A>,
+    shared: Option<Arc<SharedArchive<N, R, F, A>>>,
+) -> Result<(), StreamRefusal>
+    ensures spoken { OnOk result (IsSpoken A.puts N.geometry N.opening (I.Read.remaining streams.old.input)
+        (O.contents streams.old.output) (O.contents streams.new.output) (is_some shared)) }
+    ensures archive { streams.new.archive ≡ streams.old.archive }
+{
+    let mut sessions = ServiceSessions::new(alloc, service, shared);
+    let answered = answer_all(
+        alloc,
+        &mut streams.input,
+        &mut streams.output,
+        &streams.clock,
+        &mut sessions,
+    );
+    sessions.end();
+    answered
+}
+
+/// Stops the service, and gives what came of the messages of its streams.
+fn came_of<
+    N: ServiceParameters + Send + Sync + 'static,
+    R: Threads + Wait + Copy + Send + Sync + 'static,
+    L: Recorder<N> + Send + 'static,
+    S: FileServer<L> + Send + 'static,
+    I: BufRead + Drop,
+    O: Write + Drop,
+    C: Clock + Drop,
+    A: Archive + Drop,
+>(
+    service: Service<N, R, L, S>,
+    streams: Streams<I, O, C, A>,
+    answered: Result<(), StreamRefusal>,
+) -> Result<Came<I, O, C, A>, NoImage>
+    ensures came { IfOk result (λ came. (came.streams ≡ streams) × (came.answered ≡ answered)) }
+    ensures outside { IfOk result (λ came. IsImageOutside N.opening came.image.items) }
+{
+    let (last_sync, image) = image_left(service.stop())?;
+    Ok(Came {
+        streams,
+        answered,
+        last_sync,
+        image,
+    })
+}

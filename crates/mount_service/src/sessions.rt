@@ -1,0 +1,178 @@
+//! The sessions of a service that a connection calls by, one for each user who is attached, and the changes behind each sync.
+
+ghost use Rattle.std.specs.Prelude.{◌≡◌, ◌≢◌, ◌↔◌, ℕ, [], IfNone, IfSome, IsTrue, Some, slice_get};
+ghost use Rattle.records.specs.Session.{SessionState};
+ghost use Rattle.tree.specs.declared.Call.TheVariants.{Sync};
+
+use crate::archive::Archive;
+use crate::shared_archive::{Begins, SharedArchive};
+use board::counting::parameters::ServiceParameters;
+use board::counting::recorder::Recorder;
+use errno::Errno;
+use file_server::FileServer;
+use ninep_fids::sessions::{EnterRefusal, Sessions};
+use serve::service::{Service, Shared};
+use serve::session::Session;
+use shared_server::refusal::SessionRefusal;
+use std::alloc::Global;
+use std::sync::{Arc, Wait};
+use std::thread::Threads;
+use tree::{Call, Outcome, Reply};
+
+/// Sessions of a service, which were made one after the other, and the archive into which changes are put behind a sync, if there is one.
+#[derive(Drop)]
+pub struct ServiceSessions<
+    's,
+    N: ServiceParameters,
+    R: Wait + Copy,
+    L: Recorder<N>,
+    S: FileServer<L>,
+    F: Begins<A>,
+    A: Archive + Drop,
+> {
+    service: &'s Service<N, R, L, S>,
+    sessions: Vec<Session<N, Shared<N, R, L, S>>>,
+    pub(crate) shared: Option<Arc<SharedArchive<N, R, F, A>>>,
+}
+
+impl<
+    's,
+    N: ServiceParameters,
+    R: Threads + Wait + Copy,
+    L: Recorder<N>,
+    S: FileServer<L>,
+    F: Begins<A>,
+    A: Archive + Drop,
+> ServiceSessions<'s, N, R, L, S, F, A> {
+    /// None of this service. Its changes go to this archive.
+    pub(crate) fn new(
+        alloc: Global,
+        service: &'s Service<N, R, L, S>,
+        shared: Option<Arc<SharedArchive<N, R, F, A>>>,
+    ) -> ServiceSessions<'s, N, R, L, S, F, A>
+        ensures sessions { result.sessions.items ≡ [] }
+        ensures shared { result.shared ≡ shared }
+    {
+        ServiceSessions {
+            service,
+            sessions: Vec::new(alloc),
+            shared,
+        }
+    }
+
+    /// Ends all sessions.
+    pub(crate) fn end(mut self) {
+        self.end_in_turn();
+    }
+
+    /// Ends all sessions, between syncs of the keeper: what they left open is closed, which changes the volume.
+    fn end_in_turn(&mut self)
+        ensures sessions { self.new.sessions.items ≡ [] }
+        ensures shared { self.new.shared ≡ self.old.shared }
+    {
+        match &self.shared {
+            Some(shared) => {
+                let _turn = shared.turn();
+                end_all(&mut self.sessions);
+            }
+            None => end_all(&mut self.sessions),
+        }
+    }
+}
+
+impl<
+    N: ServiceParameters + Send + Sync + 'static,
+    R: Threads + Wait + Copy + Send + Sync + 'static,
+    L: Recorder<N> + Send + 'static,
+    S: FileServer<L> + Send + 'static,
+    F: Begins<A> + Send + Sync + 'static,
+    A: Archive + Drop + Send + 'static,
+> Sessions for ServiceSessions<'_, N, R, L, S, F, A> {
+    ghost use Rattle.std.specs.Prelude.{is_some};
+    ghost use Rattle.mount_service.specs.Spoken.{MayAnswer, IsEntered, HaveLeft, users};
+
+    ghost called = { λ s session now call outcome t. MayAnswer A.puts N.geometry N.opening (users s.sessions.items (is_some s.shared))
+        session now call outcome (users t.sessions.items (is_some t.shared)) };
+
+    ghost entered = { λ s uid gid result t. IsEntered (users s.sessions.items (is_some s.shared)) uid gid result
+        (users t.sessions.items (is_some t.shared)) };
+
+    ghost left = { λ s t. HaveLeft (users s.sessions.items (is_some s.shared)) (users t.sessions.items (is_some t.shared)) };
+
+    /// A session of the service, as it makes one.
+    fn enter(&mut self, uid: u16, gid: u16) -> Result<u8, EnterRefusal> {
+        if self.sessions.try_reserve(1).is_err() {
+            return Err(EnterRefusal::OutOfMemory);
+        }
+        match self.service.session(uid, gid) {
+            Ok(session) => {
+                let number = session.number();
+                self.sessions.push_reserved(session);
+                Ok(number)
+            }
+            Err(refusal) => Err(refusal_of(refusal)),
+        }
+    }
+
+    /// A call of the session of this number; EINVAL where there is none. Behind a sync that was done the changes are put into the archive,
+    /// and where that is refused, so is the sync.
+    fn call(&mut self, session: u8, now: u32, call: &Call<'_>) -> Outcome {
+        let Some(place) = place_of(self.sessions.as_slice(), session) else {
+            return Outcome::Reply(Reply::Refused(Errno::EINVAL));
+        };
+        let session = &mut self.sessions[place];
+        let Some(shared) = &self.shared else {
+            return session.call(now, call);
+        };
+        if is_sync(call) {
+            shared.sync(session, now)
+        } else {
+            shared.call_in_turn(session, now, call)
+        }
+    }
+
+    /// Ends all sessions, the last one first.
+    fn leave(&mut self) {
+        self.end_in_turn();
+    }
+}
+
+/// The place of the session of this number.
+fn place_of<N: ServiceParameters, S>(sessions: &[Session<N, S>], number: u8) -> Option<usize>
+    ensures some { IfSome result (λ place. (it : SessionState) × (slice_get sessions.now place ≡ Some it) × (it.knows.number ≡ number)) }
+    ensures none { IfNone result ((place : ℕ) (it : SessionState) → slice_get sessions.now place ≡ Some it → it.knows.number ≢ number) }
+{
+    for place in 0..sessions.len() {
+        if sessions[place].number() == number {
+            return Some(place);
+        }
+    }
+    None
+}
+
+/// Ends all sessions, the last one first.
+fn end_all<N: ServiceParameters, R: Wait + Copy, L: Recorder<N>, S: FileServer<L>>(
+    sessions: &mut Vec<Session<N, Shared<N, R, L, S>>>,
+)
+    ensures { sessions.new.items ≡ [] }
+{
+    while let Some(session) = sessions.pop() {
+        session.end();
+    }
+}
+
+/// Whether a call is a sync.
+fn is_sync(call: &Call<'_>) -> bool
+    ensures { IsTrue result ↔ (call.now ≡ Sync) }
+{
+    matches!(call, Call::Sync)
+}
+
+/// Why a service made no session, as a connection has it.
+fn refusal_of(refusal: SessionRefusal) -> EnterRefusal {
+    match refusal {
+        SessionRefusal::TooMany => EnterRefusal::TooMany,
+        SessionRefusal::Stopped => EnterRefusal::Stopped,
+        SessionRefusal::OutOfMemory => EnterRefusal::OutOfMemory,
+    }
+}

@@ -1,0 +1,109 @@
+//! A small volume that is mounted, and messages that it is sent.
+
+ghost use Rattle.std.specs.Prelude.{⊤};
+
+use changes::Changes;
+use errno::Errno;
+use fixtures::gates::Ticking;
+use fixtures::{new_volume, patient, supply_of};
+use fsck::{Verdict, check};
+use mount_service::archive::Archive;
+use mount_service::mount::{Ended, MountStatus, mount};
+use mount_service::program::Streams;
+use std::alloc::Global;
+use std::io;
+use std::sync::{Arc, Wait};
+use std::test::Fail;
+use std::thread::Threads;
+use std::time::{Clock, Duration};
+
+/// How long a tick is, in milliseconds.
+const PACE: u64 = 40;
+
+/// A clock that stands.
+#[derive(Drop)]
+struct Fixed;
+
+impl Clock for Fixed {
+    fn monotonic(&self) -> io::Result<Duration> {
+        Ok(Duration::from_secs(100))
+    }
+
+    fn since_1970(&self) -> io::Result<Duration> {
+        Ok(Duration::from_secs(100))
+    }
+}
+
+/// Where nothing is kept.
+#[derive(Drop)]
+struct Nowhere;
+
+impl Archive for Nowhere {
+    ghost puts = { λ _ _ _ _. ⊤ };
+
+    ghost ends = { λ _ _ _ _. ⊤ };
+
+    fn put(&mut self, _changes: &Changes) -> Result<(), Errno> {
+        Ok(())
+    }
+
+    fn finish(&mut self, _image: &[u8]) -> Result<(), Errno> {
+        Ok(())
+    }
+}
+
+/// A message and its answer, without the four bytes of their sizes.
+pub(crate) type Exchange = (&'static [u8], &'static [u8]);
+
+/// Puts a message, or an answer, behind the size of both.
+fn put(out: &mut Vec<u8>, message: &[u8]) -> Result<(), Fail> {
+    let size = u32::try_from(message.len())?.saturating_add(4);
+    out.extend_from_slice(&size.to_le_bytes())?;
+    out.extend_from_slice(message)?;
+    Ok(())
+}
+
+/// A new volume is mounted, is sent these messages one after the other, and gives these answers; then the stream ends, and the image that
+/// is left is that of a clean volume.
+pub(crate) fn answers<R: Threads + Wait + Clock + Copy + Send + Sync + 'static>(
+    alloc: Global,
+    rt: R,
+    talk: &[Exchange],
+) -> Result<(), Fail> {
+    let (mut asked, mut told) = (Vec::new(alloc), Vec::new(alloc));
+    for (message, answer) in talk {
+        put(&mut asked, message)?;
+        put(&mut told, answer)?;
+    }
+    let streams = Streams {
+        input: asked.as_slice(),
+        output: Vec::new(alloc),
+        clock: Fixed,
+        archive: None::<Nowhere>,
+        sync_every: 0,
+    };
+    let image = new_volume(alloc, 1024)?;
+    let supply = supply_of(alloc, 128, &[None; 8])?;
+    let gate = Arc::new(alloc, Ticking::new(rt, PACE))?;
+    let mut err: Vec<u8> = Vec::new(alloc);
+    let Ended { status, came } = mount(
+        alloc,
+        rt,
+        "v.img",
+        Some(image),
+        &patient(),
+        supply,
+        gate,
+        streams,
+        &mut err,
+    );
+    let came = came.ok_or("not mounted")?;
+    if status != MountStatus::Done || came.streams.output.as_slice() != told.as_slice() {
+        let answered = came.streams.output.as_slice();
+        return Err(Fail::new(format_args!("{status:?}: {answered:?}")));
+    }
+    match check(alloc, &came.image) {
+        Ok(Verdict::Clean(_)) => Ok(()),
+        _ => Err(Fail::from("the image that is left isn't clean")),
+    }
+}
