@@ -1,8 +1,8 @@
-//! The words of the programs that play against a server, and what they say: a module for each program.
+//! The words of the programs that play against a server, or mount it, and what they say.
 
 pub mod mfs;
-pub mod mfs9p;
 pub mod mfssim;
+pub mod mount;
 
 use clap::builder::ValueParser;
 use clap::{Arg, ArgAction};

@@ -18,6 +18,10 @@ pub appends_none : (a : Option (List ℕ)) → Appends a a []
 appends_none None = tt
 appends_none (Some xs) = sym (append-nil xs)
 
+-- nothing went out
+pub appends_nothing : (a : Option (List ℕ)) (answer : List ℕ) → answer ≡ [] → Appends a a answer
+appends_nothing a answer none = subst (Appends a a) (sym none) (appends_none a)
+
 pub appends_kept : (a b c : Option (List ℕ)) (p : List ℕ) → Appends a b p → Keeps b c → Appends a c p
 appends_kept None b c p h k = tt
 appends_kept (Some xs) None c p h k = absurd h
@@ -41,11 +45,12 @@ consumes_none None = tt
 consumes_none (Some xs) = refl
 
 -- no message was answered yet
-pub none_answered : {S : Type 0} (R : List ℕ → List ℕ → S → S → Type 0) (a o : Option (List ℕ)) (s : S) → AreAnswered R a a o o s s
-none_answered R a o s = record {
+pub none_answered : {S : Type 0} (few : ℕ) (R : List ℕ → List ℕ → S → S → Type 0) (a o : Option (List ℕ)) (s : S)
+    → AreAnswered few R a a o o s s
+none_answered few R a o s = record {
   messages = [];
   replies = [];
-  whole = All-nil IsMessage;
+  whole = All-nil (IsMessage few);
   taken = consumes_none a;
   given = appends_none o;
   leads = refl;
@@ -62,13 +67,13 @@ lead_more R (n ∷ ns) [] m a s t u so_far one = absurd so_far
 lead_more R (n ∷ ns) (b ∷ bs) m a s t u (v, first, rest) one = (v, first, lead_more R ns bs m a v t u rest one)
 
 -- one more was answered
-pub answered_more : {S : Type 0} (R : List ℕ → List ℕ → S → S → Type 0) (a b c o p q : Option (List ℕ)) (s t u : S)
-    → AreAnswered R a b o p s t → IsAnswered R b c p q t u → AreAnswered R a c o q s u
-answered_more R a b c o p q s t u so_far one = record {
+pub answered_more : {S : Type 0} (few : ℕ) (R : List ℕ → List ℕ → S → S → Type 0) (a b c o p q : Option (List ℕ)) (s t u : S)
+    → AreAnswered few R a b o p s t → IsAnswered few R b c p q t u → AreAnswered few R a c o q s u
+answered_more few R a b c o p q s t u so_far one = record {
   messages = so_far.messages ++ one.message ∷ [];
   replies = so_far.replies ++ one.answer ∷ [];
-  whole = All-append IsMessage so_far.messages (one.message ∷ []) so_far.whole
-      (All-cons IsMessage one.message [] one.whole (All-nil IsMessage));
+  whole = All-append (IsMessage few) so_far.messages (one.message ∷ []) so_far.whole
+      (All-cons (IsMessage few) one.message [] one.whole (All-nil (IsMessage few)));
   taken = subst (Consumes a c) (sym (one_more so_far.messages one.message)) (consumes_more a b c _ _ so_far.taken one.taken);
   given = subst (Appends o q) (sym (one_more so_far.replies one.answer)) (appends_more o p q _ _ so_far.given one.given);
   leads = lead_more R so_far.messages so_far.replies one.message one.answer s t u so_far.leads one.leads;
@@ -81,9 +86,9 @@ all_of (Some xs) None bytes taken end = absurd taken
 all_of (Some xs) (Some ys) bytes taken end = taken ∙ ap (λ l. bytes ++ l) end ∙ append-nil bytes
 
 -- all were answered, where the stream has ended
-answered_whole : {S : Type 0} (R : List ℕ → List ℕ → S → S → Type 0) (a b o p : Option (List ℕ)) (s t : S)
-    → AreAnswered R a b o p s t → IsAtEnd b → IsAnsweredWhole R a o p s t
-answered_whole R a b o p s t so_far end = record {
+answered_whole : {S : Type 0} (few : ℕ) (R : List ℕ → List ℕ → S → S → Type 0) (a b o p : Option (List ℕ)) (s t : S)
+    → AreAnswered few R a b o p s t → IsAtEnd b → IsAnsweredWhole few R a o p s t
+answered_whole few R a b o p s t so_far end = record {
   messages = so_far.messages;
   replies = so_far.replies;
   whole = so_far.whole;
@@ -113,14 +118,14 @@ keeps_same None = tt
 keeps_same (Some xs) = refl
 
 -- the same by states of two parts
-pub answered_all : {S K : Type 0} (R : List ℕ → List ℕ → S × K → S × K → Type 0) (a b o p : Option (List ℕ)) (s : S × K) (t : S) (l : K)
-    → AreAnswered R a b o p s (t, l) → IsAtEnd b → IsAnsweredAll R a o p s t
-answered_all R a b o p s t l so_far end = (l, answered_whole R a b o p s (t, l) so_far end)
+pub answered_all : {S K : Type 0} (few : ℕ) (R : List ℕ → List ℕ → S × K → S × K → Type 0) (a b o p : Option (List ℕ)) (s : S × K) (t : S)
+    (l : K) → AreAnswered few R a b o p s (t, l) → IsAtEnd b → IsAnsweredAll few R a o p s t
+answered_all few R a b o p s t l so_far end = (l, answered_whole few R a b o p s (t, l) so_far end)
 
 -- and then it stopped
-pub stopped : {S K : Type 0} (R : List ℕ → List ℕ → S × K → S × K → Type 0) (e : StreamRefusal) (a b c o p q : Option (List ℕ)) (s : S × K)
-    (t : S × K) (u : S) (l : K) → AreAnswered R a b o p s t → Stops R e b c p q t (u, l) → IsStopped R e a c o q s u
-stopped R e a b c o p q s t u l so_far stops =
+pub stopped : {S K : Type 0} (few : ℕ) (R : List ℕ → List ℕ → S × K → S × K → Type 0) (e : StreamRefusal) (a b c o p q : Option (List ℕ))
+    (s : S × K) (t : S × K) (u : S) (l : K) → AreAnswered few R a b o p s t → Stops few R e b c p q t (u, l) → IsStopped few R e a c o q s u
+stopped few R e a b c o p q s t u l so_far stops =
     (l, record { between = b; written = p; here = t; answered = so_far; stops = stops })
 
 pub consumes_kept : (a b c : Option (List ℕ)) (p : List ℕ) → Keeps a b → Consumes b c p → Consumes a c p
@@ -175,9 +180,9 @@ takes_more a b old xs ys post new at n e front less fits taken is =
     (take n ys, here ∙ put_behind xs ys post (length old) n less fits ∙ ap (λ (l : List ℕ). l ++ take n ys) front, taken)
 
 -- a message was taken, and answered
-pub is_answered : {S : Type 0} (R : List ℕ → List ℕ → S → S → Type 0) (a b p q : Option (List ℕ)) (message : List ℕ) (s t : S)
-    → IsMessage message → Consumes a b message → Responds R message p q s t → IsAnswered R a b p q s t
-is_answered R a b p q message s t whole taken it = record {
+pub is_answered : {S : Type 0} (few : ℕ) (R : List ℕ → List ℕ → S → S → Type 0) (a b p q : Option (List ℕ)) (message : List ℕ) (s t : S)
+    → IsMessage few message → Consumes a b message → Responds R message p q s t → IsAnswered few R a b p q s t
+is_answered few R a b p q message s t whole taken it = record {
   message = message;
   answer = it.answer;
   whole = whole;
@@ -187,34 +192,35 @@ is_answered R a b p q message s t whole taken it = record {
 }
 
 -- a message was taken, and not answered whole
-pub stops_answering : {S : Type 0} (R : List ℕ → List ℕ → S → S → Type 0) (e : StreamRefusal) (a b p q : Option (List ℕ)) (message : List ℕ)
-    (s t : S) → IsMessage message → Consumes a b message → RespondsNot R e message p q s t → Stops R e a b p q s t
-stops_answering R (Input r) a b p q message s t whole taken it = absurd it
-stops_answering R OutOfMemory a b p q message s t whole taken it = record { part = message; taken = taken; silent = it.0; same = it.1 }
-stops_answering R NotWritten a b p q message s t whole taken it =
+pub stops_answering : {S : Type 0} (few : ℕ) (R : List ℕ → List ℕ → S → S → Type 0) (e : StreamRefusal) (a b p q : Option (List ℕ))
+    (message : List ℕ) (s t : S) → IsMessage few message → Consumes a b message → RespondsNot R e message p q s t → Stops few R e a b p q s t
+stops_answering few R (Input r) a b p q message s t whole taken it = absurd it
+stops_answering few R OutOfMemory a b p q message s t whole taken it = record { part = message; taken = taken; silent = it.0; same = it.1 }
+stops_answering few R NotWritten a b p q message s t whole taken it =
     record { message = message; answer = it.0; whole = whole; taken = taken; given = it.1; leads = it.2 }
-stops_answering R TooMany a b p q message s t whole taken it = absurd it
+stops_answering few R TooMany a b p q message s t whole taken it = absurd it
 
 -- no message was taken
-pub stops_reading : {S : Type 0} (R : List ℕ → List ℕ → S → S → Type 0) (e : StreamRefusal) (a b p : Option (List ℕ)) (part : List ℕ)
-    (s : S) → Consumes a b part → IsUnread e b → Stops R e a b p p s s
-stops_reading R (Input r) a b p part s taken unread =
+pub stops_reading : {S : Type 0} (few : ℕ) (R : List ℕ → List ℕ → S → S → Type 0) (e : StreamRefusal) (a b p : Option (List ℕ))
+    (part : List ℕ) (s : S) → Consumes a b part → IsUnread e b → Stops few R e a b p p s s
+stops_reading few R (Input r) a b p part s taken unread =
     (record { part = part; taken = taken; silent = keeps_same p; same = refl }, unread)
-stops_reading R OutOfMemory a b p part s taken unread = absurd unread
-stops_reading R NotWritten a b p part s taken unread = absurd unread
-stops_reading R TooMany a b p part s taken unread = absurd unread
+stops_reading few R OutOfMemory a b p part s taken unread = absurd unread
+stops_reading few R NotWritten a b p part s taken unread = absurd unread
+stops_reading few R TooMany a b p part s taken unread = absurd unread
 
 -- as many were answered as may be
-pub stops_here : {S : Type 0} (R : List ℕ → List ℕ → S → S → Type 0) (a p : Option (List ℕ)) (s : S) → Stops R TooMany a a p p s s
-stops_here R a p s = record { part = []; taken = consumes_none a; silent = keeps_same p; same = refl }
+pub stops_here : {S : Type 0} (few : ℕ) (R : List ℕ → List ℕ → S → S → Type 0) (a p : Option (List ℕ)) (s : S)
+    → Stops few R TooMany a a p p s s
+stops_here few R a p s = record { part = []; taken = consumes_none a; silent = keeps_same p; same = refl }
 
 -- the stream has ended, and nothing more was done
-pub ended_silent : {S K O : Type 0} (R : List ℕ → List ℕ → S × K → S × K → Type 0) (contents : O → Option (List ℕ))
-    (a b o : Option (List ℕ)) (x y : O) (s : S × K) (t u : S) (l : K) → AreAnswered R a b o (contents x) s (t, l) → IsAtEnd b → y ≡ x → u ≡ t
-    → IsAnsweredAll R a o (contents y) s u
-ended_silent {S} {K} {O} R contents a b o x y s t u l so_far end same_output same_state =
-    subst (λ (z : O). IsAnsweredAll R a o (contents z) s u) (sym same_output)
-    (subst (λ (z : S). IsAnsweredAll R a o (contents x) s z) (sym same_state) (answered_all R a b o (contents x) s t l so_far end))
+pub ended_silent : {S K O : Type 0} (few : ℕ) (R : List ℕ → List ℕ → S × K → S × K → Type 0) (contents : O → Option (List ℕ))
+    (a b o : Option (List ℕ)) (x y : O) (s : S × K) (t u : S) (l : K) → AreAnswered few R a b o (contents x) s (t, l) → IsAtEnd b → y ≡ x
+    → u ≡ t → IsAnsweredAll few R a o (contents y) s u
+ended_silent {S} {K} {O} few R contents a b o x y s t u l so_far end same_output same_state =
+    subst (λ (z : O). IsAnsweredAll few R a o (contents z) s u) (sym same_output)
+    (subst (λ (z : S). IsAnsweredAll few R a o (contents x) s z) (sym same_state) (answered_all few R a b o (contents x) s t l so_far end))
 
 -- an answer that was written
 pub responds : {S A E : Type 0} (R : List ℕ → List ℕ → S → S → Type 0) (r : Result A E) (message answer : List ℕ) (p q : Option (List ℕ))

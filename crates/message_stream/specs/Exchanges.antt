@@ -1,21 +1,5 @@
--- What a message is answered by a connection.
-use Rattle.std.specs.Prelude.{ℕ, List, [], Result}
-use Rattle.tree.specs.declared.Call.{Call}
-use Rattle.tree.specs.declared.Outcome.{Outcome}
-use Rattle.ninep_server.specs.Connections.{Answers, Says}
-use Rattle.ninep_fids.specs.Knowledge.{Known}
-use Rattle.ninep_fids.specs.Talks.{MayHear}
-use Rattle.ninep_fids.specs.Written.{tag_in}
-use Rattle.ninep_fids.specs.declared.sessions.EnterRefusal.{EnterRefusal}
+-- Answers as a relation of one state, of two parts: the sessions', and the answerer's.
+use Rattle.std.specs.Prelude.{ℕ, List}
 
--- what is known where a connection begins: nobody is attached
-abbrev pub nobody : Known
-nobody = record { message_size = 65560; users = []; fids = [] }
-
--- At some time, and with some room for an answer, a connection answers this message so, by what it knows and asks of the sessions: as the
--- plan of the message says, and by what it asks and nothing else. So the sessions go on, and what is known does.
-abbrev pub answers : {S : Type 0} → (S → ℕ → ℕ → Call → Outcome → S → Type 0) → (S → ℕ → ℕ → Result ℕ EnterRefusal → S → Type 0)
-    → (S → S → Type 0) → List ℕ → List ℕ → S × Known → S × Known → Type 0
-answers called entered left message answer s t = (now : ℕ) × (capacity : ℕ)
-    × Answers (MayHear called entered left now) (tag_in message) t.1.message_size s.0 t.0 [] answer
-    × Says (MayHear called entered left now) now message s.0 s.1 t.0 t.1 0 capacity [] answer
+abbrev pub by_both : {S W : Type 0} → (List ℕ → List ℕ → S → W → S → W → Type 0) → List ℕ → List ℕ → S × W → S × W → Type 0
+by_both answers message answer s t = answers message answer s.0 s.1 t.0 t.1

@@ -35,32 +35,32 @@ pub record StopsSilent {S : Type 0} (before after old new : Option (List ℕ)) (
   pub same : t ≡ s
 
 -- It stops within an answer: one message more was taken, and of its answer a beginning went out, maybe all of it.
-pub record StopsWriting {S : Type 0} (answers : List ℕ → List ℕ → S → S → Type 0) (before after old new : Option (List ℕ))
+pub record StopsWriting {S : Type 0} (fewest : ℕ) (answers : List ℕ → List ℕ → S → S → Type 0) (before after old new : Option (List ℕ))
     (s t : S) : Type 0 where
   pub message : List ℕ
   pub answer : List ℕ
-  pub whole : IsMessage message
+  pub whole : IsMessage fewest message
   pub taken : Consumes before after message
   pub given : AppendsSome old new answer
   pub leads : answers message answer s t
 
 -- by why it stops: within an answer where that can't be written, else before one
-abbrev pub Stops : {S : Type 0} → (List ℕ → List ℕ → S → S → Type 0) → StreamRefusal → Option (List ℕ) → Option (List ℕ)
+abbrev pub Stops : {S : Type 0} → ℕ → (List ℕ → List ℕ → S → S → Type 0) → StreamRefusal → Option (List ℕ) → Option (List ℕ)
     → Option (List ℕ) → Option (List ℕ) → S → S → Type 0
-Stops answers (Input r) before after old new s t = StopsSilent before after old new s t × IsUnread (Input r) after
-Stops answers NotWritten before after old new s t = StopsWriting answers before after old new s t
-Stops answers e before after old new s t = StopsSilent before after old new s t
+Stops fewest answers (Input r) before after old new s t = StopsSilent before after old new s t × IsUnread (Input r) after
+Stops fewest answers NotWritten before after old new s t = StopsWriting fewest answers before after old new s t
+Stops fewest answers e before after old new s t = StopsSilent before after old new s t
 
 -- messages were answered, one after the other, and then it stopped
-pub record IsStoppedAt {S : Type 0} (answers : List ℕ → List ℕ → S → S → Type 0) (e : StreamRefusal)
+pub record IsStoppedAt {S : Type 0} (fewest : ℕ) (answers : List ℕ → List ℕ → S → S → Type 0) (e : StreamRefusal)
     (before after old new : Option (List ℕ)) (s t : S) : Type 0 where
   pub between : Option (List ℕ)
   pub written : Option (List ℕ)
   pub here : S
-  pub answered : AreAnswered answers before between old written s here
-  pub stops : Stops answers e between after written new here t
+  pub answered : AreAnswered fewest answers before between old written s here
+  pub stops : Stops fewest answers e between after written new here t
 
--- The same, by states of two parts, of which the second one, what is known in the end, may be any.
-abbrev pub IsStopped : {S K : Type 0} → (List ℕ → List ℕ → S × K → S × K → Type 0) → StreamRefusal → Option (List ℕ) → Option (List ℕ)
+-- The same, by states of two parts, of which the second one, the answerer's in the end, may be any.
+abbrev pub IsStopped : {S K : Type 0} → ℕ → (List ℕ → List ℕ → S × K → S × K → Type 0) → StreamRefusal → Option (List ℕ) → Option (List ℕ)
     → Option (List ℕ) → Option (List ℕ) → S × K → S → Type 0
-IsStopped {S} {K} answers e before after old new s t = (l : K) × IsStoppedAt answers e before after old new s (t, l)
+IsStopped {S} {K} fewest answers e before after old new s t = (l : K) × IsStoppedAt fewest answers e before after old new s (t, l)

@@ -12,15 +12,12 @@ use std::io::{ErrorKind, Read};
 /// The bytes of a size.
 const SIZE: usize = 4;
 
-/// The fewest bytes of a message: its size, its type and its tag (the protocol's).
-const LEAST: u32 = 7;
-
 /// Why no further message comes from a stream.
 #[derive(Clone, Copy, Debug, PartialEq, Eq)]
 pub enum InputRefusal {
     /// The stream ends within a message.
     CutShort,
-    /// A message names this size, which is below 7 or above the most that was taken.
+    /// A message names this size, which is below the least or above the most that was taken.
     BadSize(u32),
     /// The stream can't be read.
     NotRead,
@@ -40,22 +37,23 @@ impl fmt::Display for InputRefusal {
     }
 }
 
-/// Reads the next message in the place of `message`, at most so many bytes. Whether there was one: there is none where the stream has
-/// ended before it.
+/// Reads the next message in the place of `message`, at least and at most so many bytes. Whether there was one: there is none where the
+/// stream has ended before it. A message has the bytes of its size, 4, whatever the least is.
 ///
 /// All that was taken from the stream stands in `message`, also where it is refused.
 pub fn next_message<I: Read>(
     input: &mut I,
+    least: u32,
     most: u32,
     message: &mut Vec<u8>,
 ) -> Result<bool, InputRefusal>
-    ensures message { IfOk result (λ some. OnTrue some (IsMessage message.new.items)) }
+    ensures message { IfOk result (λ some. OnTrue some (IsMessage least message.new.items)) }
     ensures few { IfOk result (λ some. OnTrue some (length message.new.items ≤ most)) }
     ensures taken { Consumes (I.remaining input.old) (I.remaining input.new) message.new.items }
     ensures ended { result ≡ Ok false → IsAtEnd (I.remaining input.new) × (message.new.items ≡ []) }
-    ensures cut { result ≡ Err InputRefusal.CutShort → IsAtEnd (I.remaining input.new) × IsCutShort most message.new.items }
+    ensures cut { result ≡ Err InputRefusal.CutShort → IsAtEnd (I.remaining input.new) × IsCutShort least most message.new.items }
     ensures size { (size : ℕ) → result ≡ Err (InputRefusal.BadSize size)
-        → (from_le_bytes w32 message.new.items ≡ size) × ((size < 7) ⊎ (most < size)) }
+        → (from_le_bytes w32 message.new.items ≡ size) × ((size < least) ⊎ (size < 4) ⊎ (most < size)) }
 {
     message.clear();
     match take_more(input, message, SIZE) {
@@ -64,7 +62,7 @@ pub fn next_message<I: Read>(
         Err(refusal) => return Err(refusal),
     }
     let size = size_in(message);
-    if size < LEAST || most < size {
+    if size < least || size < SIZE as u32 || most < size {
         return Err(InputRefusal::BadSize(size));
     }
     take_more(input, message, size as usize)?;

@@ -1,163 +1,20 @@
 //! Serves the image of a volume by 9P, so that Linux mounts it, while its drivers may die.
 #![tactic(auto)]
 
-mod keeping;
-
-use crate::keeping::{Begun, KeptImage, begin, begin_to_keep, finished, refused};
-use gate::paced_gate::Paced;
-use host::command_line::{line_of, status_for};
-use host::play_words::mfs9p::{Mfs9pWords, read as read_words};
-use locked_image::locked::{LockedImage, open};
-use modeldisk::supply::table_in;
-use mount_service::mortal::{Mortality, mortal_drivers, mortal_setup};
-use mount_service::mount::{Ended, MountStatus, mount};
-use mount_service::program::Streams;
-use mount_service::teller::Teller;
-use std::alloc::{AllocError, Global};
-use std::io::{self, BufReader, StdinLock, Write};
+use host::play_words::mount::MountProgram;
+use mount_program::serving::{Messages, serve};
+use ninep_server::connection::Connection;
+use std::io::{self, BufReader};
 use std::process::ExitCode;
-use std::rt::Stdout;
-use std::sync::{Arc, Wait};
-use std::thread::Threads;
 
 /// How many bytes of messages are read together.
 const ROOM: usize = 65536;
 
-/// How long the lines of a mount's end are at most, beside the names of files in them.
-const LINES: usize = 256;
-
-/// When drivers die that do so in the request of this number; none does in that of number 0.
-fn mortality(die_every: u32) -> Mortality {
-    match die_every {
-        0 => Mortality::Never,
-        request => Mortality::InRequest(request),
-    }
-}
-
-/// Mounts the volume in an image, whose bytes are none where it couldn't be read, with what the mount begins with. The service has threads of
-/// its own, and a tick of it takes a tenth of a second. Its drivers are told by this thread; the lines of its end go to `err`.
-fn mount_image<W: Threads + Wait + Copy + Send + Sync + 'static, E: Write>(
-    rt: HostRuntime,
-    waits: W,
-    words: &Mfs9pWords<'_>,
-    begun: Begun,
-    teller: &Teller,
-    err: &mut E,
-) -> io::Result<Ended<BufReader<StdinLock<'static>>, Stdout, HostRuntime, KeptImage>> {
-    let alloc = rt.alloc();
-    let Begun { image, archive } = begun;
-    let mortality = mortality(words.die_every);
-    let table = table_in(image.as_deref().unwrap_or(&[]));
-    let supply = mortal_drivers(alloc, words.spares, words.model, mortality, table)?;
-    let mut setup = mortal_setup(words.minor, mortality);
-    setup.frames = words.frames as usize;
-    let gate = Arc::new(alloc, teller.gate(Paced::new(waits))?)?;
-    let streams = Streams {
-        input: BufReader::with_capacity(alloc, ROOM, rt.reader())?,
-        output: rt.stdout(),
-        clock: rt,
-        archive,
-        sync_every: words.sync_every,
-    };
-    Ok(mount(
-        alloc,
-        waits,
-        words.image,
-        image,
-        &setup,
-        supply,
-        gate,
-        streams,
-        err,
-    ))
-}
-
-/// Serves the image, and leaves none.
-fn serve_only<W: Threads + Wait + Copy + Send + Sync + 'static, E: Write>(
-    rt: HostRuntime,
-    waits: W,
-    words: &Mfs9pWords<'_>,
-    teller: &Teller,
-    err: &mut E,
-) -> io::Result<MountStatus> {
-    match begin(rt, words) {
-        Ok(begun) => Ok(mount_image(rt, waits, words, begun, teller, err)?.status),
-        Err(status) => Ok(status),
-    }
-}
-
-/// Serves the image, and keeps the locked one, which has this name.
-fn serve_and_keep<W: Threads + Wait + Copy + Send + Sync + 'static, E: Write>(
-    rt: HostRuntime,
-    waits: W,
-    words: &Mfs9pWords<'_>,
-    locked: &mut LockedImage,
-    name: &str,
-    teller: &Teller,
-    err: &mut E,
-) -> io::Result<MountStatus> {
-    match begin_to_keep(rt, words, locked, name) {
-        Ok(begun) => {
-            let mounted = mount_image(rt, waits, words, begun, teller, err)?;
-            Ok(finished(rt, words, mounted, name, err))
-        }
-        Err(status) => Ok(status),
-    }
-}
-
-/// Serves what the words say. The image that is kept is locked meanwhile.
-fn run<W: Threads + Wait + Copy + Send + Sync + 'static, E: Write>(
-    rt: HostRuntime,
-    waits: W,
-    words: &Mfs9pWords<'_>,
-    teller: &Teller,
-    err: &mut E,
-) -> io::Result<MountStatus> {
-    let Some(name) = words.out else {
-        return serve_only(rt, waits, words, teller, err);
-    };
-    match open(&rt, name) {
-        Ok(locked) => {
-            let mut locked = locked;
-            let served = serve_and_keep(rt, waits, words, &mut locked, name, teller, err);
-            locked.close(&rt);
-            served
-        }
-        Err(refusal) => Ok(refused(rt, &refusal)),
-    }
-}
-
-/// Room for the lines of a mount's end.
-fn room_for_lines(alloc: Global, words: &Mfs9pWords<'_>) -> Result<Vec<u8>, AllocError> {
-    let out = words.out.unwrap_or("");
-    let names = words.image.len().saturating_add(out.len());
-    Vec::with_capacity(alloc, names.saturating_add(LINES))
-}
-
-/// Serves as these words say. Standard error gets the lines of the end once the image is written and the drivers are told: so nothing but
-/// the end of the program waits for whoever reads them.
-fn run_and_tell<W: Threads + Wait + Copy + Send + Sync + 'static>(
-    rt: HostRuntime,
-    waits: W,
-    words: &Mfs9pWords<'_>,
-) -> io::Result<ExitCode> {
-    let mut lines = room_for_lines(rt.alloc(), words)?;
-    let teller = Teller::start(rt.alloc(), &waits, rt)?;
-    let status = run(rt, waits, words, &teller, &mut lines)?;
-    teller.end(&waits);
-    let _ = rt.stderr().write_all(&lines);
-    Ok(ExitCode::from(status.number()))
-}
-
 fn main(rt: HostRuntime) -> io::Result<ExitCode> {
-    let Some(line) = line_of(&rt)? else {
-        return Ok(ExitCode::from(2));
+    let messages = Messages {
+        input: BufReader::with_capacity(rt.alloc(), ROOM, rt.reader())?,
+        output: rt.stdout(),
+        answerer: Connection::new(rt.alloc()),
     };
-    match read_words(rt.alloc(), line.as_slice()) {
-        Ok(words) => run_and_tell(rt, rt, &words),
-        Err(error) => {
-            error.print(&rt)?;
-            Ok(ExitCode::from(status_for(&error)))
-        }
-    }
+    serve(rt, rt, MountProgram::Ninep, messages)
 }

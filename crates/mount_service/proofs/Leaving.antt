@@ -14,7 +14,7 @@ use Rattle.serve.specs.declared.stopping.NoImage.{NoImage}
 use Rattle.serve.specs.Stopping.{IsImageOf, IsLastImage, WhyNotSynced}
 use Rattle.serve.specs.declared.stopping.StopRefusal.{StopRefusal}
 use Rattle.serve.proofs.StoppingLaws.{image_given}
-use Rattle.mount_service.specs.Spoken.{Puts, IsSpoken}
+use Rattle.mount_service.specs.Spoken.{Puts, Speaks, IsSpoken}
 use Rattle.mount_service.specs.Kept.{IsKeptAfter}
 use Rattle.mount_service.specs.Left.{IsLeftBy}
 use Rattle.mount_service.specs.declared.program.Came.{Came}
@@ -28,17 +28,18 @@ pub left_outside : {L T : Type 0} (link : LinkWords L) (g : Geometry) (v : Openi
 left_outside link g v seen back stopped last image same ok err = (image_given link g v seen back stopped last image same ok err).outside
 
 -- what came of a mount, from what its parts came to
-pub left_by : {I O C A : Type 0} (contents : O → Option (List ℕ)) (puts : Puts A) (g : Geometry) (v : Opening) (stream old : Option (List ℕ))
-    (before : Option A) (streams : Streams I O C A) (answered : Result (Unit {0}) StreamRefusal) (result : Result (Came I O C A) NoImage)
+pub left_by : {I O C A W : Type 0} (contents : O → Option (List ℕ)) (puts : Puts A) (fewest : ℕ) (speaks : Speaks W) (first : W)
+    (g : Geometry) (v : Opening) (stream old : Option (List ℕ)) (before : Option A) (streams : Streams I O C A W)
+    (answered : Result (Unit {0}) StreamRefusal) (result : Result (Came I O C A W) NoImage)
     → IfOk result (λ came. (came.streams ≡ streams) × (came.answered ≡ answered))
     → IfOk result (λ came. IsImageOutside v came.image.items)
-    → OnOk answered (IsSpoken puts g v stream old (contents streams.output) (is_some before)) → IsKeptAfter puts g v before streams.archive
-    → IfOk result (λ came. IsLeftBy puts g v stream old (contents came.streams.output) before came.streams.archive came.answered
+    → OnOk answered (IsSpoken puts fewest speaks first g v stream old (contents streams.output) (is_some before)) → IsKeptAfter puts g v before streams.archive
+    → IfOk result (λ came. IsLeftBy puts fewest speaks first g v stream old (contents came.streams.output) before came.streams.archive came.answered
     came.image.items)
-left_by contents puts g v stream old before streams answered (Err why) came outside spoken kept = tt
-left_by contents puts g v stream old before streams answered (Ok came) (same, how) outside spoken kept = record {
-  spoken = subst (λ s. OnOk came.answered (IsSpoken puts g v stream old (contents s.output) (is_some before))) (sym same)
-      (subst (λ a. OnOk a (IsSpoken puts g v stream old (contents streams.output) (is_some before))) (sym how) spoken);
+left_by contents puts fewest speaks first g v stream old before streams answered (Err why) came outside spoken kept = tt
+left_by contents puts fewest speaks first g v stream old before streams answered (Ok came) (same, how) outside spoken kept = record {
+  spoken = subst (λ s. OnOk came.answered (IsSpoken puts fewest speaks first g v stream old (contents s.output) (is_some before))) (sym same)
+      (subst (λ a. OnOk a (IsSpoken puts fewest speaks first g v stream old (contents streams.output) (is_some before))) (sym how) spoken);
   outside = outside;
   kept = subst (λ s. IsKeptAfter puts g v before s.archive) (sym same) kept;
 }

@@ -1,4 +1,4 @@
--- What the sessions of a service answer to a connection, the changes that are put behind syncs, and so what is spoken on its streams.
+-- What the sessions of a service answer, the changes that are put behind syncs, and so what is spoken on its streams.
 use Rattle.std.specs.Prelude.{◌≡◌, ◌≢◌, ◌⊎◌, ◌++◌, ℕ, Bool, true, false, List, [], ◌∷◌, slice_get, slice_set, Option, Some, Result, Ok, Err}
 use Rattle.layout.specs.declared.Geometry.{Geometry}
 use Rattle.errno.specs.declared.Errno.{Errno}
@@ -15,10 +15,9 @@ use Rattle.shared_server.specs.Held.{HoldsIfTrue}
 use Rattle.changes.specs.declared.taken.Changes.{Changes}
 use Rattle.changes.specs.Units.{puts_of}
 use Rattle.shared_media.specs.Marking.{AreChangesOutside}
-use Rattle.ninep_fids.specs.Knowledge.{Known}
-use Rattle.ninep_fids.specs.declared.sessions.EnterRefusal.{EnterRefusal}
+use Rattle.talks.specs.declared.sessions.EnterRefusal.{EnterRefusal}
 use Rattle.message_stream.specs.Answered.{IsAnsweredAll}
-use Rattle.message_stream.specs.Exchanges.{answers, nobody}
+use Rattle.message_stream.specs.Exchanges.{by_both}
 
 -- A session of a service on this volume made a call, and was answered so: the answer is the last mark of what it has then seen. Where the
 -- replies of drivers in that are true, the volume held a tree as it was handed in, and whichever that was, what was seen is legal from that
@@ -77,7 +76,7 @@ OkMeansPut {A} puts = (g : Geometry) (v : Opening) (before : SessionState) (now 
     → IsAnswered puts g v true before now Sync (Reply Done) after
     → IsAnsweredBy g v before now Sync (Reply Done) after × ((s : A) × (t : A) × IsPut puts v s (Ok tt) t)
 
--- the sessions of a connection, each with what it has seen, in the order in which they were made; and whether there is an archive
+-- the sessions of a mount, each with what it has seen, in the order in which they were made; and whether there is an archive
 pub record Users : Type 0 where
   pub sessions : List SessionState
   pub kept : Bool
@@ -124,8 +123,15 @@ IsEntered s uid gid (Err e) t = t ≡ s
 abbrev pub HaveLeft : Users → Users → Type 0
 HaveLeft s t = t ≡ users [] s.kept
 
--- A stream was messages, one after the other, and an answer to each went out, in the same order: as the plan of each message says, by what
--- is known of users and fids, from nobody on, and by what was asked of the connection's sessions and nothing else, from none on.
-abbrev pub IsSpoken : {A : Type 0} → Puts A → Geometry → Opening → Option (List ℕ) → Option (List ℕ) → Option (List ℕ) → Bool → Type 0
-IsSpoken puts g v stream old new kept = (last : Users) × IsAnsweredAll {S = Users} {K = Known}
-    (answers (MayAnswer puts g v) IsEntered HaveLeft) stream old new (users [] kept, nobody) last
+-- how a message may be answered, by what those sessions may answer: the message, its answer, and the sessions and the answerer before and
+-- after it
+abbrev pub Speaks : Type 0 → Type 1
+Speaks W = (Users → ℕ → ℕ → Call → Outcome → Users → Type 0) → (Users → ℕ → ℕ → Result ℕ EnterRefusal → Users → Type 0)
+    → (Users → Users → Type 0) → List ℕ → List ℕ → Users → W → Users → W → Type 0
+
+-- A stream was messages, one after the other, and an answer to each went out, in the same order: as the answerer answers it by what was
+-- asked of the mount's sessions, from none on, and by what the answerer knows, from its first state on.
+abbrev pub IsSpoken : {A W : Type 0} → Puts A → ℕ → Speaks W → W → Geometry → Opening → Option (List ℕ) → Option (List ℕ)
+    → Option (List ℕ) → Bool → Type 0
+IsSpoken puts fewest speaks first g v stream old new kept = (last : Users)
+    × IsAnsweredAll fewest (by_both (speaks (MayAnswer puts g v) IsEntered HaveLeft)) stream old new (users [] kept, first) last

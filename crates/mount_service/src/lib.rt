@@ -1,4 +1,4 @@
-//! A volume that is mounted by 9P: a service on it, whose sessions answer the messages of a stream.
+//! A volume that is mounted: a service on it, whose sessions answer the messages of a stream.
 #![tactic(auto)]
 
 pub mod archive;

@@ -20,6 +20,7 @@ use std::io::{BufRead, Write};
 use std::sync::{Arc, Wait};
 use std::thread::Threads;
 use std::time::Clock;
+use talks::answers::Answers;
 use volume_commands::make;
 use volume_mount::StartRefusal;
 
@@ -51,11 +52,11 @@ impl MountStatus {
 
 /// What came of a mount.
 #[derive(Drop)]
-pub struct Ended<I, O, C, A> {
+pub struct Ended<I, O, C, A, W> {
     /// How it ended.
     pub status: MountStatus,
     /// What the service left, also where not all messages were answered; none where no service started, or it left no image.
-    pub came: Option<Came<I, O, C, A>>,
+    pub came: Option<Came<I, O, C, A, W>>,
 }
 
 /// Why a volume isn't mounted, or what ended it.
@@ -101,6 +102,7 @@ pub fn mount<
     O: Write + Drop,
     C: Clock + Drop,
     A: Archive + Drop + Send + 'static,
+    W: Answers + Drop,
     E: Write,
 >(
     alloc: Global,
@@ -110,12 +112,12 @@ pub fn mount<
     setup: &Setup,
     supply: Vec<D>,
     gate: Arc<G>,
-    streams: Streams<I, O, C, A>,
+    streams: Streams<I, O, C, A, W>,
     err: &mut E,
-) -> Ended<I, O, C, A>
-    ensures mounted { IfSome result.came (λ came. IsMounted A.puts image setup.now (map D.state supply.items)
-        (I.Read.remaining streams.input) (O.contents streams.output) (O.contents came.streams.output) streams.archive came.streams.archive
-        came.answered came.image.items) }
+) -> Ended<I, O, C, A, W>
+    ensures mounted { IfSome result.came (λ came. IsMounted A.puts W.fewest W.answers streams.answerer image setup.now
+        (map D.state supply.items) (I.Read.remaining streams.input) (O.contents streams.output) (O.contents came.streams.output)
+        streams.archive came.streams.archive came.answered came.image.items) }
     ensures status { IfSome result.came (λ came. IsStatus came.answered came.last_sync result.status) }
     ensures unmounted { IfNone result.came ((refusal : MountRefusal)
         × IsUnmounted image name.entry setup.now (map D.state supply.items) refusal) }
@@ -161,6 +163,7 @@ fn run<
     O: Write + Drop,
     C: Clock + Drop,
     A: Archive + Drop + Send + 'static,
+    W: Answers + Drop,
 >(
     alloc: Global,
     rt: R,
@@ -169,10 +172,11 @@ fn run<
     setup: &Setup,
     supply: Vec<D>,
     gate: Arc<G>,
-    streams: Streams<I, O, C, A>,
-) -> Result<Came<I, O, C, A>, MountRefusal<'n>>
-    ensures mounted { IfOk result (λ came. IsMounted A.puts image setup.now (map D.state supply.items) (I.Read.remaining streams.input)
-        (O.contents streams.output) (O.contents came.streams.output) streams.archive came.streams.archive came.answered came.image.items) }
+    streams: Streams<I, O, C, A, W>,
+) -> Result<Came<I, O, C, A, W>, MountRefusal<'n>>
+    ensures mounted { IfOk result (λ came. IsMounted A.puts W.fewest W.answers streams.answerer image setup.now
+        (map D.state supply.items) (I.Read.remaining streams.input) (O.contents streams.output) (O.contents came.streams.output)
+        streams.archive came.streams.archive came.answered came.image.items) }
     ensures unmounted { IfErr result (IsUnmounted image name.entry setup.now (map D.state supply.items)) }
 {
     let Some(bytes) = image else {

@@ -23,14 +23,17 @@ use std::marker::Brand;
 use std::sync::{Arc, Wait};
 use std::thread::Threads;
 use std::time::Clock;
+use talks::answers::Answers;
 
-/// The streams of messages and answers, the clock that says when calls are made, and where changes are put.
+/// The streams of messages and answers, who answers, the clock that says when calls are made, and where changes are put.
 #[derive(Drop)]
-pub struct Streams<I, O, C, A> {
+pub struct Streams<I, O, C, A, W> {
     /// Where messages come from.
     pub input: I,
     /// Where answers go.
     pub output: O,
+    /// Who answers the messages, by calls of sessions.
+    pub answerer: W,
     /// What the time of a call is.
     pub clock: C,
     /// Where the changes are put behind each sync that was done, if anywhere.
@@ -41,9 +44,9 @@ pub struct Streams<I, O, C, A> {
 
 /// What came of the messages of a stream.
 #[derive(Drop)]
-pub struct Came<I, O, C, A> {
+pub struct Came<I, O, C, A, W> {
     /// The streams, as far as they were read and written.
-    pub streams: Streams<I, O, C, A>,
+    pub streams: Streams<I, O, C, A, W>,
     /// Whether all messages were answered, and why not.
     pub answered: Result<(), StreamRefusal>,
     /// How the last sync went.
@@ -64,22 +67,23 @@ pub(crate) fn answer_on<
     O: Write + Drop,
     C: Clock + Drop,
     A: Archive + Drop + Send + 'static,
+    W: Answers + Drop,
 >(
     alloc: Global,
     rt: R,
     service: Service<N, R, L, S>,
-    streams: Streams<I, O, C, A>,
-) -> Result<Result<Came<I, O, C, A>, NoImage>, AllocError>
-    ensures { IfOk result (λ o. IfOk o (λ came. IsLeftBy A.puts N.geometry N.opening (I.Read.remaining streams.input)
-        (O.contents streams.output) (O.contents came.streams.output) streams.archive came.streams.archive came.answered came.image.items)) }
+    streams: Streams<I, O, C, A, W>,
+) -> Result<Result<Came<I, O, C, A, W>, NoImage>, AllocError>
+    ensures { IfOk result (λ o. IfOk o (λ came. IsLeftBy A.puts W.fewest W.answers streams.answerer N.geometry N.opening
+        (I.Read.remaining streams.input) (O.contents streams.output) (O.contents came.streams.output) streams.archive came.streams.archive came.answered came.image.items)) }
 {
     let mut streams = streams;
     match streams.archive.take() {
         Some(archive) => {
-            answer_and_keep::<N, R, L, S, Brand, I, O, C, A>(alloc, rt, service, streams, archive)
+            answer_and_keep::<N, R, L, S, Brand, I, O, C, A, W>(alloc, rt, service, streams, archive)
         }
         None => {
-            let answered = answer_by::<N, R, L, S, Brand, I, O, C, A>(
+            let answered = answer_by::<N, R, L, S, Brand, I, O, C, A, W>(
                 alloc,
                 &service,
                 &mut streams,
@@ -101,16 +105,17 @@ fn answer_and_keep<
     O: Write + Drop,
     C: Clock + Drop,
     A: Archive + Drop + Send + 'static,
+    W: Answers + Drop,
 >(
     alloc: Global,
     rt: R,
     service: Service<N, R, L, S>,
-    streams: Streams<I, O, C, A>,
+    streams: Streams<I, O, C, A, W>,
     archive: A,
-) -> Result<Result<Came<I, O, C, A>, NoImage>, AllocError>
+) -> Result<Result<Came<I, O, C, A, W>, NoImage>, AllocError>
     requires { F.first ≡ Some archive }
-    ensures { IfOk result (λ o. IfOk o (λ came. IsLeftBy A.puts N.geometry N.opening (I.Read.remaining streams.input)
-        (O.contents streams.output) (O.contents came.streams.output) (Some archive) came.streams.archive came.answered came.image.items)) }
+    ensures { IfOk result (λ o. IfOk o (λ came. IsLeftBy A.puts W.fewest W.answers streams.answerer N.geometry N.opening
+        (I.Read.remaining streams.input) (O.contents streams.output) (O.contents came.streams.output) (Some archive) came.streams.archive came.answered came.image.items)) }
 {
     let mut streams = streams;
     let shared = SharedArchive::<N, R, F, A>::new(alloc, rt, service.media()?, archive);
@@ -133,6 +138,7 @@ fn keeper_of<
     S: FileServer<L> + Send + 'static,
     F: Begins<A> + Send + Sync + 'static,
     A: Archive + Drop + Send + 'static,
+    W: Answers + Drop,
 >(
     alloc: Global,
     rt: &R,
@@ -164,14 +170,15 @@ fn answer_by<
     O: Write,
     C: Clock,
     A: Archive + Drop + Send + 'static,
+    W: Answers + Drop,
 >(
     alloc: Global,
     service: &Service<N, R, L, S>,
-    streams: &mut Streams<I, O, C, A>,
+    streams: &mut Streams<I, O, C, A, W>,
     shared: Option<Arc<SharedArchive<N, R, F, A>>>,
 ) -> Result<(), StreamRefusal>
-    ensures spoken { OnOk result (IsSpoken A.puts N.geometry N.opening (I.Read.remaining streams.old.input)
-        (O.contents streams.old.output) (O.contents streams.new.output) (is_some shared)) }
+    ensures spoken { OnOk result (IsSpoken A.puts W.fewest W.answers streams.old.answerer N.geometry N.opening
+        (I.Read.remaining streams.old.input) (O.contents streams.old.output) (O.contents streams.new.output) (is_some shared)) }
     ensures archive { streams.new.archive ≡ streams.old.archive }
 {
     let mut sessions = ServiceSessions::new(alloc, service, shared);
@@ -181,6 +188,7 @@ fn answer_by<
         &mut streams.output,
         &streams.clock,
         &mut sessions,
+        &mut streams.answerer,
     );
     sessions.end();
     answered
@@ -196,11 +204,12 @@ fn came_of<
     O: Write + Drop,
     C: Clock + Drop,
     A: Archive + Drop,
+    W: Answers + Drop,
 >(
     service: Service<N, R, L, S>,
-    streams: Streams<I, O, C, A>,
+    streams: Streams<I, O, C, A, W>,
     answered: Result<(), StreamRefusal>,
-) -> Result<Came<I, O, C, A>, NoImage>
+) -> Result<Came<I, O, C, A, W>, NoImage>
     ensures came { IfOk result (λ came. (came.streams ≡ streams) × (came.answered ≡ answered)) }
     ensures outside { IfOk result (λ came. IsImageOutside N.opening came.image.items) }
 {

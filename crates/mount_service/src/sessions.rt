@@ -1,4 +1,4 @@
-//! The sessions of a service that a connection calls by, one for each user who is attached, and the changes behind each sync.
+//! The sessions of a service by which messages are answered, one for each user who is attached, and the changes behind each sync.
 
 ghost use Rattle.std.specs.Prelude.{◌≡◌, ◌≢◌, ◌↔◌, ℕ, [], IfNone, IfSome, IsTrue, Some, slice_get};
 ghost use Rattle.records.specs.Session.{SessionState};
@@ -10,13 +10,14 @@ use board::counting::parameters::ServiceParameters;
 use board::counting::recorder::Recorder;
 use errno::Errno;
 use file_server::FileServer;
-use ninep_fids::sessions::{EnterRefusal, Sessions};
 use serve::service::{Service, Shared};
 use serve::session::Session;
 use shared_server::refusal::SessionRefusal;
 use std::alloc::Global;
+use std::marker::Model;
 use std::sync::{Arc, Wait};
 use std::thread::Threads;
+use talks::sessions::{EnterRefusal, Sessions};
 use tree::{Call, Outcome, Reply};
 
 /// Sessions of a service, which were made one after the other, and the archive into which changes are put behind a sync, if there is one.
@@ -32,7 +33,24 @@ pub struct ServiceSessions<
 > {
     service: &'s Service<N, R, L, S>,
     sessions: Vec<Session<N, Shared<N, R, L, S>>>,
-    pub(crate) shared: Option<Arc<SharedArchive<N, R, F, A>>>,
+    shared: Option<Arc<SharedArchive<N, R, F, A>>>,
+}
+
+impl<
+    's,
+    N: ServiceParameters,
+    R: Wait + Copy,
+    L: Recorder<N>,
+    S: FileServer<L>,
+    F: Begins<A>,
+    A: Archive + Drop,
+> Model for ServiceSessions<'s, N, R, L, S, F, A> {
+    ghost use Rattle.std.specs.Prelude.{is_some};
+    ghost use Rattle.mount_service.specs.Spoken.{Users, users};
+
+    ghost Value = { Users };
+
+    ghost view = { λ s. users s.sessions.items (is_some s.shared) };
 }
 
 impl<
@@ -44,14 +62,16 @@ impl<
     F: Begins<A>,
     A: Archive + Drop,
 > ServiceSessions<'s, N, R, L, S, F, A> {
+    ghost use Rattle.std.specs.Prelude.{is_some};
+    ghost use Rattle.mount_service.specs.Spoken.{users};
+
     /// None of this service. Its changes go to this archive.
     pub(crate) fn new(
         alloc: Global,
         service: &'s Service<N, R, L, S>,
         shared: Option<Arc<SharedArchive<N, R, F, A>>>,
     ) -> ServiceSessions<'s, N, R, L, S, F, A>
-        ensures sessions { result.sessions.items ≡ [] }
-        ensures shared { result.shared ≡ shared }
+        ensures { result ≡ users [] (is_some shared) }
     {
         ServiceSessions {
             service,
@@ -67,8 +87,7 @@ impl<
 
     /// Ends all sessions, between syncs of the keeper: what they left open is closed, which changes the volume.
     fn end_in_turn(&mut self)
-        ensures sessions { self.new.sessions.items ≡ [] }
-        ensures shared { self.new.shared ≡ self.old.shared }
+        ensures { self.new ≡ users [] self.old.kept }
     {
         match &self.shared {
             Some(shared) => {
@@ -88,16 +107,13 @@ impl<
     F: Begins<A> + Send + Sync + 'static,
     A: Archive + Drop + Send + 'static,
 > Sessions for ServiceSessions<'_, N, R, L, S, F, A> {
-    ghost use Rattle.std.specs.Prelude.{is_some};
-    ghost use Rattle.mount_service.specs.Spoken.{MayAnswer, IsEntered, HaveLeft, users};
+    ghost use Rattle.mount_service.specs.Spoken.{MayAnswer, IsEntered, HaveLeft};
 
-    ghost called = { λ s session now call outcome t. MayAnswer A.puts N.geometry N.opening (users s.sessions.items (is_some s.shared))
-        session now call outcome (users t.sessions.items (is_some t.shared)) };
+    ghost called = { MayAnswer A.puts N.geometry N.opening };
 
-    ghost entered = { λ s uid gid result t. IsEntered (users s.sessions.items (is_some s.shared)) uid gid result
-        (users t.sessions.items (is_some t.shared)) };
+    ghost entered = { IsEntered };
 
-    ghost left = { λ s t. HaveLeft (users s.sessions.items (is_some s.shared)) (users t.sessions.items (is_some t.shared)) };
+    ghost left = { HaveLeft };
 
     /// A session of the service, as it makes one.
     fn enter(&mut self, uid: u16, gid: u16) -> Result<u8, EnterRefusal> {

@@ -28,6 +28,7 @@ use std::marker::Brand;
 use std::sync::{Arc, Wait};
 use std::thread::Threads;
 use std::time::Clock;
+use talks::answers::Answers;
 use volume_mount::{Prepared, StartRefusal, prepare};
 
 /// Mounts the volume over this link, answers messages by its sessions, and stops the service. It is refused as a mount
@@ -41,6 +42,7 @@ fn mount_and_answer<
     O: Write + Drop,
     C: Clock + Drop,
     A: Archive + Drop + Send + 'static,
+    W: Answers + Drop,
 >(
     alloc: Global,
     rt: R,
@@ -50,11 +52,11 @@ fn mount_and_answer<
     frames: u32,
     running: Running<N>,
     gate: Arc<G>,
-    streams: Streams<I, O, C, A>,
-) -> Result<Result<Came<I, O, C, A>, NoImage>, StartRefusal>
+    streams: Streams<I, O, C, A, W>,
+) -> Result<Result<Came<I, O, C, A, W>, NoImage>, StartRefusal>
     requires { IsStarted N.ServiceParameters L.Link L.runs_on L.marks (arc_value board) link minor frames }
     ensures played { IfOk result (λ o. IfOk o (λ came.
-        IsLeftBy A.puts N.geometry N.opening (I.Read.remaining streams.input) (O.contents streams.output)
+        IsLeftBy A.puts W.fewest W.answers streams.answerer N.geometry N.opening (I.Read.remaining streams.input) (O.contents streams.output)
         (O.contents came.streams.output) streams.archive came.streams.archive came.answered came.image.items)) }
     ensures holds { OnOk result (IsMountedTruly L.truth N.geometry N.opening) }
     ensures refused { IfErr result (IsStopped N.opening frames) }
@@ -81,6 +83,7 @@ fn start_and_answer<
     O: Write + Drop,
     C: Clock + Drop,
     A: Archive + Drop + Send + 'static,
+    W: Answers + Drop,
 >(
     alloc: Global,
     rt: R,
@@ -90,11 +93,11 @@ fn start_and_answer<
     setup: &Setup,
     supply: Vec<D>,
     gate: Arc<G>,
-    streams: Streams<I, O, C, A>,
-) -> Result<Result<Came<I, O, C, A>, NoImage>, StartRefusal>
+    streams: Streams<I, O, C, A, W>,
+) -> Result<Result<Came<I, O, C, A, W>, NoImage>, StartRefusal>
     requires { IsAtHand N.ServiceParameters board seat setup.now (map D.state supply.items) prepared.media prepared.range }
     ensures played { IfOk result (λ o. HasRun N.opening.media setup.now (map D.state supply.items) (λ g v. IfOk o (λ came.
-        IsLeftBy A.puts g v (I.Read.remaining streams.input) (O.contents streams.output)
+        IsLeftBy A.puts W.fewest W.answers streams.answerer g v (I.Read.remaining streams.input) (O.contents streams.output)
         (O.contents came.streams.output) streams.archive came.streams.archive came.answered came.image.items))) }
     ensures refused { IfErr result (IsStopped N.opening setup.now.frames) }
 {
@@ -128,6 +131,7 @@ pub fn answer_messages<
     O: Write + Drop,
     C: Clock + Drop,
     A: Archive + Drop + Send + 'static,
+    W: Answers + Drop,
 >(
     alloc: Global,
     rt: R,
@@ -135,16 +139,16 @@ pub fn answer_messages<
     setup: &Setup,
     supply: Vec<D>,
     gate: Arc<G>,
-    streams: Streams<I, O, C, A>,
-) -> Result<Result<Came<I, O, C, A>, NoImage>, StartRefusal>
+    streams: Streams<I, O, C, A, W>,
+) -> Result<Result<Came<I, O, C, A, W>, NoImage>, StartRefusal>
     ensures refusal { IfErr result (IsNotStarted image.items setup.now (map D.state supply.items)) }
     ensures played { IfOk result (λ o. HasRun image.items setup.now (map D.state supply.items) (λ g v. IfOk o (λ came.
-        IsLeftBy A.puts g v (I.Read.remaining streams.input) (O.contents streams.output)
+        IsLeftBy A.puts W.fewest W.answers streams.answerer g v (I.Read.remaining streams.input) (O.contents streams.output)
         (O.contents came.streams.output) streams.archive came.streams.archive came.answered came.image.items))) }
 {
     let prepared = prepare(image, setup, &supply)?;
     let (board, seat) = Board::new(alloc)?;
-    start_and_answer::<Brand, R, D, G, I, O, C, A>(
+    start_and_answer::<Brand, R, D, G, I, O, C, A, W>(
         alloc, rt, board, seat, prepared, setup, supply, gate, streams,
     )
 }

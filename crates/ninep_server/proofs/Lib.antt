@@ -1,3 +1,4 @@
 pub mod Turns
 pub mod Following
 pub mod Bounds
+pub mod Exchanged

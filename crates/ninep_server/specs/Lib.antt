@@ -9,3 +9,4 @@ pub mod Listings
 pub mod Messages
 pub mod Progress
 pub mod Answering
+pub mod Exchanges

@@ -10,6 +10,7 @@ use fsck::{Verdict, check};
 use mount_service::archive::Archive;
 use mount_service::mount::{Ended, MountStatus, mount};
 use mount_service::program::Streams;
+use ninep_server::connection::Connection;
 use std::alloc::Global;
 use std::io;
 use std::sync::{Arc, Wait};
@@ -78,6 +79,7 @@ pub(crate) fn answers<R: Threads + Wait + Clock + Copy + Send + Sync + 'static>(
     let streams = Streams {
         input: asked.as_slice(),
         output: Vec::new(alloc),
+        answerer: Connection::new(alloc),
         clock: Fixed,
         archive: None::<Nowhere>,
         sync_every: 0,

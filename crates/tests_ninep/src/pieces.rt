@@ -3,6 +3,7 @@
 use crate::streams::{Fixed, Held, Idle, Interrupted, Narrow, Piecemeal, Standing, Timed};
 use message_stream::answering::{StreamRefusal, answer_all};
 use message_stream::framing::InputRefusal;
+use ninep_server::connection::Connection;
 use std::alloc::Global;
 use std::io::BufReader;
 use std::test::Fail;
@@ -22,7 +23,8 @@ fn ends(
 ) -> Result<(Result<(), StreamRefusal>, Vec<u8>), Fail> {
     let mut input = BufReader::with_capacity(alloc, 16, Piecemeal { bytes, piece })?;
     let mut output = Narrow::new(alloc, room);
-    let ended = answer_all(alloc, &mut input, &mut output, &Fixed, &mut Idle);
+    let mut answerer = Connection::new(alloc);
+    let ended = answer_all(alloc, &mut input, &mut output, &Fixed, &mut Idle, &mut answerer);
     Ok((ended, output.taken))
 }
 
@@ -124,7 +126,8 @@ fn reads_are_interrupted(rt: HostRuntime) -> Result<(), Fail> {
     };
     let mut input = BufReader::with_capacity(alloc, 16, interrupted)?;
     let mut output = Narrow::new(alloc, 1000);
-    let ended = answer_all(alloc, &mut input, &mut output, &Fixed, &mut Idle);
+    let mut answerer = Connection::new(alloc);
+    let ended = answer_all(alloc, &mut input, &mut output, &Fixed, &mut Idle, &mut answerer);
     is_whole(ended, output.taken.as_slice())
 }
 
@@ -134,7 +137,8 @@ fn answers_are_flushed(rt: HostRuntime) -> Result<(), Fail> {
     let alloc = rt.alloc();
     let mut input = ASKED;
     let mut output = Held::new(alloc);
-    let ended = answer_all(alloc, &mut input, &mut output, &Fixed, &mut Idle);
+    let mut answerer = Connection::new(alloc);
+    let ended = answer_all(alloc, &mut input, &mut output, &Fixed, &mut Idle, &mut answerer);
     is_whole(ended, output.flushed.as_slice())
 }
 
@@ -165,6 +169,7 @@ fn calls_have_the_time_of_the_clock(rt: HostRuntime) -> Result<(), Fail> {
             &mut output,
             &Standing(*told),
             &mut sessions,
+            &mut Connection::new(alloc),
         );
         if ended != Ok(()) || sessions.now != Some(*now) {
             return Err(Fail::new(format_args!("{told:?}")));

@@ -1,4 +1,4 @@
-//! The words that `mfs9p` takes, and what they say.
+//! The words that `mfs9p` and `mfsfuse` take, and what they say.
 
 use crate::play_words::{frames, image, minor, model, number, out};
 use clap::{Arg, ArgMatches, Command, Error};
@@ -10,8 +10,8 @@ const MOST_SPARES: u64 = 4095;
 /// The most seconds between two writes of changes: a day (own).
 const MOST_SECONDS: u64 = 86_400;
 
-/// What the help says of mounting.
-const MOUNTING: &str =
+/// What the help of `mfs9p` says of mounting.
+const BY_NINEP: &str =
     "Messages of 9P2000.L are read from standard input, and answered on standard output, until the input ends. With socat, and as root:
 
 socat -t 60 TCP-LISTEN:5640,bind=127.0.0.1,reuseaddr EXEC:\"mfs9p v.img --out v.img\"
@@ -19,15 +19,62 @@ mount -t 9p -o trans=tcp,port=5640,version=9p2000.L,access=any,msize=65536 127.0
 
 A line `started 1.G` on standard error tells of each driver that takes the place of an earlier one.";
 
-/// The words that `mfs9p` knows.
-fn command<'a>(alloc: Global) -> Result<Command<'a>, AllocError> {
+/// What the help of `mfsfuse` says of mounting.
+const BY_FUSE: &str =
+    "Standard input and standard output are both the descriptor of /dev/fuse that is mounted: messages of FUSE are read from it, and
+answered on it, until the volume is unmounted. The script `mount` mounts, starts the program so, and needs no root:
+
+bin/mount v.img folder
+bin/umount folder
+
+A line `started 1.G` on standard error tells of each driver that takes the place of an earlier one.";
+
+/// A program that serves a volume to Linux, so that it is mounted.
+#[derive(Clone, Copy, Debug, PartialEq, Eq)]
+pub enum MountProgram {
+    /// `mfs9p`, by 9P.
+    Ninep,
+    /// `mfsfuse`, by FUSE.
+    Fuse,
+}
+
+impl MountProgram {
+    /// Its name.
+    fn name(self) -> &'static str {
+        match self {
+            MountProgram::Ninep => "mfs9p",
+            MountProgram::Fuse => "mfsfuse",
+        }
+    }
+
+    /// What it is for.
+    fn about(self) -> &'static str {
+        match self {
+            MountProgram::Ninep => {
+                "Serves the image of a volume by 9P, so that Linux mounts it, while its drivers may die"
+            }
+            MountProgram::Fuse => {
+                "Serves the image of a volume by FUSE, so that Linux mounts it, while its drivers may die"
+            }
+        }
+    }
+
+    /// How a volume is mounted by it.
+    fn mounting(self) -> &'static str {
+        match self {
+            MountProgram::Ninep => BY_NINEP,
+            MountProgram::Fuse => BY_FUSE,
+        }
+    }
+}
+
+/// The words that the program knows.
+fn command<'a>(alloc: Global, program: MountProgram) -> Result<Command<'a>, AllocError> {
     let file = "The file of a MINIX 3 volume; it is read only, unless --out names it";
-    Command::new(alloc, "mfs9p")
+    Command::new(alloc, program.name())
         .version("0.1.0")
-        .about(
-            "Serves the image of a volume by 9P, so that Linux mounts it, while its drivers may die",
-        )
-        .after_help(MOUNTING)
+        .about(program.about())
+        .after_help(program.mounting())
         .arg(image(alloc, file))?
         .arg(out(
             alloc,
@@ -64,7 +111,7 @@ fn sync_every<'a>(alloc: Global) -> Arg<'a> {
 
 /// What the words say.
 #[derive(Drop)]
-pub struct Mfs9pWords<'a> {
+pub struct MountWords<'a> {
     /// The image's file.
     pub image: &'a str,
     /// The file that the image is written to at each fsync and in the end, if one is named.
@@ -83,10 +130,10 @@ pub struct Mfs9pWords<'a> {
     pub sync_every: u32,
 }
 
-impl<'a> Mfs9pWords<'a> {
+impl<'a> MountWords<'a> {
     /// What words that were taken say.
-    fn of(matches: &ArgMatches<'a>) -> Mfs9pWords<'a> {
-        Mfs9pWords {
+    fn of(matches: &ArgMatches<'a>) -> MountWords<'a> {
+        MountWords {
             image: matches.get_str("IMAGE").unwrap_or(""),
             out: matches.get_str("out"),
             minor: matches.get_one::<u8>("minor").unwrap_or(0),
@@ -99,8 +146,12 @@ impl<'a> Mfs9pWords<'a> {
     }
 }
 
-/// What the words of a line say, or why they aren't taken.
-pub fn read<'a>(alloc: Global, line: &'a [String]) -> Result<Mfs9pWords<'a>, Error> {
-    let matches = command(alloc)?.try_get_matches_from(line)?;
-    Ok(Mfs9pWords::of(&matches))
+/// What the words of a line say to this program, or why they aren't taken.
+pub fn read<'a>(
+    alloc: Global,
+    program: MountProgram,
+    line: &'a [String],
+) -> Result<MountWords<'a>, Error> {
+    let matches = command(alloc, program)?.try_get_matches_from(line)?;
+    Ok(MountWords::of(&matches))
 }

@@ -1,6 +1,6 @@
 //! The image that a mount keeps: what it begins with, and what is left of it.
 
-use host::play_words::mfs9p::Mfs9pWords;
+use host::play_words::mount::MountWords;
 use host::whole_file::read;
 use image_file::Kept;
 use locked_image::FilesRefusal;
@@ -35,7 +35,7 @@ pub(crate) fn refused(rt: HostRuntime, refusal: &FilesRefusal<'_>) -> MountStatu
 }
 
 /// The image that the words name, with what its log asks for, and without files that have no name; nothing is kept.
-pub(crate) fn begin(rt: HostRuntime, words: &Mfs9pWords<'_>) -> Result<Begun, MountStatus> {
+pub(crate) fn begin(rt: HostRuntime, words: &MountWords<'_>) -> Result<Begun, MountStatus> {
     match read_image(&rt, words.image) {
         Ok(image) => Ok(Begun {
             image: start_on(rt.alloc(), image, words.minor, &mut rt.stderr()),
@@ -49,7 +49,7 @@ pub(crate) fn begin(rt: HostRuntime, words: &Mfs9pWords<'_>) -> Result<Begun, Mo
 /// that one is clean; one that isn't is served by no mount, and the locked one stays.
 pub(crate) fn begin_to_keep(
     rt: HostRuntime,
-    words: &Mfs9pWords<'_>,
+    words: &MountWords<'_>,
     locked: &mut LockedImage,
     name: &str,
 ) -> Result<Begun, MountStatus> {
@@ -68,7 +68,7 @@ pub(crate) fn begin_to_keep(
 /// then on changes the same image in both.
 fn begin_in_place(
     rt: HostRuntime,
-    words: &Mfs9pWords<'_>,
+    words: &MountWords<'_>,
     locked: &LockedImage,
     name: &str,
 ) -> Result<Begun, MountStatus> {
@@ -86,7 +86,7 @@ fn begin_in_place(
 }
 
 /// Whether files without a name were given back in an image, as a line on standard error says.
-fn gives_back(rt: HostRuntime, words: &Mfs9pWords<'_>, image: &mut [u8]) -> bool {
+fn gives_back(rt: HostRuntime, words: &MountWords<'_>, image: &mut [u8]) -> bool {
     match release(rt.alloc(), image, words.minor) {
         Ok(count) if count > 0 => {
             tell(rt.alloc(), &mut rt.stderr(), &Released { count });
@@ -125,7 +125,7 @@ fn kept_copy(
 
 /// Whether a mount may serve an image: the check finds its volume clean. Where nothing can be said of it, a line on standard error says why,
 /// and that is how the mount ended.
-fn is_served(rt: HostRuntime, words: &Mfs9pWords<'_>, image: &[u8]) -> Result<bool, MountStatus> {
+fn is_served(rt: HostRuntime, words: &MountWords<'_>, image: &[u8]) -> Result<bool, MountStatus> {
     match verdict_on(rt, words, image, &mut rt.stderr()) {
         Verified::IsClean => Ok(true),
         Verified::HasFinding | Verified::HasWrongLinks => Ok(false),
@@ -136,7 +136,7 @@ fn is_served(rt: HostRuntime, words: &Mfs9pWords<'_>, image: &[u8]) -> Result<bo
 /// What the check says of the volume in an image; where it says nothing, why.
 fn verdict_on<E: io::Write>(
     rt: HostRuntime,
-    words: &Mfs9pWords<'_>,
+    words: &MountWords<'_>,
     image: &[u8],
     err: &mut E,
 ) -> Verified {
@@ -154,10 +154,10 @@ fn verdict_on<E: io::Write>(
 /// How a mount ended that was to keep the image of this name, once that is the image that is left. Where not all went well, and the image
 /// that is left breaks a rule, it takes the place of none: it goes to the file of this name and `.given-up`, as a line on standard error
 /// says, and the image of this name is that of the last sync.
-pub(crate) fn finished<I: Drop, O: Drop, C: Drop, E: io::Write>(
+pub(crate) fn finished<I: Drop, O: Drop, C: Drop, W: Drop, E: io::Write>(
     rt: HostRuntime,
-    words: &Mfs9pWords<'_>,
-    mounted: Ended<I, O, C, KeptImage>,
+    words: &MountWords<'_>,
+    mounted: Ended<I, O, C, KeptImage, W>,
     name: &str,
     err: &mut E,
 ) -> MountStatus {
