@@ -69,12 +69,12 @@ impl Buffers {
         answerer: &mut W,
     ) -> Result<bool, StreamRefusal>
         ensures answered { IfOk result (λ some. OnTrue some
-            (IsAnswered W.fewest (by_both (W.answers S.called S.entered S.left)) (I.remaining input.old) (I.remaining input.new)
+            (IsAnswered W.fewest (by_both (W.answers S S.called S.entered S.left)) (I.remaining input.old) (I.remaining input.new)
             (O.contents output.old) (O.contents output.new) (sessions.old, answerer.old) (sessions.new, answerer.new))) }
         ensures ended { IfOk result (λ some. OnFalse some (IsAtEnd (I.remaining input.old))) }
         ensures silent { IfOk result (λ some. OnFalse some ((output.new ≡ output.old) × (sessions.new ≡ sessions.old)
             × (answerer.new ≡ answerer.old))) }
-        ensures stopped { IfErr result (λ e. Stops W.fewest (by_both (W.answers S.called S.entered S.left)) e (I.remaining input.old)
+        ensures stopped { IfErr result (λ e. Stops W.fewest (by_both (W.answers S S.called S.entered S.left)) e (I.remaining input.old)
             (I.remaining input.new) (O.contents output.old) (O.contents output.new) (sessions.old, answerer.old)
             (sessions.new, answerer.new)) }
     {
@@ -93,9 +93,9 @@ impl Buffers {
         sessions: &mut S,
         answerer: &mut W,
     ) -> Result<(), StreamRefusal>
-        ensures answered { OnOk result (Responds (by_both (W.answers S.called S.entered S.left)) self.old.message.items
+        ensures answered { OnOk result (Responds (by_both (W.answers S S.called S.entered S.left)) self.old.message.items
             (O.contents output.old) (O.contents output.new) (sessions.old, answerer.old) (sessions.new, answerer.new)) }
-        ensures refused { IfErr result (λ e. RespondsNot (by_both (W.answers S.called S.entered S.left)) e self.old.message.items
+        ensures refused { IfErr result (λ e. RespondsNot (by_both (W.answers S S.called S.entered S.left)) e self.old.message.items
             (O.contents output.old) (O.contents output.new) (sessions.old, answerer.old) (sessions.new, answerer.new)) }
     {
         self.answer.clear();
@@ -138,9 +138,9 @@ pub fn answer_all<I: BufRead, O: Write, C: Clock, S: Sessions, W: Answers>(
     sessions: &mut S,
     answerer: &mut W,
 ) -> Result<(), StreamRefusal>
-    ensures whole { OnOk result (IsAnsweredAll W.fewest (by_both (W.answers S.called S.entered S.left)) (I.remaining input.old)
+    ensures whole { OnOk result (IsAnsweredAll W.fewest (by_both (W.answers S S.called S.entered S.left)) (I.remaining input.old)
         (O.contents output.old) (O.contents output.new) (sessions.old, answerer.old) sessions.new) }
-    ensures stopped { IfErr result (λ e. IsStopped W.fewest (by_both (W.answers S.called S.entered S.left)) e (I.remaining input.old)
+    ensures stopped { IfErr result (λ e. IsStopped W.fewest (by_both (W.answers S S.called S.entered S.left)) e (I.remaining input.old)
         (I.remaining input.new) (O.contents output.old) (O.contents output.new) (sessions.old, answerer.old) sessions.new) }
 {
     let mut buffers = Buffers::new(alloc);

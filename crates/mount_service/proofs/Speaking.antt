@@ -9,9 +9,9 @@ use Rattle.mount_service.specs.Spoken.{Puts, Speaks, IsSpoken, MayAnswer, IsEnte
 
 pub spoken_ok : {A W E : Type 0} (result : Result (Unit {0}) E) (puts : Puts A) (fewest : ℕ) (speaks : Speaks W) (first : W) (g : Geometry)
     (v : Opening) (stream old new : Option (List ℕ)) (s t : Users) (kept : Bool) → s ≡ users [] kept
-    → OnOk result (IsAnsweredAll fewest (by_both (speaks (MayAnswer puts g v) IsEntered HaveLeft)) stream old new (s, first) t)
+    → OnOk result (IsAnsweredAll fewest (by_both (speaks Users (MayAnswer puts g v) IsEntered HaveLeft)) stream old new (s, first) t)
     → OnOk result (IsSpoken puts fewest speaks first g v stream old new kept)
 spoken_ok (Ok done) puts fewest speaks first g v stream old new s t kept begun it =
-    (t, subst (λ (u : Users). IsAnsweredAll fewest (by_both (speaks (MayAnswer puts g v) IsEntered HaveLeft)) stream old new (u, first) t)
+    (t, subst (λ (u : Users). IsAnsweredAll fewest (by_both (speaks Users (MayAnswer puts g v) IsEntered HaveLeft)) stream old new (u, first) t)
     begun it)
 spoken_ok (Err e) puts fewest speaks first g v stream old new s t kept begun it = tt

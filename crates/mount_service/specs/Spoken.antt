@@ -123,15 +123,14 @@ IsEntered s uid gid (Err e) t = t ≡ s
 abbrev pub HaveLeft : Users → Users → Type 0
 HaveLeft s t = t ≡ users [] s.kept
 
--- how a message may be answered, by what those sessions may answer: the message, its answer, and the sessions and the answerer before and
--- after it
+-- how a message may be answered, by what sessions may answer: the message, its answer, and the sessions and the answerer before and after it
 abbrev pub Speaks : Type 0 → Type 1
-Speaks W = (Users → ℕ → ℕ → Call → Outcome → Users → Type 0) → (Users → ℕ → ℕ → Result ℕ EnterRefusal → Users → Type 0)
-    → (Users → Users → Type 0) → List ℕ → List ℕ → Users → W → Users → W → Type 0
+Speaks W = (S : Type 0) → (S → ℕ → ℕ → Call → Outcome → S → Type 0) → (S → ℕ → ℕ → Result ℕ EnterRefusal → S → Type 0)
+    → (S → S → Type 0) → List ℕ → List ℕ → S → W → S → W → Type 0
 
 -- A stream was messages, one after the other, and an answer to each went out, in the same order: as the answerer answers it by what was
 -- asked of the mount's sessions, from none on, and by what the answerer knows, from its first state on.
 abbrev pub IsSpoken : {A W : Type 0} → Puts A → ℕ → Speaks W → W → Geometry → Opening → Option (List ℕ) → Option (List ℕ)
     → Option (List ℕ) → Bool → Type 0
 IsSpoken puts fewest speaks first g v stream old new kept = (last : Users)
-    × IsAnsweredAll fewest (by_both (speaks (MayAnswer puts g v) IsEntered HaveLeft)) stream old new (users [] kept, first) last
+    × IsAnsweredAll fewest (by_both (speaks Users (MayAnswer puts g v) IsEntered HaveLeft)) stream old new (users [] kept, first) last

@@ -75,7 +75,8 @@ pub(crate) fn answer_on<
     streams: Streams<I, O, C, A, W>,
 ) -> Result<Result<Came<I, O, C, A, W>, NoImage>, AllocError>
     ensures { IfOk result (λ o. IfOk o (λ came. IsLeftBy A.puts W.fewest W.answers streams.answerer N.geometry N.opening
-        (I.Read.remaining streams.input) (O.contents streams.output) (O.contents came.streams.output) streams.archive came.streams.archive came.answered came.image.items)) }
+        (I.Read.remaining streams.input) (O.contents streams.output) (O.contents came.streams.output) streams.archive
+        came.streams.archive came.answered came.image.items)) }
 {
     let mut streams = streams;
     match streams.archive.take() {
@@ -115,7 +116,8 @@ fn answer_and_keep<
 ) -> Result<Result<Came<I, O, C, A, W>, NoImage>, AllocError>
     requires { F.first ≡ Some archive }
     ensures { IfOk result (λ o. IfOk o (λ came. IsLeftBy A.puts W.fewest W.answers streams.answerer N.geometry N.opening
-        (I.Read.remaining streams.input) (O.contents streams.output) (O.contents came.streams.output) (Some archive) came.streams.archive came.answered came.image.items)) }
+        (I.Read.remaining streams.input) (O.contents streams.output) (O.contents came.streams.output) (Some archive)
+        came.streams.archive came.answered came.image.items)) }
 {
     let mut streams = streams;
     let shared = SharedArchive::<N, R, F, A>::new(alloc, rt, service.media()?, archive);
@@ -138,7 +140,6 @@ fn keeper_of<
     S: FileServer<L> + Send + 'static,
     F: Begins<A> + Send + Sync + 'static,
     A: Archive + Drop + Send + 'static,
-    W: Answers + Drop,
 >(
     alloc: Global,
     rt: &R,

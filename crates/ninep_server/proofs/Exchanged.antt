@@ -15,7 +15,7 @@ exchanged : {S : Type 0} (called : S → ℕ → ℕ → Call → Outcome → S 
     (message from answer : List ℕ) (s t : S) (k l : Known) → from ≡ [] → len ≡ 0
     → Answers (MayHear called entered left now) (tag_in message) l.message_size s t from answer
     → Says (MayHear called entered left now) now message s k t l len capacity from answer
-    → IsExchanged called entered left message answer s k t l
+    → IsExchanged S called entered left message answer s k t l
 exchanged called entered left now capacity len message from answer s t k l none zero answered said =
     let may = MayHear called entered left now in
     let P : List ℕ → ℕ → Type 0 = λ f n.
@@ -28,7 +28,7 @@ pub exchanged_ok : {S A E : Type 0} (called : S → ℕ → ℕ → Call → Out
     (message from answer : List ℕ) (s t : S) (k l : Known) (r : Result A E) → from ≡ [] → len ≡ 0
     → OnOk r (Answers (MayHear called entered left now) (tag_in message) l.message_size s t from answer)
     → OnOk r (Says (MayHear called entered left now) now message s k t l len capacity from answer)
-    → OnOk r (IsExchanged called entered left message answer s k t l)
+    → OnOk r (IsExchanged S called entered left message answer s k t l)
 exchanged_ok called entered left now capacity len message from answer s t k l (Ok a) none zero answered said =
     exchanged called entered left now capacity len message from answer s t k l none zero answered said
 exchanged_ok called entered left now capacity len message from answer s t k l (Err e) none zero answered said = tt

@@ -1,7 +1,8 @@
 //! A connection, which answers messages.
 
 ghost use Rattle.std.specs.Prelude.{◌≡◌, ◌<◌, ◌+◌, ℕ, suc, [], length, vec_len, vec_capacity, OnOk, OnErr, ◌↔◌, Err};
-ghost use Rattle.ninep_fids.specs.Talks.{MayHear, HasAsked};
+ghost use Rattle.talks.specs.Talks.{MayHear};
+ghost use Rattle.ninep_fids.specs.Asked.{HasAsked};
 ghost use Rattle.ninep_fids.specs.Written.{tag_in};
 ghost use Rattle.ninep_fids.specs.Knowledge.{known_of};
 ghost use Rattle.ninep_fids.specs.Plans.{Follows};
@@ -16,13 +17,17 @@ use errno::Errno;
 use ninep::reading::read;
 use ninep::request::Request;
 use ninep_fids::answer::{NinepAnswer, Said};
-use ninep_fids::ask::Ask;
-use ninep_fids::end::{End, tag_of};
+use ninep_fids::faults::refusal_of;
 use ninep_fids::knows::{Knows, MAX_MESSAGE};
-use ninep_fids::refused::{Refused, refusal_of};
 use ninep_fids::send::send;
-use ninep_fids::sessions::{Sessions, heard};
+use ninep_fids::tag::tag_of;
 use std::alloc::Global;
+use std::marker::Model;
+use talks::answers::Answers as Answering;
+use talks::ask::Ask;
+use talks::end::End;
+use talks::refused::Refused;
+use talks::sessions::{Sessions, heard};
 use tree::Call;
 
 /// The most that the answer to one message asks of the sessions: a look at each name of a walk is the most that any asks.
@@ -32,6 +37,14 @@ const MOST_ASKED: usize = 16;
 #[derive(Drop)]
 pub struct Connection {
     knows: Knows,
+}
+
+impl Model for Connection {
+    ghost use Rattle.ninep_fids.specs.Knowledge.{Known};
+
+    ghost Value = { Known };
+
+    ghost view = { λ c. known_of c.knows };
 }
 
 /// Asks what a turn waits for, and goes on from what is answered.
@@ -98,11 +111,12 @@ fn said_to<S: Sessions>(
 }
 
 impl Connection {
-    ghost use Rattle.ninep_server.specs.Connections.{Answers, Says, limit_of, known};
+    ghost use Rattle.ninep_server.specs.Connections.{Answers, Says};
+    ghost use Rattle.ninep_server.specs.Exchanges.{nobody};
 
     /// A connection of no user, whose messages have at most 65560 bytes until a version is settled.
     pub fn new(alloc: Global) -> Connection
-        ensures { known result ≡ record { message_size = 65560; users = []; fids = [] } }
+        ensures { result ≡ nobody }
     {
         Connection {
             knows: Knows::new(alloc),
@@ -111,7 +125,7 @@ impl Connection {
 
     /// The most bytes of a message.
     pub fn message_size(&self) -> u32
-        ensures { result ≡ limit_of self.now }
+        ensures { result ≡ self.now.message_size }
     {
         self.knows.message_size
     }
@@ -128,17 +142,46 @@ impl Connection {
         bytes: &[u8],
         out: &mut Vec<u8>,
     ) -> Result<(), End>
-        ensures answered { OnOk result (Answers (MayHear S.called S.entered S.left now) (tag_in bytes.now) (limit_of self.new)
+        ensures answered { OnOk result (Answers (MayHear S.called S.entered S.left now) (tag_in bytes.now) self.new.message_size
             sessions.old sessions.new out.old.items out.new.items) }
-        ensures said { OnOk result (Says (MayHear S.called S.entered S.left now) now bytes.now sessions.old (known self.old) sessions.new
-            (known self.new) (vec_len out.old) (vec_capacity out.old) out.old.items out.new.items) }
+        ensures said { OnOk result (Says (MayHear S.called S.entered S.left now) now bytes.now sessions.old self.old sessions.new
+            self.new (vec_len out.old) (vec_capacity out.old) out.old.items out.new.items) }
         ensures short { (result ≡ Err End.NoMessage) ↔ (length bytes.now < 7) }
         ensures full { result ≡ Err End.OutOfMemory → vec_capacity out.old < vec_len out.old + 65560 }
-        ensures none { OnErr result ((sessions.new ≡ sessions.old) × (known self.new ≡ known self.old) × (out.new.items ≡ out.old.items)) }
+        ensures none { OnErr result ((sessions.new ≡ sessions.old) × (self.new ≡ self.old) × (out.new.items ≡ out.old.items)) }
     {
         let tag = tag_of(bytes)?;
         let has_room = out.reserve(MAX_MESSAGE as usize).is_ok();
         let said = said_to(&mut self.knows, sessions, now, bytes, has_room);
         send(out, self.knows.message_size, tag, &said)
+    }
+}
+
+/// The fewest bytes of a message: its size, its type and its tag (the protocol's).
+const LEAST: u32 = 7;
+
+impl Answering for Connection {
+    ghost use Rattle.ninep_server.specs.Exchanges.{IsExchanged};
+
+    ghost answers = { IsExchanged };
+
+    ghost fewest = { 7 };
+
+    fn least(&self) -> u32 {
+        LEAST
+    }
+
+    fn most(&self) -> u32 {
+        self.message_size()
+    }
+
+    fn answer<S: Sessions>(
+        &mut self,
+        sessions: &mut S,
+        now: u32,
+        bytes: &[u8],
+        out: &mut Vec<u8>,
+    ) -> Result<(), End> {
+        Connection::answer(self, sessions, now, bytes, out)
     }
 }

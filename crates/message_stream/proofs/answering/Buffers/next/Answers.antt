@@ -7,7 +7,7 @@ use Rattle.message_stream.proofs.answering.Buffers.next.Goals as goal
 
 pub returns-clause-answered : goal.returns-clause-answered
 returns-clause-answered g c =
-    let R = by_both (g.W.Answers.answers g.S.Sessions.called g.S.Sessions.entered g.S.Sessions.left) in
+    let R = by_both (g.W.Answers.answers _ g.S.Sessions.called g.S.Sessions.entered g.S.Sessions.left) in
     let few = g.W.Answers.fewest in
     let message = c.read.new.self.message.items in
     is_answered few R _ _ _ _ message (c.args.sessions.now, c.args.answerer.now) (c.respond.new.sessions, c.respond.new.answerer)

@@ -5,7 +5,7 @@ use Rattle.message_stream.proofs.answering.Buffers.respond.Goals as goal
 
 pub returns-in-Ok-clause-answered : goal.returns-in-Ok-clause-answered
 returns-in-Ok-clause-answered g c =
-    let R = by_both (g.W.Answers.answers g.S.Sessions.called g.S.Sessions.entered g.S.Sessions.left) in
+    let R = by_both (g.W.Answers.answers _ g.S.Sessions.called g.S.Sessions.entered g.S.Sessions.left) in
     let s = (c.args.sessions.now, c.args.answerer.now) in
     let t = (c.answer.new.sessions, c.answer.new.self) in
     responds R c.write.result c.args.self.now.message.items c.as_slice.result.now _ _ s t c.write.ensures.ok
@@ -14,7 +14,7 @@ returns-in-Ok-clause-answered g c =
 
 pub returns-in-Ok-clause-refused : goal.returns-in-Ok-clause-refused
 returns-in-Ok-clause-refused g c =
-    let R = by_both (g.W.Answers.answers g.S.Sessions.called g.S.Sessions.entered g.S.Sessions.left) in
+    let R = by_both (g.W.Answers.answers _ g.S.Sessions.called g.S.Sessions.entered g.S.Sessions.left) in
     let s = (c.args.sessions.now, c.args.answerer.now) in
     let t = (c.answer.new.sessions, c.answer.new.self) in
     responds_not R c.write.result c.args.self.now.message.items c.as_slice.result.now _ _ s t c.write.ensures.err
