@@ -1,4 +1,7 @@
 //! Attributes: what is told of a node, and what is changed.
+#![tactic(auto, using(crate::proofs::Asking::goes_on, crate::proofs::Asking::stays))]
+
+ghost use Rattle.fuse_server.specs.Asking.{Talked};
 
 use crate::mount::Mount;
 use crate::said::FuseAnswer;
@@ -79,7 +82,9 @@ impl Mount {
         sessions: &mut S,
         now: u32,
         node: u64,
-    ) -> Result<Attributes, Refused> {
+    ) -> Result<Attributes, Refused>
+        ensures { Talked S.called S.entered S.left now sessions.old sessions.new }
+    {
         let known = self.nodes.get(node)?;
         let inode = known.inode;
         if let Some(descriptor) = known.descriptor {
@@ -100,7 +105,9 @@ impl Mount {
         sessions: &mut S,
         now: u32,
         node: u64,
-    ) -> Result<FuseAnswer, Refused> {
+    ) -> Result<FuseAnswer, Refused>
+        ensures { Talked S.called S.entered S.left now sessions.old sessions.new }
+    {
         let attributes = self.attributes(sessions, now, node)?;
         Ok(answer_of(&attributes))
     }
@@ -112,7 +119,9 @@ impl Mount {
         now: u32,
         path: &[u8],
         changes: Changes,
-    ) -> Result<(), Refused> {
+    ) -> Result<(), Refused>
+        ensures { Talked S.called S.entered S.left now sessions.old sessions.new }
+    {
         let mut left = changes;
         'changes: for _made in 0..MOST_CHANGES {
             let Some((change, more)) = left.split_first() else {
@@ -140,7 +149,9 @@ impl Mount {
         now: u32,
         node: u64,
         changes: Changes,
-    ) -> Result<FuseAnswer, Refused> {
+    ) -> Result<FuseAnswer, Refused>
+        ensures { Talked S.called S.entered S.left now sessions.old sessions.new }
+    {
         let path = self.nodes.path(node)?;
         self.change(sessions, now, &path, changes)?;
         self.getattr(sessions, now, node)
@@ -153,7 +164,9 @@ impl Mount {
         now: u32,
         node: u64,
         wanted: &Wanted,
-    ) -> Result<FuseAnswer, Refused> {
+    ) -> Result<FuseAnswer, Refused>
+        ensures { Talked S.called S.entered S.left now sessions.old sessions.new }
+    {
         let was = self.attributes(sessions, now, node)?;
         if kind_of(was.mode) == NodeKind::Symlink {
             return self.set_link(wanted, &was);
@@ -168,14 +181,18 @@ impl Mount {
         sessions: &mut S,
         now: u32,
         node: u64,
-    ) -> Result<FuseAnswer, Refused> {
+    ) -> Result<FuseAnswer, Refused>
+        ensures { Talked S.called S.entered S.left now sessions.old sessions.new }
+    {
         let path = self.nodes.path(node)?;
         let target = self.ask(sessions, now, Call::Readlink { path: &path })?.target()?;
         Ok(FuseAnswer::Bytes(bytes_of(&target).to_vec(self.alloc)?))
     }
 
     /// The room of the volume.
-    fn space<S: Sessions>(&mut self, sessions: &mut S, now: u32) -> Result<Statfs, Refused> {
+    fn space<S: Sessions>(&mut self, sessions: &mut S, now: u32) -> Result<Statfs, Refused>
+        ensures { Talked S.called S.entered S.left now sessions.old sessions.new }
+    {
         self.ask(sessions, now, Call::Statfs)?.space()
     }
 
@@ -184,7 +201,9 @@ impl Mount {
         &mut self,
         sessions: &mut S,
         now: u32,
-    ) -> Result<FuseAnswer, Refused> {
+    ) -> Result<FuseAnswer, Refused>
+        ensures { Talked S.called S.entered S.left now sessions.old sessions.new }
+    {
         let room = self.space(sessions, now)?;
         Ok(FuseAnswer::Statfs(room_of(&room)))
     }

@@ -1,5 +1,8 @@
 //! Descriptors: one for a file, which all its handles share. Where the server has no more, one is closed whose file has a name, by which it
 //! is opened again when it is used.
+#![tactic(auto, using(crate::proofs::Asking::goes_on, crate::proofs::Asking::stays))]
+
+ghost use Rattle.fuse_server.specs.Asking.{Talked};
 
 use crate::mount::Mount;
 use crate::talk::calling;
@@ -31,7 +34,9 @@ pub(crate) struct Opening<'a> {
 }
 
 /// Closes a descriptor.
-pub(crate) fn close<S: Sessions>(sessions: &mut S, now: u32, descriptor: Descriptor) {
+pub(crate) fn close<S: Sessions>(sessions: &mut S, now: u32, descriptor: Descriptor)
+    ensures { Talked S.called S.entered S.left now sessions.old sessions.new }
+{
     let call = Call::Close { fd: descriptor.fd };
     let _ = calling(sessions, now, descriptor.session, call);
 }
@@ -42,7 +47,9 @@ fn open_by<S: Sessions>(
     now: u32,
     session: u8,
     opening: Opening<'_>,
-) -> Result<Descriptor, Refused> {
+) -> Result<Descriptor, Refused>
+    ensures { Talked S.called S.entered S.left now sessions.old sessions.new }
+{
     let call = Call::Open {
         path: opening.path,
         flags: OpenFlags::from_bits_retain(opening.flags),
@@ -69,7 +76,9 @@ impl Mount {
         sessions: &mut S,
         now: u32,
         opening: Opening<'_>,
-    ) -> Result<Descriptor, Refused> {
+    ) -> Result<Descriptor, Refused>
+        ensures { Talked S.called S.entered S.left now sessions.old sessions.new }
+    {
         'seats: for at in 0..MOST_SEATS {
             let session = self.session(sessions, now, at)?;
             let opened = open_by(sessions, now, session, opening);
@@ -86,7 +95,9 @@ impl Mount {
         sessions: &mut S,
         now: u32,
         but: u64,
-    ) -> Result<(), Refused> {
+    ) -> Result<(), Refused>
+        ensures { Talked S.called S.entered S.left now sessions.old sessions.new }
+    {
         let Some((node, descriptor)) = self.nodes.spare(but) else {
             return Err(Refused::By(Errno::ENFILE));
         };
@@ -102,7 +113,9 @@ impl Mount {
         now: u32,
         opening: Opening<'_>,
         but: u64,
-    ) -> Result<Descriptor, Refused> {
+    ) -> Result<Descriptor, Refused>
+        ensures { Talked S.called S.entered S.left now sessions.old sessions.new }
+    {
         let opened = self.open_somewhere(sessions, now, opening);
         if !are_full(&opened) {
             return opened;
@@ -118,7 +131,9 @@ impl Mount {
         now: u32,
         inode: u16,
         descriptor: Descriptor,
-    ) -> Result<(), Refused> {
+    ) -> Result<(), Refused>
+        ensures { Talked S.called S.entered S.left now sessions.old sessions.new }
+    {
         let call = Call::Fstat { fd: descriptor.fd };
         let found = calling(sessions, now, descriptor.session, call).attributes();
         if let Ok(attributes) = &found {
@@ -136,7 +151,9 @@ impl Mount {
         sessions: &mut S,
         now: u32,
         node: u64,
-    ) -> Result<Descriptor, Refused> {
+    ) -> Result<Descriptor, Refused>
+        ensures { Talked S.called S.entered S.left now sessions.old sessions.new }
+    {
         let inode = self.nodes.get(node)?.inode;
         let path = self.nodes.path(node)?;
         let opening = Opening {
@@ -155,7 +172,9 @@ impl Mount {
         sessions: &mut S,
         now: u32,
         node: u64,
-    ) -> Result<Descriptor, Refused> {
+    ) -> Result<Descriptor, Refused>
+        ensures { Talked S.called S.entered S.left now sessions.old sessions.new }
+    {
         if let Some(descriptor) = self.nodes.get(node)?.descriptor {
             return Ok(descriptor);
         }
@@ -170,7 +189,9 @@ impl Mount {
         sessions: &mut S,
         now: u32,
         inode: u16,
-    ) -> Result<(), Refused> {
+    ) -> Result<(), Refused>
+        ensures { Talked S.called S.entered S.left now sessions.old sessions.new }
+    {
         let Some(node) = self.nodes.of(inode) else {
             return Ok(());
         };
@@ -181,7 +202,9 @@ impl Mount {
     }
 
     /// A node has a handle less; behind the last one its descriptor is closed.
-    pub(crate) fn let_go<S: Sessions>(&mut self, sessions: &mut S, now: u32, node: u64) {
+    pub(crate) fn let_go<S: Sessions>(&mut self, sessions: &mut S, now: u32, node: u64)
+        ensures { Talked S.called S.entered S.left now sessions.old sessions.new }
+    {
         if let Some(descriptor) = self.nodes.closed(node) {
             close(sessions, now, descriptor);
         }

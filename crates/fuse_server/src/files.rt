@@ -1,4 +1,10 @@
 //! Open files: what is read, what is written, and what reaches the disk.
+#![tactic(auto, using(crate::proofs::Asking::goes_on, crate::proofs::Asking::stays))]
+
+ghost use Rattle.std.specs.Prelude.{◌≡◌, ◌≤◌};
+ghost use Rattle.talks.specs.Talks.{MayHear, Asked};
+ghost use Rattle.fuse_server.specs.Asking.{Talked};
+ghost use Rattle.fuse_server.specs.Answering.{IsOfSync};
 
 use crate::mount::Mount;
 use crate::said::{FuseAnswer, Said};
@@ -46,7 +52,9 @@ fn seek<S: Sessions>(
     now: u32,
     descriptor: Descriptor,
     offset: i64,
-) -> Result<(), Refused> {
+) -> Result<(), Refused>
+    ensures { Talked S.called S.entered S.left now sessions.old sessions.new }
+{
     let call = Call::Seek {
         fd: descriptor.fd,
         whence: Whence::Set,
@@ -63,7 +71,9 @@ fn read_at<S: Sessions>(
     descriptor: Descriptor,
     offset: i64,
     count: u32,
-) -> Result<Vec<u8>, Refused> {
+) -> Result<Vec<u8>, Refused>
+    ensures { Talked S.called S.entered S.left now sessions.old sessions.new }
+{
     seek(sessions, now, descriptor, offset)?;
     let call = Call::Read {
         fd: descriptor.fd,
@@ -79,7 +89,9 @@ fn write_at<S: Sessions>(
     descriptor: Descriptor,
     offset: i64,
     bytes: &[u8],
-) -> Result<u32, Refused> {
+) -> Result<u32, Refused>
+    ensures { Talked S.called S.entered S.left now sessions.old sessions.new }
+{
     seek(sessions, now, descriptor, offset)?;
     let call = Call::Write {
         fd: descriptor.fd,
@@ -95,7 +107,9 @@ impl Mount {
         sessions: &mut S,
         now: u32,
         node: u64,
-    ) -> Result<FuseAnswer, Refused> {
+    ) -> Result<FuseAnswer, Refused>
+        ensures { Talked S.called S.entered S.left now sessions.old sessions.new }
+    {
         self.descriptor(sessions, now, node)?;
         self.nodes.opened(node, None);
         match self.handles.open_file(node) {
@@ -113,7 +127,9 @@ impl Mount {
         sessions: &mut S,
         now: u32,
         span: Span,
-    ) -> Result<FuseAnswer, Refused> {
+    ) -> Result<FuseAnswer, Refused>
+        ensures { Talked S.called S.entered S.left now sessions.old sessions.new }
+    {
         let node = self.handles.file(span.handle)?;
         let Some(offset) = position(span.offset) else {
             return Ok(no_bytes(self.alloc));
@@ -132,7 +148,9 @@ impl Mount {
         handle: u64,
         offset: u64,
         bytes: &[u8],
-    ) -> Result<FuseAnswer, Refused> {
+    ) -> Result<FuseAnswer, Refused>
+        ensures { Talked S.called S.entered S.left now sessions.old sessions.new }
+    {
         let node = self.handles.file(handle)?;
         let Some(offset) = position(offset) else {
             return Err(Refused::By(Errno::EFBIG));
@@ -148,7 +166,9 @@ impl Mount {
         sessions: &mut S,
         now: u32,
         handle: u64,
-    ) -> Result<FuseAnswer, Refused> {
+    ) -> Result<FuseAnswer, Refused>
+        ensures { Talked S.called S.entered S.left now sessions.old sessions.new }
+    {
         match self.handles.close(handle)? {
             Handle::File { node } => self.let_go(sessions, now, node),
             Handle::Directory { .. } => {}
@@ -157,7 +177,10 @@ impl Mount {
     }
 
     /// FSYNC and FSYNCDIR: all that was written reaches the disk.
-    pub(crate) fn sync<S: Sessions>(&mut self, sessions: &mut S, now: u32) -> Said {
+    pub(crate) fn sync<S: Sessions>(&mut self, sessions: &mut S, now: u32) -> Said
+        ensures asked { Asked (MayHear S.called S.entered S.left now) sessions.old (result ≡ Said.Synced) sessions.new }
+        ensures sync { IsOfSync result }
+    {
         let session = match self.session(sessions, now, 0) {
             Ok(session) => session,
             Err(refused) => return Said::Plain(FuseAnswer::Refused(refused)),

@@ -1,5 +1,8 @@
 //! What stands at the head of a message.
 
+ghost use Rattle.std.specs.Prelude.{◌≡◌, ◌<◌, IfOk, IfErr, IsErr, ◌↔◌, length};
+ghost use Rattle.fuse_server.specs.Messages.{opcode_in, unique_in, is_silent, is_sync};
+
 use fuse::opcode;
 use talks::end::End;
 
@@ -14,7 +17,11 @@ pub(crate) struct Head {
 }
 
 /// The head of a message. NoMessage: the bytes are fewer.
-pub(crate) fn head_of(bytes: &[u8]) -> Result<Head, End> {
+pub(crate) fn head_of(bytes: &[u8]) -> Result<Head, End>
+    ensures found { IfOk result (λ head. (head.opcode ≡ opcode_in bytes.now) × (head.unique ≡ unique_in bytes.now)) }
+    ensures none { IfErr result (λ e. e ≡ End.NoMessage) }
+    ensures short { IsErr result ↔ (length bytes.now < 40) }
+{
     if bytes.len() < HEAD as usize {
         return Err(End::NoMessage);
     }
@@ -27,11 +34,15 @@ pub(crate) fn head_of(bytes: &[u8]) -> Result<Head, End> {
 }
 
 /// Whether a request has no answer.
-pub(crate) fn is_silent(opcode: u32) -> bool {
+pub(crate) fn is_silent(opcode: u32) -> bool
+    ensures { result ≡ is_silent opcode }
+{
     opcode == opcode::FORGET || opcode == opcode::INTERRUPT || opcode == opcode::BATCH_FORGET
 }
 
 /// Whether a request is done only behind a sync.
-pub(crate) fn is_sync(opcode: u32) -> bool {
+pub(crate) fn is_sync(opcode: u32) -> bool
+    ensures { result ≡ is_sync opcode }
+{
     opcode == opcode::FSYNC || opcode == opcode::FSYNCDIR
 }

@@ -1,4 +1,7 @@
 //! Directories: their entries, as they were when they were asked for from the start.
+#![tactic(auto, using(crate::proofs::Asking::goes_on, crate::proofs::Asking::stays))]
+
+ghost use Rattle.fuse_server.specs.Asking.{Talked};
 
 use crate::descriptors::{Opening, READ, close};
 use crate::files::most_of;
@@ -102,7 +105,9 @@ impl Mount {
         sessions: &mut S,
         now: u32,
         path: &[u8],
-    ) -> Result<Vec<Entry>, Refused> {
+    ) -> Result<Vec<Entry>, Refused>
+        ensures { Talked S.called S.entered S.left now sessions.old sessions.new }
+    {
         let opening = Opening {
             path,
             flags: READ,
@@ -130,7 +135,9 @@ impl Mount {
         sessions: &mut S,
         now: u32,
         node: u64,
-    ) -> Result<Names, Refused> {
+    ) -> Result<Names, Refused>
+        ensures { Talked S.called S.entered S.left now sessions.old sessions.new }
+    {
         let own = self.nodes.get(node)?.inode;
         let above = self.inode_above(node)?;
         let path = self.nodes.path(node)?;
@@ -153,7 +160,9 @@ impl Mount {
         sessions: &mut S,
         now: u32,
         span: Span,
-    ) -> Result<(), Refused> {
+    ) -> Result<(), Refused>
+        ensures { Talked S.called S.entered S.left now sessions.old sessions.new }
+    {
         let node = self.handles.directory(span.handle)?;
         let names = self.names_of(sessions, now, node)?;
         self.handles.keep(span.handle, names);
@@ -175,7 +184,9 @@ impl Mount {
         sessions: &mut S,
         now: u32,
         span: Span,
-    ) -> Result<FuseAnswer, Refused> {
+    ) -> Result<FuseAnswer, Refused>
+        ensures { Talked S.called S.entered S.left now sessions.old sessions.new }
+    {
         if self.is_fresh(span) {
             self.keep_names(sessions, now, span)?;
         }

@@ -1,4 +1,7 @@
 //! Files, directories and symbolic links that are made.
+#![tactic(auto, using(crate::proofs::Asking::goes_on, crate::proofs::Asking::stays))]
+
+ghost use Rattle.fuse_server.specs.Asking.{Talked};
 
 use crate::descriptors::{NEW, Opening, close};
 use crate::mount::Mount;
@@ -54,7 +57,9 @@ impl Mount {
         now: u32,
         path: &[u8],
         owner: Owner,
-    ) -> Result<(), Refused> {
+    ) -> Result<(), Refused>
+        ensures { Talked S.called S.entered S.left now sessions.old sessions.new }
+    {
         let Owner { uid, gid } = owner;
         self.ask_done(sessions, now, Call::Chown { path, uid, gid })
     }
@@ -67,7 +72,9 @@ impl Mount {
         name: NameIn<'_>,
         path: &[u8],
         owner: Owner,
-    ) -> Result<FuseAnswer, Refused> {
+    ) -> Result<FuseAnswer, Refused>
+        ensures { Talked S.called S.entered S.left now sessions.old sessions.new }
+    {
         self.give(sessions, now, path, owner)?;
         Ok(FuseAnswer::Entry(self.tell(sessions, now, name, path)?))
     }
@@ -79,7 +86,9 @@ impl Mount {
         now: u32,
         path: &[u8],
         mode: u16,
-    ) -> Result<Descriptor, Refused> {
+    ) -> Result<Descriptor, Refused>
+        ensures { Talked S.called S.entered S.left now sessions.old sessions.new }
+    {
         let opening = Opening {
             path,
             flags: NEW,
@@ -96,7 +105,9 @@ impl Mount {
         message: &Message<'_>,
         name: NameIn<'_>,
         mode: u32,
-    ) -> Result<FuseAnswer, Refused> {
+    ) -> Result<FuseAnswer, Refused>
+        ensures { Talked S.called S.entered S.left now sessions.old sessions.new }
+    {
         if !is_file(mode) {
             return Err(Refused::By(Errno::EPERM));
         }
@@ -115,7 +126,9 @@ impl Mount {
         message: &Message<'_>,
         name: NameIn<'_>,
         mode: u32,
-    ) -> Result<FuseAnswer, Refused> {
+    ) -> Result<FuseAnswer, Refused>
+        ensures { Talked S.called S.entered S.left now sessions.old sessions.new }
+    {
         let owner = owner_of(message)?;
         let path = self.path_of(name)?;
         let call = Call::Mkdir {
@@ -133,7 +146,9 @@ impl Mount {
         now: u32,
         name: NameIn<'_>,
         target: &[u8],
-    ) -> Result<FuseAnswer, Refused> {
+    ) -> Result<FuseAnswer, Refused>
+        ensures { Talked S.called S.entered S.left now sessions.old sessions.new }
+    {
         let path = self.path_of(name)?;
         let call = Call::Symlink {
             target,
@@ -150,7 +165,9 @@ impl Mount {
         now: u32,
         path: &[u8],
         owner: Owner,
-    ) -> Result<Attributes, Refused> {
+    ) -> Result<Attributes, Refused>
+        ensures { Talked S.called S.entered S.left now sessions.old sessions.new }
+    {
         self.give(sessions, now, path, owner)?;
         self.look(sessions, now, path)
     }
@@ -185,7 +202,9 @@ impl Mount {
         path: &[u8],
         owner: Owner,
         descriptor: Descriptor,
-    ) -> Result<FuseAnswer, Refused> {
+    ) -> Result<FuseAnswer, Refused>
+        ensures { Talked S.called S.entered S.left now sessions.old sessions.new }
+    {
         let attributes = self.look_at_made(sessions, now, path, owner)?;
         let (entry, opened) = self.tell_opened(name, &attributes, descriptor)?;
         Ok(FuseAnswer::Create(entry, opened))
@@ -199,7 +218,9 @@ impl Mount {
         message: &Message<'_>,
         name: NameIn<'_>,
         mode: u32,
-    ) -> Result<FuseAnswer, Refused> {
+    ) -> Result<FuseAnswer, Refused>
+        ensures { Talked S.called S.entered S.left now sessions.old sessions.new }
+    {
         let owner = owner_of(message)?;
         let path = self.path_of(name)?;
         let descriptor = self.make_file(sessions, now, &path, mode_of(mode))?;

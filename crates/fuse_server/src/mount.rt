@@ -1,5 +1,10 @@
 //! A mount, which answers the kernel's messages.
 
+ghost use Rattle.std.specs.Prelude.{◌≡◌, ◌<◌, ◌+◌, ℕ, [], ◌↔◌, IsTrue, Err, OnOk, OnErr, length, vec_len, vec_capacity};
+ghost use Rattle.talks.specs.Talks.{MayHear};
+ghost use Rattle.fuse_server.specs.Messages.{opcode_in, is_silent};
+ghost use Rattle.fuse_server.specs.Answering.{IsAnswered};
+
 use crate::heads::{HEAD, head_of, is_silent};
 use crate::send::{MAX_ANSWER, refuse, send};
 use errno::Errno;
@@ -45,7 +50,14 @@ impl Mount {
         now: u32,
         bytes: &[u8],
         out: &mut Vec<u8>,
-    ) -> Result<(), End> {
+    ) -> Result<(), End>
+        ensures answered { OnOk result (IsAnswered (MayHear S.called S.entered S.left now) bytes.now sessions.old out.old.items sessions.new
+            out.new.items) }
+        ensures silent { OnOk result ((out.new.items ≡ out.old.items) ↔ IsTrue (is_silent (opcode_in bytes.now))) }
+        ensures short { (result ≡ Err End.NoMessage) ↔ (length bytes.now < 40) }
+        ensures full { result ≡ Err End.OutOfMemory → vec_capacity out.old < vec_len out.old + 65552 }
+        ensures none { OnErr result ((sessions.new ≡ sessions.old) × (self.new ≡ self.old) × (out.new.items ≡ out.old.items)) }
+    {
         let head = head_of(bytes)?;
         if is_silent(head.opcode) {
             self.hear(bytes);
@@ -55,7 +67,32 @@ impl Mount {
             return refuse(out, head.unique, Errno::ENOMEM);
         }
         let said = self.said_to(sessions, now, head.opcode, bytes);
-        send(out, head.unique, &said)
+        send(out, head.unique, &said);
+        Ok(())
+    }
+}
+
+impl Answers for Mount {
+    ghost answers = { λ S called entered left bytes answer s m t n. (now : ℕ) × IsAnswered (MayHear called entered left now) bytes s [] t answer };
+
+    ghost fewest = { 40 };
+
+    fn least(&self) -> u32 {
+        HEAD
+    }
+
+    fn most(&self) -> u32 {
+        MAX_MESSAGE
+    }
+
+    fn answer<S: Sessions>(
+        &mut self,
+        sessions: &mut S,
+        now: u32,
+        bytes: &[u8],
+        out: &mut Vec<u8>,
+    ) -> Result<(), End> {
+        Mount::answer(self, sessions, now, bytes, out)
     }
 }
 

@@ -1,4 +1,7 @@
 //! Names: where they lead, further ones, changed ones, and ones that are taken away.
+#![tactic(auto, using(crate::proofs::Asking::goes_on, crate::proofs::Asking::stays))]
+
+ghost use Rattle.fuse_server.specs.Asking.{Talked};
 
 use crate::mount::Mount;
 use crate::said::FuseAnswer;
@@ -39,7 +42,9 @@ impl Mount {
         now: u32,
         name: NameIn<'_>,
         path: &[u8],
-    ) -> Result<Entry, Refused> {
+    ) -> Result<Entry, Refused>
+        ensures { Talked S.called S.entered S.left now sessions.old sessions.new }
+    {
         let attributes = self.look(sessions, now, path)?;
         let kind = kind_of(attributes.mode);
         let node = self.nodes.told(attributes.inode, kind, name.directory, name.name)?;
@@ -52,7 +57,9 @@ impl Mount {
         sessions: &mut S,
         now: u32,
         name: NameIn<'_>,
-    ) -> Result<FuseAnswer, Refused> {
+    ) -> Result<FuseAnswer, Refused>
+        ensures { Talked S.called S.entered S.left now sessions.old sessions.new }
+    {
         let path = self.path_of(name)?;
         match self.tell(sessions, now, name, &path) {
             Ok(entry) => Ok(FuseAnswer::Entry(entry)),
@@ -68,7 +75,9 @@ impl Mount {
         now: u32,
         file: u64,
         name: NameIn<'_>,
-    ) -> Result<FuseAnswer, Refused> {
+    ) -> Result<FuseAnswer, Refused>
+        ensures { Talked S.called S.entered S.left now sessions.old sessions.new }
+    {
         let old = self.nodes.path(file)?;
         let new = self.path_of(name)?;
         let call = Call::Link {
@@ -85,7 +94,9 @@ impl Mount {
         sessions: &mut S,
         now: u32,
         name: NameIn<'_>,
-    ) -> Result<FuseAnswer, Refused> {
+    ) -> Result<FuseAnswer, Refused>
+        ensures { Talked S.called S.entered S.left now sessions.old sessions.new }
+    {
         let path = self.path_of(name)?;
         let was = self.look(sessions, now, &path)?;
         self.hold(sessions, now, was.inode)?;
@@ -100,7 +111,9 @@ impl Mount {
         sessions: &mut S,
         now: u32,
         name: NameIn<'_>,
-    ) -> Result<FuseAnswer, Refused> {
+    ) -> Result<FuseAnswer, Refused>
+        ensures { Talked S.called S.entered S.left now sessions.old sessions.new }
+    {
         let path = self.path_of(name)?;
         let was = self.look(sessions, now, &path)?;
         self.ask_done(sessions, now, Call::Rmdir { path: &path })?;
@@ -114,7 +127,9 @@ impl Mount {
         sessions: &mut S,
         now: u32,
         path: &[u8],
-    ) -> Result<Option<Attributes>, Refused> {
+    ) -> Result<Option<Attributes>, Refused>
+        ensures { Talked S.called S.entered S.left now sessions.old sessions.new }
+    {
         match self.look(sessions, now, path) {
             Ok(attributes) => Ok(Some(attributes)),
             Err(Refused::By(Errno::ENOENT)) => Ok(None),
@@ -129,7 +144,9 @@ impl Mount {
         now: u32,
         path: &[u8],
         flags: u32,
-    ) -> Result<Option<Attributes>, Refused> {
+    ) -> Result<Option<Attributes>, Refused>
+        ensures { Talked S.called S.entered S.left now sessions.old sessions.new }
+    {
         let replaced = self.look_for(sessions, now, path)?;
         if let Some(attributes) = &replaced {
             if flags == NO_REPLACE {
@@ -159,7 +176,9 @@ impl Mount {
         now: u32,
         old: &[u8],
         new: &[u8],
-    ) -> Result<u16, Refused> {
+    ) -> Result<u16, Refused>
+        ensures { Talked S.called S.entered S.left now sessions.old sessions.new }
+    {
         let inode = self.look(sessions, now, old)?.inode;
         self.ask_done(sessions, now, Call::Rename { old, new })?;
         Ok(inode)
@@ -173,7 +192,9 @@ impl Mount {
         from: NameIn<'_>,
         to: NameIn<'_>,
         flags: u32,
-    ) -> Result<FuseAnswer, Refused> {
+    ) -> Result<FuseAnswer, Refused>
+        ensures { Talked S.called S.entered S.left now sessions.old sessions.new }
+    {
         if flags > NO_REPLACE {
             return Err(Refused::By(Errno::EINVAL));
         }

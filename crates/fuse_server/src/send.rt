@@ -1,5 +1,9 @@
 //! Answers, as they are written.
 
+ghost use Rattle.std.specs.Prelude.{◌≡◌, ◌≤◌, ◌<◌, ◌+◌, ◌++◌, false, length, vec_len, vec_capacity, OnOk, OnErr, IfErr};
+ghost use Rattle.fuse.specs.Replies.{IsReply, size_of, error_of, answer};
+ghost use Rattle.fuse_server.specs.Answering.{IsRefusal, IsGranted, IsSent, is_refusal};
+
 use crate::said::{FuseAnswer, Said};
 use crate::told::VALID;
 use errno::Errno;
@@ -18,7 +22,9 @@ const ENOSYS: u32 = 38;
 const EPROTO: u32 = 71;
 
 /// The first of some bytes, at most as many as an answer has.
-fn within(bytes: &[u8]) -> &[u8] {
+fn within(bytes: &[u8]) -> &[u8]
+    ensures { length result.now ≤ 65536 }
+{
     if bytes.len() <= MAX_TRANSFER as usize {
         return bytes;
     }
@@ -26,14 +32,21 @@ fn within(bytes: &[u8]) -> &[u8] {
 }
 
 /// A refusal.
-fn error<'a>(refused: Refused) -> Reply<'a> {
+#[tactic(auto, using(crate::proofs::Replies::number_fits))]
+fn error<'a>(refused: Refused) -> Reply<'a>
+    ensures { IsRefusal result }
+{
     Reply::Error {
         number: refused.number(),
     }
 }
 
 /// The reply of an answer.
-fn reply_of(answer: &FuseAnswer) -> Reply<'_> {
+fn reply_of(answer: &FuseAnswer) -> Reply<'_>
+    ensures reply { IsReply result }
+    ensures size { size_of result ≤ 65552 }
+    ensures granted { error_of result ≡ 0 → is_refusal answer.now ≡ false }
+{
     match answer {
         FuseAnswer::Refused(refused) => error(*refused),
         FuseAnswer::Unknown => Reply::Error { number: ENOSYS },
@@ -59,25 +72,37 @@ fn reply_of(answer: &FuseAnswer) -> Reply<'_> {
 }
 
 /// The reply of what is said.
-fn reply_to(said: &Said) -> Reply<'_> {
+fn reply_to(said: &Said) -> Reply<'_>
+    ensures reply { IsReply result }
+    ensures size { size_of result ≤ 65552 }
+    ensures granted { error_of result ≡ 0 → IsGranted said.now }
+{
     match said {
         Said::Plain(answer) => reply_of(answer),
         Said::Synced => Reply::Done,
     }
 }
 
-/// Writes a refusal with this number. OutOfMemory: there is no room for it, and `out` has what it had.
-pub(crate) fn refuse(out: &mut Vec<u8>, unique: u64, errno: Errno) -> Result<(), End> {
+/// Writes a refusal with this number. An error: there is no room for it, and `out` has what it had.
+pub(crate) fn refuse(out: &mut Vec<u8>, unique: u64, errno: Errno) -> Result<(), End>
+    ensures ok { OnOk result ((r : Reply) × IsRefusal r × (out.new.items ≡ out.old.items ++ answer unique r)) }
+    ensures err { IfErr result (λ e. e ≡ End.OutOfMemory) }
+    ensures kept { OnErr result (out.new.items ≡ out.old.items) }
+    ensures full { OnErr result (vec_capacity out.old < vec_len out.old + 16) }
+{
     match write(out, unique, &error(Refused::By(errno))) {
         Ok(()) => Ok(()),
         Err(_) => Err(End::OutOfMemory),
     }
 }
 
-/// Writes what is said with this number. Where no room was found for it, which there is for the longest answer, EIO is said.
-pub(crate) fn send(out: &mut Vec<u8>, unique: u64, said: &Said) -> Result<(), End> {
+/// Writes what is said with this number.
+pub(crate) fn send(out: &mut Vec<u8>, unique: u64, said: &Said)
+    requires { vec_len out.old + 65552 ≤ vec_capacity out.old }
+    ensures { IsSent unique said.now out.old.items out.new.items }
+{
     match write(out, unique, &reply_to(said)) {
-        Ok(()) => Ok(()),
-        Err(_) => refuse(out, unique, Errno::EIO),
+        Ok(()) => {}
+        Err(_) => unreachable!(),
     }
 }

@@ -1,4 +1,11 @@
 //! How each message is answered.
+#![tactic(auto, using(crate::proofs::Asking::goes_on, crate::proofs::Asking::stays))]
+
+ghost use Rattle.std.specs.Prelude.{◌≡◌, IsTrue};
+ghost use Rattle.talks.specs.Talks.{MayHear, Asked};
+ghost use Rattle.fuse_server.specs.Messages.{is_sync};
+ghost use Rattle.fuse_server.specs.Asking.{Talked};
+ghost use Rattle.fuse_server.specs.Answering.{IsOfSync};
 
 use crate::attributes::bits_of;
 use crate::files::most_of;
@@ -84,7 +91,9 @@ impl Mount {
         sessions: &mut S,
         now: u32,
         message: &Message<'_>,
-    ) -> Result<FuseAnswer, Refused> {
+    ) -> Result<FuseAnswer, Refused>
+        ensures { Talked S.called S.entered S.left now sessions.old sessions.new }
+    {
         let directory = message.node;
         match message.request {
             Request::Lookup { name } => self.lookup(sessions, now, NameIn { directory, name }),
@@ -103,7 +112,9 @@ impl Mount {
         sessions: &mut S,
         now: u32,
         message: &Message<'_>,
-    ) -> Result<FuseAnswer, Refused> {
+    ) -> Result<FuseAnswer, Refused>
+        ensures { Talked S.called S.entered S.left now sessions.old sessions.new }
+    {
         let (new_directory, flags, old_name, new_name) = match message.request {
             Request::Rename {
                 new_directory,
@@ -135,7 +146,9 @@ impl Mount {
         sessions: &mut S,
         now: u32,
         message: &Message<'_>,
-    ) -> Result<FuseAnswer, Refused> {
+    ) -> Result<FuseAnswer, Refused>
+        ensures { Talked S.called S.entered S.left now sessions.old sessions.new }
+    {
         let directory = message.node;
         match message.request {
             Request::Mknod { mode, name, .. } => {
@@ -160,7 +173,9 @@ impl Mount {
         sessions: &mut S,
         now: u32,
         message: &Message<'_>,
-    ) -> Result<FuseAnswer, Refused> {
+    ) -> Result<FuseAnswer, Refused>
+        ensures { Talked S.called S.entered S.left now sessions.old sessions.new }
+    {
         match message.request {
             Request::Open { .. } => self.open_file(sessions, now, message.node),
             Request::Read { span } => self.read(sessions, now, span),
@@ -184,7 +199,9 @@ impl Mount {
         sessions: &mut S,
         now: u32,
         message: &Message<'_>,
-    ) -> Result<FuseAnswer, Refused> {
+    ) -> Result<FuseAnswer, Refused>
+        ensures { Talked S.called S.entered S.left now sessions.old sessions.new }
+    {
         if let Some(wanted) = wanted_of(&message.request, now) {
             return self.setattr(sessions, now, message.node, &wanted);
         }
@@ -209,7 +226,9 @@ impl Mount {
         sessions: &mut S,
         now: u32,
         message: &Message<'_>,
-    ) -> FuseAnswer {
+    ) -> FuseAnswer
+        ensures { Talked S.called S.entered S.left now sessions.old sessions.new }
+    {
         match self.plain(sessions, now, message) {
             Ok(answer) => answer,
             Err(refused) => FuseAnswer::Refused(refused),
@@ -223,7 +242,10 @@ impl Mount {
         now: u32,
         opcode: u32,
         bytes: &[u8],
-    ) -> Said {
+    ) -> Said
+        ensures asked { Asked (MayHear S.called S.entered S.left now) sessions.old (result ≡ Said.Synced) sessions.new }
+        ensures sync { IsTrue (is_sync opcode) → IsOfSync result }
+    {
         let Ok(message) = read(bytes) else {
             return Said::Plain(FuseAnswer::Refused(Refused::By(Errno::EINVAL)));
         };

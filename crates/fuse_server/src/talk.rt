@@ -1,4 +1,7 @@
 //! Calls by the sessions of user 0, by whom all calls are made: the kernel has looked at who may do what.
+#![tactic(auto, using(crate::proofs::Asking::goes_on, crate::proofs::Asking::stays))]
+
+ghost use Rattle.fuse_server.specs.Asking.{Talked};
 
 use crate::mount::Mount;
 use errno::Errno;
@@ -14,12 +17,16 @@ pub(crate) fn calling<S: Sessions>(
     now: u32,
     session: u8,
     call: Call<'_>,
-) -> Heard {
+) -> Heard
+    ensures { Talked S.called S.entered S.left now sessions.old sessions.new }
+{
     heard(sessions, now, &Ask::Call { session, call })
 }
 
 /// A new session of user 0.
-fn entering<S: Sessions>(sessions: &mut S, now: u32) -> Result<u8, Refused> {
+fn entering<S: Sessions>(sessions: &mut S, now: u32) -> Result<u8, Refused>
+    ensures { Talked S.called S.entered S.left now sessions.old sessions.new }
+{
     heard(sessions, now, &Ask::Enter { uid: 0, gid: 0 }).session()
 }
 
@@ -30,7 +37,9 @@ impl Mount {
         sessions: &mut S,
         now: u32,
         at: usize,
-    ) -> Result<u8, Refused> {
+    ) -> Result<u8, Refused>
+        ensures { Talked S.called S.entered S.left now sessions.old sessions.new }
+    {
         if let Some(session) = self.seats.get(at) {
             return Ok(*session);
         }
@@ -48,7 +57,9 @@ impl Mount {
         sessions: &mut S,
         now: u32,
         call: Call<'_>,
-    ) -> Result<Heard, Refused> {
+    ) -> Result<Heard, Refused>
+        ensures { Talked S.called S.entered S.left now sessions.old sessions.new }
+    {
         let session = self.session(sessions, now, 0)?;
         Ok(calling(sessions, now, session, call))
     }
@@ -59,7 +70,9 @@ impl Mount {
         sessions: &mut S,
         now: u32,
         call: Call<'_>,
-    ) -> Result<(), Refused> {
+    ) -> Result<(), Refused>
+        ensures { Talked S.called S.entered S.left now sessions.old sessions.new }
+    {
         self.ask(sessions, now, call)?.done()
     }
 
@@ -69,7 +82,9 @@ impl Mount {
         sessions: &mut S,
         now: u32,
         path: &[u8],
-    ) -> Result<Attributes, Refused> {
+    ) -> Result<Attributes, Refused>
+        ensures { Talked S.called S.entered S.left now sessions.old sessions.new }
+    {
         self.ask(sessions, now, Call::Lstat { path })?.attributes()
     }
 }
