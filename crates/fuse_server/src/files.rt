@@ -1,0 +1,194 @@
+//! Open files: what is read, what is written, and what reaches the disk.
+#![tactic(auto, using(crate::proofs::Asking::goes_on, crate::proofs::Asking::stays))]
+
+ghost use Rattle.std.specs.Prelude.{◌≡◌, ◌≤◌};
+ghost use Rattle.talks.specs.Talks.{MayHear, Asked};
+ghost use Rattle.fuse_server.specs.Asking.{Talked};
+ghost use Rattle.fuse_server.specs.Answering.{IsOfSync};
+
+use crate::mount::Mount;
+use crate::said::{FuseAnswer, Said};
+use crate::talk::calling;
+use crate::told::opened_file;
+use errno::Errno;
+use fuse::request::Span;
+use fuse_nodes::handles::Handle;
+use fuse_nodes::node::Descriptor;
+use std::alloc::Global;
+use talks::ask::Ask;
+use talks::refused::Refused;
+use talks::sessions::{Sessions, heard};
+use tree::{Call, MAX_SIZE, MAX_TRANSFER, Whence};
+
+/// The first of some bytes, at most as many as a call takes.
+fn within(bytes: &[u8]) -> &[u8] {
+    if bytes.len() <= MAX_TRANSFER as usize {
+        return bytes;
+    }
+    &bytes[..MAX_TRANSFER as usize]
+}
+
+/// The smaller one of a count and what a call gives at most.
+pub(crate) fn most_of(count: u32) -> u32 {
+    if count < MAX_TRANSFER { count } else { MAX_TRANSFER }
+}
+
+/// An offset as a position; none past the largest one.
+fn position(offset: u64) -> Option<i64> {
+    if offset > u64::from(MAX_SIZE) {
+        return None;
+    }
+    i64::try_from(offset).ok()
+}
+
+/// Nothing that was read.
+fn no_bytes(alloc: Global) -> FuseAnswer {
+    FuseAnswer::Bytes(Vec::new(alloc))
+}
+
+/// Sets the position of a descriptor.
+fn seek<S: Sessions>(
+    sessions: &mut S,
+    now: u32,
+    descriptor: Descriptor,
+    offset: i64,
+) -> Result<(), Refused>
+    ensures { Talked S.called S.entered S.left now sessions.old sessions.new }
+{
+    let call = Call::Seek {
+        fd: descriptor.fd,
+        whence: Whence::Set,
+        offset,
+    };
+    calling(sessions, now, descriptor.session, call).at()?;
+    Ok(())
+}
+
+/// Reads at a position.
+fn read_at<S: Sessions>(
+    sessions: &mut S,
+    now: u32,
+    descriptor: Descriptor,
+    offset: i64,
+    count: u32,
+) -> Result<Vec<u8>, Refused>
+    ensures { Talked S.called S.entered S.left now sessions.old sessions.new }
+{
+    seek(sessions, now, descriptor, offset)?;
+    let call = Call::Read {
+        fd: descriptor.fd,
+        count,
+    };
+    calling(sessions, now, descriptor.session, call).bytes()
+}
+
+/// Writes at a position: how many bytes were written.
+fn write_at<S: Sessions>(
+    sessions: &mut S,
+    now: u32,
+    descriptor: Descriptor,
+    offset: i64,
+    bytes: &[u8],
+) -> Result<u32, Refused>
+    ensures { Talked S.called S.entered S.left now sessions.old sessions.new }
+{
+    seek(sessions, now, descriptor, offset)?;
+    let call = Call::Write {
+        fd: descriptor.fd,
+        bytes,
+    };
+    calling(sessions, now, descriptor.session, call).wrote()
+}
+
+impl Mount {
+    /// OPEN: a handle, and a descriptor where the node has none. The kernel has looked at whether the asker may read or write.
+    pub(crate) fn open_file<S: Sessions>(
+        &mut self,
+        sessions: &mut S,
+        now: u32,
+        node: u64,
+    ) -> Result<FuseAnswer, Refused>
+        ensures { Talked S.called S.entered S.left now sessions.old sessions.new }
+    {
+        self.descriptor(sessions, now, node)?;
+        self.nodes.opened(node, None);
+        match self.handles.open_file(node) {
+            Ok(handle) => Ok(FuseAnswer::Open(opened_file(handle))),
+            Err(error) => {
+                self.let_go(sessions, now, node);
+                Err(Refused::from(error))
+            }
+        }
+    }
+
+    /// READ: at most so many bytes from the offset on, and at most what a call gives.
+    pub(crate) fn read<S: Sessions>(
+        &mut self,
+        sessions: &mut S,
+        now: u32,
+        span: Span,
+    ) -> Result<FuseAnswer, Refused>
+        ensures { Talked S.called S.entered S.left now sessions.old sessions.new }
+    {
+        let node = self.handles.file(span.handle)?;
+        let Some(offset) = position(span.offset) else {
+            return Ok(no_bytes(self.alloc));
+        };
+        let descriptor = self.descriptor(sessions, now, node)?;
+        let count = most_of(span.count);
+        let bytes = read_at(sessions, now, descriptor, offset, count)?;
+        Ok(FuseAnswer::Bytes(bytes))
+    }
+
+    /// WRITE: at most as many bytes as a call takes. EFBIG past the largest offset.
+    pub(crate) fn write<S: Sessions>(
+        &mut self,
+        sessions: &mut S,
+        now: u32,
+        handle: u64,
+        offset: u64,
+        bytes: &[u8],
+    ) -> Result<FuseAnswer, Refused>
+        ensures { Talked S.called S.entered S.left now sessions.old sessions.new }
+    {
+        let node = self.handles.file(handle)?;
+        let Some(offset) = position(offset) else {
+            return Err(Refused::By(Errno::EFBIG));
+        };
+        let descriptor = self.descriptor(sessions, now, node)?;
+        let count = write_at(sessions, now, descriptor, offset, within(bytes))?;
+        Ok(FuseAnswer::Write(count))
+    }
+
+    /// RELEASE and RELEASEDIR: a handle is let go.
+    pub(crate) fn release<S: Sessions>(
+        &mut self,
+        sessions: &mut S,
+        now: u32,
+        handle: u64,
+    ) -> Result<FuseAnswer, Refused>
+        ensures { Talked S.called S.entered S.left now sessions.old sessions.new }
+    {
+        match self.handles.close(handle)? {
+            Handle::File { node } => self.let_go(sessions, now, node),
+            Handle::Directory { .. } => {}
+        }
+        Ok(FuseAnswer::Done)
+    }
+
+    /// FSYNC and FSYNCDIR: all that was written reaches the disk.
+    pub(crate) fn sync<S: Sessions>(&mut self, sessions: &mut S, now: u32) -> Said
+        ensures asked { Asked (MayHear S.called S.entered S.left now) sessions.old (result ≡ Said.Synced) sessions.new }
+        ensures sync { IsOfSync result }
+    {
+        let session = match self.session(sessions, now, 0) {
+            Ok(session) => session,
+            Err(refused) => return Said::Plain(FuseAnswer::Refused(refused)),
+        };
+        let call = Call::Sync;
+        match heard(sessions, now, &Ask::Call { session, call }).done() {
+            Ok(()) => Said::Synced,
+            Err(refused) => Said::Plain(FuseAnswer::Refused(refused)),
+        }
+    }
+}

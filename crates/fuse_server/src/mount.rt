@@ -1,0 +1,105 @@
+//! A mount, which answers the kernel's messages.
+
+ghost use Rattle.std.specs.Prelude.{◌≡◌, ◌<◌, ◌+◌, ℕ, [], ◌↔◌, IsTrue, Err, OnOk, OnErr, length, vec_len, vec_capacity};
+ghost use Rattle.talks.specs.Talks.{MayHear};
+ghost use Rattle.fuse_server.specs.Messages.{opcode_in, is_silent};
+ghost use Rattle.fuse_server.specs.Answering.{IsAnswered};
+
+use crate::heads::{HEAD, head_of, is_silent};
+use crate::send::{MAX_ANSWER, refuse, send};
+use errno::Errno;
+use fuse_nodes::handles::Handles;
+use fuse_nodes::nodes::Nodes;
+use std::alloc::{AllocError, Global};
+use talks::answers::Answers;
+use talks::end::End;
+use talks::sessions::Sessions;
+
+/// The most bytes of a message: those of a write of 64 KiB, what stands before them, and some more. The kernel reads into no less room.
+pub const MAX_MESSAGE: u32 = 69632;
+
+/// A mount: what the kernel knows of a volume.
+#[derive(Drop)]
+pub struct Mount {
+    pub(crate) alloc: Global,
+    pub(crate) nodes: Nodes,
+    pub(crate) handles: Handles,
+    // The sessions of user 0 that have begun.
+    pub(crate) seats: Vec<u8>,
+}
+
+impl Mount {
+    /// A mount that begins: the kernel knows the root alone. An error: no memory was found for it.
+    pub fn new(alloc: Global) -> Result<Mount, AllocError> {
+        Ok(Mount {
+            alloc,
+            nodes: Nodes::new(alloc)?,
+            handles: Handles::new(alloc),
+            seats: Vec::new(alloc),
+        })
+    }
+
+    /// Answers one message, all of its bytes: its answer is written behind what stands in `out`, by what the sessions answer to what they
+    /// are asked. FORGET, BATCH_FORGET and INTERRUPT have none.
+    ///
+    /// Where no room is found for the longest answer there may be, nothing is asked, and the answer is ENOMEM. NoMessage: the bytes are
+    /// fewer than 40. OutOfMemory: there was no room for that answer either. In both cases nothing is asked, and all stays.
+    pub fn answer<S: Sessions>(
+        &mut self,
+        sessions: &mut S,
+        now: u32,
+        bytes: &[u8],
+        out: &mut Vec<u8>,
+    ) -> Result<(), End>
+        ensures answered { OnOk result (IsAnswered (MayHear S.called S.entered S.left now) bytes.now sessions.old out.old.items sessions.new
+            out.new.items) }
+        ensures silent { OnOk result ((out.new.items ≡ out.old.items) ↔ IsTrue (is_silent (opcode_in bytes.now))) }
+        ensures short { (result ≡ Err End.NoMessage) ↔ (length bytes.now < 40) }
+        ensures full { result ≡ Err End.OutOfMemory → vec_capacity out.old < vec_len out.old + 65552 }
+        ensures none { OnErr result ((sessions.new ≡ sessions.old) × (self.new ≡ self.old) × (out.new.items ≡ out.old.items)) }
+    {
+        let head = head_of(bytes)?;
+        if is_silent(head.opcode) {
+            self.hear(bytes);
+            return Ok(());
+        }
+        if out.reserve(MAX_ANSWER as usize).is_err() {
+            return refuse(out, head.unique, Errno::ENOMEM);
+        }
+        let said = self.said_to(sessions, now, head.opcode, bytes);
+        send(out, head.unique, &said);
+        Ok(())
+    }
+}
+
+impl Answers for Mount {
+    ghost answers = { λ S called entered left bytes answer s m t n. (now : ℕ) × IsAnswered (MayHear called entered left now) bytes s [] t answer };
+
+    ghost fewest = { 40 };
+
+    fn least(&self) -> u32 {
+        HEAD
+    }
+
+    fn most(&self) -> u32 {
+        MAX_MESSAGE
+    }
+
+    fn answer<S: Sessions>(
+        &mut self,
+        sessions: &mut S,
+        now: u32,
+        bytes: &[u8],
+        out: &mut Vec<u8>,
+    ) -> Result<(), End> {
+        Mount::answer(self, sessions, now, bytes, out)
+    }
+}
+
+#[cfg(test)]
+mod tests {
+    #[test]
+    fn none() {
+        prove!(super::MAX_MESSAGE > 65616);
+    }
+}

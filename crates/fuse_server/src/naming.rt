@@ -1,0 +1,209 @@
+//! Names: where they lead, further ones, changed ones, and ones that are taken away.
+#![tactic(auto, using(crate::proofs::Asking::goes_on, crate::proofs::Asking::stays))]
+
+ghost use Rattle.fuse_server.specs.Asking.{Talked};
+
+use crate::mount::Mount;
+use crate::said::FuseAnswer;
+use crate::told::{entry_of, kind_of, nothing};
+use errno::Errno;
+use fuse::reply::Entry;
+use fuse_nodes::node::{NodeKind, Place};
+use talks::refused::Refused;
+use talks::sessions::Sessions;
+use tree::{Attributes, Call};
+
+/// With this flag of a rename nothing is to stand at the new name.
+const NO_REPLACE: u32 = 1;
+
+/// A name in the directory of a node.
+#[derive(Clone, Copy)]
+pub(crate) struct NameIn<'a> {
+    pub directory: u64,
+    pub name: &'a [u8],
+}
+
+/// Whether the name that is taken away is the last one of what has these attributes.
+fn is_last(attributes: &Attributes) -> bool {
+    attributes.links < 2 || kind_of(attributes.mode) == NodeKind::Directory
+}
+
+impl Mount {
+    /// The path of a name: this and `Nodes::path` are where a node becomes a path. EINVAL where no entry may have the name, ESTALE where
+    /// the directory has lost its own, ENAMETOOLONG where the path is longer than a call's may be.
+    pub(crate) fn path_of(&self, name: NameIn<'_>) -> Result<Vec<u8>, Refused> {
+        self.nodes.below(name.directory, name.name)
+    }
+
+    /// Looks at a name, and tells the kernel its node.
+    pub(crate) fn tell<S: Sessions>(
+        &mut self,
+        sessions: &mut S,
+        now: u32,
+        name: NameIn<'_>,
+        path: &[u8],
+    ) -> Result<Entry, Refused>
+        ensures { Talked S.called S.entered S.left now sessions.old sessions.new }
+    {
+        let attributes = self.look(sessions, now, path)?;
+        let kind = kind_of(attributes.mode);
+        let node = self.nodes.told(attributes.inode, kind, name.directory, name.name)?;
+        Ok(entry_of(node, &attributes))
+    }
+
+    /// LOOKUP: node 0 where the name leads to nothing.
+    pub(crate) fn lookup<S: Sessions>(
+        &mut self,
+        sessions: &mut S,
+        now: u32,
+        name: NameIn<'_>,
+    ) -> Result<FuseAnswer, Refused>
+        ensures { Talked S.called S.entered S.left now sessions.old sessions.new }
+    {
+        let path = self.path_of(name)?;
+        match self.tell(sessions, now, name, &path) {
+            Ok(entry) => Ok(FuseAnswer::Entry(entry)),
+            Err(Refused::By(Errno::ENOENT)) => Ok(FuseAnswer::Entry(nothing())),
+            Err(refused) => Err(refused),
+        }
+    }
+
+    /// LINK: a further name for the file of a node.
+    pub(crate) fn link<S: Sessions>(
+        &mut self,
+        sessions: &mut S,
+        now: u32,
+        file: u64,
+        name: NameIn<'_>,
+    ) -> Result<FuseAnswer, Refused>
+        ensures { Talked S.called S.entered S.left now sessions.old sessions.new }
+    {
+        let old = self.nodes.path(file)?;
+        let new = self.path_of(name)?;
+        let call = Call::Link {
+            old: &old,
+            new: &new,
+        };
+        self.ask_done(sessions, now, call)?;
+        Ok(FuseAnswer::Entry(self.tell(sessions, now, name, &new)?))
+    }
+
+    /// UNLINK: a file's name is taken away.
+    pub(crate) fn unlink<S: Sessions>(
+        &mut self,
+        sessions: &mut S,
+        now: u32,
+        name: NameIn<'_>,
+    ) -> Result<FuseAnswer, Refused>
+        ensures { Talked S.called S.entered S.left now sessions.old sessions.new }
+    {
+        let path = self.path_of(name)?;
+        let was = self.look(sessions, now, &path)?;
+        self.hold(sessions, now, was.inode)?;
+        self.ask_done(sessions, now, Call::Unlink { path: &path })?;
+        self.nodes.lost(was.inode, name.directory, name.name, is_last(&was));
+        Ok(FuseAnswer::Done)
+    }
+
+    /// RMDIR: an empty directory's name is taken away.
+    pub(crate) fn rmdir<S: Sessions>(
+        &mut self,
+        sessions: &mut S,
+        now: u32,
+        name: NameIn<'_>,
+    ) -> Result<FuseAnswer, Refused>
+        ensures { Talked S.called S.entered S.left now sessions.old sessions.new }
+    {
+        let path = self.path_of(name)?;
+        let was = self.look(sessions, now, &path)?;
+        self.ask_done(sessions, now, Call::Rmdir { path: &path })?;
+        self.nodes.lost(was.inode, name.directory, name.name, true);
+        Ok(FuseAnswer::Done)
+    }
+
+    /// What stands at a path, if anything does.
+    fn look_for<S: Sessions>(
+        &mut self,
+        sessions: &mut S,
+        now: u32,
+        path: &[u8],
+    ) -> Result<Option<Attributes>, Refused>
+        ensures { Talked S.called S.entered S.left now sessions.old sessions.new }
+    {
+        match self.look(sessions, now, path) {
+            Ok(attributes) => Ok(Some(attributes)),
+            Err(Refused::By(Errno::ENOENT)) => Ok(None),
+            Err(refused) => Err(refused),
+        }
+    }
+
+    /// What a rename replaces, which keeps a descriptor if it is open. EEXIST where nothing is to stand there.
+    fn replaced<S: Sessions>(
+        &mut self,
+        sessions: &mut S,
+        now: u32,
+        path: &[u8],
+        flags: u32,
+    ) -> Result<Option<Attributes>, Refused>
+        ensures { Talked S.called S.entered S.left now sessions.old sessions.new }
+    {
+        let replaced = self.look_for(sessions, now, path)?;
+        if let Some(attributes) = &replaced {
+            if flags == NO_REPLACE {
+                return Err(Refused::By(Errno::EEXIST));
+            }
+            self.hold(sessions, now, attributes.inode)?;
+        }
+        Ok(replaced)
+    }
+
+    /// A name became another one. Where both were names of one file, nothing was changed.
+    fn moved(&mut self, inode: u16, replaced: Option<Attributes>, to: NameIn<'_>, place: Place) {
+        if let Some(attributes) = replaced {
+            if attributes.inode == inode {
+                return;
+            }
+            let last = is_last(&attributes);
+            self.nodes.lost(attributes.inode, to.directory, to.name, last);
+        }
+        self.nodes.renamed(inode, place);
+    }
+
+    /// Asks for a rename: the inode that has the new name now, unless it had both.
+    fn rename_path<S: Sessions>(
+        &mut self,
+        sessions: &mut S,
+        now: u32,
+        old: &[u8],
+        new: &[u8],
+    ) -> Result<u16, Refused>
+        ensures { Talked S.called S.entered S.left now sessions.old sessions.new }
+    {
+        let inode = self.look(sessions, now, old)?.inode;
+        self.ask_done(sessions, now, Call::Rename { old, new })?;
+        Ok(inode)
+    }
+
+    /// RENAME and RENAME2. EINVAL: a flag isn't known here.
+    pub(crate) fn rename<S: Sessions>(
+        &mut self,
+        sessions: &mut S,
+        now: u32,
+        from: NameIn<'_>,
+        to: NameIn<'_>,
+        flags: u32,
+    ) -> Result<FuseAnswer, Refused>
+        ensures { Talked S.called S.entered S.left now sessions.old sessions.new }
+    {
+        if flags > NO_REPLACE {
+            return Err(Refused::By(Errno::EINVAL));
+        }
+        let old = self.path_of(from)?;
+        let new = self.path_of(to)?;
+        let place = Place::new(self.alloc, to.directory, to.name)?;
+        let replaced = self.replaced(sessions, now, &new, flags)?;
+        let inode = self.rename_path(sessions, now, &old, &new)?;
+        self.moved(inode, replaced, to, place);
+        Ok(FuseAnswer::Done)
+    }
+}

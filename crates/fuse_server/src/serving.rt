@@ -1,0 +1,281 @@
+//! How each message is answered.
+#![tactic(auto, using(crate::proofs::Asking::goes_on, crate::proofs::Asking::stays))]
+
+ghost use Rattle.std.specs.Prelude.{◌≡◌, IsTrue};
+ghost use Rattle.talks.specs.Talks.{MayHear, Asked};
+ghost use Rattle.fuse_server.specs.Messages.{is_sync};
+ghost use Rattle.fuse_server.specs.Asking.{Talked};
+ghost use Rattle.fuse_server.specs.Answering.{IsOfSync};
+
+use crate::attributes::bits_of;
+use crate::files::most_of;
+use crate::heads::is_sync;
+use crate::mount::Mount;
+use crate::naming::NameIn;
+use crate::said::{FuseAnswer, Said};
+use errno::Errno;
+use fuse::forgets::Forgets;
+use fuse::reading::read;
+use fuse::reply::InitReply;
+use fuse::request::{Message, Request};
+use talks::changes::Wanted;
+use talks::refused::Refused;
+use talks::sessions::Sessions;
+use tree::MAX_TRANSFER;
+
+/// The version of the protocol.
+const MAJOR: u32 = 7;
+
+const MINOR: u32 = 31;
+
+/// What is taken of all that the kernel offers: reads that nobody waits for (0x1), writes of more than a page (0x20), lookups in one
+/// directory side by side (0x40000), a count of a message's pages (0x400000), and targets of links that it keeps (0x800000).
+const TAKEN: u32 = 0xc4_0021;
+
+/// The pages of a message: 64 KiB.
+const MOST_PAGES: u16 = 16;
+
+/// Times are whole seconds.
+const SECOND: u32 = 1_000_000_000;
+
+/// INIT: the protocol's version, and what of it is used.
+fn init(major: u32, readahead: u32, flags: u32) -> FuseAnswer {
+    if major < MAJOR {
+        return FuseAnswer::OtherVersion;
+    }
+    FuseAnswer::Init(InitReply {
+        major: MAJOR,
+        minor: MINOR,
+        readahead: most_of(readahead),
+        flags: flags & TAKEN,
+        background: 0,
+        busy: 0,
+        max_write: MAX_TRANSFER,
+        time_unit: SECOND,
+        max_pages: MOST_PAGES,
+        map_alignment: 0,
+        more_flags: 0,
+    })
+}
+
+/// The changes that a SETATTR wants; none of another request.
+fn wanted_of(request: &Request<'_>, now: u32) -> Option<Wanted> {
+    match *request {
+        Request::Setattr {
+            valid,
+            size,
+            atime,
+            mtime,
+            mode,
+            uid,
+            gid,
+            ..
+        } => Some(Wanted {
+            valid: bits_of(valid),
+            mode,
+            uid,
+            gid,
+            size,
+            atime: atime.0,
+            mtime: mtime.0,
+            now,
+        }),
+        _ => None,
+    }
+}
+
+impl Mount {
+    /// Requests about names that are there.
+    fn on_names<S: Sessions>(
+        &mut self,
+        sessions: &mut S,
+        now: u32,
+        message: &Message<'_>,
+    ) -> Result<FuseAnswer, Refused>
+        ensures { Talked S.called S.entered S.left now sessions.old sessions.new }
+    {
+        let directory = message.node;
+        match message.request {
+            Request::Lookup { name } => self.lookup(sessions, now, NameIn { directory, name }),
+            Request::Unlink { name } => self.unlink(sessions, now, NameIn { directory, name }),
+            Request::Rmdir { name } => self.rmdir(sessions, now, NameIn { directory, name }),
+            Request::Link { file, name } => {
+                self.link(sessions, now, file, NameIn { directory, name })
+            }
+            _ => Ok(FuseAnswer::Unknown),
+        }
+    }
+
+    /// Requests that change names.
+    fn on_renames<S: Sessions>(
+        &mut self,
+        sessions: &mut S,
+        now: u32,
+        message: &Message<'_>,
+    ) -> Result<FuseAnswer, Refused>
+        ensures { Talked S.called S.entered S.left now sessions.old sessions.new }
+    {
+        let (new_directory, flags, old_name, new_name) = match message.request {
+            Request::Rename {
+                new_directory,
+                old_name,
+                new_name,
+            } => (new_directory, 0, old_name, new_name),
+            Request::Rename2 {
+                new_directory,
+                flags,
+                old_name,
+                new_name,
+            } => (new_directory, flags, old_name, new_name),
+            _ => return self.on_names(sessions, now, message),
+        };
+        let from = NameIn {
+            directory: message.node,
+            name: old_name,
+        };
+        let to = NameIn {
+            directory: new_directory,
+            name: new_name,
+        };
+        self.rename(sessions, now, from, to, flags)
+    }
+
+    /// Requests that make something.
+    fn on_making<S: Sessions>(
+        &mut self,
+        sessions: &mut S,
+        now: u32,
+        message: &Message<'_>,
+    ) -> Result<FuseAnswer, Refused>
+        ensures { Talked S.called S.entered S.left now sessions.old sessions.new }
+    {
+        let directory = message.node;
+        match message.request {
+            Request::Mknod { mode, name, .. } => {
+                self.mknod(sessions, now, message, NameIn { directory, name }, mode)
+            }
+            Request::Mkdir { mode, name, .. } => {
+                self.mkdir(sessions, now, message, NameIn { directory, name }, mode)
+            }
+            Request::Create { mode, name, .. } => {
+                self.create(sessions, now, message, NameIn { directory, name }, mode)
+            }
+            Request::Symlink { name, target } => {
+                self.symlink(sessions, now, NameIn { directory, name }, target)
+            }
+            _ => self.on_renames(sessions, now, message),
+        }
+    }
+
+    /// Requests about what is open.
+    fn on_handles<S: Sessions>(
+        &mut self,
+        sessions: &mut S,
+        now: u32,
+        message: &Message<'_>,
+    ) -> Result<FuseAnswer, Refused>
+        ensures { Talked S.called S.entered S.left now sessions.old sessions.new }
+    {
+        match message.request {
+            Request::Open { .. } => self.open_file(sessions, now, message.node),
+            Request::Read { span } => self.read(sessions, now, span),
+            Request::Write {
+                handle,
+                offset,
+                bytes,
+                ..
+            } => self.write(sessions, now, handle, offset, bytes),
+            Request::Release { handle, .. } => self.release(sessions, now, handle),
+            Request::Opendir { .. } => self.open_directory(message.node),
+            Request::Readdir { span } => self.readdir(sessions, now, span),
+            Request::Releasedir { handle, .. } => self.release(sessions, now, handle),
+            _ => self.on_making(sessions, now, message),
+        }
+    }
+
+    /// Requests about nodes, and those about the mount.
+    fn plain<S: Sessions>(
+        &mut self,
+        sessions: &mut S,
+        now: u32,
+        message: &Message<'_>,
+    ) -> Result<FuseAnswer, Refused>
+        ensures { Talked S.called S.entered S.left now sessions.old sessions.new }
+    {
+        if let Some(wanted) = wanted_of(&message.request, now) {
+            return self.setattr(sessions, now, message.node, &wanted);
+        }
+        match message.request {
+            Request::Init {
+                major,
+                readahead,
+                flags,
+                ..
+            } => Ok(init(major, readahead, flags)),
+            Request::Destroy => Ok(FuseAnswer::Done),
+            Request::Getattr { .. } => self.getattr(sessions, now, message.node),
+            Request::Readlink => self.readlink(sessions, now, message.node),
+            Request::Statfs => self.statfs(sessions, now),
+            _ => self.on_handles(sessions, now, message),
+        }
+    }
+
+    /// What is said to a message that is no sync.
+    fn said_plainly<S: Sessions>(
+        &mut self,
+        sessions: &mut S,
+        now: u32,
+        message: &Message<'_>,
+    ) -> FuseAnswer
+        ensures { Talked S.called S.entered S.left now sessions.old sessions.new }
+    {
+        match self.plain(sessions, now, message) {
+            Ok(answer) => answer,
+            Err(refused) => FuseAnswer::Refused(refused),
+        }
+    }
+
+    /// What is said to the bytes of a message that has this opcode: EINVAL where they can't be read.
+    pub(crate) fn said_to<S: Sessions>(
+        &mut self,
+        sessions: &mut S,
+        now: u32,
+        opcode: u32,
+        bytes: &[u8],
+    ) -> Said
+        ensures asked { Asked (MayHear S.called S.entered S.left now) sessions.old (result ≡ Said.Synced) sessions.new }
+        ensures sync { IsTrue (is_sync opcode) → IsOfSync result }
+    {
+        let Ok(message) = read(bytes) else {
+            return Said::Plain(FuseAnswer::Refused(Refused::By(Errno::EINVAL)));
+        };
+        if is_sync(opcode) {
+            return self.sync(sessions, now);
+        }
+        Said::Plain(self.said_plainly(sessions, now, &message))
+    }
+
+    /// Nodes that the kernel forgets.
+    fn forget_all(&mut self, nodes: Forgets<'_>) {
+        let mut rest = nodes;
+        'nodes: for _node in 0..nodes.len() {
+            let Some(((node, count), more)) = rest.split_first() else {
+                return;
+            };
+            self.nodes.forget(node, count);
+            rest = more;
+        }
+    }
+
+    /// What the bytes of a message say that has no answer. What can't be read says nothing.
+    pub(crate) fn hear(&mut self, bytes: &[u8]) {
+        let Ok(message) = read(bytes) else {
+            return;
+        };
+        match message.request {
+            Request::Forget { count } => self.nodes.forget(message.node, count),
+            Request::BatchForget { nodes } => self.forget_all(nodes),
+            _ => {}
+        }
+    }
+}

@@ -1,0 +1,90 @@
+//! Calls by the sessions of user 0, by whom all calls are made: the kernel has looked at who may do what.
+#![tactic(auto, using(crate::proofs::Asking::goes_on, crate::proofs::Asking::stays))]
+
+ghost use Rattle.fuse_server.specs.Asking.{Talked};
+
+use crate::mount::Mount;
+use errno::Errno;
+use talks::ask::Ask;
+use talks::heard::Heard;
+use talks::refused::Refused;
+use talks::sessions::{Sessions, heard};
+use tree::{Attributes, Call};
+
+/// A call of a session.
+pub(crate) fn calling<S: Sessions>(
+    sessions: &mut S,
+    now: u32,
+    session: u8,
+    call: Call<'_>,
+) -> Heard
+    ensures { Talked S.called S.entered S.left now sessions.old sessions.new }
+{
+    heard(sessions, now, &Ask::Call { session, call })
+}
+
+/// A new session of user 0.
+fn entering<S: Sessions>(sessions: &mut S, now: u32) -> Result<u8, Refused>
+    ensures { Talked S.called S.entered S.left now sessions.old sessions.new }
+{
+    heard(sessions, now, &Ask::Enter { uid: 0, gid: 0 }).session()
+}
+
+impl Mount {
+    /// The session of user 0 at this place, which begins where there are no more than so many yet.
+    pub(crate) fn session<S: Sessions>(
+        &mut self,
+        sessions: &mut S,
+        now: u32,
+        at: usize,
+    ) -> Result<u8, Refused>
+        ensures { Talked S.called S.entered S.left now sessions.old sessions.new }
+    {
+        if let Some(session) = self.seats.get(at) {
+            return Ok(*session);
+        }
+        self.seats.reserve(1)?;
+        let session = entering(sessions, now)?;
+        match self.seats.push(session) {
+            Ok(()) => Ok(session),
+            Err(_) => Err(Refused::By(Errno::ENOMEM)),
+        }
+    }
+
+    /// A call by the first session.
+    pub(crate) fn ask<S: Sessions>(
+        &mut self,
+        sessions: &mut S,
+        now: u32,
+        call: Call<'_>,
+    ) -> Result<Heard, Refused>
+        ensures { Talked S.called S.entered S.left now sessions.old sessions.new }
+    {
+        let session = self.session(sessions, now, 0)?;
+        Ok(calling(sessions, now, session, call))
+    }
+
+    /// A call that has nothing to tell.
+    pub(crate) fn ask_done<S: Sessions>(
+        &mut self,
+        sessions: &mut S,
+        now: u32,
+        call: Call<'_>,
+    ) -> Result<(), Refused>
+        ensures { Talked S.called S.entered S.left now sessions.old sessions.new }
+    {
+        self.ask(sessions, now, call)?.done()
+    }
+
+    /// The attributes of what a path names.
+    pub(crate) fn look<S: Sessions>(
+        &mut self,
+        sessions: &mut S,
+        now: u32,
+        path: &[u8],
+    ) -> Result<Attributes, Refused>
+        ensures { Talked S.called S.entered S.left now sessions.old sessions.new }
+    {
+        self.ask(sessions, now, Call::Lstat { path })?.attributes()
+    }
+}
