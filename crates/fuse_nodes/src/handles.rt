@@ -1,9 +1,13 @@
 //! Handles: what the kernel has opened, by its numbers.
 
+ghost use Rattle.std.specs.Prelude.{◌≡◌, IfOk, OnOk, OnErr};
+ghost use Rattle.std.specs.Option.{option_map};
+ghost use Rattle.std.specs.Result.{result_map_both};
+
 use errno::Errno;
-use ninep_fids::refused::Refused;
 use std::alloc::{AllocError, Global};
 use std::collections::BTreeMap;
+use talks::refused::Refused;
 use tree::Entry;
 
 /// The names of a directory, as they were at a time.
@@ -35,8 +39,15 @@ pub struct Handles {
 }
 
 impl Handles {
+    ghost use Rattle.fuse_nodes.specs.Tables.{put, changed};
+    ghost use Rattle.fuse_nodes.specs.Handles.{Opened, directory_at, file_at, keeps, listing_of, names_at, open_at, opened_of, seen_handle};
+    ghost use Rattle.fuse_nodes.specs.Handles.{seen_names, table_of, with_handle};
+
     /// None.
-    pub fn new(alloc: Global) -> Handles {
+    pub fn new(alloc: Global) -> Handles
+        ensures handles { (table_of result).handles ≡ (λ id. Option.None) }
+        ensures next { (table_of result).next ≡ 1 }
+    {
         Handles {
             handles: BTreeMap::new(alloc),
             next: 1,
@@ -44,7 +55,11 @@ impl Handles {
     }
 
     /// A handle more; its number. An error: no memory was found, or all numbers are used, and all stays.
-    fn put(&mut self, handle: Handle) -> Result<u64, AllocError> {
+    fn put(&mut self, handle: Handle) -> Result<u64, AllocError>
+        ensures number { IfOk result (λ id. id ≡ (table_of self.old).next) }
+        ensures ok { OnOk result (table_of self.new ≡ with_handle (table_of self.old) (opened_of handle)) }
+        ensures err { OnErr result (table_of self.new ≡ table_of self.old) }
+    {
         let id = self.next;
         let Some(next) = id.checked_add(1) else {
             return Err(AllocError);
@@ -55,17 +70,27 @@ impl Handles {
     }
 
     /// A handle of a file; its number. An error: no memory was found, or all numbers are used, and all stays.
-    pub fn open_file(&mut self, node: u64) -> Result<u64, AllocError> {
+    pub fn open_file(&mut self, node: u64) -> Result<u64, AllocError>
+        ensures number { IfOk result (λ id. id ≡ (table_of self.old).next) }
+        ensures ok { OnOk result (table_of self.new ≡ with_handle (table_of self.old) (Opened.File node)) }
+        ensures err { OnErr result (table_of self.new ≡ table_of self.old) }
+    {
         self.put(Handle::File { node })
     }
 
     /// A handle of a directory, whose names weren't asked for yet; its number. An error: as at `open_file`.
-    pub fn open_directory(&mut self, node: u64) -> Result<u64, AllocError> {
+    pub fn open_directory(&mut self, node: u64) -> Result<u64, AllocError>
+        ensures number { IfOk result (λ id. id ≡ (table_of self.old).next) }
+        ensures ok { OnOk result (table_of self.new ≡ with_handle (table_of self.old) (Opened.Directory node Option.None)) }
+        ensures err { OnErr result (table_of self.new ≡ table_of self.old) }
+    {
         self.put(Handle::Directory { node, names: None })
     }
 
     /// What is open under a number; EBADF where nothing is.
-    pub fn get(&self, handle: u64) -> Result<&Handle, Refused> {
+    pub fn get(&self, handle: u64) -> Result<&Handle, Refused>
+        ensures { seen_handle result ≡ open_at (table_of self.now).handles handle }
+    {
         match self.handles.get(&handle) {
             Some(found) => Ok(found),
             None => Err(Refused::By(Errno::EBADF)),
@@ -73,7 +98,9 @@ impl Handles {
     }
 
     /// The node of an open file; EBADF where nothing is open under the number, or a directory.
-    pub fn file(&self, handle: u64) -> Result<u64, Refused> {
+    pub fn file(&self, handle: u64) -> Result<u64, Refused>
+        ensures { result ≡ file_at (table_of self.now).handles handle }
+    {
         match self.get(handle)? {
             Handle::File { node } => Ok(*node),
             Handle::Directory { .. } => Err(Refused::By(Errno::EBADF)),
@@ -81,7 +108,9 @@ impl Handles {
     }
 
     /// The node of an open directory; EBADF where nothing is open under the number, or a file.
-    pub fn directory(&self, handle: u64) -> Result<u64, Refused> {
+    pub fn directory(&self, handle: u64) -> Result<u64, Refused>
+        ensures { result ≡ directory_at (table_of self.now).handles handle }
+    {
         match self.get(handle)? {
             Handle::File { .. } => Err(Refused::By(Errno::EBADF)),
             Handle::Directory { node, .. } => Ok(*node),
@@ -89,7 +118,9 @@ impl Handles {
     }
 
     /// The names that are kept with an open directory; EBADF where none are, or no directory is open under the number.
-    pub fn names(&self, handle: u64) -> Result<&Names, Refused> {
+    pub fn names(&self, handle: u64) -> Result<&Names, Refused>
+        ensures { seen_names result ≡ names_at (table_of self.now).handles handle }
+    {
         match self.get(handle)? {
             Handle::Directory {
                 names: Some(names),
@@ -100,7 +131,10 @@ impl Handles {
     }
 
     /// An open directory keeps these names, in place of what it has. Nothing, where no directory is open under the number.
-    pub fn keep(&mut self, handle: u64, kept: Names) {
+    pub fn keep(&mut self, handle: u64, kept: Names)
+        ensures handles { (table_of self.new).handles ≡ changed (keeps (listing_of kept)) (table_of self.old).handles handle }
+        ensures next { (table_of self.new).next ≡ (table_of self.old).next }
+    {
         match self.handles.get_mut(&handle) {
             Some(Handle::Directory { names, .. }) => *names = Some(kept),
             _ => {}
@@ -108,7 +142,11 @@ impl Handles {
     }
 
     /// A handle is closed: what was open under the number; EBADF where nothing was, and all stays.
-    pub fn close(&mut self, handle: u64) -> Result<Handle, Refused> {
+    pub fn close(&mut self, handle: u64) -> Result<Handle, Refused>
+        ensures closed { result_map_both opened_of (λ e. e) result ≡ open_at (table_of self.old).handles handle }
+        ensures handles { (table_of self.new).handles ≡ put (table_of self.old).handles handle Option.None }
+        ensures next { (table_of self.new).next ≡ (table_of self.old).next }
+    {
         match self.handles.remove(&handle) {
             Some(closed) => Ok(closed),
             None => Err(Refused::By(Errno::EBADF)),

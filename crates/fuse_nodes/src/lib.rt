@@ -2,6 +2,7 @@
 #![tactic(auto)]
 
 pub mod handles;
+pub mod laws;
 pub mod names;
 pub mod node;
 pub mod nodes;

@@ -1,5 +1,8 @@
 //! What a node is.
 
+ghost use Rattle.std.specs.Prelude.{◌≡◌, ◌==◌, ◌&&◌, IfOk};
+ghost use Rattle.std.specs.Str.{bytes_eq};
+
 use std::alloc::{AllocError, Global};
 
 /// The root's number, the protocol's.
@@ -29,8 +32,12 @@ pub struct Place {
 }
 
 impl Place {
+    ghost use Rattle.fuse_nodes.specs.Known.{place_of};
+
     /// This name there; an error where no memory is found for it.
-    pub fn new(alloc: Global, directory: u64, name: &[u8]) -> Result<Place, AllocError> {
+    pub fn new(alloc: Global, directory: u64, name: &[u8]) -> Result<Place, AllocError>
+        ensures { IfOk result (λ place. place_of place ≡ (directory, name.now)) }
+    {
         Ok(Place {
             directory,
             name: name.to_vec(alloc)?,
@@ -38,7 +45,9 @@ impl Place {
     }
 
     /// Whether it is this name there.
-    pub fn is(&self, directory: u64, name: &[u8]) -> bool {
+    pub fn is(&self, directory: u64, name: &[u8]) -> bool
+        ensures { result ≡ (self.now.directory == directory) && bytes_eq self.now.name.items name.now }
+    {
         self.directory == directory && self.name.as_slice() == name
     }
 }
@@ -59,8 +68,13 @@ pub struct Node {
 }
 
 impl Node {
+    ghost use Rattle.fuse_nodes.specs.Known.{facts_of};
+    ghost use Rattle.fuse_nodes.specs.Changes.{is_used};
+
     /// Whether it stays known: the kernel knows it, or it has handles or a descriptor.
-    pub fn is_used(&self) -> bool {
+    pub fn is_used(&self) -> bool
+        ensures { result ≡ is_used (facts_of self.now) }
+    {
         self.lookups > 0 || self.opens > 0 || self.descriptor.is_some()
     }
 }
