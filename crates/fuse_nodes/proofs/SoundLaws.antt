@@ -1,6 +1,5 @@
 -- What all that is known keeps.
 use Rattle.std.proofs.Common.{◌≡◌, ◌≢◌, ◌<◌, ◌≤◌, ◌+◌, ◌-◌, ◌⊎◌, nat_lt, ◌∙◌, ap, sym, refl, subst, inl, inr, ℕ, Bool, true, false, if◌then◌else◌, ◌||◌, List, Option, Some, None, IsSome, IsSomeAnd, arith}
-use Rattle.std.specs.Prelude.{⊥}
 use Rattle.std.proofs.lemmas.Bool.Decides.{eqb_tells}
 use Rattle.std.specs.Option.{option_map, unwrap_or}
 use Rattle.std.specs.Prelude.{◌==◌}

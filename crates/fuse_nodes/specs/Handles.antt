@@ -1,8 +1,7 @@
 -- What a mount knows of handles.
-use Rattle.std.specs.Prelude.{ℕ, ◌+◌, List, Option, Some, None, Result, Ok, Err}
+use Rattle.std.specs.Prelude.{ℕ, ◌+◌, List, map, Option, Some, None, Result, Ok, Err}
 use Rattle.std.specs.Borrow.{Bor}
 use Rattle.std.specs.BTreeMap.{get}
-use Rattle.std.specs.List.{map}
 use Rattle.std.specs.Option.{option_map, ok_or}
 use Rattle.std.specs.Ordering.{nat_cmp}
 use Rattle.errno.specs.declared.Errno.TheVariants.{EBADF}

@@ -1,5 +1,5 @@
 -- What all that is known keeps, whatever becomes of it.
-use Rattle.std.specs.Prelude.{⊤, ⊥, ◌≡◌, ◌<◌, ℕ, Bool, List, Option, Some, None, IsSome, IsSomeAnd}
+use Rattle.std.specs.Prelude.{⊤, ◌≡◌, ◌<◌, ℕ, Bool, List, Option, Some, None, IsSome, IsSomeAnd}
 use Rattle.fuse_nodes.specs.Known.{Facts, Known, at_first}
 use Rattle.fuse_nodes.specs.Changes.{told, number_in, forgotten, opened, closed, without_descriptor, with_descriptor, renamed, lost}
 use Rattle.fuse_nodes.specs.declared.node.Descriptor.{Descriptor}

@@ -1,5 +1,5 @@
 -- Paths of nodes, by the names by which they and the directories above them were told last.
-use Rattle.std.specs.Prelude.{⊤, ⊥, ◌≡◌, ◌⊎◌, ◌-◌, ◌==◌, ℕ, zero, suc, List, [], ◌∷◌, ◌++◌, length, nat_lt, Option, Result, Ok, Err, if◌then◌else◌}
+use Rattle.std.specs.Prelude.{⊤, ◌≡◌, ◌⊎◌, ◌-◌, ◌==◌, ℕ, zero, suc, List, [], ◌∷◌, ◌++◌, length, nat_lt, Option, Result, Ok, Err, if◌then◌else◌}
 use Rattle.std.specs.Global.{Vec}
 use Rattle.errno.specs.declared.Errno.TheVariants.{ENAMETOOLONG, ENOMEM}
 use Rattle.talks.specs.Refusals.{then_of}

@@ -1,7 +1,7 @@
 //! Handles: what the kernel has opened, by its numbers.
 
 ghost use Rattle.std.specs.Prelude.{◌≡◌, IfOk, OnOk, OnErr};
-ghost use Rattle.std.specs.Option.{option_map};
+ghost use Rattle.std.specs.Option.{option_map, None};
 ghost use Rattle.std.specs.Result.{result_map_both};
 
 use errno::Errno;
@@ -45,7 +45,7 @@ impl Handles {
 
     /// None.
     pub fn new(alloc: Global) -> Handles
-        ensures handles { (table_of result).handles ≡ (λ id. Option.None) }
+        ensures handles { (table_of result).handles ≡ (λ id. None) }
         ensures next { (table_of result).next ≡ 1 }
     {
         Handles {
@@ -81,7 +81,7 @@ impl Handles {
     /// A handle of a directory, whose names weren't asked for yet; its number. An error: as at `open_file`.
     pub fn open_directory(&mut self, node: u64) -> Result<u64, AllocError>
         ensures number { IfOk result (λ id. id ≡ (table_of self.old).next) }
-        ensures ok { OnOk result (table_of self.new ≡ with_handle (table_of self.old) (Opened.Directory node Option.None)) }
+        ensures ok { OnOk result (table_of self.new ≡ with_handle (table_of self.old) (Opened.Directory node None)) }
         ensures err { OnErr result (table_of self.new ≡ table_of self.old) }
     {
         self.put(Handle::Directory { node, names: None })
@@ -144,7 +144,7 @@ impl Handles {
     /// A handle is closed: what was open under the number; EBADF where nothing was, and all stays.
     pub fn close(&mut self, handle: u64) -> Result<Handle, Refused>
         ensures closed { result_map_both opened_of (λ e. e) result ≡ open_at (table_of self.old).handles handle }
-        ensures handles { (table_of self.new).handles ≡ put (table_of self.old).handles handle Option.None }
+        ensures handles { (table_of self.new).handles ≡ put (table_of self.old).handles handle None }
         ensures next { (table_of self.new).next ≡ (table_of self.old).next }
     {
         match self.handles.remove(&handle) {

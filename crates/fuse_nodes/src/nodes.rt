@@ -1,7 +1,7 @@
 //! Nodes, by the numbers by which the kernel names them.
 
 ghost use Rattle.std.specs.Prelude.{◌≡◌, ◌<◌, ◌∷◌, ◌++◌, ℕ, length, OnOk, OnErr, IfOk};
-ghost use Rattle.std.specs.Option.{option_map};
+ghost use Rattle.std.specs.Option.{option_map, Some, None};
 ghost use Rattle.fuse_nodes.specs.Paths.{IsMade, IsWrittenBehind, path_in, path_at, path_of, path_below};
 ghost use Rattle.fuse_nodes.specs.Changes.{is_at};
 ghost use Rattle.fuse_nodes.specs.Known.{place_of};
@@ -177,9 +177,9 @@ impl Nodes {
 
     /// A node that isn't known is told by this name.
     fn tell_new(&mut self, inode: u16, kind: NodeKind, place: Place) -> Result<u64, AllocError>
-        requires { (known_of self.old).numbers inode ≡ Option.None }
+        requires { (known_of self.old).numbers inode ≡ None }
         ensures number { IfOk result (λ id. id ≡ self.old.next) }
-        ensures ok { OnOk result (known_of self.new ≡ told_as (known_of self.old) inode kind (place_of place) Option.None) }
+        ensures ok { OnOk result (known_of self.new ≡ told_as (known_of self.old) inode kind (place_of place) None) }
         ensures err { OnErr result (known_of self.new ≡ known_of self.old) }
     {
         let id = self.next;
@@ -333,7 +333,7 @@ impl Nodes {
 
     /// A node has another place.
     fn set_place(&mut self, id: u64, place: Place)
-        ensures { known_of self.new ≡ with_change (λ facts. record facts { place = Option.Some (place_of place) }) (known_of self.old) id }
+        ensures { known_of self.new ≡ with_change (λ facts. record facts { place = Some (place_of place) }) (known_of self.old) id }
     {
         match self.nodes.get_mut(&id) {
             Some(node) => node.place = Some(place),

@@ -14,7 +14,7 @@ use Rattle.errno.specs.declared.Errno.TheVariants.{EBADF, EINVAL, ENFILE}
 use Rattle.ninep_fids.specs.Fids.{EachBecomes}
 use Rattle.ninep_fids.specs.Knowledge.{File, entry_of, file_of, found, new_fid, table_of}
 use Rattle.ninep_fids.specs.declared.fids.Fids.{Fids}
-use Rattle.ninep_fids.specs.declared.refused.Refused.TheVariants.{By}
+use Rattle.talks.specs.declared.refused.Refused.TheVariants.{By}
 use Rattle.ninep_fids.specs.declared.fid.Fid.{Fid}
 
 pub lookup_seen : (test : ℕ → Bool) (es : List (ℕ × Fid)) → lookup test (map entry_of es) ≡ option_map file_of (lookup test es)

@@ -1,9 +1,10 @@
 -- What is refused before anything is asked.
 use Rattle.std.specs.Prelude.{⊤, ℕ, List, Option, Result, Ok, Err, Bool, true, false, if◌then◌else◌, ◌==◌, nat_lt}
 use Rattle.errno.specs.declared.Errno.TheVariants.{ELOOP, ENOTDIR, EINVAL}
-use Rattle.ninep_fids.specs.Knowledge.{Known, File, named, then_of, closed, new_fid}
-use Rattle.ninep_fids.specs.declared.refused.Refused.{Refused}
-use Rattle.ninep_fids.specs.declared.refused.Refused.TheVariants.{By, Unsupported}
+use Rattle.ninep_fids.specs.Knowledge.{Known, File, named, closed, new_fid}
+use Rattle.talks.specs.Refusals.{then_of}
+use Rattle.talks.specs.declared.refused.Refused.{Refused}
+use Rattle.talks.specs.declared.refused.Refused.TheVariants.{By, Unsupported}
 use Rattle.ninep_fids.specs.declared.fid.Kind.{Kind}
 use Rattle.ninep_fids.specs.declared.fid.Kind.TheVariants as kind
 use Rattle.ninep_fids.specs.Paths.{leads, checked}

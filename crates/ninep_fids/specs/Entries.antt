@@ -6,9 +6,9 @@ use Rattle.std.specs.List.{AllByRecursion, concat}
 use Rattle.errno.specs.declared.Errno.TheVariants.{ENOMEM}
 use Rattle.ninep.specs.Fields.{One, Eight, Number, Text, fields_bytes}
 use Rattle.ninep.specs.Replies.{qid_fields}
-use Rattle.ninep_fids.specs.Hearing.{eio}
-use Rattle.ninep_fids.specs.declared.refused.Refused.{Refused}
-use Rattle.ninep_fids.specs.declared.refused.Refused.TheVariants.{By}
+use Rattle.talks.specs.Hearing.{eio}
+use Rattle.talks.specs.declared.refused.Refused.{Refused}
+use Rattle.talks.specs.declared.refused.Refused.TheVariants.{By}
 use Rattle.ninep_fids.specs.declared.entries.Entries.{Entries}
 
 -- The bytes of an entry: a qid that has the number of its inode alone, the offset of the next entry, no type (the client asks for

@@ -1,15 +1,11 @@
 -- Flags and groups that a message names.
 use Rattle.std.specs.Prelude.{◌+◌, ◌%◌, ℕ, Bool, not, nat_lt, Option, Some, None, Result, Ok, Err, if◌then◌else◌, ◌==◌, ◌&&◌}
-use Rattle.std.specs.Int.RustNames.{bit_and}
 use Rattle.errno.specs.declared.Errno.TheVariants.{EINVAL}
 use Rattle.tree.specs.declared.OpenFlags.{OpenFlags}
-use Rattle.ninep_fids.specs.declared.refused.Refused.{Refused}
-use Rattle.ninep_fids.specs.declared.refused.Refused.TheVariants.{By}
+use Rattle.talks.specs.Flags.{is_set}
+use Rattle.talks.specs.declared.refused.Refused.{Refused}
+use Rattle.talks.specs.declared.refused.Refused.TheVariants.{By}
 use Rattle.ninep_fids.specs.declared.users.User.{User}
-
--- a bit is set
-abbrev pub is_set : ℕ → ℕ → Bool
-is_set flags bit = not (bit_and flags bit == 0)
 
 -- a flag of the server's open, where a bit is set
 abbrev pub flag_for : ℕ → ℕ → ℕ → ℕ

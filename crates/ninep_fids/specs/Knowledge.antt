@@ -7,10 +7,11 @@ use Rattle.std.specs.Ordering.{nat_cmp}
 use Rattle.std.specs.BTreeMap.{is_at}
 use Rattle.std.specs.Map.{lookup}
 use Rattle.errno.specs.declared.Errno.TheVariants.{EBADF, EINVAL, ENFILE}
+use Rattle.talks.specs.Refusals.{then_of}
 use Rattle.ninep_fids.specs.Directories.{entries_of}
 use Rattle.ninep_fids.specs.declared.entries.Listed.{Listed}
-use Rattle.ninep_fids.specs.declared.refused.Refused.{Refused}
-use Rattle.ninep_fids.specs.declared.refused.Refused.TheVariants.{By, Stale}
+use Rattle.talks.specs.declared.refused.Refused.{Refused}
+use Rattle.talks.specs.declared.refused.Refused.TheVariants.{By, Stale}
 use Rattle.ninep_fids.specs.declared.users.User.{User}
 use Rattle.ninep_fids.specs.declared.fid.Node.{Node}
 use Rattle.ninep_fids.specs.declared.fid.Fid.{Fid}
@@ -51,11 +52,6 @@ table_of fids = map entry_of fids.fids.entries
 
 abbrev pub known_of : Knows → Known
 known_of k = record { message_size = k.message_size; users = k.users.users.items; fids = table_of k.fids }
-
--- what comes next, where something was found
-abbrev pub then_of : {A B : Type 0} → Result A Refused → (A → Result B Refused) → Result B Refused
-then_of (Ok a) next = next a
-then_of (Err refused) next = Err refused
 
 -- what a fid stands for
 abbrev pub found : List (ℕ × File) → ℕ → Result File Refused

@@ -3,8 +3,8 @@ use Rattle.std.specs.Prelude.{⊤, ◌≡◌, ◌==◌, ◌||◌, ℕ, Bool, tru
 use Rattle.std.specs.List.{list_any}
 use Rattle.std.specs.Str.{bytes_eq}
 use Rattle.errno.specs.declared.Errno.TheVariants.{ENOENT, EINVAL}
-use Rattle.ninep_fids.specs.declared.refused.Refused.{Refused}
-use Rattle.ninep_fids.specs.declared.refused.Refused.TheVariants.{By}
+use Rattle.talks.specs.declared.refused.Refused.{Refused}
+use Rattle.talks.specs.declared.refused.Refused.TheVariants.{By}
 
 -- a path as a call has it
 abbrev pub called : List ℕ → List ℕ

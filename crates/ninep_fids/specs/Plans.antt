@@ -1,7 +1,6 @@
 -- How a message is answered: what is asked of the sessions, one thing after the other, and what is said in the end, as a function of what
 -- was heard.
 use Rattle.std.specs.Prelude.{◌≡◌, ◌⊎◌, ℕ, List, [], ◌∷◌, ◌++◌, Option, Some, None, Result, Ok, Err}
-use Rattle.std.specs.Borrow.{Bor}
 use Rattle.std.specs.Ordering.{nat_cmp}
 use Rattle.std.specs.BTreeMap.{is_at, insert_entry}
 use Rattle.std.specs.Map.{remove_entry, set_value}
@@ -10,45 +9,18 @@ use Rattle.ninep.specs.Fields.{Four, Field, Number}
 use Rattle.ninep.specs.Requests.{Body}
 use Rattle.tree.specs.declared.Call.{Call}
 use Rattle.tree.specs.declared.Call.TheVariants as call
+use Rattle.talks.specs.Plain.{plain}
 use Rattle.ninep_fids.specs.Knowledge.{Known, File}
 use Rattle.ninep_fids.specs.Fids.{IsRenamed, IsUnlinked, EachBecomes}
-use Rattle.ninep_fids.specs.Numbers.{number_of}
+use Rattle.talks.specs.Numbers.{number_of}
 use Rattle.ninep_fids.specs.Written.{said_number, said_fields}
 use Rattle.ninep_fids.specs.declared.users.User.{User}
-use Rattle.ninep_fids.specs.declared.refused.Refused.{Refused}
-use Rattle.ninep_fids.specs.declared.refused.Refused.TheVariants.{By}
-use Rattle.ninep_fids.specs.declared.ask.Ask.{Ask}
-use Rattle.ninep_fids.specs.declared.ask.Ask.TheVariants as ask
-use Rattle.ninep_fids.specs.declared.heard.Heard.{Heard}
+use Rattle.talks.specs.declared.refused.Refused.{Refused}
+use Rattle.talks.specs.declared.refused.Refused.TheVariants.{By}
+use Rattle.talks.specs.declared.ask.Ask.{Ask}
+use Rattle.talks.specs.declared.ask.Ask.TheVariants as ask
+use Rattle.talks.specs.declared.heard.Heard.{Heard}
 use Rattle.ninep_fids.specs.declared.answer.Said.{Said}
-
--- bytes of a call, wherever they stand
-abbrev pub at : List ℕ → Bor (List ℕ)
-at bytes = record { ref_ptr = (0, 0); now = bytes }
-
--- the same call, wherever its paths and bytes stand
-abbrev pub plain_call : Call → Call
-plain_call (call.Open path flags mode) = call.Open (at path.now) flags mode
-plain_call (call.Write fd bytes) = call.Write fd (at bytes.now)
-plain_call (call.Stat path) = call.Stat (at path.now)
-plain_call (call.Link old new) = call.Link (at old.now) (at new.now)
-plain_call (call.Unlink path) = call.Unlink (at path.now)
-plain_call (call.Mkdir path mode) = call.Mkdir (at path.now) mode
-plain_call (call.Rmdir path) = call.Rmdir (at path.now)
-plain_call (call.Rename old new) = call.Rename (at old.now) (at new.now)
-plain_call (call.Chmod path mode) = call.Chmod (at path.now) mode
-plain_call (call.Chown path uid gid) = call.Chown (at path.now) uid gid
-plain_call (call.Utime path atime mtime) = call.Utime (at path.now) atime mtime
-plain_call (call.Truncate path size) = call.Truncate (at path.now) size
-plain_call (call.Symlink target path) = call.Symlink (at target.now) (at path.now)
-plain_call (call.Readlink path) = call.Readlink (at path.now)
-plain_call (call.Lstat path) = call.Lstat (at path.now)
-plain_call c = c
-
-abbrev pub plain : Ask → Ask
-plain (ask.Enter uid gid) = ask.Enter uid gid
-plain ask.Leave = ask.Leave
-plain (ask.Call session c) = ask.Call session (plain_call c)
 
 -- what becomes of what is known
 pub data Change : Type 0 where

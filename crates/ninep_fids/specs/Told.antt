@@ -1,11 +1,10 @@
 -- Attributes of nodes and the room of a volume, as answers have them.
 use Rattle.std.specs.Int.{div_ceil}
-use Rattle.std.specs.Prelude.{ℕ, List, take}
+use Rattle.std.specs.Prelude.{ℕ}
 use Rattle.ninep.specs.declared.reply.StatfsReply.{StatfsReply as RoomTold}
 use Rattle.ninep.specs.declared.reply.Attributes.{Attributes as AttributesTold}
 use Rattle.tree.specs.declared.Attributes.{Attributes}
 use Rattle.tree.specs.declared.Statfs.{Statfs}
-use Rattle.tree.specs.declared.LinkTarget.{LinkTarget}
 use Rattle.ninep_fids.specs.Nodes.{node_of, qid_of}
 
 -- the attributes of a node: blocks are counted by its size, times are whole seconds
@@ -42,7 +41,3 @@ room_told room = record {
   id = 0;
   name_length = 60;
 }
-
--- Treadlink
-abbrev pub target_of : LinkTarget → List ℕ
-target_of target = take target.length target.bytes

@@ -7,8 +7,8 @@ use Rattle.ninep.specs.Fields.{One, Two, Four, Eight, Field, Number, Text, Data,
 use Rattle.ninep.specs.Requests.{Tagged, spelling}
 use Rattle.ninep.specs.Replies.{qid_fields, room_fields, attribute_fields}
 use Rattle.ninep.specs.declared.reply.Qid.{Qid}
-use Rattle.ninep_fids.specs.Numbers.{number_of}
-use Rattle.ninep_fids.specs.declared.refused.Refused.TheVariants.{By}
+use Rattle.talks.specs.Numbers.{number_of}
+use Rattle.talks.specs.declared.refused.Refused.TheVariants.{By}
 use Rattle.ninep_fids.specs.declared.answer.NinepAnswer.{NinepAnswer}
 use Rattle.ninep_fids.specs.declared.answer.NinepAnswer.TheVariants as answer
 use Rattle.ninep_fids.specs.declared.answer.Said.{Said}

@@ -1,7 +1,7 @@
 //! What a connection answers.
 
-use crate::refused::Refused;
 use ninep::reply::{Attributes, Qid, StatfsReply};
+use talks::refused::Refused;
 
 /// The answer to a message that isn't an fsync done, before it is written.
 #[derive(Drop)]

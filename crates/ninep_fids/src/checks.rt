@@ -7,8 +7,8 @@ ghost use Rattle.ninep_fids.specs.Checks.{not_link, changeable, is_directory, en
 use crate::fid::Kind;
 use crate::knows::Knows;
 use crate::paths::check_step;
-use crate::refused::Refused;
 use errno::Errno;
+use talks::refused::Refused;
 
 /// Refuses a fid that is open.
 pub fn check_closed(descriptor: Option<u32>) -> Result<(), Refused>

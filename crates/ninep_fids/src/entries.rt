@@ -1,15 +1,15 @@
 //! The entries of a directory: `.`, `..`, and the names in the order of their bytes. An offset counts them.
 
 ghost use Rattle.std.specs.Prelude.{◌≡◌, ◌<◌, ◌+◌, ◌⊎◌, ◌∷◌, ℕ, List, drop, length, min, nat_lt, true, false, OnOk, IfErr};
-ghost use Rattle.ninep_fids.specs.Hearing.{eio};
+ghost use Rattle.talks.specs.Hearing.{eio};
 ghost use Rattle.ninep_fids.specs.Directories.{entries_of};
 ghost use Rattle.ninep_fids.specs.Entries.{AreTold, entry_bytes, stands};
 
-use crate::refused::Refused;
 use errno::Errno;
 use ninep::entries::{ReaddirEntry, push_entry};
 use ninep::reply::Qid;
 use std::alloc::Global;
+use talks::refused::Refused;
 use tree::MAX_NAME;
 
 /// How many bytes an entry has without its name.

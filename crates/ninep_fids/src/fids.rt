@@ -9,10 +9,10 @@ ghost use Rattle.std.specs.Ordering.{nat_cmp};
 use crate::checks::check_closed;
 use crate::fid::Fid;
 use crate::paths::check_name;
-use crate::refused::Refused;
 use errno::Errno;
 use std::alloc::{AllocError, Global};
 use std::collections::BTreeMap;
+use talks::refused::Refused;
 
 /// The most fids of a connection; past them a walk or an attach is refused with ENFILE.
 pub const MAX_FIDS: usize = 4096;

@@ -1,11 +1,13 @@
 //! Linux's flags of open, modes and groups, as the server's calls have them.
 
 ghost use Rattle.std.specs.Prelude.{◌≡◌, ◌≤◌, ◌%◌, IfOk};
-ghost use Rattle.ninep_fids.specs.Flags.{is_set, flag_for, open_bits, group_of};
+ghost use Rattle.talks.specs.Flags.{is_set};
+ghost use Rattle.ninep_fids.specs.Flags.{flag_for, open_bits, group_of};
 
-use crate::refused::Refused;
 use crate::users::User;
 use errno::Errno;
+use talks::flags::has;
+use talks::refused::Refused;
 
 /// The bits of Linux's flags of open that mean something here, beside the access; the others are passed over.
 pub const EXCLUSIVE: u32 = 0o200;
@@ -13,13 +15,6 @@ pub const EXCLUSIVE: u32 = 0o200;
 const TRUNCATE: u32 = 0o1000;
 
 const APPEND: u32 = 0o2000;
-
-/// Whether a bit is set.
-pub fn has(flags: u32, bit: u32) -> bool
-    ensures { result ≡ is_set flags bit }
-{
-    flags & bit != 0
-}
 
 /// A flag of the server's open, where a bit is set.
 pub fn flag_for(flags: u32, bit: u32, flag: u8) -> u8
@@ -41,13 +36,6 @@ pub fn bits_of(flags: u32) -> Result<u8, Refused>
         _ => return Err(Refused::By(Errno::EINVAL)),
     };
     Ok(access + (flag_for(flags, TRUNCATE, 32) + flag_for(flags, APPEND, 4)))
-}
-
-/// The permission bits of a mode of Linux, with those that the server refuses.
-pub fn mode_of(mode: u32) -> u16
-    ensures { result ≡ mode % 4096 }
-{
-    (mode % 0o10000) as u16
 }
 
 /// The group that a new node is given: the one that is asked for, where user 0 asks and it isn't its own.

@@ -1,21 +1,17 @@
-//! What a connection of 9P knows and hears: its users and fids, the sessions that it asks, and the answers that it writes.
+//! What a connection of 9P knows: its users and fids; and the answers that it writes.
 #![tactic(auto)]
 
 pub mod answer;
-pub mod ask;
-pub mod changes;
 pub mod checks;
-pub mod end;
 pub mod entries;
+pub mod faults;
 pub mod fid;
 pub mod fids;
 pub mod flags;
-pub mod heard;
 pub mod knows;
 pub mod laws;
 pub mod paths;
-pub mod refused;
 pub mod send;
-pub mod sessions;
+pub mod tag;
 pub mod told;
 pub mod users;

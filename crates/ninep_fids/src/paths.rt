@@ -3,9 +3,9 @@
 ghost use Rattle.std.specs.Prelude.{◌≡◌, ◌++◌, IfOk, IfSome, IfNone};
 ghost use Rattle.ninep_fids.specs.Paths.{IsRest, IsElsewhere, is_rest, called, below, parent, checked, leads, stepped, is_here, is_above};
 
-use crate::refused::Refused;
 use errno::Errno;
 use std::alloc::{AllocError, Global};
+use talks::refused::Refused;
 
 /// A path as a call has it.
 pub fn called(path: &[u8]) -> &[u8]

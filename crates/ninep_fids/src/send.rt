@@ -9,14 +9,14 @@ ghost use Rattle.ninep_fids.specs.Written.{answer_number, answer_fields, said_nu
 ghost use Rattle.ninep_fids.specs.Sending.{IsSent};
 
 use crate::answer::{NinepAnswer, Said};
-use crate::end::End;
 use crate::knows::HEAD;
-use crate::refused::Refused;
 use errno::Errno;
 use ninep::names::MAX_NAMES;
 use ninep::reply::{Attributes, Held, Qid, Reply, StatfsReply};
 use ninep::write_refusal::WriteRefusal;
 use ninep::writing::write;
+use talks::end::End;
+use talks::refused::Refused;
 use tree::MAX_TARGET;
 
 /// The kind of a lock that isn't held, as Linux's client has it.

@@ -1,7 +1,8 @@
 //! Attributes of nodes, and the room of a volume, as answers have them.
 
 ghost use Rattle.std.specs.Prelude.{◌≡◌};
-ghost use Rattle.ninep_fids.specs.Told.{room_told, attributes_told, target_of};
+ghost use Rattle.ninep_fids.specs.Told.{room_told, attributes_told};
+ghost use Rattle.talks.specs.Hearing.{target_of};
 
 use crate::fid::Node;
 use ninep::reply;
@@ -55,16 +56,5 @@ pub fn told(attributes: &Attributes) -> reply::Attributes
         made: (0, 0),
         generation: 0,
         data_version: 0,
-    }
-}
-
-/// Its bytes.
-pub fn bytes_of(target: &LinkTarget) -> &[u8]
-    ensures { result.now ≡ target_of target.now }
-{
-    if target.length <= MAX_TARGET {
-        &target.bytes[..target.length]
-    } else {
-        &target.bytes
     }
 }

@@ -4,9 +4,9 @@ ghost use Rattle.std.specs.Prelude.{◌≡◌, ◌≤◌, ◌<◌, ◌++◌, ◌
 ghost use Rattle.ninep_fids.specs.Knowledge.{user_of};
 ghost use Rattle.ninep_fids.specs.Checks.{user_number};
 
-use crate::refused::Refused;
 use errno::Errno;
 use std::alloc::{AllocError, Global};
+use talks::refused::Refused;
 
 /// A user who is attached, and its session.
 #[derive(Clone, Copy)]

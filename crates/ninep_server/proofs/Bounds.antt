@@ -13,21 +13,23 @@ use Rattle.tree.specs.declared.Attributes.{Attributes}
 use Rattle.tree.specs.declared.Reply.{Reply}
 use Rattle.ninep_fids.specs.Paths.{below, checked, stepped}
 use Rattle.ninep_fids.specs.Knowledge.{Known, File, found, named, opened, new_fid, user_of, closed}
-use Rattle.ninep_fids.specs.Hearing.{done_in, attributes_in, position_in, bytes_in, count_in, room_in, target_in, descriptor_in, session_in, names_heard}
-use Rattle.ninep_fids.specs.Plans.{Plan, closing, with_it, at}
+use Rattle.talks.specs.Hearing.{done_in, attributes_in, position_in, bytes_in, count_in, room_in, target_in, descriptor_in, session_in, names_heard}
+use Rattle.ninep_fids.specs.Plans.{Plan, closing, with_it}
+use Rattle.talks.specs.Plain.{at}
 use Rattle.ninep_fids.specs.Nodes.{node_of, qid_of}
 use Rattle.ninep_fids.specs.Checks.{user_number, enters, place, not_link, changeable, named_for, unopened}
-use Rattle.ninep_fids.specs.Flags.{open_bits, flags_by, group_of, is_set}
-use Rattle.ninep_fids.specs.Changes.{in_order, changes_wanted, may_change}
+use Rattle.ninep_fids.specs.Flags.{open_bits, flags_by, group_of}
+use Rattle.talks.specs.Flags.{is_set}
+use Rattle.talks.specs.Changes.{in_order, changes_wanted, may_change}
 use Rattle.ninep_fids.specs.Directories.{entries_of}
 use Rattle.ninep_fids.specs.Entries.{any_long}
-use Rattle.ninep_fids.specs.declared.refused.Refused.{Refused}
+use Rattle.talks.specs.declared.refused.Refused.{Refused}
 use Rattle.ninep_fids.specs.declared.users.User.{User}
 use Rattle.ninep_fids.specs.declared.fid.Node.{Node}
-use Rattle.ninep_fids.specs.declared.changes.Wanted.{Wanted}
-use Rattle.ninep_fids.specs.declared.changes.Change.{Change}
-use Rattle.ninep_fids.specs.declared.changes.Change.TheVariants as change
-use Rattle.ninep_fids.specs.declared.changes.Changes.{Changes}
+use Rattle.talks.specs.declared.changes.Wanted.{Wanted}
+use Rattle.talks.specs.declared.changes.Change.{Change}
+use Rattle.talks.specs.declared.changes.Change.TheVariants as change
+use Rattle.talks.specs.declared.changes.Changes.{Changes}
 use Rattle.ninep_fids.specs.declared.answer.NinepAnswer.{NinepAnswer}
 use Rattle.ninep_fids.specs.declared.answer.NinepAnswer.TheVariants as answer
 use Rattle.ninep_server.specs.Attaching.{begins, entering, looking_at_root, attaching_as}
@@ -213,7 +215,7 @@ changing_within (suc n) session path (c ∷ changes) few =
 
 setting_within : (user : User) (path : List ℕ) (wanted : Wanted) → Within (looking_first user path wanted) 16
 setting_within user path wanted = λ h. it_within 15 (attributes_in h) _ (λ a. it_within 15 (changes_wanted wanted a) _
-    (λ c. it_within 15 (may_change user a c) _ (λ _. changing_within 15 user.session path (in_order c) (omega (arith, few_changes c)))))
+    (λ c. it_within 15 (may_change user.uid a c) _ (λ _. changing_within 15 user.session path (in_order c) (omega (arith, few_changes c)))))
 
 names_within : (n fid : ℕ) (user : User) (path : List ℕ) (node : Node) (fd offset limit above : ℕ)
     → Within (listing_names fid user path node fd offset limit above) (suc n)

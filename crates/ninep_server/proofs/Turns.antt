@@ -8,18 +8,19 @@ use Rattle.ninep.specs.Requests.{view}
 use Rattle.ninep.specs.declared.fault.MalformedMessage.{MalformedMessage}
 use Rattle.ninep.specs.declared.request.Message.{Message}
 use Rattle.tree.specs.declared.Call.TheVariants as call
-use Rattle.ninep_fids.specs.declared.heard.Heard.{Heard}
+use Rattle.talks.specs.declared.heard.Heard.{Heard}
 use Rattle.ninep_fids.specs.declared.answer.Said.{Said}
 use Rattle.ninep_fids.specs.declared.answer.Said.TheVariants as said
 use Rattle.ninep_fids.specs.declared.answer.NinepAnswer.{NinepAnswer}
-use Rattle.ninep_fids.specs.declared.ask.Ask.{Ask}
-use Rattle.ninep_fids.specs.declared.ask.Ask.TheVariants as ask
+use Rattle.talks.specs.declared.ask.Ask.{Ask}
+use Rattle.talks.specs.declared.ask.Ask.TheVariants as ask
 use Rattle.ninep_fids.specs.Written.{IsWritten, IsSaidIn, too_long, tag_in}
 use Rattle.ninep_fids.specs.Knowledge.{Known}
 use Rattle.ninep_fids.specs.Plans.{Follows}
-use Rattle.ninep_fids.specs.declared.refused.Refused.TheVariants.{By}
+use Rattle.talks.specs.declared.refused.Refused.TheVariants.{By}
 use Rattle.ninep_fids.specs.declared.answer.NinepAnswer.TheVariants as answer
-use Rattle.ninep_fids.specs.Talks.{Exchange, IsDone, HasAsked}
+use Rattle.talks.specs.Talks.{Exchange, IsDone}
+use Rattle.ninep_fids.specs.Asked.{HasAsked}
 use Rattle.ninep_server.specs.declared.turn.Turn.{Turn}
 use Rattle.ninep_server.specs.declared.turn.Turn.TheVariants as turn
 use Rattle.ninep_server.specs.Connections.{Answers, Says}

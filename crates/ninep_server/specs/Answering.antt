@@ -8,10 +8,10 @@ use Rattle.ninep.specs.declared.fault.MalformedMessage.{MalformedMessage}
 use Rattle.ninep.specs.declared.request.Message.{Message}
 use Rattle.ninep_fids.specs.Knowledge.{Known}
 use Rattle.ninep_fids.specs.Plans.{Plan, Follows, refuses}
-use Rattle.ninep_fids.specs.Refusals.{refusal_for}
-use Rattle.ninep_fids.specs.declared.refused.Refused.TheVariants.{By}
-use Rattle.ninep_fids.specs.declared.ask.Ask.{Ask}
-use Rattle.ninep_fids.specs.declared.heard.Heard.{Heard}
+use Rattle.ninep_fids.specs.Faults.{refusal_for}
+use Rattle.talks.specs.declared.refused.Refused.TheVariants.{By}
+use Rattle.talks.specs.declared.ask.Ask.{Ask}
+use Rattle.talks.specs.declared.heard.Heard.{Heard}
 use Rattle.ninep_fids.specs.declared.answer.Said.{Said}
 use Rattle.ninep_server.specs.Messages.{plan_of}
 

@@ -4,12 +4,13 @@ use Rattle.std.specs.Str.{bytes_eq}
 use Rattle.errno.specs.declared.Errno.TheVariants.{EINVAL}
 use Rattle.tree.specs.declared.Call.TheVariants as call
 use Rattle.ninep_fids.specs.Knowledge.{Known, new_fid, user_of, file_at}
-use Rattle.ninep_fids.specs.Hearing.{attributes_in, session_in}
-use Rattle.ninep_fids.specs.Plans.{Plan, Asks, Changes, OrNoMemory, Begins, Attaches, Puts, refuses, with_it, calls, at}
+use Rattle.talks.specs.Hearing.{attributes_in, session_in}
+use Rattle.ninep_fids.specs.Plans.{Plan, Asks, Changes, OrNoMemory, Begins, Attaches, Puts, refuses, with_it, calls}
+use Rattle.talks.specs.Plain.{at}
 use Rattle.ninep_fids.specs.Nodes.{says, node_of, qid_of}
-use Rattle.ninep_fids.specs.declared.refused.Refused.TheVariants.{By}
+use Rattle.talks.specs.declared.refused.Refused.TheVariants.{By}
 use Rattle.ninep_fids.specs.declared.users.User.{User}
-use Rattle.ninep_fids.specs.declared.ask.Ask.TheVariants as ask
+use Rattle.talks.specs.declared.ask.Ask.TheVariants as ask
 use Rattle.ninep_fids.specs.declared.answer.NinepAnswer.TheVariants as answer
 use Rattle.ninep_fids.specs.Checks.{user_number}
 

@@ -1,10 +1,10 @@
 -- What a connection answers.
 use Rattle.std.specs.Prelude.{◌≡◌, ◌<◌, ◌+◌, ℕ, Bool, false, List}
-use Rattle.ninep_fids.specs.Talks.{HasAsked}
+use Rattle.ninep_fids.specs.Asked.{HasAsked}
 use Rattle.ninep_fids.specs.Written.{IsWritten, IsSaidIn, tag_in}
 use Rattle.ninep_fids.specs.Knowledge.{Known, known_of}
-use Rattle.ninep_fids.specs.declared.ask.Ask.{Ask}
-use Rattle.ninep_fids.specs.declared.heard.Heard.{Heard}
+use Rattle.talks.specs.declared.ask.Ask.{Ask}
+use Rattle.talks.specs.declared.heard.Heard.{Heard}
 use Rattle.ninep_fids.specs.declared.answer.Said.{Said}
 use Rattle.ninep_server.specs.Answering.{IsAnswered}
 use Rattle.ninep_server.specs.declared.connection.Connection.{Connection}

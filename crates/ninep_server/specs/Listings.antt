@@ -7,9 +7,10 @@ use Rattle.ninep_fids.specs.Directories.{entries_of}
 use Rattle.ninep_fids.specs.Entries.{bytes_each, fitting, any_long}
 use Rattle.ninep_fids.specs.Paths.{called, parent}
 use Rattle.ninep_fids.specs.Knowledge.{Known, File, named, opened, file_listed}
-use Rattle.ninep_fids.specs.Hearing.{attributes_in, eio, names_heard}
-use Rattle.ninep_fids.specs.Plans.{Plan, Says, Changes, OrNoMemory, Becomes, reply, refuses, with_it, calls, at}
-use Rattle.ninep_fids.specs.declared.refused.Refused.TheVariants.{By}
+use Rattle.talks.specs.Hearing.{attributes_in, eio, names_heard}
+use Rattle.ninep_fids.specs.Plans.{Plan, Says, Changes, OrNoMemory, Becomes, reply, refuses, with_it, calls}
+use Rattle.talks.specs.Plain.{at}
+use Rattle.talks.specs.declared.refused.Refused.TheVariants.{By}
 use Rattle.ninep_fids.specs.declared.users.User.{User}
 use Rattle.ninep_fids.specs.declared.fid.Node.{Node}
 

@@ -7,14 +7,16 @@ use Rattle.ninep.specs.declared.request.Request.{Request}
 use Rattle.ninep.specs.declared.request.Request.TheVariants as request
 use Rattle.tree.specs.declared.Call.TheVariants as call
 use Rattle.tree.specs.declared.Whence.TheVariants.{Set}
-use Rattle.ninep_fids.specs.Told.{room_told, attributes_told, target_of}
+use Rattle.ninep_fids.specs.Told.{room_told, attributes_told}
+use Rattle.talks.specs.Hearing.{target_of}
 use Rattle.ninep_fids.specs.Paths.{called}
 use Rattle.ninep_fids.specs.Knowledge.{Known, File, found, named, opened}
-use Rattle.ninep_fids.specs.Hearing.{done_in, attributes_in, position_in, bytes_in, count_in, room_in, target_in}
-use Rattle.ninep_fids.specs.Plans.{Plan, Says, Changes, OrNoMemory, Drops, reply, body_said, refuses, closing, with_it, calls, at}
+use Rattle.talks.specs.Hearing.{done_in, attributes_in, position_in, bytes_in, count_in, room_in, target_in}
+use Rattle.ninep_fids.specs.Plans.{Plan, Says, Changes, OrNoMemory, Drops, reply, body_said, refuses, closing, with_it, calls}
+use Rattle.talks.specs.Plain.{at}
 use Rattle.ninep_fids.specs.Nodes.{says, said_of}
-use Rattle.ninep_fids.specs.declared.refused.Refused.TheVariants.{By, Stale, Unsupported}
-use Rattle.ninep_fids.specs.declared.heard.Heard.{Heard}
+use Rattle.talks.specs.declared.refused.Refused.TheVariants.{By, Stale, Unsupported}
+use Rattle.talks.specs.declared.heard.Heard.{Heard}
 use Rattle.ninep_fids.specs.declared.answer.NinepAnswer.TheVariants as answer
 use Rattle.ninep_fids.specs.declared.answer.Said.TheVariants as said
 use Rattle.ninep_server.specs.Attaching.{begins, attaching}

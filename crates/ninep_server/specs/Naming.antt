@@ -6,12 +6,13 @@ use Rattle.tree.specs.declared.Attributes.{Attributes}
 use Rattle.tree.specs.declared.Reply.{Reply}
 use Rattle.ninep_fids.specs.Paths.{called, below, checked}
 use Rattle.ninep_fids.specs.Knowledge.{Known, File, found, named}
-use Rattle.ninep_fids.specs.Hearing.{done_in, attributes_in}
-use Rattle.ninep_fids.specs.Flags.{is_set}
-use Rattle.ninep_fids.specs.Plans.{Plan, Changes, OrNoMemory, Drops, Renames, Unlinks, error, closing, with_it, calls, at}
+use Rattle.talks.specs.Hearing.{done_in, attributes_in}
+use Rattle.talks.specs.Flags.{is_set}
+use Rattle.ninep_fids.specs.Plans.{Plan, Changes, OrNoMemory, Drops, Renames, Unlinks, error, closing, with_it, calls}
+use Rattle.talks.specs.Plain.{at}
 use Rattle.ninep_fids.specs.Nodes.{says, said_of}
-use Rattle.ninep_fids.specs.declared.refused.Refused.{Refused}
-use Rattle.ninep_fids.specs.declared.refused.Refused.TheVariants.{Stale}
+use Rattle.talks.specs.declared.refused.Refused.{Refused}
+use Rattle.talks.specs.declared.refused.Refused.TheVariants.{Stale}
 use Rattle.ninep_fids.specs.declared.fid.Kind.TheVariants as kind
 use Rattle.ninep_fids.specs.declared.answer.NinepAnswer.{NinepAnswer}
 use Rattle.ninep_fids.specs.declared.answer.NinepAnswer.TheVariants as answer

@@ -5,14 +5,16 @@ use Rattle.ninep.specs.declared.reply.Qid.{Qid}
 use Rattle.tree.specs.declared.OpenFlags.{OpenFlags}
 use Rattle.tree.specs.declared.Call.{Call}
 use Rattle.tree.specs.declared.Call.TheVariants as call
-use Rattle.ninep_fids.specs.Flags.{is_set, open_bits, flags_by, group_of}
+use Rattle.talks.specs.Flags.{is_set}
+use Rattle.ninep_fids.specs.Flags.{open_bits, flags_by, group_of}
 use Rattle.ninep_fids.specs.Paths.{called, below, checked}
 use Rattle.ninep_fids.specs.Knowledge.{Known, file_open}
-use Rattle.ninep_fids.specs.Hearing.{done_in, attributes_in, descriptor_in}
-use Rattle.ninep_fids.specs.Plans.{Plan, Changes, OrNoMemory, Becomes, error, refuses, closing, with_it, calls, at}
+use Rattle.talks.specs.Hearing.{done_in, attributes_in, descriptor_in}
+use Rattle.ninep_fids.specs.Plans.{Plan, Changes, OrNoMemory, Becomes, error, refuses, closing, with_it, calls}
+use Rattle.talks.specs.Plain.{at}
 use Rattle.ninep_fids.specs.Nodes.{says, node_of, qid_of}
-use Rattle.ninep_fids.specs.declared.refused.Refused.{Refused}
-use Rattle.ninep_fids.specs.declared.refused.Refused.TheVariants.{By}
+use Rattle.talks.specs.declared.refused.Refused.{Refused}
+use Rattle.talks.specs.declared.refused.Refused.TheVariants.{By}
 use Rattle.ninep_fids.specs.declared.users.User.{User}
 use Rattle.ninep_fids.specs.declared.fid.Kind.TheVariants as kind
 use Rattle.ninep_fids.specs.declared.fid.Node.{Node}

@@ -4,16 +4,17 @@ use Rattle.errno.specs.declared.Errno.TheVariants.{ENOMEM}
 use Rattle.ninep.specs.Requests.{Body, names_in}
 use Rattle.tree.specs.declared.Call.TheVariants as call
 use Rattle.ninep_fids.specs.Knowledge.{Known, known_of}
-use Rattle.ninep_fids.specs.Plans.{Plan, Says, Asks, Changes, OrNoMemory, IsChanged, Follows, body_said, error, refuses, calls, plain}
+use Rattle.ninep_fids.specs.Plans.{Plan, Says, Asks, Changes, OrNoMemory, IsChanged, Follows, body_said, error, refuses, calls}
+use Rattle.talks.specs.Plain.{plain}
 use Rattle.ninep_fids.specs.Nodes.{says}
-use Rattle.ninep_fids.specs.Changes.{in_order}
-use Rattle.ninep_fids.specs.declared.refused.Refused.{Refused}
-use Rattle.ninep_fids.specs.declared.refused.Refused.TheVariants.{By}
-use Rattle.ninep_fids.specs.declared.ask.Ask.{Ask}
-use Rattle.ninep_fids.specs.declared.heard.Heard.{Heard}
+use Rattle.talks.specs.Changes.{in_order}
+use Rattle.talks.specs.declared.refused.Refused.{Refused}
+use Rattle.talks.specs.declared.refused.Refused.TheVariants.{By}
+use Rattle.talks.specs.declared.ask.Ask.{Ask}
+use Rattle.talks.specs.declared.heard.Heard.{Heard}
 use Rattle.ninep_fids.specs.declared.answer.Said.{Said}
 use Rattle.ninep_fids.specs.declared.knows.Knows.{Knows}
-use Rattle.ninep_fids.specs.declared.changes.Change.{Change}
+use Rattle.talks.specs.declared.changes.Change.{Change}
 use Rattle.ninep_server.specs.Attaching.{beginning, entering, looking_at_root}
 use Rattle.ninep_server.specs.Walks.{looking_at, walking}
 use Rattle.ninep_server.specs.Opens.{opening, making_file, opening_taken, giving_group, looking_at_file, making, giving_made_group}

@@ -1,16 +1,17 @@
 -- Attributes that are changed.
 use Rattle.std.specs.Prelude.{ℕ, List, [], ◌∷◌}
 use Rattle.tree.specs.declared.Call.TheVariants as call
-use Rattle.ninep_fids.specs.Changes.{changes_wanted, may_change, in_order, change_call}
+use Rattle.talks.specs.Changes.{changes_wanted, may_change, in_order, change_call}
 use Rattle.ninep_fids.specs.Paths.{called}
 use Rattle.ninep_fids.specs.Knowledge.{Known, named}
-use Rattle.ninep_fids.specs.Hearing.{done_in, attributes_in}
-use Rattle.ninep_fids.specs.Plans.{Plan, OrNoMemory, with_it, calls, at}
+use Rattle.talks.specs.Hearing.{done_in, attributes_in}
+use Rattle.ninep_fids.specs.Plans.{Plan, OrNoMemory, with_it, calls}
+use Rattle.talks.specs.Plain.{at}
 use Rattle.ninep_fids.specs.Nodes.{says}
 use Rattle.ninep_fids.specs.declared.fid.Kind.TheVariants as kind
 use Rattle.ninep_fids.specs.declared.users.User.{User}
-use Rattle.ninep_fids.specs.declared.changes.Wanted.{Wanted}
-use Rattle.ninep_fids.specs.declared.changes.Change.{Change}
+use Rattle.talks.specs.declared.changes.Wanted.{Wanted}
+use Rattle.talks.specs.declared.changes.Change.{Change}
 use Rattle.ninep_fids.specs.declared.answer.NinepAnswer.TheVariants as answer
 use Rattle.ninep_fids.specs.Checks.{changeable}
 
@@ -18,12 +19,12 @@ use Rattle.ninep_fids.specs.Checks.{changeable}
 abbrev pub changing : ℕ → List ℕ → List Change → Plan
 changing session path [] = says answer.Setattr
 changing session path (c ∷ changes) =
-    calls session (change_call path c) (λ h. with_it (done_in h) (λ _. changing session path changes))
+    calls session (change_call (called path) c) (λ h. with_it (done_in h) (λ _. changing session path changes))
 
 -- First it is looked at what the user may change: a refusal leaves all as it was, unless it is for something else than the message.
 abbrev pub looking_first : User → List ℕ → Wanted → Plan
 looking_first user path wanted = calls user.session (call.Lstat (at (called path))) (λ h. with_it (attributes_in h)
-    (λ a. with_it (changes_wanted wanted a) (λ c. with_it (may_change user a c) (λ _. changing user.session path (in_order c)))))
+    (λ a. with_it (changes_wanted wanted a) (λ c. with_it (may_change user.uid a c) (λ _. changing user.session path (in_order c)))))
 
 -- Tsetattr
 abbrev pub sets : Known → ℕ → Wanted → Plan

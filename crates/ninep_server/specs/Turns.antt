@@ -1,8 +1,8 @@
 -- What turns of an answer lie behind, of what was asked.
 use Rattle.std.specs.Prelude.{⊤, ◌≡◌, List}
-use Rattle.ninep_fids.specs.Talks.{Exchange, Leads, EndsInSync}
-use Rattle.ninep_fids.specs.declared.ask.Ask.{Ask}
-use Rattle.ninep_fids.specs.declared.heard.Heard.{Heard}
+use Rattle.talks.specs.Talks.{Exchange, Leads, EndsInSync}
+use Rattle.talks.specs.declared.ask.Ask.{Ask}
+use Rattle.talks.specs.declared.heard.Heard.{Heard}
 use Rattle.ninep_fids.specs.declared.answer.Said.{Said}
 use Rattle.ninep_fids.specs.declared.answer.Said.TheVariants as said
 use Rattle.ninep_server.specs.declared.turn.Turn.{Turn}

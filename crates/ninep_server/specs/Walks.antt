@@ -7,11 +7,12 @@ use Rattle.ninep.specs.declared.reply.Qid.{Qid}
 use Rattle.tree.specs.declared.Call.TheVariants as call
 use Rattle.ninep_fids.specs.Paths.{called, stepped}
 use Rattle.ninep_fids.specs.Knowledge.{Known, named, file_at}
-use Rattle.ninep_fids.specs.Hearing.{attributes_in}
-use Rattle.ninep_fids.specs.Plans.{Plan, Says, Changes, OrNoMemory, Puts, reply, refuses, with_it, calls, at}
+use Rattle.talks.specs.Hearing.{attributes_in}
+use Rattle.ninep_fids.specs.Plans.{Plan, Says, Changes, OrNoMemory, Puts, reply, refuses, with_it, calls}
+use Rattle.talks.specs.Plain.{at}
 use Rattle.ninep_fids.specs.Nodes.{node_of, qid_of}
 use Rattle.ninep_fids.specs.Written.{walked}
-use Rattle.ninep_fids.specs.declared.refused.Refused.{Refused}
+use Rattle.talks.specs.declared.refused.Refused.{Refused}
 use Rattle.ninep_fids.specs.declared.users.User.{User}
 use Rattle.ninep_fids.specs.declared.fid.Kind.TheVariants as kind
 use Rattle.ninep_fids.specs.declared.fid.Node.{Node}

@@ -5,12 +5,12 @@ ghost use Rattle.std.specs.Prelude.{◌≤◌, Ok};
 use crate::work::{FidWork, Next, Work};
 use errno::Errno;
 use ninep_fids::answer::NinepAnswer;
-use ninep_fids::ask::Ask;
 use ninep_fids::fid::{Fid, Node};
-use ninep_fids::heard::Heard;
 use ninep_fids::knows::{Knows, MAX_MESSAGE, MIN_MESSAGE};
-use ninep_fids::refused::Refused;
 use ninep_fids::users::{User, number_of};
+use talks::ask::Ask;
+use talks::heard::Heard;
+use talks::refused::Refused;
 use tree::Call;
 
 /// A connection begins, once all sessions of the one before have ended.

@@ -2,22 +2,22 @@
 
 ghost use Rattle.std.specs.Prelude.{[], Ok};
 ghost use Rattle.ninep_fids.specs.Knowledge.{Known, known_of};
-ghost use Rattle.ninep_fids.specs.Changes.{in_order};
+ghost use Rattle.talks.specs.Changes.{in_order};
 ghost use Rattle.ninep_server.specs.Messages.{telling};
 ghost use Rattle.ninep_server.specs.Settings.{changing, sets};
 ghost use Rattle.ninep_server.specs.Progress.{AsksNext, BeginsAs, GoesOnAs, Leaves, left_of_getattr, left_of_next, left_of_setattr};
 
 use crate::work::{AttributeWork, Next, Work};
 use ninep_fids::answer::NinepAnswer;
-use ninep_fids::ask::Ask;
-use ninep_fids::changes::{Change, Changes, Wanted};
 use ninep_fids::checks::check_changeable;
-use ninep_fids::heard::Heard;
 use ninep_fids::knows::Knows;
 use ninep_fids::paths::called;
-use ninep_fids::refused::Refused;
 use ninep_fids::told::told;
 use ninep_fids::users::User;
+use talks::ask::Ask;
+use talks::changes::{Change, Changes, Wanted};
+use talks::heard::Heard;
+use talks::refused::Refused;
 use tree::Call;
 
 /// The attributes of a fid are asked for: by its descriptor where it is open, else by its path.
@@ -99,7 +99,7 @@ impl Setattr {
         ensures { AsksNext (left_of_setattr self.now) (Ask.Call self.now.user.session result) }
     {
         match &self.change {
-            Some(change) => change.call(&self.path),
+            Some(change) => change.call(called(&self.path)),
             None => Call::Lstat {
                 path: called(&self.path),
             },
@@ -136,7 +136,7 @@ impl Setattr {
             None => {
                 let was = heard.attributes()?;
                 let left = self.wanted.changes(&was)?;
-                left.check(self.user, &was)?;
+                left.check(self.user.uid, &was)?;
                 Ok(self.onward(left))
             }
             Some(_) => {

@@ -18,9 +18,9 @@ use crate::walk::Walk;
 use crate::work::{AttributeWork, Next, Work};
 use ninep::request::Request;
 use ninep_fids::answer::{NinepAnswer, Said};
-use ninep_fids::changes::Wanted;
 use ninep_fids::knows::Knows;
-use ninep_fids::refused::Refused;
+use talks::changes::Wanted;
+use talks::refused::Refused;
 
 /// How the answer to a message begins, at this time.
 pub(crate) fn begin<'m>(knows: &mut Knows, now: u32, request: &Request<'m>) -> Turn<'m>

@@ -1,7 +1,8 @@
 //! A connection, which answers messages.
 
 ghost use Rattle.std.specs.Prelude.{◌≡◌, ◌<◌, ◌+◌, ℕ, suc, [], length, vec_len, vec_capacity, OnOk, OnErr, ◌↔◌, Err};
-ghost use Rattle.ninep_fids.specs.Talks.{MayHear, HasAsked};
+ghost use Rattle.talks.specs.Talks.{MayHear};
+ghost use Rattle.ninep_fids.specs.Asked.{HasAsked};
 ghost use Rattle.ninep_fids.specs.Written.{tag_in};
 ghost use Rattle.ninep_fids.specs.Knowledge.{known_of};
 ghost use Rattle.ninep_fids.specs.Plans.{Follows};
@@ -16,13 +17,15 @@ use errno::Errno;
 use ninep::reading::read;
 use ninep::request::Request;
 use ninep_fids::answer::{NinepAnswer, Said};
-use ninep_fids::ask::Ask;
-use ninep_fids::end::{End, tag_of};
+use ninep_fids::faults::refusal_of;
 use ninep_fids::knows::{Knows, MAX_MESSAGE};
-use ninep_fids::refused::{Refused, refusal_of};
 use ninep_fids::send::send;
-use ninep_fids::sessions::{Sessions, heard};
+use ninep_fids::tag::tag_of;
 use std::alloc::Global;
+use talks::ask::Ask;
+use talks::end::End;
+use talks::refused::Refused;
+use talks::sessions::{Sessions, heard};
 use tree::Call;
 
 /// The most that the answer to one message asks of the sessions: a look at each name of a walk is the most that any asks.

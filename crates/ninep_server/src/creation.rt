@@ -12,14 +12,15 @@ use crate::work::{Next, OpenWork, Work};
 use bitflags::Flags;
 use errno::Errno;
 use ninep_fids::answer::NinepAnswer;
-use ninep_fids::ask::Ask;
 use ninep_fids::fid::{Fid, Node};
-use ninep_fids::flags::{EXCLUSIVE, bits_of, group_of, has, mode_of};
-use ninep_fids::heard::Heard;
+use ninep_fids::flags::{EXCLUSIVE, bits_of, group_of};
 use ninep_fids::knows::Knows;
 use ninep_fids::paths::{below, called, check_name};
-use ninep_fids::refused::Refused;
 use ninep_fids::users::User;
+use talks::ask::Ask;
+use talks::flags::{has, mode_of};
+use talks::heard::Heard;
+use talks::refused::Refused;
 use tree::{Call, OpenFlags};
 
 /// The flag of the server's open that makes a file, and the one by which it refuses a name that is taken.

@@ -10,14 +10,14 @@ use crate::transfer::least;
 use crate::work::{DataWork, Next, Work};
 use errno::Errno;
 use ninep_fids::answer::NinepAnswer;
-use ninep_fids::ask::Ask;
 use ninep_fids::entries::{ENTRY_HEAD, Listed, entries_from};
 use ninep_fids::fid::{Fid, Node};
-use ninep_fids::heard::Heard;
 use ninep_fids::knows::Knows;
 use ninep_fids::paths::{called, parent};
-use ninep_fids::refused::Refused;
 use ninep_fids::users::User;
+use talks::ask::Ask;
+use talks::heard::Heard;
+use talks::refused::Refused;
 use tree::{Call, MAX_NAME};
 
 /// The names of a directory are asked for, kept with its fid, and told.

@@ -6,13 +6,14 @@ ghost use Rattle.ninep_server.specs.Progress.{AsksNext, BeginsAs, GoesOnAs, left
 
 use crate::work::{Next, OpenWork, Work};
 use ninep_fids::answer::NinepAnswer;
-use ninep_fids::ask::Ask;
 use ninep_fids::fid::Node;
-use ninep_fids::flags::{group_of, mode_of};
-use ninep_fids::heard::Heard;
+use ninep_fids::flags::group_of;
 use ninep_fids::knows::Knows;
 use ninep_fids::paths::{below, called};
-use ninep_fids::refused::Refused;
+use talks::ask::Ask;
+use talks::flags::mode_of;
+use talks::heard::Heard;
+use talks::refused::Refused;
 use tree::Call;
 
 /// What is made.

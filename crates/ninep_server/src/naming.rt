@@ -3,7 +3,7 @@
 ghost use Rattle.std.specs.Prelude.{◌≡◌};
 ghost use Rattle.ninep_fids.specs.Knowledge.{known_of};
 ghost use Rattle.ninep_fids.specs.Checks.{is_directory};
-ghost use Rattle.ninep_fids.specs.Plans.{plain_call};
+ghost use Rattle.talks.specs.Plain.{plain_call};
 ghost use Rattle.ninep_server.specs.Naming.{links, renames, renames_at, unlinks, unlink_call, removes};
 ghost use Rattle.ninep_server.specs.Progress.{AsksNext, BeginsAs, GoesOnAs, Leaves, behind, left_of_link, left_of_next, left_of_rename};
 ghost use Rattle.ninep_server.specs.Progress.{left_of_unlink, left_of_remove};
@@ -11,13 +11,13 @@ ghost use Rattle.ninep_server.specs.Progress.{left_of_unlink, left_of_remove};
 use crate::opening::Close;
 use crate::work::{NameWork, Next, Work};
 use ninep_fids::answer::NinepAnswer;
-use ninep_fids::ask::Ask;
 use ninep_fids::checks::is_directory;
-use ninep_fids::flags::has;
-use ninep_fids::heard::Heard;
 use ninep_fids::knows::Knows;
 use ninep_fids::paths::{below, called, check_name};
-use ninep_fids::refused::Refused;
+use talks::ask::Ask;
+use talks::flags::has;
+use talks::heard::Heard;
+use talks::refused::Refused;
 use tree::Call;
 
 /// A file is given a further name.

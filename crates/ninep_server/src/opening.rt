@@ -12,16 +12,16 @@ ghost use Rattle.ninep_server.specs.Progress.{left_of_readlink, left_of_next};
 use crate::work::{DataWork, Next, OpenWork, Work};
 use bitflags::Flags;
 use ninep_fids::answer::NinepAnswer;
-use ninep_fids::ask::Ask;
 use ninep_fids::checks::check_kind;
 use ninep_fids::fid::{Fid, Node};
 use ninep_fids::flags::bits_of;
-use ninep_fids::heard::Heard;
 use ninep_fids::knows::Knows;
 use ninep_fids::paths::called;
-use ninep_fids::refused::Refused;
-use ninep_fids::told::bytes_of;
 use ninep_fids::users::User;
+use talks::ask::Ask;
+use talks::heard::Heard;
+use talks::refused::Refused;
+use talks::target::bytes_of;
 use tree::{Call, OpenFlags};
 
 /// A fid is opened.

@@ -8,11 +8,11 @@ ghost use Rattle.ninep_server.specs.Progress.{AsksNext, BeginsAs, GoesOnAs, left
 use crate::work::{DataWork, Next, Work};
 use errno::Errno;
 use ninep_fids::answer::NinepAnswer;
-use ninep_fids::ask::Ask;
-use ninep_fids::heard::Heard;
 use ninep_fids::knows::Knows;
-use ninep_fids::refused::Refused;
 use ninep_fids::send::within;
+use talks::ask::Ask;
+use talks::heard::Heard;
+use talks::refused::Refused;
 use tree::{Call, MAX_SIZE, MAX_TRANSFER, Whence};
 
 /// What is moved.

@@ -1,7 +1,7 @@
 //! How the answer to a message goes on.
 
 ghost use Rattle.std.specs.Prelude.{◌≡◌, ◌⊎◌};
-ghost use Rattle.ninep_fids.specs.Talks.{IsDone};
+ghost use Rattle.talks.specs.Talks.{IsDone};
 ghost use Rattle.ninep_fids.specs.Knowledge.{Known};
 ghost use Rattle.ninep_server.specs.Turns.{IsPlain};
 ghost use Rattle.ninep_server.specs.Messages.{synced};
@@ -9,8 +9,8 @@ ghost use Rattle.ninep_server.specs.Progress.{Leaves, left_of_next, left_of_turn
 
 use crate::work::{Next, Work};
 use ninep_fids::answer::{NinepAnswer, Said};
-use ninep_fids::heard::Heard;
-use ninep_fids::refused::Refused;
+use talks::heard::Heard;
+use talks::refused::Refused;
 
 /// How the answer to a message goes on.
 #[derive(Drop)]

@@ -11,15 +11,15 @@ use crate::work::{FidWork, Next, Work};
 use ninep::names::Names;
 use ninep::reply::Qid;
 use ninep_fids::answer::NinepAnswer;
-use ninep_fids::ask::Ask;
 use ninep_fids::checks::{check_place, enters};
 use ninep_fids::fid::{Fid, Node};
-use ninep_fids::heard::Heard;
 use ninep_fids::knows::Knows;
 use ninep_fids::paths::{called, step};
-use ninep_fids::refused::Refused;
 use ninep_fids::users::User;
 use std::alloc::AllocError;
+use talks::ask::Ask;
+use talks::heard::Heard;
+use talks::refused::Refused;
 use tree::Call;
 
 /// A walk, which looks at what one name after the other leads to.

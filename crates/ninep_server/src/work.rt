@@ -15,11 +15,11 @@ use crate::opening::{Close, Opening, Readlink};
 use crate::transfer::Transfer;
 use crate::walk::Walk;
 use ninep_fids::answer::NinepAnswer;
-use ninep_fids::ask::Ask;
-use ninep_fids::heard::Heard;
 use ninep_fids::knows::Knows;
-use ninep_fids::refused::Refused;
 use ninep_fids::told::room_of;
+use talks::ask::Ask;
+use talks::heard::Heard;
+use talks::refused::Refused;
 use tree::Call;
 
 /// What the answer to a message waits for: what it asks next of the sessions, and how it goes on.

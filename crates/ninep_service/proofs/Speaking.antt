@@ -3,11 +3,11 @@ use Rattle.std.proofs.Common.{◌≡◌, ℕ, Bool, true, false, List, [], ◌�
 use Rattle.std.specs.Prelude.{Option, Result, Ok, Err, OnOk}
 use Rattle.layout.specs.declared.Geometry.{Geometry}
 use Rattle.records.specs.Opening.{Opening}
-use Rattle.ninep_fids.specs.Talks.{Exchange, Leads, MayHear}
-use Rattle.ninep_fids.specs.declared.ask.Ask.{Ask}
-use Rattle.ninep_fids.specs.declared.ask.Ask.TheVariants as ask
-use Rattle.ninep_fids.specs.declared.heard.Heard.{Heard}
-use Rattle.ninep_fids.specs.declared.heard.Heard.TheVariants as heard
+use Rattle.talks.specs.Talks.{Exchange, Leads, MayHear}
+use Rattle.talks.specs.declared.ask.Ask.{Ask}
+use Rattle.talks.specs.declared.ask.Ask.TheVariants as ask
+use Rattle.talks.specs.declared.heard.Heard.{Heard}
+use Rattle.talks.specs.declared.heard.Heard.TheVariants as heard
 use Rattle.ninep_server.specs.Answering.{IsAnswered, plan_for}
 use Rattle.ninep_fids.specs.Knowledge.{Known}
 use Rattle.ninep_fids.specs.Plans.{Plan, Says, Asks, Changes, OrNoMemory, Follows}

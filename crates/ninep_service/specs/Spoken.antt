@@ -16,7 +16,7 @@ use Rattle.changes.specs.declared.taken.Changes.{Changes}
 use Rattle.changes.specs.Units.{puts_of}
 use Rattle.shared_media.specs.Marking.{AreChangesOutside}
 use Rattle.ninep_fids.specs.Knowledge.{Known}
-use Rattle.ninep_fids.specs.declared.sessions.EnterRefusal.{EnterRefusal}
+use Rattle.talks.specs.declared.sessions.EnterRefusal.{EnterRefusal}
 use Rattle.ninep_stream.specs.Answered.{IsAnsweredAll}
 use Rattle.ninep_stream.specs.Exchanges.{answers, nobody}
 

@@ -10,7 +10,7 @@ use board::counting::parameters::ServiceParameters;
 use board::counting::recorder::Recorder;
 use errno::Errno;
 use file_server::FileServer;
-use ninep_fids::sessions::{EnterRefusal, Sessions};
+use talks::sessions::{EnterRefusal, Sessions};
 use serve::service::{Service, Shared};
 use serve::session::Session;
 use shared_server::refusal::SessionRefusal;

@@ -5,9 +5,9 @@ use Rattle.tree.specs.declared.Call.{Call}
 use Rattle.tree.specs.declared.Outcome.{Outcome}
 use Rattle.ninep_server.specs.Connections.{Answers, Says}
 use Rattle.ninep_fids.specs.Knowledge.{Known}
-use Rattle.ninep_fids.specs.Talks.{MayHear}
+use Rattle.talks.specs.Talks.{MayHear}
 use Rattle.ninep_fids.specs.Written.{tag_in}
-use Rattle.ninep_fids.specs.declared.sessions.EnterRefusal.{EnterRefusal}
+use Rattle.talks.specs.declared.sessions.EnterRefusal.{EnterRefusal}
 use Rattle.ninep_stream.specs.Exchanges.{answers}
 
 pub answers_so : {S : Type 0} (called : S → ℕ → ℕ → Call → Outcome → S → Type 0)

@@ -9,7 +9,7 @@ ghost use Rattle.ninep_stream.specs.Stopped.{Stops, IsStopped, IsUnread, Respond
 ghost use Rattle.ninep_stream.specs.Exchanges.{answers, nobody};
 
 use crate::framing::{InputRefusal, next_message};
-use ninep_fids::sessions::Sessions;
+use talks::sessions::Sessions;
 use ninep_server::connection::Connection;
 use output::write_text;
 use std::alloc::Global;

@@ -1,6 +1,6 @@
 //! Streams, a clock and sessions of tests.
 
-use ninep_fids::sessions::{EnterRefusal, Sessions};
+use talks::sessions::{EnterRefusal, Sessions};
 use std::alloc::Global;
 use std::io;
 use std::io::{ErrorKind, Read, Write};

@@ -3,7 +3,7 @@ ghost use Rattle.std.specs.Prelude.{⊤};
 
 use bitflags::Flags;
 use errno::Errno;
-use ninep_fids::sessions::{EnterRefusal, Sessions};
+use talks::sessions::{EnterRefusal, Sessions};
 use ninep_server::connection::Connection;
 use std::alloc::{AllocError, Global};
 use std::collections::VecDeque;

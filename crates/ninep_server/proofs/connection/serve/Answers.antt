@@ -1,4 +1,4 @@
-use Rattle.ninep_fids.specs.Talks.{MayHear}
+use Rattle.talks.specs.Talks.{MayHear}
 use Rattle.ninep_fids.specs.Knowledge.{known_of}
 use Rattle.ninep_server.specs.Messages.{plan_of}
 use Rattle.ninep_server.specs.Progress.{left_of_turn}

@@ -1,5 +1,5 @@
 use Rattle.std.proofs.Common.{◌≡◌, ◌+◌, ℕ}
-use Rattle.ninep_fids.specs.Talks.{MayHear}
+use Rattle.talks.specs.Talks.{MayHear}
 use Rattle.ninep_fids.specs.Knowledge.{known_of}
 use Rattle.ninep_server.specs.Turns.{Reaches}
 use Rattle.ninep_server.specs.Messages.{plan_of}

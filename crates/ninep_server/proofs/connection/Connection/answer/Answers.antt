@@ -1,6 +1,6 @@
 use Rattle.std.proofs.Common.{subst, List, ℕ, ◌≡◌, ◌≤◌, ◌+◌, length, OnErr, true, arith}
 use Rattle.std.specs.Prelude.{vec_capacity, vec_len}
-use Rattle.ninep_fids.specs.Talks.{MayHear}
+use Rattle.talks.specs.Talks.{MayHear}
 use Rattle.ninep_fids.specs.Knowledge.{known_of}
 use Rattle.ninep_server.proofs.Turns.{all_stays, answered, had_none, has_room, said_so, wants_room}
 use Rattle.ninep_server.proofs.connection.Connection.answer.Goals as goal

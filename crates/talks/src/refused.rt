@@ -1,12 +1,11 @@
 //! Why a request is refused.
 
 ghost use Rattle.std.specs.Prelude.{◌≡◌};
-ghost use Rattle.ninep_fids.specs.Numbers.{number_of};
-ghost use Rattle.ninep_fids.specs.Refusals.{by_errno, by_memory, by_entering, refusal_for};
+ghost use Rattle.talks.specs.Numbers.{number_of};
+ghost use Rattle.talks.specs.Refusals.{by_errno, by_memory, by_entering};
 
 use crate::sessions::EnterRefusal;
 use errno::Errno;
-use ninep::fault::MalformedMessage;
 use std::alloc::AllocError;
 
 /// Why a request is refused.
@@ -14,7 +13,7 @@ use std::alloc::AllocError;
 pub enum Refused {
     /// The file server refuses it, or would.
     By(Errno),
-    /// The fid's file has lost its name, and the fid isn't open.
+    /// A file has lost its name, by which it was known, and isn't open.
     Stale,
     /// There is no such thing on a MINIX volume, or the server has no call for it.
     Unsupported,
@@ -58,18 +57,5 @@ impl From<EnterRefusal> for Refused {
             EnterRefusal::Stopped => Refused::By(Errno::EIO),
             EnterRefusal::OutOfMemory => Refused::By(Errno::ENOMEM),
         }
-    }
-}
-
-/// Why a message isn't taken that has a tag.
-pub fn refusal_of(fault: MalformedMessage) -> Refused
-    ensures { result ≡ refusal_for fault }
-{
-    match fault {
-        MalformedMessage::Unknown => Refused::Unsupported,
-        MalformedMessage::Short
-        | MalformedMessage::Size
-        | MalformedMessage::ManyNames
-        | MalformedMessage::Trailing => { Refused::By(Errno::EINVAL) }
     }
 }

@@ -1,5 +1,5 @@
 -- What the replies of calls tell, or why they don't: the call's own refusal, or EIO where it was cut or answered otherwise.
-use Rattle.std.specs.Prelude.{ℕ, List, Result, Ok, Err}
+use Rattle.std.specs.Prelude.{ℕ, List, take, Result, Ok, Err}
 use Rattle.errno.specs.declared.Errno.TheVariants.{EIO}
 use Rattle.tree.specs.declared.Attributes.{Attributes}
 use Rattle.tree.specs.declared.Entry.{Entry}
@@ -8,12 +8,12 @@ use Rattle.tree.specs.declared.Statfs.{Statfs}
 use Rattle.tree.specs.declared.Outcome.TheVariants as outcome
 use Rattle.tree.specs.declared.Reply.{Reply}
 use Rattle.tree.specs.declared.Reply.TheVariants as reply
-use Rattle.ninep_fids.specs.Knowledge.{then_of}
-use Rattle.ninep_fids.specs.Refusals.{entering}
-use Rattle.ninep_fids.specs.declared.heard.Heard.{Heard}
-use Rattle.ninep_fids.specs.declared.heard.Heard.TheVariants as heard
-use Rattle.ninep_fids.specs.declared.refused.Refused.{Refused}
-use Rattle.ninep_fids.specs.declared.refused.Refused.TheVariants.{By}
+use Rattle.talks.specs.Refusals.{then_of}
+use Rattle.talks.specs.Refusals.{entering}
+use Rattle.talks.specs.declared.heard.Heard.{Heard}
+use Rattle.talks.specs.declared.heard.Heard.TheVariants as heard
+use Rattle.talks.specs.declared.refused.Refused.{Refused}
+use Rattle.talks.specs.declared.refused.Refused.TheVariants.{By}
 
 abbrev pub eio : Refused
 eio = By EIO
@@ -61,6 +61,10 @@ as_room r = Err eio
 abbrev pub as_target : Reply → Result LinkTarget Refused
 as_target (reply.Target target) = Ok target
 as_target r = Err eio
+
+-- the bytes of a target
+abbrev pub target_of : LinkTarget → List ℕ
+target_of target = take target.length target.bytes
 
 -- the names of a directory
 abbrev pub as_names : Reply → Result (List Entry) Refused

@@ -1,14 +1,12 @@
 //! Changes of attributes: which ones a message wants, in the order in which they are made.
 
 ghost use Rattle.std.specs.Prelude.{◌≡◌, [], ◌∷◌, MatchOption, Ok};
-ghost use Rattle.ninep_fids.specs.Plans.{plain_call};
-ghost use Rattle.ninep_fids.specs.Changes.{size_wanted, mode_wanted, owner_wanted, time_wanted, comes_with_size, changes_wanted};
-ghost use Rattle.ninep_fids.specs.Changes.{may_change, in_order, change_call};
+ghost use Rattle.talks.specs.Plain.{plain_call};
+ghost use Rattle.talks.specs.Changes.{size_wanted, mode_wanted, owner_wanted, time_wanted, comes_with_size, changes_wanted};
+ghost use Rattle.talks.specs.Changes.{may_change, in_order, change_call};
 
 use crate::flags::{has, mode_of};
-use crate::paths::called;
 use crate::refused::Refused;
-use crate::users::User;
 use errno::Errno;
 use tree::{Attributes, Call, MAX_PERMISSIONS};
 
@@ -121,7 +119,6 @@ impl Change {
     pub fn call<'a>(&self, path: &'a [u8]) -> Call<'a>
         ensures { plain_call result ≡ change_call path.now self.now }
     {
-        let path = called(path);
         match *self {
             Change::Size(size) => Call::Truncate { path, size },
             Change::Owners(uid, gid) => Call::Chown { path, uid, gid },
@@ -183,11 +180,11 @@ impl Changes {
     }
 
     /// Refuses what the server would refuse of them to a user, but for the size, where the node is so. EPERM.
-    pub fn check(&self, user: User, was: &Attributes) -> Result<(), Refused>
-        ensures { result ≡ may_change user was.now self.now }
+    pub fn check(&self, uid: u16, was: &Attributes) -> Result<(), Refused>
+        ensures { result ≡ may_change uid was.now self.now }
     {
-        let owns = user.uid == 0 || user.uid == was.uid;
-        if self.owners.is_some() && user.uid != 0 {
+        let owns = uid == 0 || uid == was.uid;
+        if self.owners.is_some() && uid != 0 {
             return Err(Refused::By(Errno::EPERM));
         }
         if (self.mode.is_some() || self.times.is_some()) && !owns {

@@ -6,13 +6,11 @@ use Rattle.tree.specs.declared.Outcome.{Outcome as TreeOutcome}
 use Rattle.tree.specs.declared.Outcome.TheVariants as outcome
 use Rattle.tree.specs.declared.Reply.{Reply}
 use Rattle.tree.specs.declared.Reply.TheVariants as reply
-use Rattle.ninep_fids.specs.declared.sessions.EnterRefusal.{EnterRefusal}
-use Rattle.ninep_fids.specs.declared.ask.Ask.{Ask}
-use Rattle.ninep_fids.specs.declared.ask.Ask.TheVariants as ask
-use Rattle.ninep_fids.specs.declared.heard.Heard.{Heard}
-use Rattle.ninep_fids.specs.declared.heard.Heard.TheVariants as heard
-use Rattle.ninep_fids.specs.declared.answer.Said.{Said}
-use Rattle.ninep_fids.specs.declared.answer.Said.TheVariants as said
+use Rattle.talks.specs.declared.sessions.EnterRefusal.{EnterRefusal}
+use Rattle.talks.specs.declared.ask.Ask.{Ask}
+use Rattle.talks.specs.declared.ask.Ask.TheVariants as ask
+use Rattle.talks.specs.declared.heard.Heard.{Heard}
+use Rattle.talks.specs.declared.heard.Heard.TheVariants as heard
 
 -- a call was answered this reply
 abbrev pub Replies : Heard → Reply → Type 0
@@ -51,6 +49,6 @@ abbrev pub EndsInSync : List Exchange → Type 0
 EndsInSync [] = ⊥
 EndsInSync (e ∷ es) = (session : ℕ) × (e.ask ≡ ask.Call session call.Sync) × IsDone e.heard
 
--- What was said, behind exchanges that led the sessions from one state to another: that a sync was done, behind one alone.
-abbrev pub HasAsked : {S : Type 0} → (S → Ask → Heard → S → Type 0) → S → Said → S → Type 0
-HasAsked may s it t = (log : List Exchange) × Leads may s log t × (it ≡ said.Synced → EndsInSync log)
+-- By exchanges and nothing else sessions come from one state to another. Where it is said that a sync was done, that is the last one.
+abbrev pub Asked : {S : Type 0} → (S → Ask → Heard → S → Type 0) → S → Type 0 → S → Type 0
+Asked may s synced t = (log : List Exchange) × Leads may s log t × (synced → EndsInSync log)

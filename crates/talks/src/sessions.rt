@@ -1,10 +1,10 @@
-//! Who makes calls for a connection.
+//! Who makes calls for a connection or a mount.
 
 ghost use Rattle.std.specs.Prelude.{ℕ, Result};
 ghost use Rattle.tree.specs.declared.Call.{Call};
 ghost use Rattle.tree.specs.declared.Outcome.{Outcome};
-ghost use Rattle.ninep_fids.specs.Talks.{MayHear};
-ghost use Rattle.ninep_fids.specs.declared.sessions.EnterRefusal.{EnterRefusal};
+ghost use Rattle.talks.specs.Talks.{MayHear};
+ghost use Rattle.talks.specs.declared.sessions.EnterRefusal.{EnterRefusal};
 
 use crate::ask::Ask;
 use crate::heard::Heard;

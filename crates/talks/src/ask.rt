@@ -1,4 +1,4 @@
-//! What a connection asks of the sessions, one thing at a time.
+//! What is asked of the sessions, one thing at a time.
 
 use tree::Call;
 

@@ -3,9 +3,9 @@
 ghost use Rattle.std.specs.Prelude.{◌≡◌, Ok, Err, IsOk, IfOk, MatchResult};
 ghost use Rattle.std.specs.Result.{result_map_both};
 ghost use Rattle.tree.specs.declared.Reply.TheVariants as reply;
-ghost use Rattle.ninep_fids.specs.Hearing.{reply_in, done_in, attributes_in, descriptor_in, position_in, bytes_in, count_in, room_in};
-ghost use Rattle.ninep_fids.specs.Hearing.{target_in, session_in, names_heard};
-ghost use Rattle.ninep_fids.specs.Talks.{IsDone, Replies};
+ghost use Rattle.talks.specs.Hearing.{reply_in, done_in, attributes_in, descriptor_in, position_in, bytes_in, count_in, room_in};
+ghost use Rattle.talks.specs.Hearing.{target_in, session_in, names_heard};
+ghost use Rattle.talks.specs.Talks.{IsDone, Replies};
 
 use crate::refused::Refused;
 use crate::sessions::EnterRefusal;

@@ -6,17 +6,15 @@ use Rattle.errno.specs.declared.Errno.TheVariants.{EPERM, EINVAL, EFBIG}
 use Rattle.tree.specs.declared.Attributes.{Attributes}
 use Rattle.tree.specs.declared.Call.{Call}
 use Rattle.tree.specs.declared.Call.TheVariants as call
-use Rattle.ninep_fids.specs.Flags.{is_set}
-use Rattle.ninep_fids.specs.Paths.{called}
-use Rattle.ninep_fids.specs.Knowledge.{then_of}
-use Rattle.ninep_fids.specs.Plans.{at}
-use Rattle.ninep_fids.specs.declared.refused.Refused.{Refused}
-use Rattle.ninep_fids.specs.declared.refused.Refused.TheVariants.{By}
-use Rattle.ninep_fids.specs.declared.users.User.{User}
-use Rattle.ninep_fids.specs.declared.changes.Wanted.{Wanted}
-use Rattle.ninep_fids.specs.declared.changes.Change.{Change}
-use Rattle.ninep_fids.specs.declared.changes.Change.TheVariants as change
-use Rattle.ninep_fids.specs.declared.changes.Changes.{Changes}
+use Rattle.talks.specs.Flags.{is_set}
+use Rattle.talks.specs.Refusals.{then_of}
+use Rattle.talks.specs.Plain.{at}
+use Rattle.talks.specs.declared.refused.Refused.{Refused}
+use Rattle.talks.specs.declared.refused.Refused.TheVariants.{By}
+use Rattle.talks.specs.declared.changes.Wanted.{Wanted}
+use Rattle.talks.specs.declared.changes.Change.{Change}
+use Rattle.talks.specs.declared.changes.Change.TheVariants as change
+use Rattle.talks.specs.declared.changes.Changes.{Changes}
 
 -- A message says by the bits of `valid` what is changed: 1 the mode, 2 the owner, 4 the group, 8 the size, 16 and 32 the times, which are
 -- those of the message where 128 and 256 are set, and now else. What it doesn't name stays. A mode has permissions alone.
@@ -58,13 +56,13 @@ changes_wanted w was =
     })))))))
 
 -- User 0 may change all, and an owner all but owners: the server refuses the others. A size is left to the server.
-abbrev pub owns : User → Attributes → Bool
-owns user was = (user.uid == 0) || (user.uid == was.uid)
+abbrev pub owns : ℕ → Attributes → Bool
+owns uid was = (uid == 0) || (uid == was.uid)
 
-abbrev pub may_change : User → Attributes → Changes → Result ⊤ Refused
-may_change user was c =
-    if is_some c.owners && not (user.uid == 0) then Err (By EPERM)
-    else if (is_some c.mode || is_some c.times) && not (owns user was) then Err (By EPERM)
+abbrev pub may_change : ℕ → Attributes → Changes → Result ⊤ Refused
+may_change uid was c =
+    if is_some c.owners && not (uid == 0) then Err (By EPERM)
+    else if (is_some c.mode || is_some c.times) && not (owns uid was) then Err (By EPERM)
     else Ok tt
 
 -- In this order: behind the size, which alone may still be refused for what the user may do, all others are granted.
@@ -76,7 +74,7 @@ in_order c =
     ++ option_to_list (option_map (λ (times : ℕ × ℕ). change.Times times.0 times.1) c.times)))
 
 abbrev pub change_call : List ℕ → Change → Call
-change_call path (change.Size size) = call.Truncate (at (called path)) size
-change_call path (change.Owners uid gid) = call.Chown (at (called path)) uid gid
-change_call path (change.Mode mode) = call.Chmod (at (called path)) mode
-change_call path (change.Times atime mtime) = call.Utime (at (called path)) atime mtime
+change_call path (change.Size size) = call.Truncate (at path) size
+change_call path (change.Owners uid gid) = call.Chown (at path) uid gid
+change_call path (change.Mode mode) = call.Chmod (at path) mode
+change_call path (change.Times atime mtime) = call.Utime (at path) atime mtime
