@@ -1,6 +1,6 @@
 -- What becomes of nodes.
-use Rattle.std.specs.Prelude.{⊤, ◌≡◌, ◌≢◌, ◌||◌, ◌&&◌, ◌+◌, ◌-◌, ◌^◌, ◌==◌, min, ℕ, Bool, false, List, nat_lt, Option, Some, None, IfSome, IsSome, IsSomeAnd, if◌then◌else◌}
-use Rattle.std.specs.Option.{is_some, option_or, unwrap_or}
+use Rattle.std.specs.Prelude.{◌≡◌, ◌||◌, ◌&&◌, ◌+◌, ◌-◌, ◌^◌, ◌==◌, min, ℕ, Bool, false, List, nat_lt, Option, Some, None, IfSome, IsSomeAnd, if◌then◌else◌}
+use Rattle.std.specs.Option.{is_some, is_none, option_or, unwrap_or}
 use Rattle.std.specs.Str.{bytes_eq}
 use Rattle.fuse_nodes.specs.Tables.{put, changed}
 use Rattle.fuse_nodes.specs.Known.{Facts, Known}
@@ -123,8 +123,11 @@ lost_as k inode directory name last (Some id) = record k {
 abbrev pub lost : Known → ℕ → ℕ → List ℕ → Bool → Known
 lost k inode directory name last = lost_as k inode directory name last (k.numbers inode)
 
--- A node but this one that has a descriptor and a place, with the descriptor; none only where no other has both.
+-- the descriptor of a node that can be opened again by its name, if it isn't this one
+abbrev pub spare_of : ℕ → ℕ → Facts → Option Descriptor
+spare_of but id facts = if (id == but) || is_none facts.place then None else facts.descriptor
+
+-- A node that can be opened again, but this one, with its descriptor; none only where there is none.
 abbrev pub IsSpare : (ℕ → Option Facts) → ℕ → Option (ℕ × Descriptor) → Type 0
-IsSpare nodes but (Some (id, descriptor)) =
-    (id ≢ but) × IsSomeAnd (nodes id) (λ facts. (facts.descriptor ≡ Some descriptor) × IsSome facts.place)
-IsSpare nodes but None = (id : ℕ) → id ≢ but → IfSome (nodes id) (λ facts. IsSome facts.place → facts.descriptor ≡ None)
+IsSpare nodes but (Some (id, descriptor)) = IsSomeAnd (nodes id) (λ facts. spare_of but id facts ≡ Some descriptor)
+IsSpare nodes but None = (id : ℕ) → IfSome (nodes id) (λ facts. spare_of but id facts ≡ None)

@@ -3,8 +3,8 @@
 ghost use Rattle.std.specs.Prelude.{◌≡◌, ◌<◌, ◌∷◌, ◌++◌, ℕ, length, OnOk, OnErr, IfOk};
 ghost use Rattle.std.specs.Option.{option_map, Some, None};
 ghost use Rattle.fuse_nodes.specs.Paths.{IsMade, IsWrittenBehind, path_in, path_at, path_of, path_below};
-ghost use Rattle.fuse_nodes.specs.Changes.{is_at};
-ghost use Rattle.fuse_nodes.specs.Known.{place_of};
+ghost use Rattle.fuse_nodes.specs.Changes.{is_at, spare_of};
+ghost use Rattle.fuse_nodes.specs.Known.{place_of, facts_of};
 
 use crate::names::check_name;
 use crate::node::{Descriptor, Node, NodeKind, Place, ROOT};
@@ -92,10 +92,12 @@ impl Nodes {
         if room <= name.len() {
             return Err(Refused::By(Errno::ENAMETOOLONG));
         }
-        if directory != ROOT {
-            let place = self.place(directory)?;
-            self.write_path(place.directory, &place.name, room - name.len() - 1, path)?;
+        if directory == ROOT {
+            put_name(path, name)?;
+            return Ok(());
         }
+        let place = self.place(directory)?;
+        self.write_path(place.directory, &place.name, room - name.len() - 1, path)?;
         put_name(path, name)?;
         Ok(())
     }
@@ -361,7 +363,8 @@ impl Nodes {
     {
         match self.nodes.get_mut(&id) {
             Some(node) => {
-                if last || is_at(&node.place, directory, name) {
+                let is_lost = last || is_at(&node.place, directory, name);
+                if is_lost {
                     node.place = None;
                 }
             }
@@ -374,14 +377,22 @@ impl Nodes {
         ensures { IsSpare (known_of self.now).nodes but result }
     {
         for (id, node) in self.nodes.iter() {
-            if *id != but && node.place.is_some() {
-                if let Some(descriptor) = node.descriptor {
-                    return Some((*id, descriptor));
-                }
+            if let Some(descriptor) = spared(*id, node, but) {
+                return Some((*id, descriptor));
             }
         }
         None
     }
+}
+
+/// The descriptor of a node that can be opened again by its name, if it isn't this one.
+fn spared(id: u64, node: &Node, but: u64) -> Option<Descriptor>
+    ensures { result ≡ spare_of but id (facts_of node.now) }
+{
+    if id == but || node.place.is_none() {
+        return None;
+    }
+    node.descriptor
 }
 
 /// A slash and a name more.
