@@ -1,6 +1,8 @@
 //! Messages that come in pieces, are cut short, or whose answers can't be written.
 
-use crate::streams::{Fixed, Held, Idle, Interrupted, Narrow, Piecemeal, Standing, Timed};
+use crate::streams::{
+    Fixed, Held, Idle, Interrupted, Narrow, Piecemeal, Shut, Silent, Standing, Timed,
+};
 use message_stream::answering::{StreamRefusal, answer_all};
 use message_stream::framing::InputRefusal;
 use ninep_server::connection::Connection;
@@ -173,6 +175,35 @@ fn calls_have_the_time_of_the_clock(rt: HostRuntime) -> Result<(), Fail> {
         );
         if ended != Ok(()) || sessions.now != Some(*now) {
             return Err(Fail::new(format_args!("{told:?}")));
+        }
+    }
+    Ok(())
+}
+
+/// Messages of two sizes that have no answer, to a stream that takes none; and ones of a size that this answerer doesn't take.
+#[test]
+fn messages_have_no_answer(rt: HostRuntime) -> Result<(), Fail> {
+    let alloc = rt.alloc();
+    let bad = |size: u32| Err(StreamRefusal::Input(InputRefusal::BadSize(size)));
+    let rows: [(&[u8], Result<(), StreamRefusal>, u32); 4] = [
+        (b"\x05\0\0\0a\x09\0\0\0abcde", Ok(()), 2),
+        (b"", Ok(()), 0),
+        (b"\x05\0\0\0a\x04\0\0\0", bad(4), 1),
+        (b"\x0a\0\0\0abcdef", bad(10), 0),
+    ];
+    for (bytes, wanted, count) in &rows {
+        let mut input = *bytes;
+        let mut answerer = Silent { count: 0 };
+        let ended = answer_all(
+            alloc,
+            &mut input,
+            &mut Shut,
+            &Fixed,
+            &mut Idle,
+            &mut answerer,
+        );
+        if ended != *wanted || answerer.count != *count {
+            return Err(Fail::new(format_args!("{bytes:?}: {ended:?}")));
         }
     }
     Ok(())

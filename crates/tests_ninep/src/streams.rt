@@ -1,10 +1,12 @@
 //! Streams, a clock and sessions of tests.
 
-use talks::sessions::{EnterRefusal, Sessions};
 use std::alloc::Global;
 use std::io;
 use std::io::{ErrorKind, Read, Write};
 use std::time::{Clock, Duration};
+use talks::answers::Answers;
+use talks::end::End;
+use talks::sessions::{EnterRefusal, Sessions};
 use tree::{Call, Outcome};
 
 /// Bytes that are read at most so many at a time.
@@ -180,4 +182,49 @@ impl Sessions for Idle {
     }
 
     fn leave(&mut self) {}
+}
+
+/// A writer that takes nothing, and isn't flushed.
+#[derive(Drop)]
+pub struct Shut;
+
+impl Write for Shut {
+    fn write(&mut self, _buf: &[u8]) -> io::Result<usize> {
+        Err(io::Error::from(ErrorKind::StorageFull))
+    }
+
+    fn flush(&mut self) -> io::Result<()> {
+        Err(io::Error::from(ErrorKind::StorageFull))
+    }
+}
+
+/// Who answers each message by no bytes, and takes messages of 5 to 9 bytes.
+#[derive(Drop)]
+pub struct Silent {
+    pub count: u32,
+}
+
+impl Answers for Silent {
+    ghost answers = { λ S called entered left message answer s w t v. Unit {0} };
+
+    ghost fewest = { 5 };
+
+    fn least(&self) -> u32 {
+        5
+    }
+
+    fn most(&self) -> u32 {
+        9
+    }
+
+    fn answer<S: Sessions>(
+        &mut self,
+        _sessions: &mut S,
+        _now: u32,
+        _bytes: &[u8],
+        _out: &mut Vec<u8>,
+    ) -> Result<(), End> {
+        self.count = self.count.saturating_add(1);
+        Ok(())
+    }
 }

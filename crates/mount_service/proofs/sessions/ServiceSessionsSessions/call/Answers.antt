@@ -10,11 +10,11 @@ returns-then-is_sync g c =
     let at = g.N.ServiceParameters.geometry in
     let v = g.N.ServiceParameters.opening in
     let before = c.index_mut-session.result.now in
-    inl (own_answer puts at v c.args.self.now.sessions.items (is_some c.args.self.now.shared) c.args.session c.args.now c.args.call.now
+    rw (← c.self.view_is) (inl (own_answer puts at v c.self.inside.sessions.items (is_some c.self.inside.shared) c.args.session c.args.now c.args.call.now
     c.sync.result c.in-Some.place before c.sync.new.session (rw c.as_slice.ensures.value at c.in-Some.ensures.some) c.index_mut-session.ensures.value
     (subst (λ o. IsAnswered puts at v (is_some o) before c.args.now c.args.call.now c.sync.result c.sync.new.session)
     (sym c.in-Some-shared.is)
-    (subst (λ k. IsAnsweredKept puts at v before c.args.now k c.sync.result c.sync.new.session) (sym (c.if-is_sync.ensures.0 refl)) c.sync.ensures)))
+    (subst (λ k. IsAnsweredKept puts at v before c.args.now k c.sync.result c.sync.new.session) (sym (c.if-is_sync.ensures.0 refl)) c.sync.ensures))))
 
 pub returns-else-is_sync : goal.returns-else-is_sync
 returns-else-is_sync g c =
@@ -22,7 +22,7 @@ returns-else-is_sync g c =
     let at = g.N.ServiceParameters.geometry in
     let v = g.N.ServiceParameters.opening in
     let before = c.index_mut-session.result.now in
-    inl (own_answer puts at v c.args.self.now.sessions.items (is_some c.args.self.now.shared) c.args.session c.args.now c.args.call.now
+    rw (← c.self.view_is) (inl (own_answer puts at v c.self.inside.sessions.items (is_some c.self.inside.shared) c.args.session c.args.now c.args.call.now
     c.call_in_turn.result c.in-Some.place before c.call_in_turn.new.session (rw c.as_slice.ensures.value at c.in-Some.ensures.some) c.index_mut-session.ensures.value
     (subst (λ o. IsAnswered puts at v (is_some o) before c.args.now c.args.call.now c.call_in_turn.result c.call_in_turn.new.session)
-    (sym c.in-Some-shared.is) (inl (c.call_in_turn.ensures, λ synced. absurd (subst T (sym (c.if-is_sync.ensures.1 synced.0)) tt)))))
+    (sym c.in-Some-shared.is) (inl (c.call_in_turn.ensures, λ synced. absurd (subst T (sym (c.if-is_sync.ensures.1 synced.0)) tt))))))
