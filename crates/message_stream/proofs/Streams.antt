@@ -192,22 +192,31 @@ is_answered few R a b p q message s t whole taken it = record {
 }
 
 -- a message was taken, and not answered whole
-pub stops_answering : {S : Type 0} (few : ℕ) (R : List ℕ → List ℕ → S → S → Type 0) (e : StreamRefusal) (a b p q : Option (List ℕ))
+stops_at : {S : Type 0} (few : ℕ) (R : List ℕ → List ℕ → S → S → Type 0) (e : StreamRefusal) (a b p q : Option (List ℕ))
     (message : List ℕ) (s t : S) → IsMessage few message → Consumes a b message → RespondsNot R e message p q s t → Stops few R e a b p q s t
-stops_answering few R (Input r) a b p q message s t whole taken it = absurd it
-stops_answering few R OutOfMemory a b p q message s t whole taken it = record { part = message; taken = taken; silent = it.0; same = it.1 }
-stops_answering few R NotWritten a b p q message s t whole taken it =
+stops_at few R (Input r) a b p q message s t whole taken it = absurd it
+stops_at few R OutOfMemory a b p q message s t whole taken it = record { part = message; taken = taken; silent = it.0; same = it.1 }
+stops_at few R NotWritten a b p q message s t whole taken it =
     record { message = message; answer = it.0; whole = whole; taken = taken; given = it.1; leads = it.2 }
-stops_answering few R TooMany a b p q message s t whole taken it = absurd it
+stops_at few R TooMany a b p q message s t whole taken it = absurd it
+
+pub stops_answering : {S W : Type 0} (few : ℕ) (R : List ℕ → List ℕ → S × W → S × W → Type 0) (e : StreamRefusal)
+    (a b p q : Option (List ℕ)) (message : List ℕ) (s : S × W) (t : S) → IsMessage few message → Consumes a b message
+    → (w : W) × RespondsNot R e message p q s (t, w) → (w : W) × Stops few R e a b p q s (t, w)
+stops_answering few R e a b p q message s t whole taken (w, it) = (w, stops_at few R e a b p q message s (t, w) whole taken it)
 
 -- no message was taken
-pub stops_reading : {S : Type 0} (few : ℕ) (R : List ℕ → List ℕ → S → S → Type 0) (e : StreamRefusal) (a b p : Option (List ℕ))
+stops_before : {S : Type 0} (few : ℕ) (R : List ℕ → List ℕ → S → S → Type 0) (e : StreamRefusal) (a b p : Option (List ℕ))
     (part : List ℕ) (s : S) → Consumes a b part → IsUnread e b → Stops few R e a b p p s s
-stops_reading few R (Input r) a b p part s taken unread =
+stops_before few R (Input r) a b p part s taken unread =
     (record { part = part; taken = taken; silent = keeps_same p; same = refl }, unread)
-stops_reading few R OutOfMemory a b p part s taken unread = absurd unread
-stops_reading few R NotWritten a b p part s taken unread = absurd unread
-stops_reading few R TooMany a b p part s taken unread = absurd unread
+stops_before few R OutOfMemory a b p part s taken unread = absurd unread
+stops_before few R NotWritten a b p part s taken unread = absurd unread
+stops_before few R TooMany a b p part s taken unread = absurd unread
+
+pub stops_reading : {S W : Type 0} (few : ℕ) (R : List ℕ → List ℕ → S × W → S × W → Type 0) (e : StreamRefusal) (a b p : Option (List ℕ))
+    (part : List ℕ) (s : S) (w : W) → Consumes a b part → IsUnread e b → (v : W) × Stops few R e a b p p (s, w) (s, v)
+stops_reading few R e a b p part s w taken unread = (w, stops_before few R e a b p part (s, w) taken unread)
 
 -- as many were answered as may be
 pub stops_here : {S : Type 0} (few : ℕ) (R : List ℕ → List ℕ → S → S → Type 0) (a p : Option (List ℕ)) (s : S)
@@ -229,12 +238,17 @@ responds R (Ok a) message answer p q s t given leads = record { answer = answer;
 responds R (Err e) message answer p q s t given leads = tt
 
 -- one that wasn't, or not whole
-pub responds_not : {S A : Type 0} (R : List ℕ → List ℕ → S → S → Type 0) (r : Result A StreamRefusal) (message answer : List ℕ)
-    (p q : Option (List ℕ)) (s t : S) → IfErr r (λ e. (e ≡ NotWritten) × AppendsSome p q answer) → R message answer s t
-    → IfErr r (λ e. RespondsNot R e message p q s t)
-responds_not R (Ok a) message answer p q s t given leads = tt
-responds_not R (Err e) message answer p q s t given leads =
-    subst (λ (x : StreamRefusal). RespondsNot R x message p q s t) (sym given.0) (answer, given.1, leads)
+pub responds_not : {S W A : Type 0} (R : List ℕ → List ℕ → S × W → S × W → Type 0) (r : Result A StreamRefusal) (message answer : List ℕ)
+    (p q : Option (List ℕ)) (s : S × W) (t : S) (w : W) → IfErr r (λ e. (e ≡ NotWritten) × AppendsSome p q answer)
+    → R message answer s (t, w) → IfErr r (λ e. (v : W) × RespondsNot R e message p q s (t, v))
+responds_not R (Ok a) message answer p q s t w given leads = tt
+responds_not R (Err e) message answer p q s t w given leads =
+    (w, subst (λ (x : StreamRefusal). RespondsNot R x message p q s (t, w)) (sym given.0) (answer, given.1, leads))
+
+-- none, for want of memory
+pub without_memory : {S W : Type 0} (R : List ℕ → List ℕ → S × W → S × W → Type 0) (message : List ℕ) (p : Option (List ℕ)) (s t : S)
+    (w : W) → t ≡ s → (v : W) × RespondsNot R OutOfMemory message p p (s, w) (t, v)
+without_memory R message p s t w same = (w, keeps_same p, ap (λ x. (x, w)) same)
 
 -- a refusal that is handed on
 pub if_err : {A E : Type 0} (r : Result A E) (P : E → Type 0) (e : E) → IsErrAnd r (λ x. x ≡ e) → P e → IfErr r P

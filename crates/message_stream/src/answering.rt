@@ -74,9 +74,9 @@ impl Buffers {
         ensures ended { IfOk result (λ some. OnFalse some (IsAtEnd (I.remaining input.old))) }
         ensures silent { IfOk result (λ some. OnFalse some ((output.new ≡ output.old) × (sessions.new ≡ sessions.old)
             × (answerer.new ≡ answerer.old))) }
-        ensures stopped { IfErr result (λ e. Stops W.fewest (by_both (W.answers S S.called S.entered S.left)) e (I.remaining input.old)
-            (I.remaining input.new) (O.contents output.old) (O.contents output.new) (sessions.old, answerer.old)
-            (sessions.new, answerer.new)) }
+        ensures stopped { IfErr result (λ e. (last : W) × Stops W.fewest (by_both (W.answers S S.called S.entered S.left)) e
+            (I.remaining input.old) (I.remaining input.new) (O.contents output.old) (O.contents output.new) (sessions.old, answerer.old)
+            (sessions.new, last)) }
     {
         if !self.read(input, answerer)? {
             return Ok(false);
@@ -95,8 +95,8 @@ impl Buffers {
     ) -> Result<(), StreamRefusal>
         ensures answered { OnOk result (Responds (by_both (W.answers S S.called S.entered S.left)) self.old.message.items
             (O.contents output.old) (O.contents output.new) (sessions.old, answerer.old) (sessions.new, answerer.new)) }
-        ensures refused { IfErr result (λ e. RespondsNot (by_both (W.answers S S.called S.entered S.left)) e self.old.message.items
-            (O.contents output.old) (O.contents output.new) (sessions.old, answerer.old) (sessions.new, answerer.new)) }
+        ensures refused { IfErr result (λ e. (last : W) × RespondsNot (by_both (W.answers S S.called S.entered S.left)) e
+            self.old.message.items (O.contents output.old) (O.contents output.new) (sessions.old, answerer.old) (sessions.new, last)) }
     {
         self.answer.clear();
         let (now, bytes) = (seconds(clock), self.message.as_slice());

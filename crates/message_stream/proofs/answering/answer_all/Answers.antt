@@ -20,8 +20,8 @@ pub returns-in_err-next-clause-stopped : goal.returns-in_err-next-clause-stopped
 returns-in_err-next-clause-stopped g c =
     let R = by_both (g.W.Answers.answers _ g.S.Sessions.called g.S.Sessions.entered g.S.Sessions.left) in
     if_err c.from_residual.result _ _ c.from_residual.ensures.1 (stopped g.W.Answers.fewest R _ _ _ _ _ _ _
-    (c.args.sessions.now, c.args.answerer.now) (c.loop.sessions, c.loop.answerer) c.next.new.sessions c.next.new.answerer c.loop.invariant
-    c.in_err-next.ensures.stopped)
+    (c.args.sessions.now, c.args.answerer.now) (c.loop.sessions, c.loop.answerer) c.next.new.sessions c.in_err-next.ensures.stopped.0 c.loop.invariant
+    c.in_err-next.ensures.stopped.1)
 
 pub returns-clause-stopped : goal.returns-clause-stopped
 returns-clause-stopped g c =

@@ -1,6 +1,6 @@
 use Rattle.std.proofs.Common.{ℕ, List, subst, sym}
 use Rattle.message_stream.specs.Exchanges.{by_both}
-use Rattle.message_stream.proofs.Streams.{responds, responds_not}
+use Rattle.message_stream.proofs.Streams.{responds, responds_not, without_memory}
 use Rattle.message_stream.proofs.answering.Buffers.respond.Goals as goal
 
 pub returns-in-Ok-clause-answered : goal.returns-in-Ok-clause-answered
@@ -17,6 +17,12 @@ returns-in-Ok-clause-refused g c =
     let R = by_both (g.W.Answers.answers _ g.S.Sessions.called g.S.Sessions.entered g.S.Sessions.left) in
     let s = (c.args.sessions.now, c.args.answerer.now) in
     let t = (c.answer.new.sessions, c.answer.new.self) in
-    responds_not R c.write.result c.args.self.now.message.items c.as_slice.result.now _ _ s t c.write.ensures.err
+    responds_not R c.write.result c.args.self.now.message.items c.as_slice.result.now _ _ s c.answer.new.sessions c.answer.new.self
+    c.write.ensures.err
     (subst (λ (o : List ℕ). R c.args.self.now.message.items o s t) (sym c.as_slice.ensures.value)
     (subst (λ (m : List ℕ). R m c.answer.new.out.items s t) c.as_slice-bytes.ensures.value c.in-Ok.ensures.ok))
+
+pub returns-in-Err-clause-refused : goal.returns-in-Err-clause-refused
+returns-in-Err-clause-refused g c =
+    let R = by_both (g.W.Answers.answers _ g.S.Sessions.called g.S.Sessions.entered g.S.Sessions.left) in
+    without_memory R c.args.self.now.message.items _ c.args.sessions.now c.answer.new.sessions c.args.answerer.now c.in-Err.ensures.none.0
