@@ -6,6 +6,7 @@ use host::command_line::{line_of, status_for};
 use host::play_words::mount::{MountProgram, MountWords, read as read_words};
 use locked_image::locked::{LockedImage, open};
 use modeldisk::supply::table_in;
+use mount_service::killed::Killing;
 use mount_service::mortal::{Mortality, mortal_drivers, mortal_setup};
 use mount_service::mount::{Ended, MountStatus, mount};
 use mount_service::program::Streams;
@@ -31,11 +32,13 @@ pub struct Messages<I, O, W> {
     pub answerer: W,
 }
 
-/// When drivers die that do so in the request of this number; none does in that of number 0.
-fn mortality(die_every: u32) -> Mortality {
-    match die_every {
-        0 => Mortality::Never,
-        request => Mortality::InRequest(request),
+/// When drivers die: in the request of this number that they take, or when they are told to, which they are every so many milliseconds;
+/// with 0 for both they don't.
+fn mortality(die_every: u32, kill_every: u32) -> Mortality {
+    match (die_every, kill_every) {
+        (0, 0) => Mortality::Never,
+        (0, _) => Mortality::WhenTold,
+        (request, _) => Mortality::InRequest(request),
     }
 }
 
@@ -58,9 +61,11 @@ fn mount_image<
 ) -> io::Result<Ended<I, O, HostRuntime, KeptImage, W>> {
     let alloc = rt.alloc();
     let Begun { image, archive } = begun;
-    let mortality = mortality(words.die_every);
+    let mortality = mortality(words.die_every, words.kill_every);
     let table = table_in(image.as_deref().unwrap_or(&[]));
-    let supply = mortal_drivers(alloc, words.spares, words.model, mortality, table)?;
+    let killing = Killing::start(alloc, &waits, words.kill_every)?;
+    let drivers = mortal_drivers(alloc, words.spares, words.model, mortality, table)?;
+    let supply = killing.drivers(alloc, drivers)?;
     let mut setup = mortal_setup(words.minor, mortality);
     setup.frames = words.frames as usize;
     let gate = Arc::new(alloc, teller.gate(Paced::new(waits))?)?;
@@ -77,7 +82,7 @@ fn mount_image<
         archive,
         sync_every: words.sync_every,
     };
-    Ok(mount(
+    let ended = mount(
         alloc,
         waits,
         words.image,
@@ -87,7 +92,9 @@ fn mount_image<
         gate,
         streams,
         err,
-    ))
+    );
+    killing.end(&waits);
+    Ok(ended)
 }
 
 /// Serves the image, and leaves none.
@@ -158,8 +165,7 @@ fn serve_image<
     match open(&rt, name) {
         Ok(locked) => {
             let mut locked = locked;
-            let served =
-                serve_and_keep(rt, waits, words, messages, &mut locked, name, teller, err);
+            let served = serve_and_keep(rt, waits, words, messages, &mut locked, name, teller, err);
             locked.close(&rt);
             served
         }

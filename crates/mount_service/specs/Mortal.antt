@@ -10,12 +10,13 @@ use Rattle.modeldisk.specs.declared.fault.Fault.{Fault}
 use Rattle.modeldisk.specs.declared.fault.FaultKind.TheVariants.{Die}
 use Rattle.modeldisk.specs.declared.scripted.ScriptedDriver.{ScriptedDriver}
 use Rattle.mount_service.specs.declared.mortal.Mortality.{Mortality}
-use Rattle.mount_service.specs.declared.mortal.Mortality.TheVariants.{Never, InRequest}
+use Rattle.mount_service.specs.declared.mortal.Mortality.TheVariants.{Never, InRequest, WhenTold}
 
 -- none; or a death in one request, once a sector of it was moved
 abbrev pub faults_by : Mortality → List Fault
 faults_by Never = []
 faults_by (InRequest n) = record { request = n; after = 1; kind = Die } ∷ []
+faults_by WhenTold = []
 
 -- a new driver with the ranges of this table, with or without an arm, which plays these faults
 pub record IsMortal (model : Bool) (mortality : Mortality) (table : TableState) (driver : ScriptedDriver) : Type 0 where
@@ -26,6 +27,7 @@ pub record IsMortal (model : Bool) (mortality : Mortality) (table : TableState) 
 abbrev pub policy_by : Mortality → Policy
 policy_by Never = default_policy
 policy_by (InRequest n) = record { max_faults = 5; cap = 32; calm = 1; misses = 3 }
+policy_by WhenTold = record { max_faults = 5; cap = 32; calm = 1; misses = 3 }
 
 -- this minor, 64 frames, and that policy
 abbrev pub setup_by : ℕ → Mortality → Setup

@@ -4,6 +4,7 @@
 pub mod archive;
 pub mod file_archive;
 mod keeper;
+pub mod killed;
 pub mod mortal;
 pub mod mount;
 pub mod program;

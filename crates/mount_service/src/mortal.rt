@@ -19,6 +19,8 @@ pub enum Mortality {
     Never,
     /// Each dies in the request of this number among those that it takes, counted from 1, once one sector of it was moved.
     InRequest(u32),
+    /// Each does when it is told to ([`Killing`](crate::killed::Killing)).
+    WhenTold,
 }
 
 /// So many drivers and one more, each new, with the ranges of this table, and with an arm where a model is asked for.
@@ -87,7 +89,7 @@ pub fn mortal_setup(minor: u8, mortality: Mortality) -> Setup
     let setup = setup_for(minor);
     match mortality {
         Mortality::Never => setup,
-        Mortality::InRequest(_) => Setup {
+        Mortality::InRequest(_) | Mortality::WhenTold => Setup {
             minor: setup.minor,
             frames: setup.frames,
             policy: Policy {

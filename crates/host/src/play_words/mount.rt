@@ -10,6 +10,9 @@ const MOST_SPARES: u64 = 4095;
 /// The most seconds between two writes of changes: a day (own).
 const MOST_SECONDS: u64 = 86_400;
 
+/// The most milliseconds between two kills: an hour (own).
+const MOST_MILLISECONDS: u64 = 3_600_000;
+
 /// What the help of `mfs9p` says of mounting.
 const BY_NINEP: &str =
     "Messages of 9P2000.L are read from standard input, and answered on standard output, until the input ends. With socat, and as root:
@@ -85,6 +88,7 @@ fn command<'a>(alloc: Global, program: MountProgram) -> Result<Command<'a>, Allo
         .arg(frames(alloc))?
         .arg(model(alloc))?
         .arg(die_every(alloc))?
+        .arg(kill_every(alloc))?
         .arg(sync_every(alloc))
 }
 
@@ -100,6 +104,13 @@ fn die_every<'a>(alloc: Global) -> Arg<'a> {
     number(alloc, "die-every", "N", 4294967295)
         .default_value("0")
         .help("Each driver dies in the N-th request that it takes; 0: none does")
+}
+
+/// The word by which drivers are killed.
+fn kill_every<'a>(alloc: Global) -> Arg<'a> {
+    number(alloc, "kill-every", "MILLISECONDS", MOST_MILLISECONDS)
+        .default_value("0")
+        .help("Kills the driver that works, every so many milliseconds; 0: never")
 }
 
 /// The word by which changes are written without an fsync.
@@ -126,6 +137,8 @@ pub struct MountWords<'a> {
     pub model: bool,
     /// In which of the requests that it takes each driver dies, counted from 1; 0: none does.
     pub die_every: u32,
+    /// After how many milliseconds the driver that works is killed, again and again, 1 to 3,600,000; 0: never.
+    pub kill_every: u32,
     /// After how many seconds changes are written without an fsync, 1 to 86,400; 0: never.
     pub sync_every: u32,
 }
@@ -141,6 +154,7 @@ impl<'a> MountWords<'a> {
             frames: matches.get_one::<u32>("frames").unwrap_or(64),
             model: matches.get_flag("model"),
             die_every: matches.get_one::<u32>("die-every").unwrap_or(0),
+            kill_every: matches.get_one::<u32>("kill-every").unwrap_or(0),
             sync_every: matches.get_one::<u32>("sync-every").unwrap_or(0),
         }
     }
