@@ -1,4 +1,5 @@
 pub mod Mortal
+pub mod Killed
 pub mod Spoken
 pub mod Kept
 pub mod Left

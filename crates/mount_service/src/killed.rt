@@ -3,6 +3,7 @@
 ghost use Rattle.std.specs.Prelude.{◌≡◌, false, true, IfOk, map};
 ghost use Rattle.bdev.specs.Promises.{IsDriver, StepKeeps};
 ghost use Rattle.modeldisk.specs.Dying.{failed_if};
+ghost use Rattle.mount_service.specs.Killed.{killed_state};
 
 use bdev::{Accept, BlockDriver, Step};
 use gate::bell::Bell;
@@ -50,7 +51,7 @@ pub struct KilledDriver<D: BlockDriver> {
 }
 
 impl<D: BlockDriver> BlockDriver for KilledDriver<D> {
-    ghost state = { λ d. failed_if d.dead (D.state d.driver) };
+    ghost state = { λ d. killed_state D.state d };
 
     fn accept(&mut self, request: BlockRequest) -> Accept {
         self.driver.accept(request)
@@ -137,7 +138,7 @@ impl Killing {
         alloc: Global,
         drivers: Vec<D>,
     ) -> Result<Vec<KilledDriver<D>>, AllocError>
-        ensures { IfOk result (λ killed. map (λ d. failed_if d.dead (D.state d.driver)) killed.items ≡ map D.state drivers.items) }
+        ensures { IfOk result (λ killed. map (killed_state D.state) killed.items ≡ map D.state drivers.items) }
     {
         let mut killed = Vec::new(alloc);
         for driver in drivers {
