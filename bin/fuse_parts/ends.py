@@ -1,6 +1,6 @@
 """How a mount begins and ends: refusals, a busy folder, an image that is being written, a full volume, kills, drivers that are used up."""
 import errno, os, random, signal, subprocess, time
-from .mounted import mount_at
+from .mounted import let_go, mount_at
 from .rows import Skip, Wrong, holds, row, run, same
 from .volume import BIN, LARGE, SMALL, Volume, differ, tree_of
 from .users import refused
@@ -43,7 +43,10 @@ def twice(trial):
         volume.mount()
         other = volume.home / "other"
         other.mkdir()
-        refused(volume.try_mount(folder=other), b"is being served")
+        done = volume.try_mount(folder=other)
+        if it := mount_at(str(other)):
+            let_go(it, "-z")
+        refused(done, b"is being served")
         refused(run(trial.ours["mfsck"], volume.image), b"is being served")
         holds("it is still mounted, and the other isn't", mount_at(str(volume.folder)) and not mount_at(str(other)))
         (volume.folder / "file").write_text("x")

@@ -29,9 +29,12 @@ class Volume:
         return self
 
     def __exit__(self, *_):
-        if mount := mount_at(str(self.folder)):
+        while mount := mount_at(str(self.folder)):
             let_go(mount, "-z")
+        try:
             self.wait_for_end()
+        except Wrong:  # what the row itself says counts
+            self.kill()
 
     def try_mount(self, *words, folder=None, **how):
         """Runs bin/mount, and returns what came of it."""
