@@ -1,20 +1,8 @@
 """Files as programs use them: mapped, open while they are removed or replaced, many at a time; beside a model or a folder of the host."""
-import errno, fcntl, mmap, os, pathlib, random, subprocess, sys
+import fcntl, mmap, os, pathlib, random, subprocess, sys
 from .rows import Wrong, holds, row, same
 
 file_row = lambda name: row("files", name)
-PATHS = 1024  # the most bytes of a path
-
-
-def stale(function, *given):
-    """Calls it; whether it was refused with ESTALE."""
-    try:
-        function(*given)
-    except OSError as error:
-        if error.errno != errno.ESTALE:
-            raise
-        return True
-    return False
 
 
 class Modelled:
@@ -79,7 +67,7 @@ def mapped(at, trial):
     """Drawn reads, writes, sizes and shared mappings of a file."""
     file = Modelled(at / "file", random.Random(f"{trial.seed} mapped"))
     steps = [file.write] * 6 + [file.read] * 6 + [file.cut] * 2 + [file.map] * 3 + [file.again, file.whole, file.drop]
-    for _ in range(1000):
+    for _ in range(400):
         file.draw.choice(steps)()
     os.close(file.file)
     os.unlink(file.path)
