@@ -8,14 +8,14 @@ file_row = lambda name: row("files", name)
 class Modelled:
     """A file, and its bytes as they have to be."""
 
-    LONGEST = 200_000
+    LONGEST = 100_000
 
     def __init__(self, path, draw):
         self.path, self.draw, self.bytes = path, draw, bytearray()
         self.file = os.open(path, os.O_RDWR | os.O_CREAT | os.O_TRUNC)
 
     def place(self):
-        return self.draw.randrange(self.LONGEST), self.draw.randrange(1, 70_000)
+        return self.draw.randrange(self.LONGEST), self.draw.choice([1, 100, 4096, self.draw.randrange(1, 30_000)])
 
     def write(self):
         at, size = self.place()
@@ -53,13 +53,16 @@ class Modelled:
         holds("all bytes are those written", pathlib.Path(self.path).read_bytes() == self.bytes)
 
     def drop(self):
-        drop_caches()
+        forget(self.file)
 
 
-def drop_caches():
-    """Lets the kernel forget what it keeps of files, where this user may."""
+def forget(*files):
+    """Lets the kernel forget what it keeps of these open files, and of names, where this user may."""
+    for it in files:
+        os.fsync(it)
+        os.posix_fadvise(it, 0, 0, os.POSIX_FADV_DONTNEED)
     if os.getuid() == 0:
-        pathlib.Path("/proc/sys/vm/drop_caches").write_text("3")
+        pathlib.Path("/proc/sys/vm/drop_caches").write_text("2")
 
 
 @file_row("mapped")
@@ -81,7 +84,7 @@ def removed_open(at, trial):
         file.flush()
         os.unlink(at / "gone")
         os.pwrite(file.fileno(), b"end", 200_000)
-        drop_caches()
+        forget(file.fileno())
         same("its size", os.fstat(file.fileno()).st_size, 200_003)
         same("its bytes", os.pread(file.fileno(), 200_100, 9_999), b"x" + bytes(190_000) + b"end")
         same("its names", os.fstat(file.fileno()).st_nlink, 0)
@@ -95,7 +98,7 @@ def replaced_open(at, trial):
         (at / it).write_text(it)
     with open(at / "two") as file:
         os.rename(at / "one", at / "two")
-        drop_caches()
+        forget(file.fileno())
         same("the open file", file.read(), "two")
         same("the name's file", (at / "two").read_text(), "one")
         same("the files", os.listdir(at), ["two"])
@@ -108,7 +111,7 @@ def open_200(at, trial):
     for count, file in enumerate(files):
         file.write(f"{count}")
         file.flush()
-    drop_caches()
+    forget(*(it.fileno() for it in files))
     for count, file in enumerate(files):
         file.seek(0)
         same(f"file {count}", file.read(), f"{count}")
@@ -140,7 +143,7 @@ def hard_links(at, trial):
     os.rename(at / "one", at / "two")
     same("a rename to another name of the same file leaves both", sorted(os.listdir(at)), ["one", "two"])
     os.unlink(at / "one")
-    drop_caches()
+    forget()
     os.truncate(at / "two", 1)
     os.chmod(at / "two", 0o600)
     same("what is left", ((at / "two").read_text(), os.stat(at / "two").st_nlink), ("1", 1))

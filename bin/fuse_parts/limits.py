@@ -1,6 +1,6 @@
 """What a volume can't do, each with the error by which it is refused (docs/MOUNT.md)."""
 import ctypes, errno, os
-from .files import drop_caches
+from .files import forget
 from .rows import Wrong, need_root, row, same
 
 LIBRARY = ctypes.CDLL(None, use_errno=True)
@@ -186,7 +186,7 @@ def removed_folder(at, trial):
     try:
         os.rmdir(at / "folder")
         refused("ENOENT", open, "file", "w")
-        drop_caches()
+        forget()
         refused("ESTALE", os.listdir, ".")
     finally:
         os.chdir(here)

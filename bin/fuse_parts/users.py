@@ -19,7 +19,7 @@ def need_device():
 
 def sh(user, groups, line, folder):
     """A line of the shell as a user with further groups, in a folder."""
-    return run("sh", "-c", line, cwd=folder, user=user, group=user, extra_groups=groups)
+    return run("sh", "-c", f'cd "$0" && {line}', folder, cwd="/", user=user, group=user, extra_groups=groups)
 
 
 def may(user, groups, line, folder, wanted=""):

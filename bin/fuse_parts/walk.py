@@ -6,6 +6,7 @@ The file server has no calls that change a file by its descriptor, so a file tha
 change of its size, mode or times by the descriptor; then the host isn't asked either, and the last line counts it."""
 import errno, mmap, os, pathlib, random, stat, sys
 
+from .files import forget
 from .volume import differ, tree_of
 
 NAMES = ["a", "b", "c", "d", "e", "f", "n" * 60, "with a space"]
@@ -203,8 +204,7 @@ class Walk:
         self.both("symlink", lambda path: os.symlink(target, path), self.place())
 
     def drop(self):
-        if os.getuid() == 0 and self.draw.random() < 0.15:
-            pathlib.Path("/proc/sys/vm/drop_caches").write_text("3")
+        forget(*(it.files[0] for it in self.open))
 
     def step(self):
         weights = {self.open_file: 14, self.close: 6, self.write: 12, self.read: 10, self.resize: 4, self.stat_file: 4, self.chmod_file: 1,
