@@ -1,5 +1,5 @@
 """The mounts of this machine that are volumes, and how the one who serves a volume tells in the end what came of it."""
-import fcntl, os, pathlib, re, socket, struct, subprocess
+import fcntl, hashlib, os, pathlib, re, socket, struct, subprocess
 from typing import NamedTuple
 
 KIND = "fuse.mfs"
@@ -55,7 +55,9 @@ def one_line(text):
 
 
 def place_of(mount):
-    return f"\0lecternowl {mount.device} {mount.number}"
+    """Its name. The numbers of a mount are soon another's, while a program still writes; no image is written by two."""
+    image = hashlib.sha256(os.fsencode(mount.image)).hexdigest()[:32]
+    return f"\0lecternowl {mount.device} {mount.number} {image}"
 
 
 def listen(mount):
