@@ -15,9 +15,10 @@ def refuse(why):
 
 
 def run(*words, **how):
-    done = subprocess.run([os.fspath(it) for it in words], stdin=subprocess.DEVNULL, capture_output=True, text=True, errors="replace", **how)
+    words = [str(it) for it in words]
+    done = subprocess.run(words, stdin=subprocess.DEVNULL, capture_output=True, text=True, errors="replace", **how)
     if done.returncode != 0:
-        refuse(f"{' '.join(map(str, words))[:200]}: status {done.returncode}: {done.stderr.strip()[-300:]}")
+        refuse(f"{' '.join(words)[:200]}: status {done.returncode}: {done.stderr.strip()[-300:]}")
     return done.stdout
 
 

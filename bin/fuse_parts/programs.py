@@ -135,8 +135,8 @@ def make(at, source):
 @program("fio")
 def fio(at, source):
     need("fio")
-    ran("fio", "--name=v", f"--directory={at}", "--size=4m", "--bs=4k", "--rw=randrw", "--verify=crc32c", "--verify_fatal=1", "--do_verify=1",
-        "--ioengine=psync", "--end_fsync=1", cwd="/tmp")
+    ran("fio", "--name=v", f"--directory={at}", "--size=4m", "--bs=4k", "--rw=randrw", "--verify=crc32c", "--verify_fatal=1",
+        "--do_verify=1", "--ioengine=psync", "--end_fsync=1", cwd="/tmp")
     empty(at)
 
 
@@ -182,7 +182,8 @@ def stress_rename(at, source):
 def find(at, source):
     """Tools that only look say the same of the copy and of what it was copied from."""
     ran("cp", "-a", source, at / "tree")
-    for words in (["find", ".", "-printf", "%p %y %m %n %U %G %s %l\n"], ["grep", "-rc", "the", "."], ["du", "-a", "--apparent-size", "-b", "."]):
+    told = "%p %y %m %n %U %G %s %l\n"
+    for words in (["find", ".", "-printf", told], ["grep", "-rc", "the", "."], ["du", "-a", "--apparent-size", "-b", "."]):
         here, there = (sorted(ran(*words, cwd=it).splitlines()) for it in (source, at / "tree"))
         if words[0] in ("find", "du"):
             here, there = (without_folders(it, source, words[0]) for it in (here, there))
