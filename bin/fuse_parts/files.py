@@ -120,15 +120,15 @@ def open_200(at, trial):
 
 @file_row("listed-and-removed")
 def listed_and_removed(at, trial):
-    """Each of 1,000 names is told once while they are removed."""
-    for it in range(1000):
+    """Each of 600 names is told once while they are removed."""
+    for it in range(600):
         (at / f"a-name-that-is-longer-{it:05}").touch()
     found = 0
     with os.scandir(at) as entries:
         for it in entries:
             os.unlink(it.path)
             found += 1
-    same("the names told", found, 1000)
+    same("the names told", found, 600)
     same("the names left", os.listdir(at), [])
 
 
