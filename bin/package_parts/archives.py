@@ -1,6 +1,6 @@
 """The two archives of a release, whose bytes depend on the files and the commit's time alone."""
 import hashlib, os, pathlib
-from .common import DOC, NAME, refuse, run, said
+from .common import DOC, NAME, SCRIPTS, refuse, run, said
 from .content import debian_changelog, zipped
 
 CONTROL = """Package: {name}
@@ -8,7 +8,8 @@ Version: {version}
 Architecture: amd64
 Maintainer: {maker}
 Installed-Size: {size}
-{depends}Suggests: socat
+{depends}Recommends: fuse3, python3
+Suggests: socat
 Section: non-free/otherosfs
 Priority: optional
 Description: file server for MINIX 3 volumes whose disk drivers may die
@@ -18,12 +19,14 @@ Description: file server for MINIX 3 volumes whose disk drivers may die
  names first.
  .
  The programs work on images of volumes: mkmfs makes one, mfsck checks it,
- mfmig makes one of a volume of version 2, mfs plays scripts of calls, mfs9p
- serves a volume by 9P, so that Linux mounts it, and mfssim plays schedules of
- faults.
+ mfmig makes one of a volume of version 2, mfs plays scripts of calls, mfssim
+ plays schedules of faults. mfs-mount mounts a volume by FUSE with mfsfuse, as
+ any user; mfs9p serves one by 9P.
 """
 # The programs are those that were proved, byte for byte, with the symbols that their makers left in them.
 UNSTRIPPED = "# The program is packed byte for byte as it was proved and built.\n{name}: unstripped-binary-or-object [{path}]\n"
+# python3 is recommended: most programs need none.
+SCRIPT = "{name}: python3-script-but-no-python3-dep * [{path}]\n"
 
 
 def put(folder, files, seconds):
@@ -40,8 +43,9 @@ def put(folder, files, seconds):
 
 
 def overrides(files):
-    """What lintian isn't to tell of: of each program that has a table of symbols, that it has one."""
-    return "".join(UNSTRIPPED.format(name=NAME, path=it) for it in sorted(files) if "/bin/" in it and b"\0.symtab\0" in files[it])
+    """What lintian isn't to tell of: of each program that has a table of symbols, that it has one; of scripts, that python3 is recommended."""
+    unstripped = (UNSTRIPPED.format(name=NAME, path=it) for it in sorted(files) if "/bin/" in it and b"\0.symtab\0" in files[it])
+    return "".join([*unstripped, *(SCRIPT.format(name=NAME, path=f"usr/bin/{it}") for it in SCRIPTS)])
 
 
 def size_of(files):

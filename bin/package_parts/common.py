@@ -4,7 +4,8 @@ import os, pathlib, shutil, subprocess, sys
 ROOT = pathlib.Path(__file__).resolve().parent.parent.parent
 NAME = "lecternowl"
 DOC = f"usr/share/doc/{NAME}"
-PROGRAMS = ("mkmfs", "mfsck", "mfs", "mfs9p", "mfmig", "mfssim")
+PROGRAMS = ("mkmfs", "mfsck", "mfs", "mfs9p", "mfsfuse", "mfmig", "mfssim")
+SCRIPTS = {"mfs-mount": "mount", "mfs-umount": "umount"}  # by the names that they have in a package; one man page has both
 
 
 def refuse(why, status=1):

@@ -1,6 +1,6 @@
 """The files of a package: by its path each one's bytes."""
 import gzip, pathlib, posixpath, re, textwrap, time
-from .common import DOC, NAME, PROGRAMS, ROOT, refuse, run, said, told
+from .common import DOC, NAME, PROGRAMS, ROOT, SCRIPTS, refuse, run, said, told
 from .help_words import Help, bash_completion, zsh_completion
 
 PAGES = ("README.md", *(f"docs/{it}.md" for it in ("CALLS", "FAULTS", "FORMAT", "LIMITS", "MOUNT", "PROGRAMS", "SPEED")))
@@ -22,6 +22,8 @@ def content_of(release):
     """All files by their paths, which begin with `usr/`."""
     files = {f"usr/bin/{name}": place.read_bytes() for name, place in release.programs.items()}
     files |= {f"usr/share/man/man1/{it}.1.gz": zipped((ROOT / "man" / f"{it}.1").read_bytes()) for it in PROGRAMS}
+    files |= {f"usr/bin/{it}": script(at) for it, at in SCRIPTS.items()}
+    files |= {f"usr/share/man/man1/{it}.1.gz": zipped((ROOT / "man/mfs-mount.1").read_bytes()) for it in SCRIPTS}
     files |= {f"{DOC}/{it}": without_dead_links(it).encode() for it in PAGES}
     files |= {f"{DOC}/examples/{it}": (ROOT / "examples" / it).read_bytes() for it in tracked("examples")}
     for name, place in release.programs.items():
@@ -32,6 +34,16 @@ def content_of(release):
     files[f"{DOC}/copyright"] = copyright_of(release).encode()
     files[f"{DOC}/changelog.gz"] = zipped((ROOT / "CHANGELOG.md").read_bytes())
     return files
+
+
+def script(name):
+    """A script of bin/ as one file, under the names that it and its program have in a package."""
+    text = (ROOT / "bin" / name).read_text(encoding="utf-8")
+    part = (ROOT / "bin/fuse_parts/mounted.py").read_text(encoding="utf-8").split('"""\n', 1)[1]
+    text = re.sub(r"^sys\.dont_write_bytecode = True\nfrom fuse_parts\.mounted import [\w, ]+\n", lambda _: part, text, flags=re.M)
+    for packed, ours in SCRIPTS.items():
+        text = re.sub(rf"\bbin/{ours}\b", packed, text)
+    return text.replace("#!/usr/bin/env python3\n", "#!/usr/bin/python3\n", 1).encode()
 
 
 def zipped(data):

@@ -1,6 +1,6 @@
 """Whether the packages are made of the same bytes each time, and hold the same files."""
 import os, pathlib, shutil, tarfile, tempfile
-from .common import DOC, NAME, PROGRAMS, ROOT, refuse, run, said, told
+from .common import DOC, NAME, PROGRAMS, ROOT, SCRIPTS, refuse, run, said, told
 
 # Where bin/package is run the second time, and how: nothing of it may be seen in the packages.
 OTHERS = {"TZ": "Pacific/Auckland", "LC_ALL": "C.UTF-8", "SOURCE_DATE_EPOCH": "1", "TAR_OPTIONS": "--exclude=*.gz --format=pax"}
@@ -63,7 +63,7 @@ def try_archive(tally, packages, root):
     differs = sorted(it for it in ours.keys() | wanted.keys() if ours.get(it) != wanted.get(it))
     tally.judge(f"{packages.archive.name} has the same {len(wanted)} files", f"not {differs}" if differs else "")
     tally.judge("in it all belongs to root", f"also to {owners}" if owners != {(0, 0)} else "")
-    tally.judge("in it the programs alone may be run", "" if runs == {f"bin/{it}" for it in PROGRAMS} else f"these may: {sorted(runs)}")
+    tally.judge("in it the programs alone may be run", "" if runs == {f"bin/{it}" for it in (*PROGRAMS, *SCRIPTS)} else f"these may: {sorted(runs)}")
     try_unpacked(tally, packages, root)
 
 

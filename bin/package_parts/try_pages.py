@@ -1,6 +1,6 @@
 """Whether the installed man pages are shown, and all that pages name is there."""
 import gzip, os, re, shutil
-from .common import DOC, NAME, PROGRAMS, run, told
+from .common import DOC, NAME, PROGRAMS, SCRIPTS, run, told
 
 SHOWERS = ("man", "mandoc", "groff")
 WHERE = {"PATH": os.environ.get("PATH", ""), "LC_ALL": "C.UTF-8", "MANWIDTH": "80", "MAN_KEEP_FORMATTING": "1", "TERM": "dumb"}
@@ -28,10 +28,10 @@ def try_man(tally, root):
         if not shutil.which(command):
             tally.skip(f"{command} shows the man pages", f"there is no {command}")
             continue
-        for name in PROGRAMS:
+        for name in (*PROGRAMS, *SCRIPTS):
             done = shown(command, root.folder / f"usr/share/man/man1/{name}.1.gz")
             text = plain(done.stdout)
-            wanted = ("NAME", f"{name} [–—-] ", "SYNOPSIS", "--help", "EXIT STATUS", "DIAGNOSTICS")
+            wanted = ("NAME", f"{name}[, ].*[–—-] ", "SYNOPSIS", "--help", "EXIT STATUS", "DIAGNOSTICS")
             lacks = [it for it in wanted if not re.search(it, text)]
             warnings = " ".join(done.stderr.decode("utf-8", "replace").split())
             fault = warnings or (f"status {done.returncode}" if done.returncode != 0 else f"lacks {lacks}" if lacks else "")
@@ -44,10 +44,10 @@ def dead_links(root):
         for target in re.findall(r"\]\(([^)\s#]+)[^)\s]*\)", page.read_text(encoding="utf-8")):
             if "://" not in target and not (page.parent / target).exists():
                 yield f"{page.name}: {target}"
-    for name in PROGRAMS:
+    for name in (*PROGRAMS, *SCRIPTS):
         text = gzip.decompress((root.folder / f"usr/share/man/man1/{name}.1.gz").read_bytes()).decode()
         yield from (f"{name}.1: {it}" for it in re.findall(r"\b(?:docs|examples)/[\w.-]*\w", text) if not (root.folder / DOC / it).exists())
-        others = re.findall(r"^\.Xr (\w+) 1", text, re.M)
+        others = re.findall(r"^\.Xr ([\w-]+) 1", text, re.M)
         yield from (f"{name}.1: {it}(1)" for it in others if not (root.folder / f"usr/share/man/man1/{it}.1.gz").exists())
 
 

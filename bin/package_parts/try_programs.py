@@ -1,6 +1,6 @@
 """What the installed programs print and make, beside what the pages, the examples and the definitions say."""
-import hashlib, os, re
-from .common import DOC, PROGRAMS, ROOT, said
+import hashlib, os, re, sys
+from .common import DOC, PROGRAMS, ROOT, SCRIPTS, run, said
 
 VOLUME = ("--blocks", "64", "--inodes", "32", "--block-size", "1024", "--now", "50")
 EXAMPLES = f"/{DOC}/examples"
@@ -60,6 +60,14 @@ def try_words(trial, packages):
         trial.tally.judge(f"{name} --no-such-word is refused", "" if done.returncode == 2 and not done.stdout else said(done))
 
 
+def try_scripts(trial):
+    """--help of each script, by this machine's python3: a root may have none."""
+    for name in SCRIPTS:
+        done = run([sys.executable, trial.root.folder / "usr/bin" / name, "--help"])
+        right = done.returncode == 0 and f"\nusage: {name} ".encode() in done.stdout and not done.stderr
+        trial.tally.judge(f"{name} --help", "" if right else said(done))
+
+
 def try_volume(trial):
     """A volume is made, filled and read; the sums of what comes of it are right."""
     trial.judge(["mkmfs", "v.img", *VOLUME], "first 6 zones 58 free 57\n")
@@ -99,6 +107,7 @@ def try_programs(tally, packages, root):
     """Runs all of them in the root's work folder, where only what was asked for is left."""
     trial = Trial(tally, root)
     try_words(trial, packages)
+    try_scripts(trial)
     try_volume(trial)
     try_others(trial)
     left = sorted(it.name for it in root.work.iterdir() if it.suffix != ".deb")

@@ -1,6 +1,6 @@
 """A fresh root: how it comes to be, what runs there, what is installed and taken away."""
 import os, pathlib, re, shutil
-from .common import DOC, NAME, PROGRAMS, refuse, run, said
+from .common import DOC, NAME, PROGRAMS, SCRIPTS, refuse, run, said
 
 NOBODY = 65534
 # What dpkg keeps for itself, besides what a package brings.
@@ -130,7 +130,7 @@ def owner_of(library):
 def misplaced(paths):
     """The files that lie in another place than Debian has for their kind, and those of each program that are missing."""
     kinds = ("usr/bin/{}", "usr/share/man/man1/{}.1.gz", "usr/share/bash-completion/completions/{}", "usr/share/zsh/vendor-completions/_{}")
-    wanted = {kind.format(it) for kind in kinds for it in PROGRAMS}
+    wanted = {kind.format(it) for kind in kinds for it in PROGRAMS} | {kind.format(it) for kind in kinds[:2] for it in SCRIPTS}
     own = (f"{DOC}/", "usr/share/lintian/overrides/")
     return sorted(wanted ^ {it for it in paths if not it.startswith(own)})
 

@@ -1,0 +1,225 @@
+"""How a mount begins and ends: refusals, a busy folder, an image that is being written, a full volume, kills, drivers that are used up."""
+import errno, os, random, signal, subprocess, time
+from .mounted import let_go, mount_at
+from .rows import Skip, Wrong, holds, row, run, said, same
+from .volume import BIN, LARGE, SMALL, Volume, differ, tree_of
+from .users import refused
+
+end = lambda name: row("ends", name)
+
+
+def filled(folder, draw, count=20):
+    """Makes files of drawn bytes."""
+    for it in range(count):
+        (folder / f"f{it}").write_bytes(draw.randbytes(draw.randrange(20_000)))
+
+
+def nothing_mounted(folder):
+    holds("the folder is let go", mount_at(str(folder)) is None and os.listdir(folder) == [])
+
+
+@end("refused")
+def refused_image(trial):
+    """An image that isn't clean, is none, or isn't there: a line says why, and the folder is let go."""
+    with Volume(trial, "refused") as volume:
+        good = volume.image.read_bytes()
+        for bytes_, why in ((good[:1024] + bytes(1024) + good[2048:], b"Mount Layout"), (b"no image", b"M"),
+                            (good[:2048] + b"\xff" + good[2049:], b"finding")):
+            volume.image.write_bytes(bytes_)
+            refused(volume.try_mount(), why)
+            nothing_mounted(volume.folder)
+        volume.image.write_bytes(good)
+        refused(volume.try_mount("--minor", "1"), b"Partition")
+        refused(volume.try_mount(folder=volume.home / "none"), b"no such folder")
+        volume.image.unlink()
+        refused(volume.try_mount(), b"no such file")
+        same("files that are left", sorted(os.listdir(volume.home)), ["log", "mnt", "owner"])
+
+
+@end("twice")
+def twice(trial):
+    """An image that is mounted is refused to all other programs that would write or read it."""
+    with Volume(trial, "twice") as volume:
+        volume.mount()
+        other = volume.home / "other"
+        other.mkdir()
+        done = volume.try_mount(folder=other)
+        if it := mount_at(str(other)):
+            let_go(it, "-z")
+        refused(done, b"is being served")
+        refused(run(trial.ours["mfsck"], volume.image), b"is being served")
+        holds("it is still mounted, and the other isn't", mount_at(str(volume.folder)) and not mount_at(str(other)))
+        (volume.folder / "file").write_text("x")
+        volume.umount()
+        volume.mount()
+        same("what is there", os.listdir(volume.folder), ["file"])
+        volume.umount()
+
+
+@end("busy")
+def busy(trial):
+    """A volume in which somebody works stays mounted, and nothing is lost."""
+    with Volume(trial, "busy") as volume:
+        volume.mount()
+        with open(volume.folder / "file", "w") as file:
+            file.write("one ")
+            file.flush()
+            refused(volume.try_umount(), b"somebody works in it")
+            file.write("two")
+        with subprocess.Popen(["sleep", "60"], cwd=volume.folder) as sleeper:
+            refused(volume.try_umount(), b"somebody works in it")
+            sleeper.kill()
+        volume.umount()
+        volume.mount()
+        same("the file", (volume.folder / "file").read_text(), "one two")
+        volume.umount()
+        refused(volume.try_umount(), b"no volume is mounted there")
+
+
+@end("written")
+def written(trial):
+    """When bin/umount comes back the image has all: a copy of it, made at once, is the volume."""
+    with Volume(trial, "written", LARGE) as volume, Volume(trial, "copy", SMALL) as copy:
+        volume.mount("--sync-every", "0")
+        draw = random.Random(f"{trial.seed} written")
+        for it in range(8):
+            (volume.folder / f"d{it}").mkdir()
+            filled(volume.folder / f"d{it}", draw)
+        (volume.folder / "large").write_bytes(draw.randbytes(20 << 20))
+        tree = tree_of(volume.folder)
+        volume.umount()
+        copy.image.write_bytes(volume.image.read_bytes())
+        copy.mount("-o", "ro")
+        same("the tree", differ(tree_of(copy.folder), tree), "")
+        copy.umount()
+
+
+@end("read-only")
+def read_only(trial):
+    """With -o ro all is read, nothing is written, and neither image nor folder has to be writable."""
+    with Volume(trial, "read-only") as volume:
+        volume.mount()
+        (volume.folder / "file").write_text("x")
+        volume.umount()
+        before = volume.image.read_bytes(), sorted(os.listdir(volume.home))
+        volume.mount("-o", "ro")
+        same("the file", (volume.folder / "file").read_text(), "x")
+        try:
+            (volume.folder / "more").touch()
+            raise Wrong("a file was made")
+        except OSError as error:
+            same("the error", errno.errorcode[error.errno], "EROFS")
+        volume.umount()
+        same("the image", volume.image.read_bytes() == before[0] and sorted(os.listdir(volume.home)) == before[1], True)
+
+
+@end("in-front")
+def in_front(trial):
+    """--foreground comes back when the volume is unmounted, by bin/umount or by Ctrl-C."""
+    with Volume(trial, "in-front") as volume:
+        for count, how in enumerate((volume.try_umount, None)):
+            words = [BIN / "mount", "--foreground", "--program", trial.program, volume.image, volume.folder]
+            with subprocess.Popen(list(map(str, words)), stderr=subprocess.PIPE) as process:
+                until = time.monotonic() + 60
+                while not mount_at(str(volume.folder)) and time.monotonic() < until:
+                    time.sleep(0.05)
+                (volume.folder / f"f{count}").touch()
+                how() if how else process.send_signal(signal.SIGINT)
+                same("its status", (process.wait(60), process.stderr.read()), (0, b""))
+            volume.check()
+        volume.mount()
+        same("the files", sorted(os.listdir(volume.folder)), ["f0", "f1"])
+        volume.umount()
+
+
+@end("full")
+def full(trial):
+    """A full volume refuses with ENOSPC what finds no room, keeps all else, and has its room back behind a removal."""
+    with Volume(trial, "full") as volume:
+        volume.mount()
+        at, before = volume.folder, os.statvfs(volume.folder)
+        wrote, data = 0, random.Random(trial.seed).randbytes(2 << 20)
+        with open(at / "large", "wb", buffering=0) as file:
+            try:
+                while wrote < len(data):
+                    wrote += file.write(data[wrote:wrote + 10_000])
+            except OSError as error:
+                same("the error", errno.errorcode[error.errno], "ENOSPC")
+        holds("the volume was filled", wrote < len(data) and os.statvfs(at).f_bfree < 8)
+        same("the bytes that were taken", (at / "large").read_bytes() == data[:wrote], True)
+        made = 0
+        try:
+            for made in range(1000):
+                (at / f"empty{made}").touch()
+        except OSError as error:
+            same("the error without inodes or room", errno.errorcode[error.errno], "ENOSPC")
+        volume.umount()
+        volume.mount()
+        same("the bytes at the next mount", (at / "large").read_bytes() == data[:wrote], True)
+        for it in os.listdir(at):
+            os.unlink(at / it)
+        (at / "again").write_bytes(data[:500_000])
+        os.unlink(at / "again")
+        after = os.statvfs(at)
+        same("inodes that are free", after.f_ffree, before.f_ffree)
+        holds("blocks that are free, but for those of the folder", before.f_bfree - after.f_bfree <= 24)
+        volume.umount()
+
+
+@end("killed")
+def killed(trial):
+    """Behind kill -9 the folder is let go, and the next mount has at least what was synced, and a clean image."""
+    with Volume(trial, "killed") as volume:
+        draw = random.Random(f"{trial.seed} killed")
+        for count in range(5):
+            volume.mount("--sync-every", "0")
+            synced, later = volume.folder / f"synced{count}", volume.folder / f"later{count}"
+            data = draw.randbytes(50_000)
+            with open(synced, "wb") as file:
+                file.write(data)
+                file.flush()
+                os.fsync(file.fileno())
+            later.write_bytes(b"x")
+            volume.kill()
+            volume.wait_for_end()
+            volume.check()
+            nothing_mounted(volume.folder)
+            volume.mount()
+            same("the synced file", synced.read_bytes() == data, True)
+            for it in range(count + 1):
+                holds("each earlier one is there", (volume.folder / f"synced{it}").exists())
+            volume.umount()
+
+
+@end("killed-and-told")
+def killed_and_told(trial):
+    """What was done more than some seconds before a kill is there without an fsync; bin/umount tells of a kill while it waits."""
+    with Volume(trial, "told") as volume:
+        volume.mount("--sync-every", "1")
+        (volume.folder / "file").write_text("x")
+        time.sleep(3)
+        volume.kill()
+        volume.wait_for_end()
+        volume.mount()
+        same("the file", (volume.folder / "file").read_text(), "x")
+        volume.umount()
+
+
+@end("given-up")
+def given_up(trial):
+    """Where no driver is left each call is EIO; the volume is unmounted, which tells it, and the image is that of the last sync."""
+    with Volume(trial, "given-up") as volume:
+        before = volume.image.read_bytes()
+        volume.mount("--spares", "1", "--die-every", "400", "--frames", "16", "--sync-every", "0")
+        try:
+            for it in range(500):
+                (volume.folder / f"f{it % 20}").write_bytes(bytes([it % 256]) * 20_000)
+        except OSError as error:
+            same("the error", errno.errorcode[error.errno], "EIO")
+        else:
+            raise Skip("the drivers weren't used up")
+        done = volume.try_umount()
+        if done.returncode != 3 or b"given up" not in done.stderr:
+            raise Wrong(f"bin/umount: {said(done)}")
+        volume.wait_for_end()
+        volume.check()

@@ -1,0 +1,212 @@
+"""What a volume can't do, each with the error by which it is refused (docs/MOUNT.md)."""
+import ctypes, errno, os
+from .files import forget
+from .rows import Wrong, need_root, row, same
+
+LIBRARY = ctypes.CDLL(None, use_errno=True)
+FROM_HERE = -100  # AT_FDCWD
+
+
+def limit(name):
+    return row("limits", name)
+
+
+def refused(wanted, function, *given, **more):
+    """The call is refused with this error."""
+    try:
+        came = function(*given, **more)
+    except OSError as error:
+        came = errno.errorcode[error.errno]
+    if came != wanted:
+        raise Wrong(f"{came}, and not {wanted}")
+
+
+def made(path, data=b""):
+    path.write_bytes(data)
+    return path
+
+
+@limit("long-names")
+def long_names(at, trial):
+    """60 bytes a name."""
+    made(at / ("n" * 60))
+    refused("ENAMETOOLONG", (at / ("n" * 61)).touch)
+    refused("ENAMETOOLONG", os.mkdir, at / ("n" * 61))
+    refused("ENAMETOOLONG", os.rename, at / ("n" * 60), at / ("m" * 61))
+
+
+@limit("long-paths")
+def long_paths(at, trial):
+    """1024 bytes a path from the volume's root, also where a program came there by its current folder."""
+    here = os.getcwd()
+    try:
+        os.chdir(at)
+        depth = 0
+        while depth < 30:
+            os.mkdir("d" * 50)
+            os.chdir("d" * 50)
+            depth += 1
+        raise Wrong(f"{depth} folders of 50 bytes")
+    except OSError as error:
+        same("the error", errno.errorcode[error.errno], "ENAMETOOLONG")
+        same("the folders", 17 <= depth <= 20, True)
+    finally:
+        os.chdir(here)
+
+
+@limit("large-files")
+def large_files(at, trial):
+    """2147483647 bytes a file."""
+    with open(at / "file", "wb") as file:
+        refused("EFBIG", os.pwrite, file.fileno(), b"x", 2**31)
+        refused("EFBIG", os.ftruncate, file.fileno(), 2**31)
+        os.ftruncate(file.fileno(), 2**31 - 1)
+        same("its size", os.fstat(file.fileno()).st_size, 2**31 - 1)
+    os.unlink(at / "file")
+
+
+@limit("mode-bits")
+def mode_bits(at, trial):
+    """No set-user-id, set-group-id or sticky bits."""
+    for mode in 0o4755, 0o2755, 0o1755:
+        refused("EINVAL", os.chmod, made(at / "file"), mode)
+    same("its mode", os.stat(at / "file").st_mode & 0o7777, 0o644)
+    refused("EINVAL", os.mkdir, at / "folder", 0o1755)
+
+
+@limit("kinds")
+def kinds(at, trial):
+    """No pipes, sockets and devices."""
+    refused("EPERM", os.mkfifo, at / "fifo")
+    if os.getuid() == 0:
+        refused("EPERM", os.mknod, at / "null", 0o20666, os.makedev(1, 3))
+    os.mknod(at / "file", 0o100644)
+    same("what is there", os.listdir(at), ["file"])
+
+
+@limit("attributes")
+def attributes(at, trial):
+    """No extended attributes, and none are listed."""
+    file = made(at / "file")
+    refused("ENOTSUP", os.setxattr, file, "user.a", b"1")
+    refused("ENOTSUP", os.getxattr, file, "user.a")
+    same("those listed", outcome_of_list(file), [])
+
+
+def outcome_of_list(file):
+    try:
+        return os.listxattr(file)
+    except OSError as error:
+        same("the error", errno.errorcode[error.errno], "ENOTSUP")
+        return []
+
+
+@limit("links-own")
+def links_own(at, trial):
+    """Owners and times of a symbolic link stay, since calls follow it; an owner that it has already is taken."""
+    need_root("gives files away")
+    made(at / "file")
+    os.symlink("file", at / "link")
+    os.lchown(at / "link", 0, 0)
+    refused("EPERM", os.lchown, at / "link", 5, 5)
+    refused("ENOSYS", os.utime, at / "link", (1, 1), follow_symlinks=False)
+    same("whose the file is", os.stat(at / "file").st_uid, 0)
+
+
+@limit("removed-open-changes")
+def removed_open_changes(at, trial):
+    """Size, mode, owner and times of a removed file that is open stay."""
+    with open(at / "file", "w+") as file:
+        file.write("text")
+        file.flush()
+        os.unlink(at / "file")
+        for change in ((os.ftruncate, 1), (os.fchmod, 0o600), (os.utime, (1, 1))):
+            refused("ESTALE", change[0], file.fileno(), change[1])
+        file.seek(0)
+        same("its bytes", file.read(), "text")
+
+
+@limit("many-removed-open")
+def many_removed_open(at, trial):
+    """128 removed files may be open; the next removal of an open one is refused, and that file stays."""
+    files, removed = [open(at / f"f{it}", "w+") for it in range(140)], 0
+    for count, file in enumerate(files):
+        file.write(f"{count}")
+        file.flush()
+    try:
+        for it in range(140):
+            os.unlink(at / f"f{it}")
+            removed += 1
+    except OSError as error:
+        same("the error", errno.errorcode[error.errno], "ENFILE")
+    same("removed", 120 <= removed <= 128, True)
+    for count, file in enumerate(files[:removed]):
+        file.seek(0)
+        same(f"file {count}", file.read(), f"{count}")
+    for file in files:
+        file.close()
+    for it in range(removed, 140):
+        os.unlink(at / f"f{it}")
+    same("what is left", os.listdir(at), [])
+
+
+@limit("unnamed-files")
+def unnamed_files(at, trial):
+    """No files without a name from the beginning, no room asked for ahead, and no exchange of two names."""
+    refused("ENOTSUP", os.open, at, os.O_TMPFILE | os.O_RDWR)
+    with open(at / "one", "w") as file:
+        refused("ENOTSUP", fallocate, file.fileno(), 100_000)
+        os.posix_fallocate(file.fileno(), 0, 10_000)
+    same("its size", os.stat(at / "one").st_size, 10_000)
+    made(at / "two")
+    refused("EINVAL", renameat2, at / "one", at / "two", 2)
+    refused("EEXIST", renameat2, at / "one", at / "two", 1)
+
+
+def checked(status):
+    if status != 0:
+        raise OSError(ctypes.get_errno(), "")
+
+
+def fallocate(file, size):
+    """The system's own call, which posix_fallocate doesn't need."""
+    checked(LIBRARY.fallocate64(file, 0, ctypes.c_int64(0), ctypes.c_int64(size)))
+
+
+def renameat2(old, new, flags):
+    checked(LIBRARY.renameat2(FROM_HERE, os.fsencode(old), FROM_HERE, os.fsencode(new), flags))
+
+
+@limit("removed-folder")
+def removed_folder(at, trial):
+    """In a folder that was removed nothing is found."""
+    here = os.getcwd()
+    os.mkdir(at / "folder")
+    os.chdir(at / "folder")
+    try:
+        os.rmdir(at / "folder")
+        refused("ENOENT", open, "file", "w")
+        forget()
+        refused("ESTALE", os.listdir, ".")
+    finally:
+        os.chdir(here)
+
+
+@limit("large-owners")
+def large_owners(at, trial):
+    """Owners are numbers up to 65535."""
+    need_root("gives files away")
+    file = made(at / "file")
+    os.chown(file, 65535, 65535)
+    refused("EINVAL", os.chown, file, 65536, 0)
+    same("whose it is", (os.stat(file).st_uid, os.stat(file).st_gid), (65535, 65535))
+
+
+@limit("times")
+def times(at, trial):
+    """Whole seconds up to 2106."""
+    file = made(at / "file")
+    os.utime(file, (100.75, 200.75))
+    same("its times", (os.stat(file).st_atime, os.stat(file).st_mtime), (100, 200))
+    os.utime(file, (0, 2**32 - 1))
+    same("its times", (os.stat(file).st_atime, os.stat(file).st_mtime), (0, 2**32 - 1))

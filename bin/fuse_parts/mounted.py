@@ -1,0 +1,123 @@
+"""The mounts of this machine that are volumes, and how the one who serves a volume tells in the end what came of it."""
+import fcntl, hashlib, os, pathlib, re, socket, struct, subprocess
+from typing import NamedTuple
+
+KIND = "fuse.mfs"
+TOOL = "fusermount3"
+
+
+class Mount(NamedTuple):
+    """A mounted volume: its number among the mounts and that of its device, its folder, the image, and the user who mounted it."""
+    number: int
+    device: str
+    folder: str
+    image: str
+    user: int
+
+
+def plain(text):
+    """A path of the system's table, in which some bytes are octal."""
+    return re.sub(r"\\([0-7]{3})", lambda it: chr(int(it[1], 8)), text).encode("latin-1").decode("utf-8", "surrogateescape")
+
+
+def mounts():
+    """All volumes that are mounted, the newest last."""
+    found = []
+    for line in pathlib.Path("/proc/self/mountinfo").read_text("latin-1").splitlines():
+        head, _, tail = line.partition(" - ")
+        number, _, device, _, folder, *_ = head.split(" ")
+        kind, image, options = tail.split(" ", 2)
+        if kind == KIND:
+            user = re.search(r"(?:^|,)user_id=(\d+)", options)
+            found.append(Mount(int(number), device, plain(folder), plain(image), int(user[1]) if user else 0))
+    return found
+
+
+def mount_at(folder):
+    """The volume that is mounted at a folder, the newest one; None where there is none."""
+    return next((it for it in reversed(mounts()) if it.folder == folder), None)
+
+
+def let_go(mount, *how):
+    """Unmounts a volume, where it is mounted still. What the tool said where it couldn't, else nothing."""
+    if mount not in mounts():
+        return ""
+    done = subprocess.run([TOOL, "-u", *how, "--", mount.folder], stdin=subprocess.DEVNULL, capture_output=True, text=True,
+                          errors="replace")
+    return "" if done.returncode == 0 else one_line(done.stderr) or f"{TOOL} has the status {done.returncode}"
+
+
+def one_line(text):
+    return "; ".join(it.strip() for it in text.splitlines() if it.strip())
+
+
+# ---- what came of a mount: the one who serves it tells those who ask, by a socket that has no file and goes with its process
+
+
+def place_of(mount):
+    """Its name. The numbers of a mount are soon another's, while a program still writes; no image is written by two."""
+    image = hashlib.sha256(os.fsencode(mount.image)).hexdigest()[:32]
+    return f"\0lecternowl {mount.device} {mount.number} {image}"
+
+
+def listen(mount):
+    """The socket at which those who unmount a volume ask; None where another program has its name."""
+    listener = socket.socket(socket.AF_UNIX, socket.SOCK_STREAM)
+    try:
+        listener.bind(place_of(mount))
+    except OSError:
+        return None
+    listener.listen(64)
+    listener.setblocking(False)
+    return listener
+
+
+def tell_all(listener, status, lines):
+    """Tells all who ask the program's status, and what it said in the end."""
+    while True:
+        try:
+            asker, _ = listener.accept()
+        except OSError:
+            return
+        with asker:
+            try:
+                asker.sendall("\n".join([str(status), *lines]).encode("utf-8", "surrogateescape"))
+            except OSError:
+                pass
+
+
+def ask(mount):
+    """A connection to the one who serves this mount; None where nobody, or another user, has its name."""
+    asked = socket.socket(socket.AF_UNIX, socket.SOCK_STREAM)
+    try:
+        asked.connect(place_of(mount))
+        _, user, _ = struct.unpack("3i", asked.getsockopt(socket.SOL_SOCKET, socket.SO_PEERCRED, 12))
+    except OSError:
+        return None
+    return asked if user in (0, mount.user) else None
+
+
+def answer(asked):
+    """The status and the lines that were told, once they are; no status where the other end is gone."""
+    told = b""
+    try:
+        while more := asked.recv(65536):
+            told += more
+    except OSError:
+        pass
+    status, *lines = told.decode("utf-8", "surrogateescape").split("\n")
+    return (int(status) if re.fullmatch(r"-?\d+", status) else None), lines
+
+
+def lock_of(image):
+    """The log of an image, which the program that writes the image has locked until it ended; None where there is none to be read."""
+    try:
+        return os.open(f"{image}.log", os.O_RDONLY | os.O_CLOEXEC)
+    except OSError:
+        return None
+
+
+def wait_for(lock):
+    """Waits until a lock is free."""
+    fcntl.flock(lock, fcntl.LOCK_SH)
+    os.close(lock)
