@@ -248,7 +248,7 @@ responds_not R (Err e) message answer p q s t w given leads =
 -- none, for want of memory
 pub without_memory : {S W : Type 0} (R : List ℕ → List ℕ → S × W → S × W → Type 0) (message : List ℕ) (p : Option (List ℕ)) (s t : S)
     (w : W) → t ≡ s → (v : W) × RespondsNot R OutOfMemory message p p (s, w) (t, v)
-without_memory R message p s t w same = (w, keeps_same p, ap (λ x. (x, w)) same)
+without_memory R message p s t w same = (w, (keeps_same p, ap (λ x. (x, w)) same))
 
 -- a refusal that is handed on
 pub if_err : {A E : Type 0} (r : Result A E) (P : E → Type 0) (e : E) → IsErrAnd r (λ x. x ≡ e) → P e → IfErr r P

@@ -29,6 +29,5 @@ returns-clause-stopped g c =
     let few = g.W.Answers.fewest in
     let input = g.I.Read.remaining c.loop.input in
     let output = g.O.Write.contents c.loop.output in
-    let here = (c.loop.sessions, c.loop.answerer) in
-    stopped few R TooMany _ input input _ output output (c.args.sessions.now, c.args.answerer.now) here c.loop.sessions c.loop.answerer
-    c.loop.invariant (stops_here few R input output here)
+    stopped few R TooMany _ input input _ output output (c.args.sessions.now, c.args.answerer.now) (c.loop.sessions, c.loop.answerer)
+    c.loop.sessions c.loop.answerer c.loop.invariant (stops_here few R input output (c.loop.sessions, c.loop.answerer))
