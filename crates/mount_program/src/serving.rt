@@ -158,8 +158,7 @@ fn serve_image<
     match open(&rt, name) {
         Ok(locked) => {
             let mut locked = locked;
-            let served =
-                serve_and_keep(rt, waits, words, messages, &mut locked, name, teller, err);
+            let served = serve_and_keep(rt, waits, words, messages, &mut locked, name, teller, err);
             locked.close(&rt);
             served
         }
