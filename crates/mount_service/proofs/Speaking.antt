@@ -11,7 +11,9 @@ pub spoken_ok : {A W E : Type 0} (result : Result (Unit {0}) E) (puts : Puts A) 
     (v : Opening) (stream old new : Option (List ℕ)) (s t : Users) (kept : Bool) → s ≡ users [] kept
     → OnOk result (IsAnsweredAll fewest (by_both (speaks Users (MayAnswer puts g v) IsEntered HaveLeft)) stream old new (s, first) t)
     → OnOk result (IsSpoken puts fewest speaks first g v stream old new kept)
-spoken_ok (Ok done) puts fewest speaks first g v stream old new s t kept begun it =
-    (t, subst (λ (u : Users). IsAnsweredAll fewest (by_both (speaks Users (MayAnswer puts g v) IsEntered HaveLeft)) stream old new (u, first) t)
-    begun it)
+spoken_ok (Ok done) puts fewest speaks first g v stream old new s t kept begun it = (
+  t,
+  subst (λ (u : Users). IsAnsweredAll fewest (by_both (speaks Users (MayAnswer puts g v) IsEntered HaveLeft)) stream old new (u, first) t)
+      begun it,
+)
 spoken_ok (Err e) puts fewest speaks first g v stream old new s t kept begun it = tt

@@ -81,7 +81,9 @@ pub(crate) fn answer_on<
     let mut streams = streams;
     match streams.archive.take() {
         Some(archive) => {
-            answer_and_keep::<N, R, L, S, Brand, I, O, C, A, W>(alloc, rt, service, streams, archive)
+            answer_and_keep::<N, R, L, S, Brand, I, O, C, A, W>(
+                alloc, rt, service, streams, archive,
+            )
         }
         None => {
             let answered = answer_by::<N, R, L, S, Brand, I, O, C, A, W>(

@@ -1,8 +1,9 @@
 //! The sessions of a service by which messages are answered, one for each user who is attached, and the changes behind each sync.
 
-ghost use Rattle.std.specs.Prelude.{◌≡◌, ◌≢◌, ◌↔◌, ℕ, [], IfNone, IfSome, IsTrue, Some, slice_get};
+ghost use Rattle.std.specs.Prelude.{◌≡◌, ◌≢◌, ◌↔◌, ℕ, [], IfNone, IfSome, IsTrue, Some, is_some, slice_get};
 ghost use Rattle.records.specs.Session.{SessionState};
 ghost use Rattle.tree.specs.declared.Call.TheVariants.{Sync};
+ghost use Rattle.mount_service.specs.Spoken.{IsAnswered};
 
 use crate::archive::Archive;
 use crate::shared_archive::{Begins, SharedArchive};
@@ -137,19 +138,38 @@ impl<
             return Outcome::Reply(Reply::Refused(Errno::EINVAL));
         };
         let session = &mut self.sessions[place];
-        let Some(shared) = &self.shared else {
-            return session.call(now, call);
-        };
-        if is_sync(call) {
-            shared.sync(session, now)
-        } else {
-            shared.call_in_turn(session, now, call)
-        }
+        call_and_keep(&self.shared, session, now, call)
     }
 
     /// Ends all sessions, the last one first.
     fn leave(&mut self) {
         self.end_in_turn();
+    }
+}
+
+/// A call of this session, and what becomes of the changes behind a sync that was done: they are put into the archive, if there is one.
+fn call_and_keep<
+    N: ServiceParameters,
+    R: Wait + Copy,
+    L: Recorder<N>,
+    S: FileServer<L>,
+    F: Begins<A>,
+    A: Archive + Drop,
+>(
+    shared: &Option<Arc<SharedArchive<N, R, F, A>>>,
+    session: &mut Session<N, Shared<N, R, L, S>>,
+    now: u32,
+    call: &Call<'_>,
+) -> Outcome
+    ensures { IsAnswered A.puts N.geometry N.opening (is_some shared.now) session.old now call.now result session.new }
+{
+    let Some(shared) = shared else {
+        return session.call(now, call);
+    };
+    if is_sync(call) {
+        shared.sync(session, now)
+    } else {
+        shared.call_in_turn(session, now, call)
     }
 }
 

@@ -1,8 +1,8 @@
 //! What is said of how a mount ended.
 
-use mount_service::mount::MountRefusal;
 use message_stream::answering::StreamRefusal;
 use message_stream::framing::InputRefusal;
+use mount_service::mount::MountRefusal;
 use serve::stopping::NoImage;
 use std::test::Fail;
 use volume_mount::StartRefusal;

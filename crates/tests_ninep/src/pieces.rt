@@ -26,7 +26,14 @@ fn ends(
     let mut input = BufReader::with_capacity(alloc, 16, Piecemeal { bytes, piece })?;
     let mut output = Narrow::new(alloc, room);
     let mut answerer = Connection::new(alloc);
-    let ended = answer_all(alloc, &mut input, &mut output, &Fixed, &mut Idle, &mut answerer);
+    let ended = answer_all(
+        alloc,
+        &mut input,
+        &mut output,
+        &Fixed,
+        &mut Idle,
+        &mut answerer,
+    );
     Ok((ended, output.taken))
 }
 
@@ -129,7 +136,14 @@ fn reads_are_interrupted(rt: HostRuntime) -> Result<(), Fail> {
     let mut input = BufReader::with_capacity(alloc, 16, interrupted)?;
     let mut output = Narrow::new(alloc, 1000);
     let mut answerer = Connection::new(alloc);
-    let ended = answer_all(alloc, &mut input, &mut output, &Fixed, &mut Idle, &mut answerer);
+    let ended = answer_all(
+        alloc,
+        &mut input,
+        &mut output,
+        &Fixed,
+        &mut Idle,
+        &mut answerer,
+    );
     is_whole(ended, output.taken.as_slice())
 }
 
@@ -140,7 +154,14 @@ fn answers_are_flushed(rt: HostRuntime) -> Result<(), Fail> {
     let mut input = ASKED;
     let mut output = Held::new(alloc);
     let mut answerer = Connection::new(alloc);
-    let ended = answer_all(alloc, &mut input, &mut output, &Fixed, &mut Idle, &mut answerer);
+    let ended = answer_all(
+        alloc,
+        &mut input,
+        &mut output,
+        &Fixed,
+        &mut Idle,
+        &mut answerer,
+    );
     is_whole(ended, output.flushed.as_slice())
 }
 

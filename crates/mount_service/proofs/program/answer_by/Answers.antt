@@ -1,6 +1,3 @@
-use Rattle.std.proofs.Common.{List, ℕ, subst}
-use Rattle.std.specs.Prelude.{OnOk}
-use Rattle.mount_service.specs.Spoken.{Users}
 use Rattle.mount_service.proofs.Speaking.{spoken_ok}
 use Rattle.mount_service.proofs.program.answer_by.Goals as goal
 

@@ -1,28 +1,11 @@
-use Rattle.std.proofs.Common.{inl, refl, subst, sym}
-use Rattle.std.specs.Prelude.{T, is_some}
-use Rattle.mount_service.specs.Spoken.{IsAnswered, IsAnsweredKept}
+use Rattle.std.proofs.Common.{inl}
+use Rattle.std.specs.Prelude.{is_some}
 use Rattle.mount_service.proofs.Owning.{own_answer}
 use Rattle.mount_service.proofs.sessions.ServiceSessionsSessions.call.Goals as goal
 
-pub returns-then-is_sync : goal.returns-then-is_sync
-returns-then-is_sync g c =
-    let puts = g.A.Archive.puts in
-    let at = g.N.ServiceParameters.geometry in
-    let v = g.N.ServiceParameters.opening in
-    let before = c.index_mut-session.result.now in
-    rw (← c.self.view_is) (inl (own_answer puts at v c.self.inside.sessions.items (is_some c.self.inside.shared) c.args.session c.args.now c.args.call.now
-    c.sync.result c.in-Some.place before c.sync.new.session (rw c.as_slice.ensures.value at c.in-Some.ensures.some) c.index_mut-session.ensures.value
-    (subst (λ o. IsAnswered puts at v (is_some o) before c.args.now c.args.call.now c.sync.result c.sync.new.session)
-    (sym c.in-Some-shared.is)
-    (subst (λ k. IsAnsweredKept puts at v before c.args.now k c.sync.result c.sync.new.session) (sym (c.if-is_sync.ensures.0 refl)) c.sync.ensures))))
-
-pub returns-else-is_sync : goal.returns-else-is_sync
-returns-else-is_sync g c =
-    let puts = g.A.Archive.puts in
-    let at = g.N.ServiceParameters.geometry in
-    let v = g.N.ServiceParameters.opening in
-    let before = c.index_mut-session.result.now in
-    rw (← c.self.view_is) (inl (own_answer puts at v c.self.inside.sessions.items (is_some c.self.inside.shared) c.args.session c.args.now c.args.call.now
-    c.call_in_turn.result c.in-Some.place before c.call_in_turn.new.session (rw c.as_slice.ensures.value at c.in-Some.ensures.some) c.index_mut-session.ensures.value
-    (subst (λ o. IsAnswered puts at v (is_some o) before c.args.now c.args.call.now c.call_in_turn.result c.call_in_turn.new.session)
-    (sym c.in-Some-shared.is) (inl (c.call_in_turn.ensures, λ synced. absurd (subst T (sym (c.if-is_sync.ensures.1 synced.0)) tt))))))
+pub returns : goal.returns
+returns g c = rw (← c.self.view_is)
+    (inl (own_answer g.A.Archive.puts g.N.ServiceParameters.geometry g.N.ServiceParameters.opening c.self.inside.sessions.items
+    (is_some c.self.inside.shared) c.args.session c.args.now c.args.call.now c.call_and_keep.result c.in-Some.place
+    c.index_mut-session.result.now c.call_and_keep.new.session (rw c.as_slice.ensures.value at c.in-Some.ensures.some)
+    c.index_mut-session.ensures.value c.call_and_keep.ensures))
