@@ -215,7 +215,7 @@ changing_within (suc n) session path (c ∷ changes) few =
 
 setting_within : (user : User) (path : List ℕ) (wanted : Wanted) → Within (looking_first user path wanted) 16
 setting_within user path wanted = λ h. it_within 15 (attributes_in h) _ (λ a. it_within 15 (changes_wanted wanted a) _
-    (λ c. it_within 15 (may_change user a c) _ (λ _. changing_within 15 user.session path (in_order c) (omega (arith, few_changes c)))))
+    (λ c. it_within 15 (may_change user.uid a c) _ (λ _. changing_within 15 user.session path (in_order c) (omega (arith, few_changes c)))))
 
 names_within : (n fid : ℕ) (user : User) (path : List ℕ) (node : Node) (fd offset limit above : ℕ)
     → Within (listing_names fid user path node fd offset limit above) (suc n)

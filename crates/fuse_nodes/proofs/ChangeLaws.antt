@@ -1,0 +1,38 @@
+-- What becomes of nodes, as the tables have it.
+use Rattle.std.proofs.Common.{⊤, ◌≡◌, ◌≢◌, ◌∙◌, ap, sym, refl, subst, ℕ, Bool, true, false, if◌then◌else◌, ◌||◌, List, [], ◌∷◌, Option, Some, None, inl, inr, cond}
+use Rattle.std.proofs.lemmas.Bool.Decides.{eqb_tells}
+use Rattle.std.specs.BTreeMap.{BTreeMap, get, is_at}
+use Rattle.std.specs.Map.{lookup}
+use Rattle.std.specs.Option.{option_map}
+use Rattle.std.specs.Ordering.{nat_cmp}
+use Rattle.std.specs.Prelude.{◌==◌, IfSome}
+use Rattle.fuse_nodes.specs.Tables.{put, changed}
+use Rattle.fuse_nodes.specs.Known.{Facts, Known, facts_of}
+use Rattle.fuse_nodes.specs.Changes.{is_used, dropped, let_go, lost, lost_as, loses, spare_of}
+use Rattle.fuse_nodes.specs.declared.node.Node.{Node}
+
+same_known : (k l : Known) → k.nodes ≡ l.nodes → k.numbers ≡ l.numbers → k.next ≡ l.next → k ≡ l
+same_known k l nodes numbers next = λ i. record { nodes = nodes i; numbers = numbers i; next = next i }
+
+-- a node that isn't used went
+pub dropped_is : (k m : Known) (id : ℕ) (facts : Facts) → k.nodes id ≡ Some facts → (id ≡ 1 → ⊥) → is_used facts ≡ false
+    → m.nodes ≡ put k.nodes id None → m.numbers ≡ let_go k.numbers facts.inode id → m.next ≡ k.next → m ≡ dropped k id
+dropped_is k m id facts there other unused nodes numbers next = elim (eqb_tells id 1) [
+  | inl same ↦ absurd (other same.1)
+  | inr apart ↦ rw (there, apart.0, unused)
+      (same_known m (record k { nodes = put k.nodes id None; numbers = let_go k.numbers facts.inode id }) nodes numbers next)
+]
+
+-- the last name of an inode was taken
+pub lost_last : (k m : Known) (inode id directory : ℕ) (name : List ℕ) (last : Bool) → k.numbers inode ≡ Some id → last ≡ true
+    → m.nodes ≡ changed (loses directory name last) k.nodes id → m.numbers ≡ put k.numbers inode None → m.next ≡ k.next
+    → m ≡ lost k inode directory name last
+lost_last k m inode id directory name last there is nodes numbers next =
+    let all : put k.numbers inode None ≡ (if last then put k.numbers inode None else k.numbers) =
+    ap (λ (b : Bool). if b then put k.numbers inode None else k.numbers) (sym is) in
+    rw there (same_known m (lost_as k inode directory name last (Some id)) nodes (numbers ∙ all) next)
+
+-- no node of a list can be spared
+abbrev pub NoneSpare : ℕ → List (ℕ × Node) → Type 0
+NoneSpare but [] = ⊤
+NoneSpare but (e ∷ es) = (spare_of but e.0 (facts_of e.1) ≡ None) × NoneSpare but es

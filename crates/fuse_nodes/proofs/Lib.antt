@@ -1,0 +1,4 @@
+pub mod TableLaws
+pub mod PathLaws
+pub mod ChangeLaws
+pub mod SoundLaws
