@@ -1,1 +1,4 @@
 pub mod Asking
+pub mod Syncs
+pub mod Replies
+pub mod Answering

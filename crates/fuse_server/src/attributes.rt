@@ -185,7 +185,9 @@ impl Mount {
         ensures { Talked S.called S.entered S.left now sessions.old sessions.new }
     {
         let path = self.nodes.path(node)?;
-        let target = self.ask(sessions, now, Call::Readlink { path: &path })?.target()?;
+        let target = self
+            .ask(sessions, now, Call::Readlink { path: &path })?
+            .target()?;
         Ok(FuseAnswer::Bytes(bytes_of(&target).to_vec(self.alloc)?))
     }
 

@@ -30,7 +30,11 @@ fn within(bytes: &[u8]) -> &[u8] {
 
 /// The smaller one of a count and what a call gives at most.
 pub(crate) fn most_of(count: u32) -> u32 {
-    if count < MAX_TRANSFER { count } else { MAX_TRANSFER }
+    if count < MAX_TRANSFER {
+        count
+    } else {
+        MAX_TRANSFER
+    }
 }
 
 /// An offset as a position; none past the largest one.

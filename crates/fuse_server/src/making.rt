@@ -180,7 +180,9 @@ impl Mount {
         descriptor: Descriptor,
     ) -> Result<(Entry, Opened), Refused> {
         let kind = kind_of(attributes.mode);
-        let node = self.nodes.told(attributes.inode, kind, name.directory, name.name)?;
+        let node = self
+            .nodes
+            .told(attributes.inode, kind, name.directory, name.name)?;
         match self.handles.open_file(node) {
             Ok(handle) => {
                 self.nodes.opened(node, Some(descriptor));

@@ -47,7 +47,9 @@ impl Mount {
     {
         let attributes = self.look(sessions, now, path)?;
         let kind = kind_of(attributes.mode);
-        let node = self.nodes.told(attributes.inode, kind, name.directory, name.name)?;
+        let node = self
+            .nodes
+            .told(attributes.inode, kind, name.directory, name.name)?;
         Ok(entry_of(node, &attributes))
     }
 
@@ -101,7 +103,8 @@ impl Mount {
         let was = self.look(sessions, now, &path)?;
         self.hold(sessions, now, was.inode)?;
         self.ask_done(sessions, now, Call::Unlink { path: &path })?;
-        self.nodes.lost(was.inode, name.directory, name.name, is_last(&was));
+        self.nodes
+            .lost(was.inode, name.directory, name.name, is_last(&was));
         Ok(FuseAnswer::Done)
     }
 
@@ -164,7 +167,8 @@ impl Mount {
                 return;
             }
             let last = is_last(&attributes);
-            self.nodes.lost(attributes.inode, to.directory, to.name, last);
+            self.nodes
+                .lost(attributes.inode, to.directory, to.name, last);
         }
         self.nodes.renamed(inode, place);
     }
