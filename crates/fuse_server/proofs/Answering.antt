@@ -1,52 +1,75 @@
 -- How a message is answered, from what is said to it.
-use Rattle.std.proofs.Common.{◌≡◌, ℕ, Bool, true, false, IsTrue, List, [], ◌++◌, refl, sym, subst}
+use Rattle.std.proofs.Common.{◌≡◌, ◌∙◌, ◌⊎◌, ◌↔◌, ◌<◌, ◌+◌, ℕ, Bool, true, false, IsTrue, List, [], ◌++◌, length, Result, Ok, Err, OnOk}
+use Rattle.std.proofs.Common.{refl, sym, ap, subst, inl, inr}
+use Rattle.errno.specs.declared.Errno.TheVariants.{ENOMEM}
 use Rattle.fuse.specs.declared.reply.Reply.{Reply}
-use Rattle.fuse.specs.Replies.{IsReply, error_of, answer}
-use Rattle.talks.specs.Talks.{Exchange, Leads, Asked, EndsInSync}
+use Rattle.fuse.specs.Replies.{answer}
+use Rattle.talks.specs.Talks.{Asked}
 use Rattle.talks.specs.declared.ask.Ask.{Ask}
 use Rattle.talks.specs.declared.heard.Heard.{Heard}
-use Rattle.fuse_server.specs.declared.said.FuseAnswer.{FuseAnswer}
+use Rattle.talks.specs.declared.refused.Refused.TheVariants.{By}
+use Rattle.fuse_server.specs.declared.said.FuseAnswer.TheVariants as answer_of
 use Rattle.fuse_server.specs.declared.said.Said.{Said}
 use Rattle.fuse_server.specs.declared.said.Said.TheVariants as said
-use Rattle.fuse_server.specs.Messages.{opcode_in, unique_in, is_silent, is_sync}
-use Rattle.fuse_server.specs.Answering.{IsRefusal, IsOfSync, IsGranted, IsSent, IsTold, IsAnswered, IsAnsweredAs, is_refusal}
-use Rattle.fuse_server.proofs.Replies.{refusal_is_reply, refusal_errs, has_bytes}
+use Rattle.fuse_server.specs.Messages.{opcode_in, unique_in, is_silent}
+use Rattle.fuse_server.specs.Kinds.{reply_to}
+use Rattle.fuse_server.specs.Answering.{IsSaidToBytes, IsSent, IsTold, IsAnswered, IsAnsweredAs, no_memory}
+use Rattle.fuse_server.proofs.Replies.{said_is_reply, has_bytes}
 
--- what is granted of a sync says that it was done
-granted_sync : (it : Said) → IsOfSync it → IsGranted it → it ≡ said.Synced
-granted_sync (said.Plain a) refused granted = absurd (both (is_refusal a) refused granted) where
-  both : (b : Bool) → IsTrue b → b ≡ false → ⊥
-  both true h e = cc
-  both false h e = h
-granted_sync said.Synced refused granted = refl
+-- the reply of what is said was written
+pub sent : (unique : ℕ) (it : Said) (r : Reply) (old new : List ℕ) → ((u : ℕ) → answer u r ≡ answer u (reply_to it))
+    → new ≡ old ++ answer unique r → IsSent unique it old new
+sent unique it r old new same is = (said_is_reply it, is ∙ ap (λ (x : List ℕ). old ++ x) (same unique))
 
--- What was sent with this number, behind these exchanges.
-pub told : {S : Type 0} (may : S → Ask → Heard → S → Type 0) (opcode unique : ℕ) (s : S) (old : List ℕ) (t : S) (new : List ℕ) (it : Said)
-    → Asked may s (it ≡ said.Synced) t → (IsTrue (is_sync opcode) → IsOfSync it) → IsSent unique it old new
-    → IsTold may opcode unique s old t new
-told may opcode unique s old t new it (log, leads, ends) sync (r, fits, is, granted) =
-    (r, fits, is, (log, leads, λ e. ends (granted_sync it (sync e.0) (granted e.1))))
+-- what is said to bytes was written
+pub told : {S : Type 0} (may : S → Ask → Heard → S → Type 0) (bytes : List ℕ) (unique capacity : ℕ) (s : S) (old mid : List ℕ) (t : S)
+    (new : List ℕ) (it : Said) → mid ≡ old → Asked may s (it ≡ said.Synced) t → IsSaidToBytes bytes it → IsSent unique it mid new
+    → IsTold may bytes unique capacity s old t new
+told may bytes unique capacity s old mid t new it same asked fits written =
+    let P : List ℕ → Type 0 = λ x. IsSent unique it x new in (it, subst P same written, asked, inl fits)
 
--- A refusal, and nothing was asked.
-pub refused : {S : Type 0} (may : S → Ask → Heard → S → Type 0) (opcode unique : ℕ) (s : S) (old new : List ℕ) (r : Reply) → IsRefusal r
-    → new ≡ old ++ answer unique r → IsTold may opcode unique s old s new
-refused may opcode unique s old new r refusal is =
-    (r, refusal_is_reply r refusal, is, ([], refl, λ e. absurd (refusal_errs r refusal e.1)))
+no_sync : no_memory ≡ said.Synced → ⊥
+no_sync e = cc
 
--- the same by the message's bytes
-pub by_bytes : {S : Type 0} (may : S → Ask → Heard → S → Type 0) (bytes : List ℕ) (opcode unique : ℕ) (s : S) (old : List ℕ) (t : S)
-    (new : List ℕ) → opcode ≡ opcode_in bytes → unique ≡ unique_in bytes → is_silent opcode ≡ false
-    → IsTold may opcode unique s old t new → IsAnswered may bytes s old t new
-by_bytes may bytes opcode unique s old t new same_opcode same_unique loud told =
-    let U : ℕ → Type 0 = λ u. IsTold may opcode u s old t new in
-    let O : ℕ → Type 0 = λ o. IsTold may o (unique_in bytes) s old t new in
+-- there was no room for the longest answer
+pub no_room : {S A E : Type 0} (may : S → Ask → Heard → S → Type 0) (bytes : List ℕ) (unique capacity : ℕ) (s : S) (old mid new : List ℕ)
+    (r : Result A E) → mid ≡ old → capacity < length old + 65552 → OnOk r (IsSent unique no_memory mid new)
+    → OnOk r (IsTold may bytes unique capacity s old s new)
+no_room may bytes unique capacity s old mid new (Ok a) same less written =
+    let P : List ℕ → Type 0 = λ x. IsSent unique no_memory x new in
+    (no_memory, subst P same written, ([], refl, λ e. absurd (no_sync e)), inr (refl, refl, less))
+no_room may bytes unique capacity s old mid new (Err e) same less written = tt
+
+-- a message that has an answer was answered
+pub loud : {S A E : Type 0} (may : S → Ask → Heard → S → Type 0) (bytes : List ℕ) (opcode unique capacity : ℕ) (s : S) (old : List ℕ) (t : S)
+    (new : List ℕ) (r : Result A E) → opcode ≡ opcode_in bytes → unique ≡ unique_in bytes → is_silent opcode ≡ false
+    → OnOk r (IsTold may bytes unique capacity s old t new) → OnOk r (IsAnswered may bytes capacity s old t new)
+loud may bytes opcode unique capacity s old t new (Ok a) same_opcode same_unique answers it =
+    let U : ℕ → Type 0 = λ u. IsTold may bytes u capacity s old t new in
     let L : ℕ → Type 0 = λ o. is_silent o ≡ false in
-    let P : Bool → Type 0 = λ b. IsAnsweredAs may b (opcode_in bytes) (unique_in bytes) s old t new in
-    subst P (sym (subst L same_opcode loud)) (subst O same_opcode (subst U same_unique told))
+    let P : Bool → Type 0 = λ b. IsAnsweredAs may b bytes capacity s old t new in
+    subst P (sym (subst L same_opcode answers)) (subst U same_unique it)
+loud may bytes opcode unique capacity s old t new (Err e) same_opcode same_unique answers it = tt
 
-pub silently : {S : Type 0} (may : S → Ask → Heard → S → Type 0) (bytes : List ℕ) (opcode : ℕ) (s : S) (old : List ℕ)
-    → opcode ≡ opcode_in bytes → is_silent opcode ≡ true → IsAnswered may bytes s old s old
-silently may bytes opcode s old same_opcode silent =
+-- one that has none was not
+pub silently : {S : Type 0} (may : S → Ask → Heard → S → Type 0) (bytes : List ℕ) (opcode capacity : ℕ) (s : S) (old : List ℕ)
+    → opcode ≡ opcode_in bytes → is_silent opcode ≡ true → IsAnswered may bytes capacity s old s old
+silently may bytes opcode capacity s old same_opcode silent =
     let L : ℕ → Type 0 = λ o. is_silent o ≡ true in
-    let P : Bool → Type 0 = λ b. IsAnsweredAs may b (opcode_in bytes) (unique_in bytes) s old s old in
+    let P : Bool → Type 0 = λ b. IsAnsweredAs may b bytes capacity s old s old in
     subst P (sym (subst L same_opcode silent)) (refl, refl)
+
+never : (b : Bool) → b ≡ false → IsTrue b → ⊥
+never true e h = cc
+never false e h = h
+
+-- an answer has bytes
+pub loud_has_bytes : {S A E : Type 0} (may : S → Ask → Heard → S → Type 0) (bytes : List ℕ) (opcode unique capacity : ℕ) (s : S)
+    (old : List ℕ) (t : S) (new : List ℕ) (r : Result A E) → opcode ≡ opcode_in bytes → is_silent opcode ≡ false
+    → OnOk r (IsTold may bytes unique capacity s old t new) → OnOk r ((new ≡ old) ↔ IsTrue (is_silent (opcode_in bytes)))
+loud_has_bytes may bytes opcode unique capacity s old t new (Ok a) same_opcode answers (it, written, asked, fits) =
+    let L : ℕ → Type 0 = λ o. is_silent o ≡ false in (
+      λ same. absurd (has_bytes unique (reply_to it) old new written.1 same),
+      λ silent. absurd (never (is_silent (opcode_in bytes)) (subst L same_opcode answers) silent),
+    )
+loud_has_bytes may bytes opcode unique capacity s old t new (Err e) same_opcode answers it = tt

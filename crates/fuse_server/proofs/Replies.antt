@@ -1,5 +1,5 @@
 -- Replies: which are refusals, and how many bytes they have.
-use Rattle.std.proofs.Common.{◌≡◌, ◌≤◌, ◌<◌, ℕ, ◌+◌, ◌^◌, ◌-◌, List, [], ◌∷◌, ◌++◌, length, ap, ◌∙◌, arith, lit<, false}
+use Rattle.std.proofs.Common.{◌≡◌, ◌≤◌, ◌<◌, ℕ, ◌+◌, List, [], ◌∷◌, ◌++◌, length, ap, ◌∙◌, arith, lit<}
 use Rattle.std.proofs.lemmas.List.{append-nil, length-append}
 use Rattle.errno.specs.declared.Errno.TheVariants as errno
 use Rattle.fields.specs.Fields.{Four, Eight, Field, Number, fields_bytes}
@@ -16,7 +16,11 @@ use Rattle.fuse.specs.Replies.{IsReply, reply_bytes, size_of, error_of, answer}
 use Rattle.talks.specs.Numbers.{number_of}
 use Rattle.talks.specs.declared.refused.Refused.{Refused}
 use Rattle.talks.specs.declared.refused.Refused.TheVariants.{By, Stale, Unsupported}
-use Rattle.fuse_server.specs.Answering.{IsRefusal}
+use Rattle.fuse_server.specs.declared.said.FuseAnswer.{FuseAnswer}
+use Rattle.fuse_server.specs.declared.said.FuseAnswer.TheVariants as answer_of
+use Rattle.fuse_server.specs.declared.said.Said.{Said}
+use Rattle.fuse_server.specs.declared.said.Said.TheVariants as said
+use Rattle.fuse_server.specs.Kinds.{reply_for, reply_to}
 
 -- the kernel takes the number of each refusal
 pub number_fits : (r : Refused) → (0 < number_of r) × (number_of r < 512)
@@ -42,18 +46,16 @@ number_fits (By errno.ELOOP) = (lit< tt, lit< tt)
 number_fits Stale = (lit< tt, lit< tt)
 number_fits Unsupported = (lit< tt, lit< tt)
 
--- a refusal is a reply, of 16 bytes, and tells an error
-pub refusal_is_reply : (r : Reply) → IsRefusal r → IsReply r
-refusal_is_reply (reply.Error number) h = h
-refusal_is_reply r h = absurd h
+-- what is told is a reply
+pub is_reply : (a : FuseAnswer) → IsReply (reply_for a)
+is_reply (answer_of.Refused refused) = number_fits refused
+is_reply answer_of.Unknown = (lit< tt, lit< tt)
+is_reply answer_of.OtherVersion = (lit< tt, lit< tt)
+is_reply a = tt
 
-pub refusal_size : (r : Reply) → IsRefusal r → size_of r ≡ 16
-refusal_size (reply.Error number) h = omega arith
-refusal_size r h = absurd h
-
-pub refusal_errs : (r : Reply) → IsRefusal r → error_of r ≡ 0 → ⊥
-refusal_errs (reply.Error number) h e = omega arith
-refusal_errs r h e = absurd h
+pub said_is_reply : (it : Said) → IsReply (reply_to it)
+said_is_reply (said.Plain a) = is_reply a
+said_is_reply said.Synced = tt
 
 -- fields and nothing behind them
 alone : (fields : List Field) → length (fields_bytes fields ++ []) ≡ total_length fields

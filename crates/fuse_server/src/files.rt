@@ -1,10 +1,10 @@
 //! Open files: what is read, what is written, and what reaches the disk.
 #![tactic(auto, using(crate::proofs::Asking::goes_on, crate::proofs::Asking::stays))]
 
-ghost use Rattle.std.specs.Prelude.{◌≡◌, ◌≤◌};
+ghost use Rattle.std.specs.Prelude.{◌≡◌, ◌≤◌, ℕ, IfOk, IsTrue, length};
 ghost use Rattle.talks.specs.Talks.{MayHear, Asked};
 ghost use Rattle.fuse_server.specs.Asking.{Talked};
-ghost use Rattle.fuse_server.specs.Answering.{IsOfSync};
+ghost use Rattle.fuse_server.specs.Kinds.{is_open, is_done, IsWithin, IsCount, IsOfSync};
 
 use crate::mount::Mount;
 use crate::said::{FuseAnswer, Said};
@@ -29,7 +29,10 @@ fn within(bytes: &[u8]) -> &[u8] {
 }
 
 /// The smaller one of a count and what a call gives at most.
-pub(crate) fn most_of(count: u32) -> u32 {
+pub(crate) fn most_of(count: u32) -> u32
+    ensures least { result ≤ count }
+    ensures most { result ≤ 65536 }
+{
     if count < MAX_TRANSFER {
         count
     } else {
@@ -46,8 +49,20 @@ fn position(offset: u64) -> Option<i64> {
 }
 
 /// Nothing that was read.
-fn no_bytes(alloc: Global) -> FuseAnswer {
+fn no_bytes(alloc: Global) -> FuseAnswer
+    ensures { (most : ℕ) → IsWithin most result }
+{
     FuseAnswer::Bytes(Vec::new(alloc))
+}
+
+/// How many bytes were written: so many, but no more than were given.
+fn written(count: u32, bytes: &[u8]) -> u32
+    ensures { result ≤ length bytes.now }
+{
+    match u32::try_from(bytes.len()) {
+        Ok(len) if len < count => len,
+        _ => count,
+    }
 }
 
 /// Sets the position of a descriptor.
@@ -112,7 +127,8 @@ impl Mount {
         now: u32,
         node: u64,
     ) -> Result<FuseAnswer, Refused>
-        ensures { Talked S.called S.entered S.left now sessions.old sessions.new }
+        ensures asked { Talked S.called S.entered S.left now sessions.old sessions.new }
+        ensures told { IfOk result (λ a. IsTrue (is_open a)) }
     {
         self.descriptor(sessions, now, node)?;
         self.nodes.opened(node, None);
@@ -132,7 +148,8 @@ impl Mount {
         now: u32,
         span: Span,
     ) -> Result<FuseAnswer, Refused>
-        ensures { Talked S.called S.entered S.left now sessions.old sessions.new }
+        ensures asked { Talked S.called S.entered S.left now sessions.old sessions.new }
+        ensures told { IfOk result (IsWithin span.count) }
     {
         let node = self.handles.file(span.handle)?;
         let Some(offset) = position(span.offset) else {
@@ -140,7 +157,8 @@ impl Mount {
         };
         let descriptor = self.descriptor(sessions, now, node)?;
         let count = most_of(span.count);
-        let bytes = read_at(sessions, now, descriptor, offset, count)?;
+        let mut bytes = read_at(sessions, now, descriptor, offset, count)?;
+        bytes.truncate(count as usize);
         Ok(FuseAnswer::Bytes(bytes))
     }
 
@@ -153,7 +171,8 @@ impl Mount {
         offset: u64,
         bytes: &[u8],
     ) -> Result<FuseAnswer, Refused>
-        ensures { Talked S.called S.entered S.left now sessions.old sessions.new }
+        ensures asked { Talked S.called S.entered S.left now sessions.old sessions.new }
+        ensures told { IfOk result (IsCount (length bytes.now)) }
     {
         let node = self.handles.file(handle)?;
         let Some(offset) = position(offset) else {
@@ -161,7 +180,7 @@ impl Mount {
         };
         let descriptor = self.descriptor(sessions, now, node)?;
         let count = write_at(sessions, now, descriptor, offset, within(bytes))?;
-        Ok(FuseAnswer::Write(count))
+        Ok(FuseAnswer::Write(written(count, bytes)))
     }
 
     /// RELEASE and RELEASEDIR: a handle is let go.
@@ -171,7 +190,8 @@ impl Mount {
         now: u32,
         handle: u64,
     ) -> Result<FuseAnswer, Refused>
-        ensures { Talked S.called S.entered S.left now sessions.old sessions.new }
+        ensures asked { Talked S.called S.entered S.left now sessions.old sessions.new }
+        ensures told { IfOk result (λ a. IsTrue (is_done a)) }
     {
         match self.handles.close(handle)? {
             Handle::File { node } => self.let_go(sessions, now, node),

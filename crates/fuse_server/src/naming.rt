@@ -1,7 +1,9 @@
 //! Names: where they lead, further ones, changed ones, and ones that are taken away.
 #![tactic(auto, using(crate::proofs::Asking::goes_on, crate::proofs::Asking::stays))]
 
+ghost use Rattle.std.specs.Prelude.{IfOk, IsTrue};
 ghost use Rattle.fuse_server.specs.Asking.{Talked};
+ghost use Rattle.fuse_server.specs.Kinds.{is_entry, is_done};
 
 use crate::mount::Mount;
 use crate::said::FuseAnswer;
@@ -60,7 +62,8 @@ impl Mount {
         now: u32,
         name: NameIn<'_>,
     ) -> Result<FuseAnswer, Refused>
-        ensures { Talked S.called S.entered S.left now sessions.old sessions.new }
+        ensures asked { Talked S.called S.entered S.left now sessions.old sessions.new }
+        ensures told { IfOk result (λ a. IsTrue (is_entry a)) }
     {
         let path = self.path_of(name)?;
         match self.tell(sessions, now, name, &path) {
@@ -78,7 +81,8 @@ impl Mount {
         file: u64,
         name: NameIn<'_>,
     ) -> Result<FuseAnswer, Refused>
-        ensures { Talked S.called S.entered S.left now sessions.old sessions.new }
+        ensures asked { Talked S.called S.entered S.left now sessions.old sessions.new }
+        ensures told { IfOk result (λ a. IsTrue (is_entry a)) }
     {
         let old = self.nodes.path(file)?;
         let new = self.path_of(name)?;
@@ -97,7 +101,8 @@ impl Mount {
         now: u32,
         name: NameIn<'_>,
     ) -> Result<FuseAnswer, Refused>
-        ensures { Talked S.called S.entered S.left now sessions.old sessions.new }
+        ensures asked { Talked S.called S.entered S.left now sessions.old sessions.new }
+        ensures told { IfOk result (λ a. IsTrue (is_done a)) }
     {
         let path = self.path_of(name)?;
         let was = self.look(sessions, now, &path)?;
@@ -115,7 +120,8 @@ impl Mount {
         now: u32,
         name: NameIn<'_>,
     ) -> Result<FuseAnswer, Refused>
-        ensures { Talked S.called S.entered S.left now sessions.old sessions.new }
+        ensures asked { Talked S.called S.entered S.left now sessions.old sessions.new }
+        ensures told { IfOk result (λ a. IsTrue (is_done a)) }
     {
         let path = self.path_of(name)?;
         let was = self.look(sessions, now, &path)?;
@@ -197,7 +203,8 @@ impl Mount {
         to: NameIn<'_>,
         flags: u32,
     ) -> Result<FuseAnswer, Refused>
-        ensures { Talked S.called S.entered S.left now sessions.old sessions.new }
+        ensures asked { Talked S.called S.entered S.left now sessions.old sessions.new }
+        ensures told { IfOk result (λ a. IsTrue (is_done a)) }
     {
         if flags > NO_REPLACE {
             return Err(Refused::By(Errno::EINVAL));
