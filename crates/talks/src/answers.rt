@@ -27,7 +27,7 @@ pub trait Answers {
     /// Answers one message, all of its bytes, at this time, in seconds since 1970: the answer is written into `out`, which is empty. Some
     /// messages have none.
     ///
-    /// Refused: nothing is asked, nothing is written, and what the answerer knows stays.
+    /// Refused: nothing is asked, and nothing is written.
     fn answer<S: Sessions>(
         &mut self,
         sessions: &mut S,
@@ -37,5 +37,5 @@ pub trait Answers {
     ) -> Result<(), End>
         requires { out.old.items ≡ [] }
         ensures ok { OnOk result (answers S S.called S.entered S.left bytes.now out.new.items sessions.old self.old sessions.new self.new) }
-        ensures none { OnErr result ((sessions.new ≡ sessions.old) × (self.new ≡ self.old) × (out.new.items ≡ [])) };
+        ensures none { OnErr result ((sessions.new ≡ sessions.old) × (out.new.items ≡ [])) };
 }
