@@ -1,7 +1,12 @@
 -- How a message is answered, from what is said to it.
 use Rattle.std.proofs.Common.{◌≡◌, ◌∙◌, ◌⊎◌, ◌↔◌, ◌<◌, ◌+◌, ℕ, Bool, true, false, IsTrue, List, [], ◌++◌, length, Result, Ok, Err, OnOk}
 use Rattle.std.proofs.Common.{refl, sym, ap, subst, inl, inr}
-use Rattle.errno.specs.declared.Errno.TheVariants.{ENOMEM}
+use Rattle.errno.specs.declared.Errno.TheVariants.{EINVAL}
+use Rattle.fields.specs.declared.fault.MalformedMessage.{MalformedMessage}
+use Rattle.fields.specs.Parts.{Gives}
+use Rattle.fuse.specs.declared.request.Message.{Message}
+use Rattle.fuse.specs.Reading.{request_at}
+use Rattle.fuse.specs.Requests.{view}
 use Rattle.fuse.specs.declared.reply.Reply.{Reply}
 use Rattle.fuse.specs.Replies.{answer}
 use Rattle.talks.specs.Talks.{Asked}
@@ -12,8 +17,8 @@ use Rattle.fuse_server.specs.declared.said.FuseAnswer.TheVariants as answer_of
 use Rattle.fuse_server.specs.declared.said.Said.{Said}
 use Rattle.fuse_server.specs.declared.said.Said.TheVariants as said
 use Rattle.fuse_server.specs.Messages.{opcode_in, unique_in, is_silent}
-use Rattle.fuse_server.specs.Kinds.{reply_to}
-use Rattle.fuse_server.specs.Answering.{IsSaidToBytes, IsSent, IsTold, IsAnswered, IsAnsweredAs, no_memory}
+use Rattle.fuse_server.specs.Kinds.{IsSaidTo, reply_to}
+use Rattle.fuse_server.specs.Answering.{IsSaidToRead, IsSaidToBytes, IsSent, IsTold, IsAnswered, IsAnsweredAs, no_memory}
 use Rattle.fuse_server.proofs.Replies.{said_is_reply, has_bytes}
 
 -- the reply of what is said was written
@@ -61,7 +66,7 @@ silently may bytes opcode capacity s old same_opcode silent =
 
 never : (b : Bool) → b ≡ false → IsTrue b → ⊥
 never true e h = cc
-never false e h = h
+never false e h = cc
 
 -- an answer has bytes
 pub loud_has_bytes : {S A E : Type 0} (may : S → Ask → Heard → S → Type 0) (bytes : List ℕ) (opcode unique capacity : ℕ) (s : S)
@@ -73,3 +78,17 @@ loud_has_bytes may bytes opcode unique capacity s old t new (Ok a) same_opcode a
       λ silent. absurd (never (is_silent (opcode_in bytes)) (subst L same_opcode answers) silent),
     )
 loud_has_bytes may bytes opcode unique capacity s old t new (Err e) same_opcode answers it = tt
+
+-- what was read is answered
+pub to_read : (bytes : List ℕ) (read : Result Message MalformedMessage) (m : Message) (it : Said) → read ≡ Ok m
+    → Gives (λ (x : Message). view x) read (request_at bytes) → IsSaidTo m.request it → IsSaidToBytes bytes it
+to_read bytes read m it is gives fits =
+    let P : Result Message MalformedMessage → Type 0 = λ r. IsSaidToRead r it in (read, gives, subst P (sym is) fits)
+
+-- what can't be read is refused
+pub to_unread : (bytes : List ℕ) (read : Result Message MalformedMessage) (fault : MalformedMessage) → read ≡ Err fault
+    → Gives (λ (x : Message). view x) read (request_at bytes)
+    → IsSaidToBytes bytes (said.Plain (answer_of.Refused (By EINVAL)))
+to_unread bytes read fault is gives =
+    let P : Result Message MalformedMessage → Type 0 = λ r. IsSaidToRead r (said.Plain (answer_of.Refused (By EINVAL))) in
+    (read, gives, subst P (sym is) refl)

@@ -12,19 +12,19 @@ use Rattle.fuse_server.specs.Kinds.{IsFor, IsSaidTo, IsOfSync, is_sync}
 
 -- a refusal is an answer to each request
 pub refusal_for : (r : Request) (e : Refused) → IsFor r (answer_of.Refused e)
-refusal_for (request.Lookup name) e = tt
-refusal_for r e = tt
+refusal_for (request.Lookup name) e = refl
+refusal_for r e = refl
 
 pub unknown_for : (r : Request) → IsFor r answer_of.Unknown
-unknown_for (request.Lookup name) = tt
-unknown_for r = tt
+unknown_for (request.Lookup name) = refl
+unknown_for r = refl
 
 -- what is said to a sync is said to its request
 pub sync_for : (r : Request) (it : Said) → is_sync r ≡ true → IsOfSync it → IsSaidTo r it
 sync_for (request.Fsync handle flags) (said.Plain a) e h = h
-sync_for (request.Fsync handle flags) said.Synced e h = tt
+sync_for (request.Fsync handle flags) said.Synced e h = refl
 sync_for (request.Fsyncdir handle flags) (said.Plain a) e h = h
-sync_for (request.Fsyncdir handle flags) said.Synced e h = tt
+sync_for (request.Fsyncdir handle flags) said.Synced e h = refl
 sync_for r it e h = absurd (never e) where
   never : false ≡ true → ⊥
   never e = cc

@@ -1,6 +1,7 @@
 -- Replies: which are refusals, and how many bytes they have.
 use Rattle.std.proofs.Common.{◌≡◌, ◌≤◌, ◌<◌, ℕ, ◌+◌, List, [], ◌∷◌, ◌++◌, length, ap, ◌∙◌, arith, lit<}
 use Rattle.std.proofs.lemmas.List.{append-nil, length-append}
+use Rattle.std.specs.Borrow.{Bor}
 use Rattle.errno.specs.declared.Errno.TheVariants as errno
 use Rattle.fields.specs.Fields.{Four, Eight, Field, Number, fields_bytes}
 use Rattle.fields.proofs.WritingLaws.{total_length, fields_length}
@@ -14,6 +15,7 @@ use Rattle.fuse.specs.declared.reply.Reply.TheVariants as reply
 use Rattle.fuse.specs.Replies.{attribute_fields, name_fields, entry_fields, valid_fields, opened_fields, room_fields, init_fields}
 use Rattle.fuse.specs.Replies.{IsReply, reply_bytes, size_of, error_of, answer}
 use Rattle.talks.specs.Numbers.{number_of}
+use Rattle.talks.specs.Plain.{at}
 use Rattle.talks.specs.declared.refused.Refused.{Refused}
 use Rattle.talks.specs.declared.refused.Refused.TheVariants.{By, Stale, Unsupported}
 use Rattle.fuse_server.specs.declared.said.FuseAnswer.{FuseAnswer}
@@ -104,3 +106,11 @@ has_bytes unique r old new is same =
       ap length is,
       ap length same,
     )
+
+-- bytes are told wherever they stand
+pub bytes_told : (unique : ℕ) (b : Bor (List ℕ)) (xs : List ℕ) → b.now ≡ xs
+    → answer unique (reply.Bytes b) ≡ answer unique (reply.Bytes (at xs))
+bytes_told unique b xs is = ap (λ (ys : List ℕ). answer unique (reply.Bytes (at ys))) is
+
+pub bytes_fit : (b : Bor (List ℕ)) → length b.now ≤ 65536 → size_of (reply.Bytes b) ≤ 65552
+bytes_fit b few = omega (arith, few)

@@ -6,6 +6,7 @@ ghost use Rattle.talks.specs.Talks.{MayHear, Asked};
 ghost use Rattle.fuse_server.specs.Asking.{Talked};
 ghost use Rattle.fuse_server.specs.Kinds.{is_open, is_done, IsWithin, IsCount, IsOfSync};
 
+use crate::bounds::{most_of, within};
 use crate::mount::Mount;
 use crate::said::{FuseAnswer, Said};
 use crate::talk::calling;
@@ -19,26 +20,6 @@ use talks::ask::Ask;
 use talks::refused::Refused;
 use talks::sessions::{Sessions, heard};
 use tree::{Call, MAX_SIZE, MAX_TRANSFER, Whence};
-
-/// The first of some bytes, at most as many as a call takes.
-fn within(bytes: &[u8]) -> &[u8] {
-    if bytes.len() <= MAX_TRANSFER as usize {
-        return bytes;
-    }
-    &bytes[..MAX_TRANSFER as usize]
-}
-
-/// The smaller one of a count and what a call gives at most.
-pub(crate) fn most_of(count: u32) -> u32
-    ensures least { result ≤ count }
-    ensures most { result ≤ 65536 }
-{
-    if count < MAX_TRANSFER {
-        count
-    } else {
-        MAX_TRANSFER
-    }
-}
 
 /// An offset as a position; none past the largest one.
 fn position(offset: u64) -> Option<i64> {
@@ -179,7 +160,13 @@ impl Mount {
             return Err(Refused::By(Errno::EFBIG));
         };
         let descriptor = self.descriptor(sessions, now, node)?;
-        let count = write_at(sessions, now, descriptor, offset, within(bytes))?;
+        let count = write_at(
+            sessions,
+            now,
+            descriptor,
+            offset,
+            within(bytes, MAX_TRANSFER),
+        )?;
         Ok(FuseAnswer::Write(written(count, bytes)))
     }
 

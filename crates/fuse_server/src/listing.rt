@@ -1,12 +1,12 @@
 //! Directories: their entries, as they were when they were asked for from the start.
 #![tactic(auto, using(crate::proofs::Asking::goes_on, crate::proofs::Asking::stays))]
 
-ghost use Rattle.std.specs.Prelude.{◌≤◌, ◌<◌, ◌^◌, IfOk, IfSome, IsTrue, length};
+ghost use Rattle.std.specs.Prelude.{◌≤◌, ◌<◌, ◌+◌, ◌^◌, IfOk, IfSome, IsTrue, length};
 ghost use Rattle.fuse_server.specs.Asking.{Talked};
 ghost use Rattle.fuse_server.specs.Kinds.{is_open, IsWithin};
 
+use crate::bounds::{most_of, within};
 use crate::descriptors::{Opening, READ, close};
-use crate::files::most_of;
 use crate::mount::Mount;
 use crate::said::FuseAnswer;
 use crate::talk::calling;
@@ -29,7 +29,7 @@ const NOT_TOLD: u32 = 0;
 
 /// The entry at a place: first the directory itself and the one above, then its names; none past the last one.
 fn entry_at(names: &Names, at: usize) -> Option<ReaddirEntry<'_>>
-    requires { at < 2 ^ 63 }
+    requires { at + 1 < 2 ^ 64 }
     ensures { IfSome result (λ entry. length entry.name.now ≤ 60) }
 {
     let next = at as u64 + 1;
@@ -59,18 +59,8 @@ fn named_entry(entries: &[Entry], at: usize, next: u64) -> Option<ReaddirEntry<'
         inode: u64::from(entry.inode),
         next,
         kind: NOT_TOLD,
-        name: within(&entry.name),
+        name: within(&entry.name, MAX_NAME as u32),
     })
-}
-
-/// The first bytes of a name, at most as many as a name has.
-fn within(name: &[u8]) -> &[u8]
-    ensures { length result.now ≤ 60 }
-{
-    if name.len() <= MAX_NAME {
-        return name;
-    }
-    &name[..MAX_NAME]
 }
 
 /// An offset as a place.

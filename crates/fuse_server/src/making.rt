@@ -234,10 +234,12 @@ impl Mount {
         let owner = owner_of(message)?;
         let path = self.path_of(name)?;
         let descriptor = self.make_file(sessions, now, &path, mode_of(mode))?;
-        let made = self.finish(sessions, now, name, &path, owner, descriptor);
-        if made.is_err() {
-            close(sessions, now, descriptor);
+        match self.finish(sessions, now, name, &path, owner, descriptor) {
+            Ok(answer) => Ok(answer),
+            Err(refused) => {
+                close(sessions, now, descriptor);
+                Err(refused)
+            }
         }
-        made
     }
 }

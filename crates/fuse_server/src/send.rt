@@ -1,11 +1,12 @@
 //! Answers, as they are written.
 
-ghost use Rattle.std.specs.Prelude.{◌≡◌, ◌≤◌, ◌<◌, ◌+◌, ◌++◌, ℕ, length, take, vec_len, vec_capacity, OnOk, OnErr, IfErr};
+ghost use Rattle.std.specs.Prelude.{◌≡◌, ◌≤◌, ◌<◌, ◌+◌, ℕ, vec_len, vec_capacity, OnOk, OnErr, IfErr};
 ghost use Rattle.fuse.specs.Replies.{IsReply, size_of, answer};
 ghost use Rattle.talks.specs.Numbers.{number_of};
 ghost use Rattle.fuse_server.specs.Kinds.{reply_for, reply_to};
 ghost use Rattle.fuse_server.specs.Answering.{IsSent, no_memory};
 
+use crate::bounds::within;
 use crate::said::{FuseAnswer, Said};
 use crate::told::VALID;
 use errno::Errno;
@@ -22,17 +23,6 @@ pub(crate) const MAX_ANSWER: u32 = 65552;
 const ENOSYS: u32 = 38;
 
 const EPROTO: u32 = 71;
-
-/// The first of some bytes, at most as many as an answer has.
-fn within(bytes: &[u8]) -> &[u8]
-    ensures first { result.now ≡ take 65536 bytes.now }
-    ensures few { length result.now ≤ 65536 }
-{
-    if bytes.len() <= MAX_TRANSFER as usize {
-        return bytes;
-    }
-    &bytes[..MAX_TRANSFER as usize]
-}
 
 /// A refusal.
 fn error<'a>(refused: Refused) -> Reply<'a>
@@ -69,7 +59,7 @@ fn reply_of(it: &FuseAnswer) -> Reply<'_>
         FuseAnswer::Write(count) => Reply::Write { count: *count },
         FuseAnswer::Statfs(room) => Reply::Statfs { room: *room },
         FuseAnswer::Bytes(bytes) => Reply::Bytes {
-            bytes: within(bytes),
+            bytes: within(bytes, MAX_TRANSFER),
         },
     }
 }

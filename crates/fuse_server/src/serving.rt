@@ -8,7 +8,7 @@ ghost use Rattle.fuse_server.specs.Kinds.{is_init, is_sync, IsFor};
 ghost use Rattle.fuse_server.specs.Answering.{IsSaidToBytes};
 
 use crate::attributes::bits_of;
-use crate::files::most_of;
+use crate::bounds::most_of;
 use crate::mount::Mount;
 use crate::naming::NameIn;
 use crate::said::{FuseAnswer, Said};
@@ -254,6 +254,7 @@ impl Mount {
     }
 
     /// What is said to a message that is no sync.
+    #[tactic(auto, using(crate::proofs::Asking::goes_on, crate::proofs::KindLaws::refusal_for))]
     fn said_plainly<S: Sessions>(
         &mut self,
         sessions: &mut S,
