@@ -1,5 +1,5 @@
 -- How a message is answered, from what is said to it.
-use Rattle.std.proofs.Common.{◌≡◌, ◌∙◌, ◌⊎◌, ◌↔◌, ◌<◌, ◌+◌, ℕ, Bool, true, false, IsTrue, List, [], ◌++◌, length, Result, Ok, Err, OnOk}
+use Rattle.std.proofs.Common.{◌≡◌, ◌∙◌, ◌⊎◌, ◌↔◌, ◌<◌, ◌+◌, ℕ, Bool, true, false, IsTrue, List, [], ◌++◌, length, Result, Ok, Err, OnOk, OnErr}
 use Rattle.std.proofs.Common.{refl, sym, ap, subst, inl, inr}
 use Rattle.errno.specs.declared.Errno.TheVariants.{EINVAL}
 use Rattle.fields.specs.declared.fault.MalformedMessage.{MalformedMessage}
@@ -9,7 +9,10 @@ use Rattle.fuse.specs.Reading.{request_at}
 use Rattle.fuse.specs.Requests.{view}
 use Rattle.fuse.specs.declared.reply.Reply.{Reply}
 use Rattle.fuse.specs.Replies.{answer}
-use Rattle.talks.specs.Talks.{Asked}
+use Rattle.tree.specs.declared.Call.{Call}
+use Rattle.tree.specs.declared.Outcome.{Outcome}
+use Rattle.talks.specs.Talks.{MayHear, Asked}
+use Rattle.talks.specs.declared.sessions.EnterRefusal.{EnterRefusal}
 use Rattle.talks.specs.declared.ask.Ask.{Ask}
 use Rattle.talks.specs.declared.heard.Heard.{Heard}
 use Rattle.talks.specs.declared.refused.Refused.TheVariants.{By}
@@ -18,7 +21,7 @@ use Rattle.fuse_server.specs.declared.said.Said.{Said}
 use Rattle.fuse_server.specs.declared.said.Said.TheVariants as said
 use Rattle.fuse_server.specs.Messages.{opcode_in, unique_in, is_silent}
 use Rattle.fuse_server.specs.Kinds.{IsSaidTo, reply_to}
-use Rattle.fuse_server.specs.Answering.{IsSaidToRead, IsSaidToBytes, IsSent, IsTold, IsAnswered, IsAnsweredAs, no_memory}
+use Rattle.fuse_server.specs.Answering.{IsSaidToRead, IsSaidToBytes, IsSent, IsTold, IsAnswered, IsAnsweredAs, IsAnsweredBy, no_memory}
 use Rattle.fuse_server.proofs.Replies.{said_is_reply, has_bytes}
 
 -- the reply of what is said was written
@@ -92,3 +95,19 @@ pub to_unread : (bytes : List ℕ) (read : Result Message MalformedMessage) (fau
 to_unread bytes read fault is gives =
     let P : Result Message MalformedMessage → Type 0 = λ r. IsSaidToRead r (said.Plain (answer_of.Refused (By EINVAL))) in
     (read, gives, subst P (sym is) refl)
+
+-- a message is answered into an empty buffer
+pub by_any : {S A E : Type 0} (called : S → ℕ → ℕ → Call → Outcome → S → Type 0) (entered : S → ℕ → ℕ → Result ℕ EnterRefusal → S → Type 0)
+    (left : S → S → Type 0) (now : ℕ) (bytes : List ℕ) (capacity : ℕ) (s : S) (old : List ℕ) (t : S) (new : List ℕ) (r : Result A E)
+    → old ≡ [] → OnOk r (IsAnswered (MayHear called entered left now) bytes capacity s old t new)
+    → OnOk r (IsAnsweredBy called entered left bytes new s t)
+by_any called entered left now bytes capacity s old t new (Ok a) empty it =
+    let P : List ℕ → Type 0 = λ x. IsAnswered (MayHear called entered left now) bytes capacity s x t new in
+    (now, capacity, subst P empty it)
+by_any called entered left now bytes capacity s old t new (Err e) empty it = tt
+
+-- nothing was asked, and an empty buffer stays so
+pub stays_empty : {S M A E : Type 0} (s t : S) (m n : M) (old new : List ℕ) (r : Result A E) → old ≡ []
+    → OnErr r ((t ≡ s) × (n ≡ m) × (new ≡ old)) → OnErr r ((t ≡ s) × (new ≡ []))
+stays_empty s t m n old new (Ok a) empty it = tt
+stays_empty s t m n old new (Err e) empty it = (it.0, it.2 ∙ empty)

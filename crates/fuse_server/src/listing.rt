@@ -77,7 +77,7 @@ fn entries_from(alloc: Global, names: &Names, from: usize, room: usize) -> Resul
         let Some(entry) = entry_at(names, at) else {
             return Ok(bytes);
         };
-        if room < bytes.len() + entry.len() {
+        if room - bytes.len() < entry.len() {
             return Ok(bytes);
         }
         push_entry(&mut bytes, &entry)?;
