@@ -1,11 +1,11 @@
 -- What all that is known keeps.
-use Rattle.std.proofs.Common.{◌≡◌, ◌≢◌, ◌<◌, ◌≤◌, ◌+◌, ◌-◌, ◌⊎◌, nat_lt, ◌∙◌, ap, sym, refl, subst, inl, inr, ℕ, Bool, true, false, if◌then◌else◌, ◌||◌, List, Option, Some, None, IsSome, IsSomeAnd, arith}
+use Rattle.std.proofs.Common.{◌≡◌, ◌≢◌, ◌<◌, ◌≤◌, ◌-◌, ◌⊎◌, nat_lt, ◌∙◌, ap, sym, refl, subst, inl, inr, ℕ, Bool, true, false, if◌then◌else◌, ◌||◌, List, Option, Some, None, IsSome, IsSomeAnd, arith}
 use Rattle.std.proofs.lemmas.Bool.Decides.{eqb_tells}
 use Rattle.std.specs.Option.{option_map, unwrap_or}
 use Rattle.std.specs.Prelude.{◌==◌}
 use Rattle.fuse_nodes.specs.Tables.{put, changed}
 use Rattle.fuse_nodes.specs.Known.{Facts, Known, at_first, root}
-use Rattle.fuse_nodes.specs.Changes.{told, told_as, told_again, told_first, number_in, let_go_as, is_used, dropped, dropped_as, with_change, forgets, opens_one, closes_one, renamed_as, is_at, loses, lost_as}
+use Rattle.fuse_nodes.specs.Changes.{told_as, told_again, told_first, let_go_as, is_used, dropped_as, with_change, forgets, opens_one, closes_one, renamed_as, is_at, loses, lost_as}
 use Rattle.fuse_nodes.specs.Laws.{IsSound, Step, Steps, IsSameFile, StaysSound, NumbersStay, IsToldByItsNumber}
 use Rattle.fuse_nodes.specs.Laws.Step.{Told, Forgotten, Opened, Closed, Given, Got, Renamed, Lost}
 use Rattle.fuse_nodes.specs.Laws.Steps.{Starts, Then}
@@ -41,10 +41,10 @@ same_changed f keeps None = tt
 same_changed f keeps (Some facts) = keeps facts
 
 same_on : (o p q : Option Facts) → IsSameFile o p → IsSameFile p q → IsSameFile o q
-same_on o p None first then = tt
-same_on o None (Some c) first then = absurd then
-same_on None (Some b) (Some c) first then = absurd first
-same_on (Some a) (Some b) (Some c) first then = (then.0 ∙ first.0, then.1 ∙ first.1)
+same_on o p None first rest = tt
+same_on o None (Some c) first rest = absurd rest
+same_on None (Some b) (Some c) first rest = absurd first
+same_on (Some a) (Some b) (Some c) first rest = (rest.0 ∙ first.0, rest.1 ∙ first.1)
 
 after_change : (f : Facts → Facts) → Keeps f → (nodes : ℕ → Option Facts) (key id : ℕ) → IsSameFile (nodes id) (changed f nodes key id)
 after_change f keeps nodes key id = elim (put_at nodes key (option_map f (nodes key)) id) [
@@ -88,12 +88,12 @@ same_step k l (Told inode kind place) id less = same_told k inode kind place (k.
 same_step k l (Forgotten key count) id less =
     let less_one : Known = with_change (forgets count) k key in
     same_on (k.nodes id) (less_one.nodes id) _ (after_change (forgets count) (λ facts. (refl, refl)) k.nodes key id)
-      (same_dropped less_one key (less_one.nodes key) id)
+    (same_dropped less_one key (less_one.nodes key) id)
 same_step k l (Opened key descriptor) id less = after_change (opens_one descriptor) (λ facts. (refl, refl)) k.nodes key id
 same_step k l (Closed key) id less =
     let less_one : Known = with_change closes_one k key in
     same_on (k.nodes id) (less_one.nodes id) _ (after_change closes_one keeps_closes k.nodes key id)
-      (same_dropped less_one key (less_one.nodes key) id)
+    (same_dropped less_one key (less_one.nodes key) id)
 same_step k l (Given key) id less = after_change (λ facts. record facts { descriptor = None }) (λ facts. (refl, refl)) k.nodes key id
 same_step k l (Got key descriptor) id less =
     after_change (λ facts. record facts { descriptor = Some descriptor }) (λ facts. (refl, refl)) k.nodes key id
@@ -290,9 +290,9 @@ sound_dropped k key (Some facts) there sound = elim (eqb_tells key 1) [
     root = left 1 1 differ sound.root;
     below = λ id some. sound.below id (some_before (k.nodes id) (put k.nodes key None id) (after_drop k.nodes key id) some);
     numbered = λ inode id is.
-      let was : (k.numbers inode ≡ Some id) × (facts.inode ≡ inode → key ≢ id) =
-      number_left k.numbers facts.inode key inode id (k.numbers facts.inode) refl is in
-      left inode id (apart_from inode id was.0 was.1) (sound.numbered inode id was.0);
+        let was : (k.numbers inode ≡ Some id) × (facts.inode ≡ inode → key ≢ id) =
+        number_left k.numbers facts.inode key inode id (k.numbers facts.inode) refl is in
+        left inode id (apart_from inode id was.0 was.1) (sound.numbered inode id was.0);
   }
 
 -- fewer inodes have numbers
@@ -334,11 +334,11 @@ sound_step k l (Lost inode directory name last) sound = either (k.numbers inode)
 sound_first : IsSound at_first
 sound_first = record {
   root = refl;
-  below = λ id some. elim (put_at (λ (other : ℕ). None) 1 (Some root) id) [
+  below = λ id some. elim (put_at {X = Facts} (λ (other : ℕ). None) 1 (Some root) id) [
     | inl same ↦ omega (arith, same.0)
     | inr apart ↦ absurd (clash (subst IsSome apart.1 some))
   ];
-  numbered = λ inode id is. elim (put_at (λ (other : ℕ). None) 1 (Some 1) inode) [
+  numbered = λ inode id is. elim (put_at {X = ℕ} (λ (other : ℕ). None) 1 (Some 1) inode) [
     | inl same ↦ at inode id same.0 (sym same.1 ∙ is)
     | inr apart ↦ absurd (differ id (sym apart.1 ∙ is))
   ];

@@ -1,5 +1,5 @@
 -- Tables, as they are seen.
-use Rattle.std.proofs.Common.{◌≡◌, ◌∙◌, ap, sym, refl, subst, ℕ, Bool, true, false, cond, if◌then◌else◌, Option, Some, None, inl, inr, ◌⊎◌, ◌≢◌, arith}
+use Rattle.std.proofs.Common.{◌≡◌, ◌∙◌, ap, sym, refl, subst, ℕ, Bool, true, false, cond, if◌then◌else◌, Option, None, inl, inr, ◌⊎◌, ◌≢◌, arith}
 use Rattle.std.proofs.lemmas.Bool.Decides.{eqb_tells, nat_tests}
 use Rattle.std.specs.BTreeMap.{BTreeMap, get, is_at}
 use Rattle.std.specs.Option.{option_map}
@@ -8,7 +8,7 @@ use Rattle.std.specs.Prelude.{◌==◌}
 use Rattle.fuse_nodes.specs.Tables.{put, changed}
 
 -- whether a query for a key finds another one
-at_eq : (key other : ℕ) → is_at (nat_cmp key) other ≡ (key == other)
+pub at_eq : (key other : ℕ) → is_at (nat_cmp key) other ≡ (key == other)
 at_eq key other = grind (arith, nat_tests)
 
 mapped : {X Y : Type 0} (f : X → Y) (b c : Bool) (x y : Option X) → b ≡ c

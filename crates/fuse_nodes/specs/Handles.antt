@@ -1,5 +1,5 @@
 -- What a mount knows of handles.
-use Rattle.std.specs.Prelude.{ℕ, ◌+◌, List, map, Option, Some, None, Result, Ok, Err}
+use Rattle.std.specs.Prelude.{ℕ, ◌+◌, List, map, Option, Some, Result, Ok, Err}
 use Rattle.std.specs.Borrow.{Bor}
 use Rattle.std.specs.BTreeMap.{get}
 use Rattle.std.specs.Option.{option_map, ok_or}
@@ -9,7 +9,7 @@ use Rattle.tree.specs.declared.Entry.{Entry}
 use Rattle.talks.specs.Refusals.{then_of}
 use Rattle.talks.specs.declared.refused.Refused.{Refused}
 use Rattle.talks.specs.declared.refused.Refused.TheVariants.{By}
-use Rattle.fuse_nodes.specs.Tables.{put, changed}
+use Rattle.fuse_nodes.specs.Tables.{put}
 use Rattle.fuse_nodes.specs.declared.handles.Names.{Names}
 use Rattle.fuse_nodes.specs.declared.handles.Handle.{Handle}
 use Rattle.fuse_nodes.specs.declared.handles.Handle.TheVariants as handle

@@ -1,7 +1,6 @@
 //! Handles: what the kernel has opened, by its numbers.
 
-ghost use Rattle.std.specs.Prelude.{◌≡◌, IfOk, OnOk, OnErr};
-ghost use Rattle.std.specs.Option.{option_map, None};
+ghost use Rattle.std.specs.Prelude.{◌≡◌, None, IfOk, OnOk, OnErr};
 ghost use Rattle.std.specs.Result.{result_map_both};
 
 use errno::Errno;
@@ -28,6 +27,24 @@ pub enum Handle {
     File { node: u64 },
     /// A directory: the number of its node, and its names, once they were asked for.
     Directory { node: u64, names: Option<Names> },
+}
+
+impl Handle {
+    ghost use Rattle.fuse_nodes.specs.Handles.{keeps, listing_of, opened_of};
+
+    /// A directory keeps these names; a file stays as it is.
+    fn keep(&mut self, kept: Names)
+        ensures { opened_of self.new ≡ keeps (listing_of kept) (opened_of self.old) }
+    {
+        let Handle::Directory { node, .. } = &*self else {
+            return;
+        };
+        let node = *node;
+        *self = Handle::Directory {
+            node,
+            names: Some(kept),
+        };
+    }
 }
 
 /// The handles of a mount. Their numbers count up from 1, and none is used twice.
@@ -136,8 +153,8 @@ impl Handles {
         ensures next { (table_of self.new).next ≡ (table_of self.old).next }
     {
         match self.handles.get_mut(&handle) {
-            Some(Handle::Directory { names, .. }) => *names = Some(kept),
-            _ => {}
+            Some(found) => found.keep(kept),
+            None => {}
         }
     }
 

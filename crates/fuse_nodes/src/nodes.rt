@@ -1,7 +1,7 @@
 //! Nodes, by the numbers by which the kernel names them.
 
-ghost use Rattle.std.specs.Prelude.{◌≡◌, ◌<◌, ◌∷◌, ◌++◌, ℕ, length, OnOk, OnErr, IfOk};
-ghost use Rattle.std.specs.Option.{option_map, Some, None};
+ghost use Rattle.std.specs.Prelude.{◌≡◌, ◌<◌, ◌||◌, ◌∷◌, ◌++◌, ℕ, length, Some, None, OnOk, OnErr, IfOk};
+ghost use Rattle.std.specs.Option.{option_map};
 ghost use Rattle.fuse_nodes.specs.Paths.{IsMade, IsWrittenBehind, path_in, path_at, path_of, path_below};
 ghost use Rattle.fuse_nodes.specs.Changes.{is_at, spare_of};
 ghost use Rattle.fuse_nodes.specs.Known.{place_of, facts_of};
@@ -308,9 +308,9 @@ impl Nodes {
         let Some(node) = self.nodes.get_mut(&id) else {
             return None;
         };
-        let descriptor = node.descriptor;
+        let taken = node.descriptor;
         node.descriptor = None;
-        descriptor
+        taken
     }
 
     /// A node has this descriptor.
@@ -363,8 +363,7 @@ impl Nodes {
     {
         match self.nodes.get_mut(&id) {
             Some(node) => {
-                let is_lost = last || is_at(&node.place, directory, name);
-                if is_lost {
+                if is_lost(&node.place, directory, name, last) {
                     node.place = None;
                 }
             }
@@ -402,6 +401,13 @@ fn put_name(path: &mut Vec<u8>, name: &[u8]) -> Result<(), AllocError>
     path.push(b'/')?;
     path.extend_from_slice(name)?;
     Ok(())
+}
+
+/// Whether a node has no place any more, where this name was taken from it, which was its last maybe.
+fn is_lost(place: &Option<Place>, directory: u64, name: &[u8], last: bool) -> bool
+    ensures { result ≡ last || is_at (option_map place_of place.now) directory name.now }
+{
+    last || is_at(place, directory, name)
 }
 
 /// Whether a node's place is this name there.

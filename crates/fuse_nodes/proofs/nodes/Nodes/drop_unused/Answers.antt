@@ -1,9 +1,9 @@
-use Rattle.std.proofs.Common.{◌∙◌, ℕ, ap, sym, None, Option, BTreeMap}
+use Rattle.std.proofs.Common.{◌∙◌, ℕ, ap, sym, None, BTreeMap}
 use Rattle.std.specs.BTreeMap.{get}
 use Rattle.std.specs.Option.{option_map}
 use Rattle.std.specs.Ordering.{nat_cmp}
 use Rattle.fuse_nodes.specs.Tables.{put}
-use Rattle.fuse_nodes.specs.Known.{Facts, facts_of}
+use Rattle.fuse_nodes.specs.Known.{facts_of}
 use Rattle.fuse_nodes.specs.declared.node.Node.{Node}
 use Rattle.fuse_nodes.proofs.TableLaws.{seen_put}
 use Rattle.fuse_nodes.proofs.ChangeLaws.{dropped_is}

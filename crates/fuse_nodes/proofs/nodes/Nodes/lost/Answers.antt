@@ -1,4 +1,4 @@
-use Rattle.std.proofs.Common.{◌∙◌, ℕ, ap, sym, None, Option}
+use Rattle.std.proofs.Common.{◌∙◌, ap, sym, None}
 use Rattle.fuse_nodes.specs.Tables.{put}
 use Rattle.fuse_nodes.specs.Known.{Known}
 use Rattle.fuse_nodes.proofs.TableLaws.{plain_put}
