@@ -1,1 +1,5 @@
 pub mod Asking
+pub mod Syncs
+pub mod Replies
+pub mod KindLaws
+pub mod Answering

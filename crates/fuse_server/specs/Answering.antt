@@ -1,55 +1,60 @@
 -- What is answered to a message.
-use Rattle.std.specs.Prelude.{⊤, ◌≡◌, ◌<◌, ℕ, Bool, true, false, IsTrue, List, ◌++◌}
-use Rattle.fuse.specs.declared.reply.Reply.{Reply}
-use Rattle.fuse.specs.declared.reply.Reply.TheVariants as reply
-use Rattle.fuse.specs.Replies.{IsReply, error_of, answer}
-use Rattle.talks.specs.Talks.{Asked}
+use Rattle.std.specs.Prelude.{◌≡◌, ◌<◌, ◌+◌, ◌⊎◌, ℕ, Bool, true, false, List, [], ◌++◌, length, Result, Ok, Err}
+use Rattle.errno.specs.declared.Errno.TheVariants.{EINVAL, ENOMEM}
+use Rattle.fields.specs.declared.fault.MalformedMessage.{MalformedMessage}
+use Rattle.fields.specs.Parts.{Gives}
+use Rattle.fuse.specs.declared.request.Message.{Message}
+use Rattle.fuse.specs.Reading.{request_at}
+use Rattle.fuse.specs.Requests.{view}
+use Rattle.fuse.specs.Replies.{IsReply, answer}
+use Rattle.tree.specs.declared.Call.{Call}
+use Rattle.tree.specs.declared.Outcome.{Outcome}
+use Rattle.talks.specs.Talks.{MayHear, Asked}
+use Rattle.talks.specs.declared.sessions.EnterRefusal.{EnterRefusal}
 use Rattle.talks.specs.declared.ask.Ask.{Ask}
 use Rattle.talks.specs.declared.heard.Heard.{Heard}
-use Rattle.fuse_server.specs.declared.said.FuseAnswer.{FuseAnswer}
+use Rattle.talks.specs.declared.refused.Refused.TheVariants.{By}
 use Rattle.fuse_server.specs.declared.said.FuseAnswer.TheVariants as answer_of
 use Rattle.fuse_server.specs.declared.said.Said.{Said}
 use Rattle.fuse_server.specs.declared.said.Said.TheVariants as said
-use Rattle.fuse_server.specs.Messages.{opcode_in, unique_in, is_silent, is_sync}
+use Rattle.fuse_server.specs.Kinds.{IsSaidTo, reply_to}
+use Rattle.fuse_server.specs.Messages.{opcode_in, unique_in, is_silent}
 
--- a reply that is a refusal
-abbrev pub IsRefusal : Reply → Type 0
-IsRefusal (reply.Error number) = (0 < number) × (number < 512)
-IsRefusal r = ⊥
+-- what may be said to what was read
+abbrev pub IsSaidToRead : Result Message MalformedMessage → Said → Type 0
+IsSaidToRead (Ok m) it = IsSaidTo m.request it
+IsSaidToRead (Err fault) it = it ≡ said.Plain (answer_of.Refused (By EINVAL))
 
--- whether an answer is a refusal
-abbrev pub is_refusal : FuseAnswer → Bool
-is_refusal (answer_of.Refused refused) = true
-is_refusal answer_of.Unknown = true
-is_refusal answer_of.OtherVersion = true
-is_refusal a = false
+-- what may be said to the bytes of a message
+abbrev pub IsSaidToBytes : List ℕ → Said → Type 0
+IsSaidToBytes bytes it =
+    (read : Result Message MalformedMessage) × Gives (λ (m : Message). view m) read (request_at bytes) × IsSaidToRead read it
 
--- what may be said to a sync: that it was done, or a refusal
-abbrev pub IsOfSync : Said → Type 0
-IsOfSync (said.Plain a) = IsTrue (is_refusal a)
-IsOfSync said.Synced = ⊤
+-- where the buffer has no room for the longest answer
+abbrev pub no_memory : Said
+no_memory = said.Plain (answer_of.Refused (By ENOMEM))
 
--- what isn't a refusal
-abbrev pub IsGranted : Said → Type 0
-IsGranted (said.Plain a) = is_refusal a ≡ false
-IsGranted said.Synced = ⊤
-
--- One answer more, with this number: a refusal, unless what is said isn't one.
+-- One answer more, with this number, stands behind those before.
 abbrev pub IsSent : ℕ → Said → List ℕ → List ℕ → Type 0
-IsSent unique it old new =
-    (r : Reply) × IsReply r × (new ≡ old ++ answer unique r) × (error_of r ≡ 0 → IsGranted it)
+IsSent unique it old new = IsReply (reply_to it) × (new ≡ old ++ answer unique (reply_to it))
 
--- One answer more stands behind those before, with this number, and behind exchanges that led the sessions from one state to the other. A
--- sync is answered without an error only where a sync was done, and that was the last exchange.
-abbrev pub IsTold : {S : Type 0} → (S → Ask → Heard → S → Type 0) → ℕ → ℕ → S → List ℕ → S → List ℕ → Type 0
-IsTold may opcode unique s old t new =
-    (r : Reply) × IsReply r × (new ≡ old ++ answer unique r) × Asked may s (IsTrue (is_sync opcode) × (error_of r ≡ 0)) t
+-- One answer more, with this number: what may be said to the bytes, behind exchanges that led the sessions from one state to the other, or
+-- that there is no memory, and then nothing was asked. That a sync was done is said only where it was, and that was the last exchange.
+abbrev pub IsTold : {S : Type 0} → (S → Ask → Heard → S → Type 0) → List ℕ → ℕ → ℕ → S → List ℕ → S → List ℕ → Type 0
+IsTold may bytes unique capacity s old t new = (it : Said) × IsSent unique it old new × Asked may s (it ≡ said.Synced) t
+    × (IsSaidToBytes bytes it ⊎ ((it ≡ no_memory) × (t ≡ s) × (capacity < length old + 65552)))
 
 -- A message that has no answer: nothing is asked, and nothing is said.
-abbrev pub IsAnsweredAs : {S : Type 0} → (S → Ask → Heard → S → Type 0) → Bool → ℕ → ℕ → S → List ℕ → S → List ℕ → Type 0
-IsAnsweredAs may true opcode unique s old t new = (t ≡ s) × (new ≡ old)
-IsAnsweredAs may false opcode unique s old t new = IsTold may opcode unique s old t new
+abbrev pub IsAnsweredAs : {S : Type 0} → (S → Ask → Heard → S → Type 0) → Bool → List ℕ → ℕ → S → List ℕ → S → List ℕ → Type 0
+IsAnsweredAs may true bytes capacity s old t new = (t ≡ s) × (new ≡ old)
+IsAnsweredAs may false bytes capacity s old t new = IsTold may bytes (unique_in bytes) capacity s old t new
 
--- how a message is answered
-abbrev pub IsAnswered : {S : Type 0} → (S → Ask → Heard → S → Type 0) → List ℕ → S → List ℕ → S → List ℕ → Type 0
-IsAnswered may bytes s old t new = IsAnsweredAs may (is_silent (opcode_in bytes)) (opcode_in bytes) (unique_in bytes) s old t new
+-- how a message is answered, into a buffer of this capacity
+abbrev pub IsAnswered : {S : Type 0} → (S → Ask → Heard → S → Type 0) → List ℕ → ℕ → S → List ℕ → S → List ℕ → Type 0
+IsAnswered may bytes capacity s old t new = IsAnsweredAs may (is_silent (opcode_in bytes)) bytes capacity s old t new
+
+-- how a mount answers a message at some time, into an empty buffer, by what sessions may answer
+abbrev pub IsAnsweredBy : {S : Type 0} → (S → ℕ → ℕ → Call → Outcome → S → Type 0) → (S → ℕ → ℕ → Result ℕ EnterRefusal → S → Type 0)
+    → (S → S → Type 0) → List ℕ → List ℕ → S → S → Type 0
+IsAnsweredBy called entered left bytes told s t =
+    (now : ℕ) × (capacity : ℕ) × IsAnswered (MayHear called entered left now) bytes capacity s [] t told

@@ -1,3 +1,4 @@
 pub mod Messages
 pub mod Asking
+pub mod Kinds
 pub mod Answering

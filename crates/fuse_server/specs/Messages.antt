@@ -9,14 +9,10 @@ opcode_in bytes =
 
 -- the number by which its answer names it: its bytes 8 to 15
 abbrev pub unique_in : List ℕ → ℕ
-unique_in bytes = from_le_bytes w64 (
-slice_index bytes 8 ∷ slice_index bytes 9 ∷ slice_index bytes 10 ∷ slice_index bytes 11 ∷ slice_index bytes 12 ∷ slice_index bytes 13
-    ∷ slice_index bytes 14 ∷ slice_index bytes 15 ∷ [])
+unique_in bytes =
+    from_le_bytes w64 (slice_index bytes 8 ∷ slice_index bytes 9 ∷ slice_index bytes 10 ∷ slice_index bytes 11 ∷ slice_index bytes 12
+    ∷ slice_index bytes 13 ∷ slice_index bytes 14 ∷ slice_index bytes 15 ∷ [])
 
 -- FORGET, INTERRUPT and BATCH_FORGET have no answer
 abbrev pub is_silent : ℕ → Bool
 is_silent opcode = (opcode == 2) || (opcode == 36) || (opcode == 42)
-
--- FSYNC and FSYNCDIR are done only behind a sync
-abbrev pub is_sync : ℕ → Bool
-is_sync opcode = (opcode == 20) || (opcode == 30)

@@ -1,7 +1,9 @@
 //! Attributes: what is told of a node, and what is changed.
 #![tactic(auto, using(crate::proofs::Asking::goes_on, crate::proofs::Asking::stays))]
 
+ghost use Rattle.std.specs.Prelude.{IfOk, IsTrue};
 ghost use Rattle.fuse_server.specs.Asking.{Talked};
+ghost use Rattle.fuse_server.specs.Kinds.{is_attributes, is_bytes, is_room};
 
 use crate::mount::Mount;
 use crate::said::FuseAnswer;
@@ -71,7 +73,9 @@ fn check_link(wanted: &Wanted, was: &Attributes) -> Result<(), Refused> {
 }
 
 /// The attributes, as an answer.
-fn answer_of(attributes: &Attributes) -> FuseAnswer {
+fn answer_of(attributes: &Attributes) -> FuseAnswer
+    ensures { IsTrue (is_attributes result) }
+{
     FuseAnswer::Attributes(told(attributes))
 }
 
@@ -106,7 +110,8 @@ impl Mount {
         now: u32,
         node: u64,
     ) -> Result<FuseAnswer, Refused>
-        ensures { Talked S.called S.entered S.left now sessions.old sessions.new }
+        ensures asked { Talked S.called S.entered S.left now sessions.old sessions.new }
+        ensures told { IfOk result (λ a. IsTrue (is_attributes a)) }
     {
         let attributes = self.attributes(sessions, now, node)?;
         Ok(answer_of(&attributes))
@@ -134,7 +139,9 @@ impl Mount {
     }
 
     /// SETATTR of a symbolic link. ENOSYS for its times: programs then go on without.
-    fn set_link(&self, wanted: &Wanted, was: &Attributes) -> Result<FuseAnswer, Refused> {
+    fn set_link(&self, wanted: &Wanted, was: &Attributes) -> Result<FuseAnswer, Refused>
+        ensures { IfOk result (λ a. IsTrue (is_attributes a)) }
+    {
         check_link(wanted, was)?;
         if has(wanted.valid, ATIME | MTIME) {
             return Ok(FuseAnswer::Unknown);
@@ -150,7 +157,8 @@ impl Mount {
         node: u64,
         changes: Changes,
     ) -> Result<FuseAnswer, Refused>
-        ensures { Talked S.called S.entered S.left now sessions.old sessions.new }
+        ensures asked { Talked S.called S.entered S.left now sessions.old sessions.new }
+        ensures told { IfOk result (λ a. IsTrue (is_attributes a)) }
     {
         let path = self.nodes.path(node)?;
         self.change(sessions, now, &path, changes)?;
@@ -165,7 +173,8 @@ impl Mount {
         node: u64,
         wanted: &Wanted,
     ) -> Result<FuseAnswer, Refused>
-        ensures { Talked S.called S.entered S.left now sessions.old sessions.new }
+        ensures asked { Talked S.called S.entered S.left now sessions.old sessions.new }
+        ensures told { IfOk result (λ a. IsTrue (is_attributes a)) }
     {
         let was = self.attributes(sessions, now, node)?;
         if kind_of(was.mode) == NodeKind::Symlink {
@@ -182,10 +191,13 @@ impl Mount {
         now: u32,
         node: u64,
     ) -> Result<FuseAnswer, Refused>
-        ensures { Talked S.called S.entered S.left now sessions.old sessions.new }
+        ensures asked { Talked S.called S.entered S.left now sessions.old sessions.new }
+        ensures told { IfOk result (λ a. IsTrue (is_bytes a)) }
     {
         let path = self.nodes.path(node)?;
-        let target = self.ask(sessions, now, Call::Readlink { path: &path })?.target()?;
+        let target = self
+            .ask(sessions, now, Call::Readlink { path: &path })?
+            .target()?;
         Ok(FuseAnswer::Bytes(bytes_of(&target).to_vec(self.alloc)?))
     }
 
@@ -202,7 +214,8 @@ impl Mount {
         sessions: &mut S,
         now: u32,
     ) -> Result<FuseAnswer, Refused>
-        ensures { Talked S.called S.entered S.left now sessions.old sessions.new }
+        ensures asked { Talked S.called S.entered S.left now sessions.old sessions.new }
+        ensures told { IfOk result (λ a. IsTrue (is_room a)) }
     {
         let room = self.space(sessions, now)?;
         Ok(FuseAnswer::Statfs(room_of(&room)))

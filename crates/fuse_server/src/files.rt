@@ -1,11 +1,12 @@
 //! Open files: what is read, what is written, and what reaches the disk.
 #![tactic(auto, using(crate::proofs::Asking::goes_on, crate::proofs::Asking::stays))]
 
-ghost use Rattle.std.specs.Prelude.{◌≡◌, ◌≤◌};
+ghost use Rattle.std.specs.Prelude.{◌≡◌, ◌≤◌, ℕ, IfOk, IsTrue, length};
 ghost use Rattle.talks.specs.Talks.{MayHear, Asked};
 ghost use Rattle.fuse_server.specs.Asking.{Talked};
-ghost use Rattle.fuse_server.specs.Answering.{IsOfSync};
+ghost use Rattle.fuse_server.specs.Kinds.{is_open, is_done, IsWithin, IsCount, IsOfSync};
 
+use crate::bounds::{most_of, within};
 use crate::mount::Mount;
 use crate::said::{FuseAnswer, Said};
 use crate::talk::calling;
@@ -20,19 +21,6 @@ use talks::refused::Refused;
 use talks::sessions::{Sessions, heard};
 use tree::{Call, MAX_SIZE, MAX_TRANSFER, Whence};
 
-/// The first of some bytes, at most as many as a call takes.
-fn within(bytes: &[u8]) -> &[u8] {
-    if bytes.len() <= MAX_TRANSFER as usize {
-        return bytes;
-    }
-    &bytes[..MAX_TRANSFER as usize]
-}
-
-/// The smaller one of a count and what a call gives at most.
-pub(crate) fn most_of(count: u32) -> u32 {
-    if count < MAX_TRANSFER { count } else { MAX_TRANSFER }
-}
-
 /// An offset as a position; none past the largest one.
 fn position(offset: u64) -> Option<i64> {
     if offset > u64::from(MAX_SIZE) {
@@ -42,8 +30,20 @@ fn position(offset: u64) -> Option<i64> {
 }
 
 /// Nothing that was read.
-fn no_bytes(alloc: Global) -> FuseAnswer {
+fn no_bytes(alloc: Global) -> FuseAnswer
+    ensures { (most : ℕ) → IsWithin most result }
+{
     FuseAnswer::Bytes(Vec::new(alloc))
+}
+
+/// How many bytes were written: so many, but no more than were given.
+fn written(count: u32, bytes: &[u8]) -> u32
+    ensures { result ≤ length bytes.now }
+{
+    match u32::try_from(bytes.len()) {
+        Ok(len) if len < count => len,
+        _ => count,
+    }
 }
 
 /// Sets the position of a descriptor.
@@ -108,7 +108,8 @@ impl Mount {
         now: u32,
         node: u64,
     ) -> Result<FuseAnswer, Refused>
-        ensures { Talked S.called S.entered S.left now sessions.old sessions.new }
+        ensures asked { Talked S.called S.entered S.left now sessions.old sessions.new }
+        ensures told { IfOk result (λ a. IsTrue (is_open a)) }
     {
         self.descriptor(sessions, now, node)?;
         self.nodes.opened(node, None);
@@ -128,7 +129,8 @@ impl Mount {
         now: u32,
         span: Span,
     ) -> Result<FuseAnswer, Refused>
-        ensures { Talked S.called S.entered S.left now sessions.old sessions.new }
+        ensures asked { Talked S.called S.entered S.left now sessions.old sessions.new }
+        ensures told { IfOk result (IsWithin span.count) }
     {
         let node = self.handles.file(span.handle)?;
         let Some(offset) = position(span.offset) else {
@@ -136,7 +138,8 @@ impl Mount {
         };
         let descriptor = self.descriptor(sessions, now, node)?;
         let count = most_of(span.count);
-        let bytes = read_at(sessions, now, descriptor, offset, count)?;
+        let mut bytes = read_at(sessions, now, descriptor, offset, count)?;
+        bytes.truncate(count as usize);
         Ok(FuseAnswer::Bytes(bytes))
     }
 
@@ -149,15 +152,22 @@ impl Mount {
         offset: u64,
         bytes: &[u8],
     ) -> Result<FuseAnswer, Refused>
-        ensures { Talked S.called S.entered S.left now sessions.old sessions.new }
+        ensures asked { Talked S.called S.entered S.left now sessions.old sessions.new }
+        ensures told { IfOk result (IsCount (length bytes.now)) }
     {
         let node = self.handles.file(handle)?;
         let Some(offset) = position(offset) else {
             return Err(Refused::By(Errno::EFBIG));
         };
         let descriptor = self.descriptor(sessions, now, node)?;
-        let count = write_at(sessions, now, descriptor, offset, within(bytes))?;
-        Ok(FuseAnswer::Write(count))
+        let count = write_at(
+            sessions,
+            now,
+            descriptor,
+            offset,
+            within(bytes, MAX_TRANSFER),
+        )?;
+        Ok(FuseAnswer::Write(written(count, bytes)))
     }
 
     /// RELEASE and RELEASEDIR: a handle is let go.
@@ -167,7 +177,8 @@ impl Mount {
         now: u32,
         handle: u64,
     ) -> Result<FuseAnswer, Refused>
-        ensures { Talked S.called S.entered S.left now sessions.old sessions.new }
+        ensures asked { Talked S.called S.entered S.left now sessions.old sessions.new }
+        ensures told { IfOk result (λ a. IsTrue (is_done a)) }
     {
         match self.handles.close(handle)? {
             Handle::File { node } => self.let_go(sessions, now, node),

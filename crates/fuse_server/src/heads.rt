@@ -1,7 +1,7 @@
 //! What stands at the head of a message.
 
 ghost use Rattle.std.specs.Prelude.{◌≡◌, ◌<◌, IfOk, IfErr, IsErr, ◌↔◌, length};
-ghost use Rattle.fuse_server.specs.Messages.{opcode_in, unique_in, is_silent, is_sync};
+ghost use Rattle.fuse_server.specs.Messages.{opcode_in, unique_in, is_silent};
 
 use fuse::opcode;
 use talks::end::End;
@@ -38,11 +38,4 @@ pub(crate) fn is_silent(opcode: u32) -> bool
     ensures { result ≡ is_silent opcode }
 {
     opcode == opcode::FORGET || opcode == opcode::INTERRUPT || opcode == opcode::BATCH_FORGET
-}
-
-/// Whether a request is done only behind a sync.
-pub(crate) fn is_sync(opcode: u32) -> bool
-    ensures { result ≡ is_sync opcode }
-{
-    opcode == opcode::FSYNC || opcode == opcode::FSYNCDIR
 }

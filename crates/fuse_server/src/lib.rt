@@ -2,6 +2,7 @@
 #![tactic(auto)]
 
 mod attributes;
+mod bounds;
 mod descriptors;
 mod files;
 mod heads;

@@ -1,10 +1,12 @@
 //! Directories: their entries, as they were when they were asked for from the start.
 #![tactic(auto, using(crate::proofs::Asking::goes_on, crate::proofs::Asking::stays))]
 
+ghost use Rattle.std.specs.Prelude.{◌≤◌, ◌<◌, ◌+◌, ◌^◌, IfOk, IfSome, IsTrue, length};
 ghost use Rattle.fuse_server.specs.Asking.{Talked};
+ghost use Rattle.fuse_server.specs.Kinds.{is_open, IsWithin};
 
+use crate::bounds::{most_of, within};
 use crate::descriptors::{Opening, READ, close};
-use crate::files::most_of;
 use crate::mount::Mount;
 use crate::said::FuseAnswer;
 use crate::talk::calling;
@@ -26,7 +28,10 @@ const DIRECTORY: u32 = 4;
 const NOT_TOLD: u32 = 0;
 
 /// The entry at a place: first the directory itself and the one above, then its names; none past the last one.
-fn entry_at(names: &Names, at: usize) -> Option<ReaddirEntry<'_>> {
+fn entry_at(names: &Names, at: usize) -> Option<ReaddirEntry<'_>>
+    requires { at + 1 < 2 ^ 64 }
+    ensures { IfSome result (λ entry. length entry.name.now ≤ 60) }
+{
     let next = at as u64 + 1;
     match at {
         0 => Some(ReaddirEntry {
@@ -46,22 +51,16 @@ fn entry_at(names: &Names, at: usize) -> Option<ReaddirEntry<'_>> {
 }
 
 /// The entry of the name at a place.
-fn named_entry(entries: &[Entry], at: usize, next: u64) -> Option<ReaddirEntry<'_>> {
+fn named_entry(entries: &[Entry], at: usize, next: u64) -> Option<ReaddirEntry<'_>>
+    ensures { IfSome result (λ entry. length entry.name.now ≤ 60) }
+{
     let entry = entries.get(at)?;
     Some(ReaddirEntry {
         inode: u64::from(entry.inode),
         next,
         kind: NOT_TOLD,
-        name: within(&entry.name),
+        name: within(&entry.name, MAX_NAME as u32),
     })
-}
-
-/// The first bytes of a name, at most as many as a name has.
-fn within(name: &[u8]) -> &[u8] {
-    if name.len() <= MAX_NAME {
-        return name;
-    }
-    &name[..MAX_NAME]
 }
 
 /// An offset as a place.
@@ -70,18 +69,15 @@ fn place_of(offset: u64) -> usize {
 }
 
 /// The entries from a place on, as they are written, in at most so many bytes.
-fn entries_from(
-    alloc: Global,
-    names: &Names,
-    from: usize,
-    room: usize,
-) -> Result<Vec<u8>, Refused> {
+fn entries_from(alloc: Global, names: &Names, from: usize, room: usize) -> Result<Vec<u8>, Refused>
+    ensures { IfOk result (λ bytes. length bytes.items ≤ room) }
+{
     let mut bytes = Vec::new(alloc);
     'entries: for at in from..names.entries.len() + 2 {
         let Some(entry) = entry_at(names, at) else {
             return Ok(bytes);
         };
-        if room < bytes.len() + entry.len() {
+        if room - bytes.len() < entry.len() {
             return Ok(bytes);
         }
         push_entry(&mut bytes, &entry)?;
@@ -91,7 +87,9 @@ fn entries_from(
 
 impl Mount {
     /// OPENDIR: a handle. Nothing is asked yet. ENOTDIR where the node is no directory.
-    pub(crate) fn open_directory(&mut self, node: u64) -> Result<FuseAnswer, Refused> {
+    pub(crate) fn open_directory(&mut self, node: u64) -> Result<FuseAnswer, Refused>
+        ensures { IfOk result (λ a. IsTrue (is_open a)) }
+    {
         if self.nodes.get(node)?.kind != NodeKind::Directory {
             return Err(Refused::By(Errno::ENOTDIR));
         }
@@ -170,7 +168,9 @@ impl Mount {
     }
 
     /// Entries that are kept with a handle, as they are written.
-    fn kept(&self, span: Span) -> Result<FuseAnswer, Refused> {
+    fn kept(&self, span: Span) -> Result<FuseAnswer, Refused>
+        ensures { IfOk result (IsWithin span.count) }
+    {
         let names = self.handles.names(span.handle)?;
         let room = most_of(span.count) as usize;
         let bytes = entries_from(self.alloc, names, place_of(span.offset), room)?;
@@ -185,7 +185,8 @@ impl Mount {
         now: u32,
         span: Span,
     ) -> Result<FuseAnswer, Refused>
-        ensures { Talked S.called S.entered S.left now sessions.old sessions.new }
+        ensures asked { Talked S.called S.entered S.left now sessions.old sessions.new }
+        ensures told { IfOk result (IsWithin span.count) }
     {
         if self.is_fresh(span) {
             self.keep_names(sessions, now, span)?;

@@ -1,7 +1,9 @@
 //! Files, directories and symbolic links that are made.
 #![tactic(auto, using(crate::proofs::Asking::goes_on, crate::proofs::Asking::stays))]
 
+ghost use Rattle.std.specs.Prelude.{IfOk, IsTrue};
 ghost use Rattle.fuse_server.specs.Asking.{Talked};
+ghost use Rattle.fuse_server.specs.Kinds.{is_entry, is_create};
 
 use crate::descriptors::{NEW, Opening, close};
 use crate::mount::Mount;
@@ -73,7 +75,8 @@ impl Mount {
         path: &[u8],
         owner: Owner,
     ) -> Result<FuseAnswer, Refused>
-        ensures { Talked S.called S.entered S.left now sessions.old sessions.new }
+        ensures asked { Talked S.called S.entered S.left now sessions.old sessions.new }
+        ensures told { IfOk result (λ a. IsTrue (is_entry a)) }
     {
         self.give(sessions, now, path, owner)?;
         Ok(FuseAnswer::Entry(self.tell(sessions, now, name, path)?))
@@ -106,7 +109,8 @@ impl Mount {
         name: NameIn<'_>,
         mode: u32,
     ) -> Result<FuseAnswer, Refused>
-        ensures { Talked S.called S.entered S.left now sessions.old sessions.new }
+        ensures asked { Talked S.called S.entered S.left now sessions.old sessions.new }
+        ensures told { IfOk result (λ a. IsTrue (is_entry a)) }
     {
         if !is_file(mode) {
             return Err(Refused::By(Errno::EPERM));
@@ -127,7 +131,8 @@ impl Mount {
         name: NameIn<'_>,
         mode: u32,
     ) -> Result<FuseAnswer, Refused>
-        ensures { Talked S.called S.entered S.left now sessions.old sessions.new }
+        ensures asked { Talked S.called S.entered S.left now sessions.old sessions.new }
+        ensures told { IfOk result (λ a. IsTrue (is_entry a)) }
     {
         let owner = owner_of(message)?;
         let path = self.path_of(name)?;
@@ -147,7 +152,8 @@ impl Mount {
         name: NameIn<'_>,
         target: &[u8],
     ) -> Result<FuseAnswer, Refused>
-        ensures { Talked S.called S.entered S.left now sessions.old sessions.new }
+        ensures asked { Talked S.called S.entered S.left now sessions.old sessions.new }
+        ensures told { IfOk result (λ a. IsTrue (is_entry a)) }
     {
         let path = self.path_of(name)?;
         let call = Call::Symlink {
@@ -180,7 +186,9 @@ impl Mount {
         descriptor: Descriptor,
     ) -> Result<(Entry, Opened), Refused> {
         let kind = kind_of(attributes.mode);
-        let node = self.nodes.told(attributes.inode, kind, name.directory, name.name)?;
+        let node = self
+            .nodes
+            .told(attributes.inode, kind, name.directory, name.name)?;
         match self.handles.open_file(node) {
             Ok(handle) => {
                 self.nodes.opened(node, Some(descriptor));
@@ -203,7 +211,8 @@ impl Mount {
         owner: Owner,
         descriptor: Descriptor,
     ) -> Result<FuseAnswer, Refused>
-        ensures { Talked S.called S.entered S.left now sessions.old sessions.new }
+        ensures asked { Talked S.called S.entered S.left now sessions.old sessions.new }
+        ensures told { IfOk result (λ a. IsTrue (is_create a)) }
     {
         let attributes = self.look_at_made(sessions, now, path, owner)?;
         let (entry, opened) = self.tell_opened(name, &attributes, descriptor)?;
@@ -219,15 +228,18 @@ impl Mount {
         name: NameIn<'_>,
         mode: u32,
     ) -> Result<FuseAnswer, Refused>
-        ensures { Talked S.called S.entered S.left now sessions.old sessions.new }
+        ensures asked { Talked S.called S.entered S.left now sessions.old sessions.new }
+        ensures told { IfOk result (λ a. IsTrue (is_create a)) }
     {
         let owner = owner_of(message)?;
         let path = self.path_of(name)?;
         let descriptor = self.make_file(sessions, now, &path, mode_of(mode))?;
-        let made = self.finish(sessions, now, name, &path, owner, descriptor);
-        if made.is_err() {
-            close(sessions, now, descriptor);
+        match self.finish(sessions, now, name, &path, owner, descriptor) {
+            Ok(answer) => Ok(answer),
+            Err(refused) => {
+                close(sessions, now, descriptor);
+                Err(refused)
+            }
         }
-        made
     }
 }

@@ -1,13 +1,12 @@
 //! A mount, which answers the kernel's messages.
 
-ghost use Rattle.std.specs.Prelude.{◌≡◌, ◌<◌, ◌+◌, ℕ, [], ◌↔◌, IsTrue, Err, OnOk, OnErr, length, vec_len, vec_capacity};
+ghost use Rattle.std.specs.Prelude.{◌≡◌, ◌<◌, ◌+◌, ◌↔◌, IsTrue, Err, IfErr, OnOk, OnErr, length, vec_len, vec_capacity};
 ghost use Rattle.talks.specs.Talks.{MayHear};
 ghost use Rattle.fuse_server.specs.Messages.{opcode_in, is_silent};
-ghost use Rattle.fuse_server.specs.Answering.{IsAnswered};
+ghost use Rattle.fuse_server.specs.Answering.{IsAnswered, IsAnsweredBy, IsTold};
 
-use crate::heads::{HEAD, head_of, is_silent};
+use crate::heads::{HEAD, Head, head_of, is_silent};
 use crate::send::{MAX_ANSWER, refuse, send};
-use errno::Errno;
 use fuse_nodes::handles::Handles;
 use fuse_nodes::nodes::Nodes;
 use std::alloc::{AllocError, Global};
@@ -39,6 +38,31 @@ impl Mount {
         })
     }
 
+    /// Answers one message that has an answer, and this head. OutOfMemory: there was no room for any, nothing is asked, and all stays.
+    fn reply<S: Sessions>(
+        &mut self,
+        sessions: &mut S,
+        now: u32,
+        head: Head,
+        bytes: &[u8],
+        out: &mut Vec<u8>,
+    ) -> Result<(), End>
+        ensures told { OnOk result (IsTold (MayHear S.called S.entered S.left now) bytes.now head.unique (vec_capacity out.old) sessions.old
+            out.old.items sessions.new out.new.items) }
+        ensures err { IfErr result (λ e. e ≡ End.OutOfMemory) }
+        ensures full { OnErr result (vec_capacity out.old < vec_len out.old + 65552) }
+        ensures none { OnErr result ((sessions.new ≡ sessions.old) × (self.new ≡ self.old) × (out.new.items ≡ out.old.items)) }
+    {
+        match out.reserve(MAX_ANSWER as usize) {
+            Ok(()) => {
+                let said = self.said_to(sessions, now, bytes);
+                send(out, head.unique, &said);
+                Ok(())
+            }
+            Err(_) => refuse(out, head.unique),
+        }
+    }
+
     /// Answers one message, all of its bytes: its answer is written behind what stands in `out`, by what the sessions answer to what they
     /// are asked. FORGET, BATCH_FORGET and INTERRUPT have none.
     ///
@@ -51,8 +75,8 @@ impl Mount {
         bytes: &[u8],
         out: &mut Vec<u8>,
     ) -> Result<(), End>
-        ensures answered { OnOk result (IsAnswered (MayHear S.called S.entered S.left now) bytes.now sessions.old out.old.items sessions.new
-            out.new.items) }
+        ensures answered { OnOk result (IsAnswered (MayHear S.called S.entered S.left now) bytes.now (vec_capacity out.old) sessions.old
+            out.old.items sessions.new out.new.items) }
         ensures silent { OnOk result ((out.new.items ≡ out.old.items) ↔ IsTrue (is_silent (opcode_in bytes.now))) }
         ensures short { (result ≡ Err End.NoMessage) ↔ (length bytes.now < 40) }
         ensures full { result ≡ Err End.OutOfMemory → vec_capacity out.old < vec_len out.old + 65552 }
@@ -63,17 +87,12 @@ impl Mount {
             self.hear(bytes);
             return Ok(());
         }
-        if out.reserve(MAX_ANSWER as usize).is_err() {
-            return refuse(out, head.unique, Errno::ENOMEM);
-        }
-        let said = self.said_to(sessions, now, head.opcode, bytes);
-        send(out, head.unique, &said);
-        Ok(())
+        self.reply(sessions, now, head, bytes, out)
     }
 }
 
 impl Answers for Mount {
-    ghost answers = { λ S called entered left bytes answer s m t n. (now : ℕ) × IsAnswered (MayHear called entered left now) bytes s [] t answer };
+    ghost answers = { λ S called entered left bytes answer s m t n. IsAnsweredBy called entered left bytes answer s t };
 
     ghost fewest = { 40 };
 

@@ -1,7 +1,9 @@
 //! Names: where they lead, further ones, changed ones, and ones that are taken away.
 #![tactic(auto, using(crate::proofs::Asking::goes_on, crate::proofs::Asking::stays))]
 
+ghost use Rattle.std.specs.Prelude.{IfOk, IsTrue};
 ghost use Rattle.fuse_server.specs.Asking.{Talked};
+ghost use Rattle.fuse_server.specs.Kinds.{is_entry, is_done};
 
 use crate::mount::Mount;
 use crate::said::FuseAnswer;
@@ -47,7 +49,9 @@ impl Mount {
     {
         let attributes = self.look(sessions, now, path)?;
         let kind = kind_of(attributes.mode);
-        let node = self.nodes.told(attributes.inode, kind, name.directory, name.name)?;
+        let node = self
+            .nodes
+            .told(attributes.inode, kind, name.directory, name.name)?;
         Ok(entry_of(node, &attributes))
     }
 
@@ -58,7 +62,8 @@ impl Mount {
         now: u32,
         name: NameIn<'_>,
     ) -> Result<FuseAnswer, Refused>
-        ensures { Talked S.called S.entered S.left now sessions.old sessions.new }
+        ensures asked { Talked S.called S.entered S.left now sessions.old sessions.new }
+        ensures told { IfOk result (λ a. IsTrue (is_entry a)) }
     {
         let path = self.path_of(name)?;
         match self.tell(sessions, now, name, &path) {
@@ -76,7 +81,8 @@ impl Mount {
         file: u64,
         name: NameIn<'_>,
     ) -> Result<FuseAnswer, Refused>
-        ensures { Talked S.called S.entered S.left now sessions.old sessions.new }
+        ensures asked { Talked S.called S.entered S.left now sessions.old sessions.new }
+        ensures told { IfOk result (λ a. IsTrue (is_entry a)) }
     {
         let old = self.nodes.path(file)?;
         let new = self.path_of(name)?;
@@ -95,13 +101,15 @@ impl Mount {
         now: u32,
         name: NameIn<'_>,
     ) -> Result<FuseAnswer, Refused>
-        ensures { Talked S.called S.entered S.left now sessions.old sessions.new }
+        ensures asked { Talked S.called S.entered S.left now sessions.old sessions.new }
+        ensures told { IfOk result (λ a. IsTrue (is_done a)) }
     {
         let path = self.path_of(name)?;
         let was = self.look(sessions, now, &path)?;
         self.hold(sessions, now, was.inode)?;
         self.ask_done(sessions, now, Call::Unlink { path: &path })?;
-        self.nodes.lost(was.inode, name.directory, name.name, is_last(&was));
+        self.nodes
+            .lost(was.inode, name.directory, name.name, is_last(&was));
         Ok(FuseAnswer::Done)
     }
 
@@ -112,7 +120,8 @@ impl Mount {
         now: u32,
         name: NameIn<'_>,
     ) -> Result<FuseAnswer, Refused>
-        ensures { Talked S.called S.entered S.left now sessions.old sessions.new }
+        ensures asked { Talked S.called S.entered S.left now sessions.old sessions.new }
+        ensures told { IfOk result (λ a. IsTrue (is_done a)) }
     {
         let path = self.path_of(name)?;
         let was = self.look(sessions, now, &path)?;
@@ -164,7 +173,8 @@ impl Mount {
                 return;
             }
             let last = is_last(&attributes);
-            self.nodes.lost(attributes.inode, to.directory, to.name, last);
+            self.nodes
+                .lost(attributes.inode, to.directory, to.name, last);
         }
         self.nodes.renamed(inode, place);
     }
@@ -193,7 +203,8 @@ impl Mount {
         to: NameIn<'_>,
         flags: u32,
     ) -> Result<FuseAnswer, Refused>
-        ensures { Talked S.called S.entered S.left now sessions.old sessions.new }
+        ensures asked { Talked S.called S.entered S.left now sessions.old sessions.new }
+        ensures told { IfOk result (λ a. IsTrue (is_done a)) }
     {
         if flags > NO_REPLACE {
             return Err(Refused::By(Errno::EINVAL));

@@ -1,9 +1,12 @@
 //! Answers, as they are written.
 
-ghost use Rattle.std.specs.Prelude.{◌≡◌, ◌≤◌, ◌<◌, ◌+◌, ◌++◌, false, length, vec_len, vec_capacity, OnOk, OnErr, IfErr};
-ghost use Rattle.fuse.specs.Replies.{IsReply, size_of, error_of, answer};
-ghost use Rattle.fuse_server.specs.Answering.{IsRefusal, IsGranted, IsSent, is_refusal};
+ghost use Rattle.std.specs.Prelude.{◌≡◌, ◌≤◌, ◌<◌, ◌+◌, ℕ, vec_len, vec_capacity, OnOk, OnErr, IfErr};
+ghost use Rattle.fuse.specs.Replies.{IsReply, size_of, answer};
+ghost use Rattle.talks.specs.Numbers.{number_of};
+ghost use Rattle.fuse_server.specs.Kinds.{reply_for, reply_to};
+ghost use Rattle.fuse_server.specs.Answering.{IsSent, no_memory};
 
+use crate::bounds::within;
 use crate::said::{FuseAnswer, Said};
 use crate::told::VALID;
 use errno::Errno;
@@ -21,20 +24,9 @@ const ENOSYS: u32 = 38;
 
 const EPROTO: u32 = 71;
 
-/// The first of some bytes, at most as many as an answer has.
-fn within(bytes: &[u8]) -> &[u8]
-    ensures { length result.now ≤ 65536 }
-{
-    if bytes.len() <= MAX_TRANSFER as usize {
-        return bytes;
-    }
-    &bytes[..MAX_TRANSFER as usize]
-}
-
 /// A refusal.
-#[tactic(auto, using(crate::proofs::Replies::number_fits))]
 fn error<'a>(refused: Refused) -> Reply<'a>
-    ensures { IsRefusal result }
+    ensures { result ≡ Reply.Error (number_of refused) }
 {
     Reply::Error {
         number: refused.number(),
@@ -42,12 +34,13 @@ fn error<'a>(refused: Refused) -> Reply<'a>
 }
 
 /// The reply of an answer.
-fn reply_of(answer: &FuseAnswer) -> Reply<'_>
+#[tactic(auto, using(crate::proofs::Replies::number_fits, crate::proofs::Replies::init_fits, crate::proofs::Replies::entry_fits, crate::proofs::Replies::attributes_fit, crate::proofs::Replies::opened_fits, crate::proofs::Replies::created_fits, crate::proofs::Replies::written_fits, crate::proofs::Replies::room_fits))]
+fn reply_of(it: &FuseAnswer) -> Reply<'_>
+    ensures told { (unique : ℕ) → answer unique result ≡ answer unique (reply_for it.now) }
     ensures reply { IsReply result }
     ensures size { size_of result ≤ 65552 }
-    ensures granted { error_of result ≡ 0 → is_refusal answer.now ≡ false }
 {
-    match answer {
+    match it {
         FuseAnswer::Refused(refused) => error(*refused),
         FuseAnswer::Unknown => Reply::Error { number: ENOSYS },
         FuseAnswer::OtherVersion => Reply::Error { number: EPROTO },
@@ -66,16 +59,16 @@ fn reply_of(answer: &FuseAnswer) -> Reply<'_>
         FuseAnswer::Write(count) => Reply::Write { count: *count },
         FuseAnswer::Statfs(room) => Reply::Statfs { room: *room },
         FuseAnswer::Bytes(bytes) => Reply::Bytes {
-            bytes: within(bytes),
+            bytes: within(bytes, MAX_TRANSFER),
         },
     }
 }
 
 /// The reply of what is said.
 fn reply_to(said: &Said) -> Reply<'_>
+    ensures told { (unique : ℕ) → answer unique result ≡ answer unique (reply_to said.now) }
     ensures reply { IsReply result }
     ensures size { size_of result ≤ 65552 }
-    ensures granted { error_of result ≡ 0 → IsGranted said.now }
 {
     match said {
         Said::Plain(answer) => reply_of(answer),
@@ -83,14 +76,14 @@ fn reply_to(said: &Said) -> Reply<'_>
     }
 }
 
-/// Writes a refusal with this number. An error: there is no room for it, and `out` has what it had.
-pub(crate) fn refuse(out: &mut Vec<u8>, unique: u64, errno: Errno) -> Result<(), End>
-    ensures ok { OnOk result ((r : Reply) × IsRefusal r × (out.new.items ≡ out.old.items ++ answer unique r)) }
+/// Writes with this number that there is no memory. An error: not even for this, and `out` has what it had.
+pub(crate) fn refuse(out: &mut Vec<u8>, unique: u64) -> Result<(), End>
+    ensures ok { OnOk result (IsSent unique no_memory out.old.items out.new.items) }
     ensures err { IfErr result (λ e. e ≡ End.OutOfMemory) }
     ensures kept { OnErr result (out.new.items ≡ out.old.items) }
     ensures full { OnErr result (vec_capacity out.old < vec_len out.old + 16) }
 {
-    match write(out, unique, &error(Refused::By(errno))) {
+    match write(out, unique, &error(Refused::By(Errno::ENOMEM))) {
         Ok(()) => Ok(()),
         Err(_) => Err(End::OutOfMemory),
     }

@@ -1,15 +1,14 @@
 //! How each message is answered.
 #![tactic(auto, using(crate::proofs::Asking::goes_on, crate::proofs::Asking::stays))]
 
-ghost use Rattle.std.specs.Prelude.{◌≡◌, IsTrue};
+ghost use Rattle.std.specs.Prelude.{◌≡◌, IfOk, IsTrue};
 ghost use Rattle.talks.specs.Talks.{MayHear, Asked};
-ghost use Rattle.fuse_server.specs.Messages.{is_sync};
 ghost use Rattle.fuse_server.specs.Asking.{Talked};
-ghost use Rattle.fuse_server.specs.Answering.{IsOfSync};
+ghost use Rattle.fuse_server.specs.Kinds.{is_init, is_sync, IsFor};
+ghost use Rattle.fuse_server.specs.Answering.{IsSaidToBytes};
 
 use crate::attributes::bits_of;
-use crate::files::most_of;
-use crate::heads::is_sync;
+use crate::bounds::most_of;
 use crate::mount::Mount;
 use crate::naming::NameIn;
 use crate::said::{FuseAnswer, Said};
@@ -39,7 +38,9 @@ const MOST_PAGES: u16 = 16;
 const SECOND: u32 = 1_000_000_000;
 
 /// INIT: the protocol's version, and what of it is used.
-fn init(major: u32, readahead: u32, flags: u32) -> FuseAnswer {
+fn init(major: u32, readahead: u32, flags: u32) -> FuseAnswer
+    ensures { IsTrue (is_init result) }
+{
     if major < MAJOR {
         return FuseAnswer::OtherVersion;
     }
@@ -58,30 +59,11 @@ fn init(major: u32, readahead: u32, flags: u32) -> FuseAnswer {
     })
 }
 
-/// The changes that a SETATTR wants; none of another request.
-fn wanted_of(request: &Request<'_>, now: u32) -> Option<Wanted> {
-    match *request {
-        Request::Setattr {
-            valid,
-            size,
-            atime,
-            mtime,
-            mode,
-            uid,
-            gid,
-            ..
-        } => Some(Wanted {
-            valid: bits_of(valid),
-            mode,
-            uid,
-            gid,
-            size,
-            atime: atime.0,
-            mtime: mtime.0,
-            now,
-        }),
-        _ => None,
-    }
+/// Whether a request asks for a sync.
+fn asks_sync(request: &Request<'_>) -> bool
+    ensures { result ≡ is_sync request.now }
+{
+    matches!(request, Request::Fsync { .. } | Request::Fsyncdir { .. })
 }
 
 impl Mount {
@@ -92,7 +74,8 @@ impl Mount {
         now: u32,
         message: &Message<'_>,
     ) -> Result<FuseAnswer, Refused>
-        ensures { Talked S.called S.entered S.left now sessions.old sessions.new }
+        ensures asked { Talked S.called S.entered S.left now sessions.old sessions.new }
+        ensures told { IfOk result (IsFor message.now.request) }
     {
         let directory = message.node;
         match message.request {
@@ -113,31 +96,44 @@ impl Mount {
         now: u32,
         message: &Message<'_>,
     ) -> Result<FuseAnswer, Refused>
-        ensures { Talked S.called S.entered S.left now sessions.old sessions.new }
+        ensures asked { Talked S.called S.entered S.left now sessions.old sessions.new }
+        ensures told { IfOk result (IsFor message.now.request) }
     {
-        let (new_directory, flags, old_name, new_name) = match message.request {
+        let directory = message.node;
+        match message.request {
             Request::Rename {
                 new_directory,
                 old_name,
                 new_name,
-            } => (new_directory, 0, old_name, new_name),
+            } => {
+                let from = NameIn {
+                    directory,
+                    name: old_name,
+                };
+                let to = NameIn {
+                    directory: new_directory,
+                    name: new_name,
+                };
+                self.rename(sessions, now, from, to, 0)
+            }
             Request::Rename2 {
                 new_directory,
                 flags,
                 old_name,
                 new_name,
-            } => (new_directory, flags, old_name, new_name),
-            _ => return self.on_names(sessions, now, message),
-        };
-        let from = NameIn {
-            directory: message.node,
-            name: old_name,
-        };
-        let to = NameIn {
-            directory: new_directory,
-            name: new_name,
-        };
-        self.rename(sessions, now, from, to, flags)
+            } => {
+                let from = NameIn {
+                    directory,
+                    name: old_name,
+                };
+                let to = NameIn {
+                    directory: new_directory,
+                    name: new_name,
+                };
+                self.rename(sessions, now, from, to, flags)
+            }
+            _ => self.on_names(sessions, now, message),
+        }
     }
 
     /// Requests that make something.
@@ -147,7 +143,8 @@ impl Mount {
         now: u32,
         message: &Message<'_>,
     ) -> Result<FuseAnswer, Refused>
-        ensures { Talked S.called S.entered S.left now sessions.old sessions.new }
+        ensures asked { Talked S.called S.entered S.left now sessions.old sessions.new }
+        ensures told { IfOk result (IsFor message.now.request) }
     {
         let directory = message.node;
         match message.request {
@@ -174,7 +171,8 @@ impl Mount {
         now: u32,
         message: &Message<'_>,
     ) -> Result<FuseAnswer, Refused>
-        ensures { Talked S.called S.entered S.left now sessions.old sessions.new }
+        ensures asked { Talked S.called S.entered S.left now sessions.old sessions.new }
+        ensures told { IfOk result (IsFor message.now.request) }
     {
         match message.request {
             Request::Open { .. } => self.open_file(sessions, now, message.node),
@@ -193,6 +191,43 @@ impl Mount {
         }
     }
 
+    /// Requests that change attributes.
+    fn on_settings<S: Sessions>(
+        &mut self,
+        sessions: &mut S,
+        now: u32,
+        message: &Message<'_>,
+    ) -> Result<FuseAnswer, Refused>
+        ensures asked { Talked S.called S.entered S.left now sessions.old sessions.new }
+        ensures told { IfOk result (IsFor message.now.request) }
+    {
+        match message.request {
+            Request::Setattr {
+                valid,
+                size,
+                atime,
+                mtime,
+                mode,
+                uid,
+                gid,
+                ..
+            } => {
+                let wanted = Wanted {
+                    valid: bits_of(valid),
+                    mode,
+                    uid,
+                    gid,
+                    size,
+                    atime: atime.0,
+                    mtime: mtime.0,
+                    now,
+                };
+                self.setattr(sessions, now, message.node, &wanted)
+            }
+            _ => self.on_handles(sessions, now, message),
+        }
+    }
+
     /// Requests about nodes, and those about the mount.
     fn plain<S: Sessions>(
         &mut self,
@@ -200,11 +235,9 @@ impl Mount {
         now: u32,
         message: &Message<'_>,
     ) -> Result<FuseAnswer, Refused>
-        ensures { Talked S.called S.entered S.left now sessions.old sessions.new }
+        ensures asked { Talked S.called S.entered S.left now sessions.old sessions.new }
+        ensures told { IfOk result (IsFor message.now.request) }
     {
-        if let Some(wanted) = wanted_of(&message.request, now) {
-            return self.setattr(sessions, now, message.node, &wanted);
-        }
         match message.request {
             Request::Init {
                 major,
@@ -216,18 +249,20 @@ impl Mount {
             Request::Getattr { .. } => self.getattr(sessions, now, message.node),
             Request::Readlink => self.readlink(sessions, now, message.node),
             Request::Statfs => self.statfs(sessions, now),
-            _ => self.on_handles(sessions, now, message),
+            _ => self.on_settings(sessions, now, message),
         }
     }
 
     /// What is said to a message that is no sync.
+    #[tactic(auto, using(crate::proofs::Asking::goes_on, crate::proofs::KindLaws::refusal_for))]
     fn said_plainly<S: Sessions>(
         &mut self,
         sessions: &mut S,
         now: u32,
         message: &Message<'_>,
     ) -> FuseAnswer
-        ensures { Talked S.called S.entered S.left now sessions.old sessions.new }
+        ensures asked { Talked S.called S.entered S.left now sessions.old sessions.new }
+        ensures told { IsFor message.now.request result }
     {
         match self.plain(sessions, now, message) {
             Ok(answer) => answer,
@@ -235,24 +270,16 @@ impl Mount {
         }
     }
 
-    /// What is said to the bytes of a message that has this opcode: EINVAL where they can't be read.
-    pub(crate) fn said_to<S: Sessions>(
-        &mut self,
-        sessions: &mut S,
-        now: u32,
-        opcode: u32,
-        bytes: &[u8],
-    ) -> Said
+    /// What is said to the bytes of a message: EINVAL where they can't be read.
+    pub(crate) fn said_to<S: Sessions>(&mut self, sessions: &mut S, now: u32, bytes: &[u8]) -> Said
         ensures asked { Asked (MayHear S.called S.entered S.left now) sessions.old (result ≡ Said.Synced) sessions.new }
-        ensures sync { IsTrue (is_sync opcode) → IsOfSync result }
+        ensures told { IsSaidToBytes bytes.now result }
     {
-        let Ok(message) = read(bytes) else {
-            return Said::Plain(FuseAnswer::Refused(Refused::By(Errno::EINVAL)));
-        };
-        if is_sync(opcode) {
-            return self.sync(sessions, now);
+        match read(bytes) {
+            Ok(message) if asks_sync(&message.request) => self.sync(sessions, now),
+            Ok(message) => Said::Plain(self.said_plainly(sessions, now, &message)),
+            Err(_) => Said::Plain(FuseAnswer::Refused(Refused::By(Errno::EINVAL))),
         }
-        Said::Plain(self.said_plainly(sessions, now, &message))
     }
 
     /// Nodes that the kernel forgets.

@@ -12,12 +12,7 @@ use talks::sessions::{Sessions, heard};
 use tree::{Attributes, Call};
 
 /// A call of a session.
-pub(crate) fn calling<S: Sessions>(
-    sessions: &mut S,
-    now: u32,
-    session: u8,
-    call: Call<'_>,
-) -> Heard
+pub(crate) fn calling<S: Sessions>(sessions: &mut S, now: u32, session: u8, call: Call<'_>) -> Heard
     ensures { Talked S.called S.entered S.left now sessions.old sessions.new }
 {
     heard(sessions, now, &Ask::Call { session, call })

@@ -1,0 +1,125 @@
+-- Which answer a request has.
+use Rattle.std.specs.Prelude.{⊤, ◌≡◌, ◌≤◌, ℕ, Bool, true, false, IsTrue, List, take, length}
+use Rattle.fuse.specs.declared.reply.Reply.{Reply}
+use Rattle.fuse.specs.declared.reply.Reply.TheVariants as reply
+use Rattle.fuse.specs.declared.request.Request.{Request}
+use Rattle.fuse.specs.declared.request.Request.TheVariants as request
+use Rattle.talks.specs.Numbers.{number_of}
+use Rattle.talks.specs.Plain.{at}
+use Rattle.fuse_server.specs.declared.said.FuseAnswer.{FuseAnswer}
+use Rattle.fuse_server.specs.declared.said.FuseAnswer.TheVariants as answer_of
+use Rattle.fuse_server.specs.declared.said.Said.{Said}
+use Rattle.fuse_server.specs.declared.said.Said.TheVariants as said
+
+-- whether an answer is a refusal
+abbrev pub is_refusal : FuseAnswer → Bool
+is_refusal (answer_of.Refused refused) = true
+is_refusal answer_of.Unknown = true
+is_refusal answer_of.OtherVersion = true
+is_refusal a = false
+
+-- the answers that some requests have, each with the refusals
+abbrev pub is_done : FuseAnswer → Bool
+is_done answer_of.Done = true
+is_done a = is_refusal a
+
+abbrev pub is_init : FuseAnswer → Bool
+is_init (answer_of.Init settled) = true
+is_init a = is_refusal a
+
+abbrev pub is_entry : FuseAnswer → Bool
+is_entry (answer_of.Entry entry) = true
+is_entry a = is_refusal a
+
+abbrev pub is_attributes : FuseAnswer → Bool
+is_attributes (answer_of.Attributes attributes) = true
+is_attributes a = is_refusal a
+
+abbrev pub is_open : FuseAnswer → Bool
+is_open (answer_of.Open opened) = true
+is_open a = is_refusal a
+
+abbrev pub is_create : FuseAnswer → Bool
+is_create (answer_of.Create entry opened) = true
+is_create a = is_refusal a
+
+abbrev pub is_room : FuseAnswer → Bool
+is_room (answer_of.Statfs room) = true
+is_room a = is_refusal a
+
+abbrev pub is_bytes : FuseAnswer → Bool
+is_bytes (answer_of.Bytes bytes) = true
+is_bytes a = is_refusal a
+
+-- bytes, at most so many
+abbrev pub IsWithin : ℕ → FuseAnswer → Type 0
+IsWithin most (answer_of.Bytes bytes) = length bytes.items ≤ most
+IsWithin most a = IsTrue (is_refusal a)
+
+-- a count of bytes that were written, at most so many
+abbrev pub IsCount : ℕ → FuseAnswer → Type 0
+IsCount most (answer_of.Write count) = count ≤ most
+IsCount most a = IsTrue (is_refusal a)
+
+-- Which answer a request has, unless it is a sync that was done. A READ and a READDIR tell no more bytes than were asked for, and a WRITE no
+-- more than were given.
+abbrev pub IsFor : Request → FuseAnswer → Type 0
+IsFor (request.Lookup name) a = IsTrue (is_entry a)
+IsFor (request.Getattr flags handle) a = IsTrue (is_attributes a)
+IsFor (request.Setattr valid handle size lock_owner atime mtime ctime mode uid gid) a = IsTrue (is_attributes a)
+IsFor request.Readlink a = IsTrue (is_bytes a)
+IsFor (request.Symlink name target) a = IsTrue (is_entry a)
+IsFor (request.Mknod mode device umask name) a = IsTrue (is_entry a)
+IsFor (request.Mkdir mode umask name) a = IsTrue (is_entry a)
+IsFor (request.Unlink name) a = IsTrue (is_done a)
+IsFor (request.Rmdir name) a = IsTrue (is_done a)
+IsFor (request.Rename new_directory old_name new_name) a = IsTrue (is_done a)
+IsFor (request.Rename2 new_directory flags old_name new_name) a = IsTrue (is_done a)
+IsFor (request.Link file name) a = IsTrue (is_entry a)
+IsFor (request.Open flags open_flags) a = IsTrue (is_open a)
+IsFor (request.Read span) a = IsWithin span.count a
+IsFor (request.Write handle offset write_flags lock_owner flags bytes) a = IsCount (length bytes.now) a
+IsFor request.Statfs a = IsTrue (is_room a)
+IsFor (request.Release handle flags release_flags lock_owner) a = IsTrue (is_done a)
+IsFor (request.Init major minor readahead flags more) a = IsTrue (is_init a)
+IsFor (request.Opendir flags open_flags) a = IsTrue (is_open a)
+IsFor (request.Readdir span) a = IsWithin span.count a
+IsFor (request.Releasedir handle flags release_flags lock_owner) a = IsTrue (is_done a)
+IsFor (request.Create flags mode umask open_flags name) a = IsTrue (is_create a)
+IsFor request.Destroy a = IsTrue (is_done a)
+IsFor r a = IsTrue (is_refusal a)
+
+-- FSYNC and FSYNCDIR may be answered that a sync was done
+abbrev pub is_sync : Request → Bool
+is_sync (request.Fsync handle fsync_flags) = true
+is_sync (request.Fsyncdir handle fsync_flags) = true
+is_sync r = false
+
+abbrev pub IsSaidTo : Request → Said → Type 0
+IsSaidTo r (said.Plain a) = IsFor r a
+IsSaidTo r said.Synced = IsTrue (is_sync r)
+
+-- The reply of an answer. Numbers of errors are Linux's: 38 where a request isn't one that is answered here, 71 where the protocol has
+-- another version. Attributes may be kept for a day.
+abbrev pub reply_for : FuseAnswer → Reply
+reply_for (answer_of.Refused refused) = reply.Error (number_of refused)
+reply_for answer_of.Unknown = reply.Error 38
+reply_for answer_of.OtherVersion = reply.Error 71
+reply_for answer_of.Done = reply.Done
+reply_for (answer_of.Init settled) = reply.Init settled
+reply_for (answer_of.Entry entry) = reply.Entry entry
+reply_for (answer_of.Attributes attributes) = reply.Attributes (86400, 0) attributes
+reply_for (answer_of.Open opened) = reply.Open opened
+reply_for (answer_of.Create entry opened) = reply.Create entry opened
+reply_for (answer_of.Write count) = reply.Write count
+reply_for (answer_of.Statfs room) = reply.Statfs room
+reply_for (answer_of.Bytes bytes) = reply.Bytes (at (take 65536 bytes.items))
+
+abbrev pub reply_to : Said → Reply
+reply_to (said.Plain a) = reply_for a
+reply_to said.Synced = reply.Done
+
+-- what is said to a sync: that it was done, or a refusal
+abbrev pub IsOfSync : Said → Type 0
+IsOfSync (said.Plain a) = IsTrue (is_refusal a)
+IsOfSync said.Synced = ⊤
