@@ -79,13 +79,13 @@ def busy(trial):
 @end("written")
 def written(trial):
     """When bin/umount comes back the image has all: a copy of it, made at once, is the volume."""
-    with Volume(trial, "written", LARGE) as volume, Volume(trial, "copy", SMALL) as copy:
+    with Volume(trial, "written", {**LARGE, "blocks": 3000, "inodes": 1000}) as volume, Volume(trial, "copy", SMALL) as copy:
         volume.mount("--sync-every", "0")
         draw = random.Random(f"{trial.seed} written")
         for it in range(8):
             (volume.folder / f"d{it}").mkdir()
             filled(volume.folder / f"d{it}", draw)
-        (volume.folder / "large").write_bytes(draw.randbytes(20 << 20))
+        (volume.folder / "large").write_bytes(draw.randbytes(6 << 20))
         tree = tree_of(volume.folder)
         volume.umount()
         copy.image.write_bytes(volume.image.read_bytes())

@@ -43,20 +43,20 @@ class Open:
 class Walk:
     def __init__(self, roots, seed):
         self.roots, self.draw = roots, random.Random(seed)
-        self.open, self.known, self.lost, self.notes, self.stale = [], [""], set(), [], 0
+        self.open, self.known, self.lost, self.notes, self.stale = [], [], set(), [], 0
         self.bytes = bytes(self.draw.randrange(256) for _ in range(8192)) * 20
 
     # ---- what is drawn
 
     def path(self):
         """A path that is there, more often than one that may not be."""
-        if self.draw.random() < 0.65:
+        if self.known and self.draw.random() < 0.65:
             return self.draw.choice(self.known)
         return self.place()
 
     def place(self):
         """A name in a folder that is there, or somewhere else."""
-        above = self.draw.choice(self.known)
+        above = self.draw.choice(["", *self.known])
         return os.path.join(above, self.draw.choice(NAMES)) if above.count("/") < 4 else self.draw.choice(NAMES)
 
     def range(self):
@@ -69,8 +69,7 @@ class Walk:
     def look(self):
         """Notes which paths are there."""
         host = self.roots[1]
-        self.known = [""] + sorted(os.path.relpath(os.path.join(at, it), host) for at, folders, files in os.walk(host)
-                                   for it in folders + files)
+        self.known = sorted(os.path.relpath(os.path.join(at, it), host) for at, folders, files in os.walk(host) for it in folders + files)
 
     # ---- a call in both
 
