@@ -40,7 +40,7 @@ pub struct Connection {
 }
 
 impl Model for Connection {
-    ghost use Rattle.ninep_fids.specs.Knowledge.{Known};
+    ghost use Rattle.ninep_fids.specs.Knowledge.{Known, known_of};
 
     ghost Value = { Known };
 
