@@ -9,6 +9,7 @@ use Rattle.fuse.specs.Reading.{request_at}
 use Rattle.fuse.specs.Requests.{view}
 use Rattle.fuse.specs.declared.reply.Reply.{Reply}
 use Rattle.fuse.specs.Replies.{answer}
+use Rattle.fuse_nodes.specs.Known.{Known}
 use Rattle.tree.specs.declared.Call.{Call}
 use Rattle.tree.specs.declared.Outcome.{Outcome}
 use Rattle.talks.specs.Talks.{MayHear, Asked}
@@ -30,41 +31,41 @@ pub sent : (unique : ℕ) (it : Said) (r : Reply) (old new : List ℕ) → ((u :
 sent unique it r old new same is = (said_is_reply it, is ∙ ap (λ (x : List ℕ). old ++ x) (same unique))
 
 -- what is said to bytes was written
-pub told : {S : Type 0} (may : S → Ask → Heard → S → Type 0) (bytes : List ℕ) (unique capacity : ℕ) (s : S) (old mid : List ℕ) (t : S)
-    (new : List ℕ) (it : Said) → mid ≡ old → Asked may s (it ≡ said.Synced) t → IsSaidToBytes bytes it → IsSent unique it mid new
-    → IsTold may bytes unique capacity s old t new
-told may bytes unique capacity s old mid t new it same asked fits written =
+pub told : {S : Type 0} (may : S → Ask → Heard → S → Type 0) (k : Known) (bytes : List ℕ) (unique capacity : ℕ) (s : S) (old mid : List ℕ) (t : S)
+    (new : List ℕ) (it : Said) → mid ≡ old → Asked may s (it ≡ said.Synced) t → IsSaidToBytes k bytes it → IsSent unique it mid new
+    → IsTold may k bytes unique capacity s old t new
+told may k bytes unique capacity s old mid t new it same asked fits written =
     let P : List ℕ → Type 0 = λ x. IsSent unique it x new in (it, subst P same written, asked, inl fits)
 
 no_sync : no_memory ≡ said.Synced → ⊥
 no_sync e = cc
 
 -- there was no room for the longest answer
-pub no_room : {S A E : Type 0} (may : S → Ask → Heard → S → Type 0) (bytes : List ℕ) (unique capacity : ℕ) (s : S) (old mid new : List ℕ)
+pub no_room : {S A E : Type 0} (may : S → Ask → Heard → S → Type 0) (k : Known) (bytes : List ℕ) (unique capacity : ℕ) (s : S) (old mid new : List ℕ)
     (r : Result A E) → mid ≡ old → capacity < length old + 65552 → OnOk r (IsSent unique no_memory mid new)
-    → OnOk r (IsTold may bytes unique capacity s old s new)
-no_room may bytes unique capacity s old mid new (Ok a) same less written =
+    → OnOk r (IsTold may k bytes unique capacity s old s new)
+no_room may k bytes unique capacity s old mid new (Ok a) same less written =
     let P : List ℕ → Type 0 = λ x. IsSent unique no_memory x new in
     (no_memory, subst P same written, ([], refl, λ e. absurd (no_sync e)), inr (refl, refl, less))
-no_room may bytes unique capacity s old mid new (Err e) same less written = tt
+no_room may k bytes unique capacity s old mid new (Err e) same less written = tt
 
 -- a message that has an answer was answered
-pub loud : {S A E : Type 0} (may : S → Ask → Heard → S → Type 0) (bytes : List ℕ) (opcode unique capacity : ℕ) (s : S) (old : List ℕ) (t : S)
+pub loud : {S A E : Type 0} (may : S → Ask → Heard → S → Type 0) (k : Known) (bytes : List ℕ) (opcode unique capacity : ℕ) (s : S) (old : List ℕ) (t : S)
     (new : List ℕ) (r : Result A E) → opcode ≡ opcode_in bytes → unique ≡ unique_in bytes → is_silent opcode ≡ false
-    → OnOk r (IsTold may bytes unique capacity s old t new) → OnOk r (IsAnswered may bytes capacity s old t new)
-loud may bytes opcode unique capacity s old t new (Ok a) same_opcode same_unique answers it =
-    let U : ℕ → Type 0 = λ u. IsTold may bytes u capacity s old t new in
+    → OnOk r (IsTold may k bytes unique capacity s old t new) → OnOk r (IsAnswered may k bytes capacity s old t new)
+loud may k bytes opcode unique capacity s old t new (Ok a) same_opcode same_unique answers it =
+    let U : ℕ → Type 0 = λ u. IsTold may k bytes u capacity s old t new in
     let L : ℕ → Type 0 = λ o. is_silent o ≡ false in
-    let P : Bool → Type 0 = λ b. IsAnsweredAs may b bytes capacity s old t new in
+    let P : Bool → Type 0 = λ b. IsAnsweredAs may k b bytes capacity s old t new in
     subst P (sym (subst L same_opcode answers)) (subst U same_unique it)
-loud may bytes opcode unique capacity s old t new (Err e) same_opcode same_unique answers it = tt
+loud may k bytes opcode unique capacity s old t new (Err e) same_opcode same_unique answers it = tt
 
 -- one that has none was not
-pub silently : {S : Type 0} (may : S → Ask → Heard → S → Type 0) (bytes : List ℕ) (opcode capacity : ℕ) (s : S) (old : List ℕ)
-    → opcode ≡ opcode_in bytes → is_silent opcode ≡ true → IsAnswered may bytes capacity s old s old
-silently may bytes opcode capacity s old same_opcode silent =
+pub silently : {S : Type 0} (may : S → Ask → Heard → S → Type 0) (k : Known) (bytes : List ℕ) (opcode capacity : ℕ) (s : S) (old : List ℕ)
+    → opcode ≡ opcode_in bytes → is_silent opcode ≡ true → IsAnswered may k bytes capacity s old s old
+silently may k bytes opcode capacity s old same_opcode silent =
     let L : ℕ → Type 0 = λ o. is_silent o ≡ true in
-    let P : Bool → Type 0 = λ b. IsAnsweredAs may b bytes capacity s old s old in
+    let P : Bool → Type 0 = λ b. IsAnsweredAs may k b bytes capacity s old s old in
     subst P (sym (subst L same_opcode silent)) (refl, refl)
 
 never : (b : Bool) → b ≡ false → IsTrue b → ⊥
@@ -72,39 +73,39 @@ never true e h = cc
 never false e h = cc
 
 -- an answer has bytes
-pub loud_has_bytes : {S A E : Type 0} (may : S → Ask → Heard → S → Type 0) (bytes : List ℕ) (opcode unique capacity : ℕ) (s : S)
+pub loud_has_bytes : {S A E : Type 0} (may : S → Ask → Heard → S → Type 0) (k : Known) (bytes : List ℕ) (opcode unique capacity : ℕ) (s : S)
     (old : List ℕ) (t : S) (new : List ℕ) (r : Result A E) → opcode ≡ opcode_in bytes → is_silent opcode ≡ false
-    → OnOk r (IsTold may bytes unique capacity s old t new) → OnOk r ((new ≡ old) ↔ IsTrue (is_silent (opcode_in bytes)))
-loud_has_bytes may bytes opcode unique capacity s old t new (Ok a) same_opcode answers (it, written, asked, fits) =
+    → OnOk r (IsTold may k bytes unique capacity s old t new) → OnOk r ((new ≡ old) ↔ IsTrue (is_silent (opcode_in bytes)))
+loud_has_bytes may k bytes opcode unique capacity s old t new (Ok a) same_opcode answers (it, written, asked, fits) =
     let L : ℕ → Type 0 = λ o. is_silent o ≡ false in (
       λ same. absurd (has_bytes unique (reply_to it) old new written.1 same),
       λ silent. absurd (never (is_silent (opcode_in bytes)) (subst L same_opcode answers) silent),
     )
-loud_has_bytes may bytes opcode unique capacity s old t new (Err e) same_opcode answers it = tt
+loud_has_bytes may k bytes opcode unique capacity s old t new (Err e) same_opcode answers it = tt
 
 -- what was read is answered
-pub to_read : (bytes : List ℕ) (read : Result Message MalformedMessage) (m : Message) (it : Said) → read ≡ Ok m
-    → Gives (λ (x : Message). view x) read (request_at bytes) → IsSaidTo m.request it → IsSaidToBytes bytes it
-to_read bytes read m it is gives fits =
-    let P : Result Message MalformedMessage → Type 0 = λ r. IsSaidToRead r it in (read, gives, subst P (sym is) fits)
+pub to_read : (k : Known) (bytes : List ℕ) (read : Result Message MalformedMessage) (m : Message) (it : Said) → read ≡ Ok m
+    → Gives (λ (x : Message). view x) read (request_at bytes) → IsSaidTo k m.request it → IsSaidToBytes k bytes it
+to_read k bytes read m it is gives fits =
+    let P : Result Message MalformedMessage → Type 0 = λ r. IsSaidToRead k r it in (read, gives, subst P (sym is) fits)
 
 -- what can't be read is refused
-pub to_unread : (bytes : List ℕ) (read : Result Message MalformedMessage) (fault : MalformedMessage) → read ≡ Err fault
+pub to_unread : (k : Known) (bytes : List ℕ) (read : Result Message MalformedMessage) (fault : MalformedMessage) → read ≡ Err fault
     → Gives (λ (x : Message). view x) read (request_at bytes)
-    → IsSaidToBytes bytes (said.Plain (answer_of.Refused (By EINVAL)))
-to_unread bytes read fault is gives =
-    let P : Result Message MalformedMessage → Type 0 = λ r. IsSaidToRead r (said.Plain (answer_of.Refused (By EINVAL))) in
+    → IsSaidToBytes k bytes (said.Plain (answer_of.Refused (By EINVAL)))
+to_unread k bytes read fault is gives =
+    let P : Result Message MalformedMessage → Type 0 = λ r. IsSaidToRead k r (said.Plain (answer_of.Refused (By EINVAL))) in
     (read, gives, subst P (sym is) refl)
 
 -- a message is answered into an empty buffer
 pub by_any : {S A E : Type 0} (called : S → ℕ → ℕ → Call → Outcome → S → Type 0) (entered : S → ℕ → ℕ → Result ℕ EnterRefusal → S → Type 0)
-    (left : S → S → Type 0) (now : ℕ) (bytes : List ℕ) (capacity : ℕ) (s : S) (old : List ℕ) (t : S) (new : List ℕ) (r : Result A E)
-    → old ≡ [] → OnOk r (IsAnswered (MayHear called entered left now) bytes capacity s old t new)
-    → OnOk r (IsAnsweredBy called entered left bytes new s t)
-by_any called entered left now bytes capacity s old t new (Ok a) empty it =
-    let P : List ℕ → Type 0 = λ x. IsAnswered (MayHear called entered left now) bytes capacity s x t new in
+    (left : S → S → Type 0) (now : ℕ) (k : Known) (bytes : List ℕ) (capacity : ℕ) (s : S) (old : List ℕ) (t : S) (new : List ℕ) (r : Result A E)
+    → old ≡ [] → OnOk r (IsAnswered (MayHear called entered left now) k bytes capacity s old t new)
+    → OnOk r (IsAnsweredBy called entered left k bytes new s t)
+by_any called entered left now k bytes capacity s old t new (Ok a) empty it =
+    let P : List ℕ → Type 0 = λ x. IsAnswered (MayHear called entered left now) k bytes capacity s x t new in
     (now, capacity, subst P empty it)
-by_any called entered left now bytes capacity s old t new (Err e) empty it = tt
+by_any called entered left now k bytes capacity s old t new (Err e) empty it = tt
 
 -- nothing was asked, and an empty buffer stays so
 pub stays_empty : {S M A E : Type 0} (s t : S) (m n : M) (old new : List ℕ) (r : Result A E) → old ≡ []

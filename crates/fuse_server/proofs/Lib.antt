@@ -3,3 +3,4 @@ pub mod Syncs
 pub mod Replies
 pub mod KindLaws
 pub mod Answering
+pub mod Entries

@@ -7,6 +7,7 @@ use Rattle.fuse.specs.declared.request.Message.{Message}
 use Rattle.fuse.specs.Reading.{request_at}
 use Rattle.fuse.specs.Requests.{view}
 use Rattle.fuse.specs.Replies.{IsReply, answer}
+use Rattle.fuse_nodes.specs.Known.{Known}
 use Rattle.tree.specs.declared.Call.{Call}
 use Rattle.tree.specs.declared.Outcome.{Outcome}
 use Rattle.talks.specs.Talks.{MayHear, Asked}
@@ -21,14 +22,14 @@ use Rattle.fuse_server.specs.Kinds.{IsSaidTo, reply_to}
 use Rattle.fuse_server.specs.Messages.{opcode_in, unique_in, is_silent}
 
 -- what may be said to what was read
-abbrev pub IsSaidToRead : Result Message MalformedMessage → Said → Type 0
-IsSaidToRead (Ok m) it = IsSaidTo m.request it
-IsSaidToRead (Err fault) it = it ≡ said.Plain (answer_of.Refused (By EINVAL))
+abbrev pub IsSaidToRead : Known → Result Message MalformedMessage → Said → Type 0
+IsSaidToRead k (Ok m) it = IsSaidTo k m.request it
+IsSaidToRead k (Err fault) it = it ≡ said.Plain (answer_of.Refused (By EINVAL))
 
--- what may be said to the bytes of a message
-abbrev pub IsSaidToBytes : List ℕ → Said → Type 0
-IsSaidToBytes bytes it =
-    (read : Result Message MalformedMessage) × Gives (λ (m : Message). view m) read (request_at bytes) × IsSaidToRead read it
+-- what may be said to the bytes of a message, by what is known behind it
+abbrev pub IsSaidToBytes : Known → List ℕ → Said → Type 0
+IsSaidToBytes k bytes it =
+    (read : Result Message MalformedMessage) × Gives (λ (m : Message). view m) read (request_at bytes) × IsSaidToRead k read it
 
 -- where the buffer has no room for the longest answer
 abbrev pub no_memory : Said
@@ -40,21 +41,21 @@ IsSent unique it old new = IsReply (reply_to it) × (new ≡ old ++ answer uniqu
 
 -- One answer more, with this number: what may be said to the bytes, behind exchanges that led the sessions from one state to the other, or
 -- that there is no memory, and then nothing was asked. That a sync was done is said only where it was, and that was the last exchange.
-abbrev pub IsTold : {S : Type 0} → (S → Ask → Heard → S → Type 0) → List ℕ → ℕ → ℕ → S → List ℕ → S → List ℕ → Type 0
-IsTold may bytes unique capacity s old t new = (it : Said) × IsSent unique it old new × Asked may s (it ≡ said.Synced) t
-    × (IsSaidToBytes bytes it ⊎ ((it ≡ no_memory) × (t ≡ s) × (capacity < length old + 65552)))
+abbrev pub IsTold : {S : Type 0} → (S → Ask → Heard → S → Type 0) → Known → List ℕ → ℕ → ℕ → S → List ℕ → S → List ℕ → Type 0
+IsTold may k bytes unique capacity s old t new = (it : Said) × IsSent unique it old new × Asked may s (it ≡ said.Synced) t
+    × (IsSaidToBytes k bytes it ⊎ ((it ≡ no_memory) × (t ≡ s) × (capacity < length old + 65552)))
 
 -- A message that has no answer: nothing is asked, and nothing is said.
-abbrev pub IsAnsweredAs : {S : Type 0} → (S → Ask → Heard → S → Type 0) → Bool → List ℕ → ℕ → S → List ℕ → S → List ℕ → Type 0
-IsAnsweredAs may true bytes capacity s old t new = (t ≡ s) × (new ≡ old)
-IsAnsweredAs may false bytes capacity s old t new = IsTold may bytes (unique_in bytes) capacity s old t new
+abbrev pub IsAnsweredAs : {S : Type 0} → (S → Ask → Heard → S → Type 0) → Known → Bool → List ℕ → ℕ → S → List ℕ → S → List ℕ → Type 0
+IsAnsweredAs may k true bytes capacity s old t new = (t ≡ s) × (new ≡ old)
+IsAnsweredAs may k false bytes capacity s old t new = IsTold may k bytes (unique_in bytes) capacity s old t new
 
 -- how a message is answered, into a buffer of this capacity
-abbrev pub IsAnswered : {S : Type 0} → (S → Ask → Heard → S → Type 0) → List ℕ → ℕ → S → List ℕ → S → List ℕ → Type 0
-IsAnswered may bytes capacity s old t new = IsAnsweredAs may (is_silent (opcode_in bytes)) bytes capacity s old t new
+abbrev pub IsAnswered : {S : Type 0} → (S → Ask → Heard → S → Type 0) → Known → List ℕ → ℕ → S → List ℕ → S → List ℕ → Type 0
+IsAnswered may k bytes capacity s old t new = IsAnsweredAs may k (is_silent (opcode_in bytes)) bytes capacity s old t new
 
 -- how a mount answers a message at some time, into an empty buffer, by what sessions may answer
 abbrev pub IsAnsweredBy : {S : Type 0} → (S → ℕ → ℕ → Call → Outcome → S → Type 0) → (S → ℕ → ℕ → Result ℕ EnterRefusal → S → Type 0)
-    → (S → S → Type 0) → List ℕ → List ℕ → S → S → Type 0
-IsAnsweredBy called entered left bytes told s t =
-    (now : ℕ) × (capacity : ℕ) × IsAnswered (MayHear called entered left now) bytes capacity s [] t told
+    → (S → S → Type 0) → Known → List ℕ → List ℕ → S → S → Type 0
+IsAnsweredBy called entered left k bytes told s t =
+    (now : ℕ) × (capacity : ℕ) × IsAnswered (MayHear called entered left now) k bytes capacity s [] t told

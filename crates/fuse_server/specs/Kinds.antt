@@ -1,9 +1,11 @@
 -- Which answer a request has.
-use Rattle.std.specs.Prelude.{⊤, ◌≡◌, ◌≤◌, ℕ, Bool, true, false, IsTrue, List, take, length}
+use Rattle.std.specs.Prelude.{⊤, ◌≡◌, ◌≤◌, ◌⊎◌, ℕ, Some, Bool, true, false, IsTrue, List, take, length}
+use Rattle.fuse.specs.declared.reply.Entry.{Entry}
 use Rattle.fuse.specs.declared.reply.Reply.{Reply}
 use Rattle.fuse.specs.declared.reply.Reply.TheVariants as reply
 use Rattle.fuse.specs.declared.request.Request.{Request}
 use Rattle.fuse.specs.declared.request.Request.TheVariants as request
+use Rattle.fuse_nodes.specs.Known.{Known}
 use Rattle.talks.specs.Numbers.{number_of}
 use Rattle.talks.specs.Plain.{at}
 use Rattle.fuse_server.specs.declared.said.FuseAnswer.{FuseAnswer}
@@ -27,10 +29,6 @@ abbrev pub is_init : FuseAnswer → Bool
 is_init (answer_of.Init settled) = true
 is_init a = is_refusal a
 
-abbrev pub is_entry : FuseAnswer → Bool
-is_entry (answer_of.Entry entry) = true
-is_entry a = is_refusal a
-
 abbrev pub is_attributes : FuseAnswer → Bool
 is_attributes (answer_of.Attributes attributes) = true
 is_attributes a = is_refusal a
@@ -39,10 +37,6 @@ abbrev pub is_open : FuseAnswer → Bool
 is_open (answer_of.Open opened) = true
 is_open a = is_refusal a
 
-abbrev pub is_create : FuseAnswer → Bool
-is_create (answer_of.Create entry opened) = true
-is_create a = is_refusal a
-
 abbrev pub is_room : FuseAnswer → Bool
 is_room (answer_of.Statfs room) = true
 is_room a = is_refusal a
@@ -50,6 +44,18 @@ is_room a = is_refusal a
 abbrev pub is_bytes : FuseAnswer → Bool
 is_bytes (answer_of.Bytes bytes) = true
 is_bytes a = is_refusal a
+
+-- An entry names its inode's node, by what is known then, or node 0, which is nothing.
+abbrev pub IsKnown : Known → Entry → Type 0
+IsKnown k e = (e.node ≡ 0) ⊎ (k.numbers e.attributes.inode ≡ Some e.node)
+
+abbrev pub IsEntry : Known → FuseAnswer → Type 0
+IsEntry k (answer_of.Entry entry) = IsKnown k entry
+IsEntry k a = IsTrue (is_refusal a)
+
+abbrev pub IsCreate : Known → FuseAnswer → Type 0
+IsCreate k (answer_of.Create entry opened) = IsKnown k entry
+IsCreate k a = IsTrue (is_refusal a)
 
 -- bytes, at most so many
 abbrev pub IsWithin : ℕ → FuseAnswer → Type 0
@@ -61,33 +67,33 @@ abbrev pub IsCount : ℕ → FuseAnswer → Type 0
 IsCount most (answer_of.Write count) = count ≤ most
 IsCount most a = IsTrue (is_refusal a)
 
--- Which answer a request has, unless it is a sync that was done. A READ and a READDIR tell no more bytes than were asked for, and a WRITE no
+-- Which answer a request has, by what is known behind it, unless it is a sync that was done. A READ and a READDIR tell no more bytes than were asked for, and a WRITE no
 -- more than were given.
-abbrev pub IsFor : Request → FuseAnswer → Type 0
-IsFor (request.Lookup name) a = IsTrue (is_entry a)
-IsFor (request.Getattr flags handle) a = IsTrue (is_attributes a)
-IsFor (request.Setattr valid handle size lock_owner atime mtime ctime mode uid gid) a = IsTrue (is_attributes a)
-IsFor request.Readlink a = IsTrue (is_bytes a)
-IsFor (request.Symlink name target) a = IsTrue (is_entry a)
-IsFor (request.Mknod mode device umask name) a = IsTrue (is_entry a)
-IsFor (request.Mkdir mode umask name) a = IsTrue (is_entry a)
-IsFor (request.Unlink name) a = IsTrue (is_done a)
-IsFor (request.Rmdir name) a = IsTrue (is_done a)
-IsFor (request.Rename new_directory old_name new_name) a = IsTrue (is_done a)
-IsFor (request.Rename2 new_directory flags old_name new_name) a = IsTrue (is_done a)
-IsFor (request.Link file name) a = IsTrue (is_entry a)
-IsFor (request.Open flags open_flags) a = IsTrue (is_open a)
-IsFor (request.Read span) a = IsWithin span.count a
-IsFor (request.Write handle offset write_flags lock_owner flags bytes) a = IsCount (length bytes.now) a
-IsFor request.Statfs a = IsTrue (is_room a)
-IsFor (request.Release handle flags release_flags lock_owner) a = IsTrue (is_done a)
-IsFor (request.Init major minor readahead flags more) a = IsTrue (is_init a)
-IsFor (request.Opendir flags open_flags) a = IsTrue (is_open a)
-IsFor (request.Readdir span) a = IsWithin span.count a
-IsFor (request.Releasedir handle flags release_flags lock_owner) a = IsTrue (is_done a)
-IsFor (request.Create flags mode umask open_flags name) a = IsTrue (is_create a)
-IsFor request.Destroy a = IsTrue (is_done a)
-IsFor r a = IsTrue (is_refusal a)
+abbrev pub IsFor : Known → Request → FuseAnswer → Type 0
+IsFor k (request.Lookup name) a = IsEntry k a
+IsFor k (request.Getattr flags handle) a = IsTrue (is_attributes a)
+IsFor k (request.Setattr valid handle size lock_owner atime mtime ctime mode uid gid) a = IsTrue (is_attributes a)
+IsFor k request.Readlink a = IsTrue (is_bytes a)
+IsFor k (request.Symlink name target) a = IsEntry k a
+IsFor k (request.Mknod mode device umask name) a = IsEntry k a
+IsFor k (request.Mkdir mode umask name) a = IsEntry k a
+IsFor k (request.Unlink name) a = IsTrue (is_done a)
+IsFor k (request.Rmdir name) a = IsTrue (is_done a)
+IsFor k (request.Rename new_directory old_name new_name) a = IsTrue (is_done a)
+IsFor k (request.Rename2 new_directory flags old_name new_name) a = IsTrue (is_done a)
+IsFor k (request.Link file name) a = IsEntry k a
+IsFor k (request.Open flags open_flags) a = IsTrue (is_open a)
+IsFor k (request.Read span) a = IsWithin span.count a
+IsFor k (request.Write handle offset write_flags lock_owner flags bytes) a = IsCount (length bytes.now) a
+IsFor k request.Statfs a = IsTrue (is_room a)
+IsFor k (request.Release handle flags release_flags lock_owner) a = IsTrue (is_done a)
+IsFor k (request.Init major minor readahead flags more) a = IsTrue (is_init a)
+IsFor k (request.Opendir flags open_flags) a = IsTrue (is_open a)
+IsFor k (request.Readdir span) a = IsWithin span.count a
+IsFor k (request.Releasedir handle flags release_flags lock_owner) a = IsTrue (is_done a)
+IsFor k (request.Create flags mode umask open_flags name) a = IsCreate k a
+IsFor k request.Destroy a = IsTrue (is_done a)
+IsFor k r a = IsTrue (is_refusal a)
 
 -- FSYNC and FSYNCDIR may be answered that a sync was done
 abbrev pub is_sync : Request → Bool
@@ -95,9 +101,9 @@ is_sync (request.Fsync handle fsync_flags) = true
 is_sync (request.Fsyncdir handle fsync_flags) = true
 is_sync r = false
 
-abbrev pub IsSaidTo : Request → Said → Type 0
-IsSaidTo r (said.Plain a) = IsFor r a
-IsSaidTo r said.Synced = IsTrue (is_sync r)
+abbrev pub IsSaidTo : Known → Request → Said → Type 0
+IsSaidTo k r (said.Plain a) = IsFor k r a
+IsSaidTo k r said.Synced = IsTrue (is_sync r)
 
 -- The reply of an answer. Numbers of errors are Linux's: 38 where a request isn't one that is answered here, 71 where the protocol has
 -- another version. Attributes may be kept for a day.

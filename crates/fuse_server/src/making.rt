@@ -3,7 +3,8 @@
 
 ghost use Rattle.std.specs.Prelude.{IfOk, IsTrue};
 ghost use Rattle.fuse_server.specs.Asking.{Talked};
-ghost use Rattle.fuse_server.specs.Kinds.{is_entry, is_create};
+ghost use Rattle.fuse_nodes.specs.Known.{known_of};
+ghost use Rattle.fuse_server.specs.Kinds.{IsKnown, IsEntry, IsCreate};
 
 use crate::descriptors::{NEW, Opening, close};
 use crate::mount::Mount;
@@ -76,7 +77,7 @@ impl Mount {
         owner: Owner,
     ) -> Result<FuseAnswer, Refused>
         ensures asked { Talked S.called S.entered S.left now sessions.old sessions.new }
-        ensures told { IfOk result (λ a. IsTrue (is_entry a)) }
+        ensures told { IfOk result (IsEntry (known_of self.new.nodes)) }
     {
         self.give(sessions, now, path, owner)?;
         Ok(FuseAnswer::Entry(self.tell(sessions, now, name, path)?))
@@ -110,7 +111,7 @@ impl Mount {
         mode: u32,
     ) -> Result<FuseAnswer, Refused>
         ensures asked { Talked S.called S.entered S.left now sessions.old sessions.new }
-        ensures told { IfOk result (λ a. IsTrue (is_entry a)) }
+        ensures told { IfOk result (IsEntry (known_of self.new.nodes)) }
     {
         if !is_file(mode) {
             return Err(Refused::By(Errno::EPERM));
@@ -132,7 +133,7 @@ impl Mount {
         mode: u32,
     ) -> Result<FuseAnswer, Refused>
         ensures asked { Talked S.called S.entered S.left now sessions.old sessions.new }
-        ensures told { IfOk result (λ a. IsTrue (is_entry a)) }
+        ensures told { IfOk result (IsEntry (known_of self.new.nodes)) }
     {
         let owner = owner_of(message)?;
         let path = self.path_of(name)?;
@@ -153,7 +154,7 @@ impl Mount {
         target: &[u8],
     ) -> Result<FuseAnswer, Refused>
         ensures asked { Talked S.called S.entered S.left now sessions.old sessions.new }
-        ensures told { IfOk result (λ a. IsTrue (is_entry a)) }
+        ensures told { IfOk result (IsEntry (known_of self.new.nodes)) }
     {
         let path = self.path_of(name)?;
         let call = Call::Symlink {
@@ -184,7 +185,9 @@ impl Mount {
         name: NameIn<'_>,
         attributes: &Attributes,
         descriptor: Descriptor,
-    ) -> Result<(Entry, Opened), Refused> {
+    ) -> Result<(Entry, Opened), Refused>
+        ensures { IfOk result (λ x. IsKnown (known_of self.new.nodes) x.0) }
+    {
         let kind = kind_of(attributes.mode);
         let node = self
             .nodes
@@ -212,7 +215,7 @@ impl Mount {
         descriptor: Descriptor,
     ) -> Result<FuseAnswer, Refused>
         ensures asked { Talked S.called S.entered S.left now sessions.old sessions.new }
-        ensures told { IfOk result (λ a. IsTrue (is_create a)) }
+        ensures told { IfOk result (IsCreate (known_of self.new.nodes)) }
     {
         let attributes = self.look_at_made(sessions, now, path, owner)?;
         let (entry, opened) = self.tell_opened(name, &attributes, descriptor)?;
@@ -229,7 +232,7 @@ impl Mount {
         mode: u32,
     ) -> Result<FuseAnswer, Refused>
         ensures asked { Talked S.called S.entered S.left now sessions.old sessions.new }
-        ensures told { IfOk result (λ a. IsTrue (is_create a)) }
+        ensures told { IfOk result (IsCreate (known_of self.new.nodes)) }
     {
         let owner = owner_of(message)?;
         let path = self.path_of(name)?;

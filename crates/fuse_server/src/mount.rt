@@ -1,6 +1,7 @@
 //! A mount, which answers the kernel's messages.
 
 ghost use Rattle.std.specs.Prelude.{◌≡◌, ◌<◌, ◌+◌, ◌↔◌, IsTrue, Err, IfErr, OnOk, OnErr, length, vec_len, vec_capacity};
+ghost use Rattle.fuse_nodes.specs.Known.{known_of};
 ghost use Rattle.talks.specs.Talks.{MayHear};
 ghost use Rattle.fuse_server.specs.Messages.{opcode_in, is_silent};
 ghost use Rattle.fuse_server.specs.Answering.{IsAnswered, IsAnsweredBy, IsTold};
@@ -47,7 +48,7 @@ impl Mount {
         bytes: &[u8],
         out: &mut Vec<u8>,
     ) -> Result<(), End>
-        ensures told { OnOk result (IsTold (MayHear S.called S.entered S.left now) bytes.now head.unique (vec_capacity out.old) sessions.old
+        ensures told { OnOk result (IsTold (MayHear S.called S.entered S.left now) (known_of self.new.nodes) bytes.now head.unique (vec_capacity out.old) sessions.old
             out.old.items sessions.new out.new.items) }
         ensures err { IfErr result (λ e. e ≡ End.OutOfMemory) }
         ensures full { OnErr result (vec_capacity out.old < vec_len out.old + 65552) }
@@ -75,7 +76,7 @@ impl Mount {
         bytes: &[u8],
         out: &mut Vec<u8>,
     ) -> Result<(), End>
-        ensures answered { OnOk result (IsAnswered (MayHear S.called S.entered S.left now) bytes.now (vec_capacity out.old) sessions.old
+        ensures answered { OnOk result (IsAnswered (MayHear S.called S.entered S.left now) (known_of self.new.nodes) bytes.now (vec_capacity out.old) sessions.old
             out.old.items sessions.new out.new.items) }
         ensures silent { OnOk result ((out.new.items ≡ out.old.items) ↔ IsTrue (is_silent (opcode_in bytes.now))) }
         ensures short { (result ≡ Err End.NoMessage) ↔ (length bytes.now < 40) }
@@ -92,7 +93,7 @@ impl Mount {
 }
 
 impl Answers for Mount {
-    ghost answers = { λ S called entered left bytes answer s m t n. IsAnsweredBy called entered left bytes answer s t };
+    ghost answers = { λ S called entered left bytes answer s m t n. IsAnsweredBy called entered left (known_of n.nodes) bytes answer s t };
 
     ghost fewest = { 40 };
 

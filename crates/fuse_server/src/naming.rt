@@ -3,7 +3,8 @@
 
 ghost use Rattle.std.specs.Prelude.{IfOk, IsTrue};
 ghost use Rattle.fuse_server.specs.Asking.{Talked};
-ghost use Rattle.fuse_server.specs.Kinds.{is_entry, is_done};
+ghost use Rattle.fuse_nodes.specs.Known.{known_of};
+ghost use Rattle.fuse_server.specs.Kinds.{is_done, IsKnown, IsEntry};
 
 use crate::mount::Mount;
 use crate::said::FuseAnswer;
@@ -45,7 +46,8 @@ impl Mount {
         name: NameIn<'_>,
         path: &[u8],
     ) -> Result<Entry, Refused>
-        ensures { Talked S.called S.entered S.left now sessions.old sessions.new }
+        ensures asked { Talked S.called S.entered S.left now sessions.old sessions.new }
+        ensures told { IfOk result (IsKnown (known_of self.new.nodes)) }
     {
         let attributes = self.look(sessions, now, path)?;
         let kind = kind_of(attributes.mode);
@@ -63,7 +65,7 @@ impl Mount {
         name: NameIn<'_>,
     ) -> Result<FuseAnswer, Refused>
         ensures asked { Talked S.called S.entered S.left now sessions.old sessions.new }
-        ensures told { IfOk result (λ a. IsTrue (is_entry a)) }
+        ensures told { IfOk result (IsEntry (known_of self.new.nodes)) }
     {
         let path = self.path_of(name)?;
         match self.tell(sessions, now, name, &path) {
@@ -82,7 +84,7 @@ impl Mount {
         name: NameIn<'_>,
     ) -> Result<FuseAnswer, Refused>
         ensures asked { Talked S.called S.entered S.left now sessions.old sessions.new }
-        ensures told { IfOk result (λ a. IsTrue (is_entry a)) }
+        ensures told { IfOk result (IsEntry (known_of self.new.nodes)) }
     {
         let old = self.nodes.path(file)?;
         let new = self.path_of(name)?;

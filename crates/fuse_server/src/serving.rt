@@ -2,6 +2,7 @@
 #![tactic(auto, using(crate::proofs::Asking::goes_on, crate::proofs::Asking::stays))]
 
 ghost use Rattle.std.specs.Prelude.{◌≡◌, IfOk, IsTrue};
+ghost use Rattle.fuse_nodes.specs.Known.{known_of};
 ghost use Rattle.talks.specs.Talks.{MayHear, Asked};
 ghost use Rattle.fuse_server.specs.Asking.{Talked};
 ghost use Rattle.fuse_server.specs.Kinds.{is_init, is_sync, IsFor};
@@ -75,7 +76,7 @@ impl Mount {
         message: &Message<'_>,
     ) -> Result<FuseAnswer, Refused>
         ensures asked { Talked S.called S.entered S.left now sessions.old sessions.new }
-        ensures told { IfOk result (IsFor message.now.request) }
+        ensures told { IfOk result (IsFor (known_of self.new.nodes) message.now.request) }
     {
         let directory = message.node;
         match message.request {
@@ -97,7 +98,7 @@ impl Mount {
         message: &Message<'_>,
     ) -> Result<FuseAnswer, Refused>
         ensures asked { Talked S.called S.entered S.left now sessions.old sessions.new }
-        ensures told { IfOk result (IsFor message.now.request) }
+        ensures told { IfOk result (IsFor (known_of self.new.nodes) message.now.request) }
     {
         let directory = message.node;
         match message.request {
@@ -144,7 +145,7 @@ impl Mount {
         message: &Message<'_>,
     ) -> Result<FuseAnswer, Refused>
         ensures asked { Talked S.called S.entered S.left now sessions.old sessions.new }
-        ensures told { IfOk result (IsFor message.now.request) }
+        ensures told { IfOk result (IsFor (known_of self.new.nodes) message.now.request) }
     {
         let directory = message.node;
         match message.request {
@@ -172,7 +173,7 @@ impl Mount {
         message: &Message<'_>,
     ) -> Result<FuseAnswer, Refused>
         ensures asked { Talked S.called S.entered S.left now sessions.old sessions.new }
-        ensures told { IfOk result (IsFor message.now.request) }
+        ensures told { IfOk result (IsFor (known_of self.new.nodes) message.now.request) }
     {
         match message.request {
             Request::Open { .. } => self.open_file(sessions, now, message.node),
@@ -199,7 +200,7 @@ impl Mount {
         message: &Message<'_>,
     ) -> Result<FuseAnswer, Refused>
         ensures asked { Talked S.called S.entered S.left now sessions.old sessions.new }
-        ensures told { IfOk result (IsFor message.now.request) }
+        ensures told { IfOk result (IsFor (known_of self.new.nodes) message.now.request) }
     {
         match message.request {
             Request::Setattr {
@@ -236,7 +237,7 @@ impl Mount {
         message: &Message<'_>,
     ) -> Result<FuseAnswer, Refused>
         ensures asked { Talked S.called S.entered S.left now sessions.old sessions.new }
-        ensures told { IfOk result (IsFor message.now.request) }
+        ensures told { IfOk result (IsFor (known_of self.new.nodes) message.now.request) }
     {
         match message.request {
             Request::Init {
@@ -262,7 +263,7 @@ impl Mount {
         message: &Message<'_>,
     ) -> FuseAnswer
         ensures asked { Talked S.called S.entered S.left now sessions.old sessions.new }
-        ensures told { IsFor message.now.request result }
+        ensures told { IsFor (known_of self.new.nodes) message.now.request result }
     {
         match self.plain(sessions, now, message) {
             Ok(answer) => answer,
@@ -273,7 +274,7 @@ impl Mount {
     /// What is said to the bytes of a message: EINVAL where they can't be read.
     pub(crate) fn said_to<S: Sessions>(&mut self, sessions: &mut S, now: u32, bytes: &[u8]) -> Said
         ensures asked { Asked (MayHear S.called S.entered S.left now) sessions.old (result ≡ Said.Synced) sessions.new }
-        ensures told { IsSaidToBytes bytes.now result }
+        ensures told { IsSaidToBytes (known_of self.new.nodes) bytes.now result }
     {
         match read(bytes) {
             Ok(message) if asks_sync(&message.request) => self.sync(sessions, now),

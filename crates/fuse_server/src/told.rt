@@ -1,5 +1,7 @@
 //! Attributes of nodes and the room of a volume, as answers have them.
 
+ghost use Rattle.std.specs.Prelude.{◌≡◌};
+
 use fuse::reply::{self, Entry, Opened, StatfsReply};
 use fuse_nodes::node::NodeKind;
 use tree::{Attributes, MAX_NAME, Statfs};
@@ -29,7 +31,9 @@ pub(crate) fn kind_of(mode: u16) -> NodeKind {
 }
 
 /// The attributes of a node. Its blocks are counted by its size.
-pub(crate) fn told(attributes: &Attributes) -> reply::Attributes {
+pub(crate) fn told(attributes: &Attributes) -> reply::Attributes
+    ensures { result.inode ≡ attributes.now.inode }
+{
     let size = u64::from(attributes.size);
     reply::Attributes {
         inode: u64::from(attributes.inode),
@@ -49,7 +53,10 @@ pub(crate) fn told(attributes: &Attributes) -> reply::Attributes {
 }
 
 /// What a name leads to: a node with these attributes. No number is used for two nodes, so there is one generation.
-pub(crate) fn entry_of(node: u64, attributes: &Attributes) -> Entry {
+pub(crate) fn entry_of(node: u64, attributes: &Attributes) -> Entry
+    ensures node { result.node ≡ node }
+    ensures inode { result.attributes.inode ≡ attributes.now.inode }
+{
     Entry {
         node,
         generation: 0,
@@ -60,7 +67,9 @@ pub(crate) fn entry_of(node: u64, attributes: &Attributes) -> Entry {
 }
 
 /// That a name leads to nothing.
-pub(crate) fn nothing() -> Entry {
+pub(crate) fn nothing() -> Entry
+    ensures { result.node ≡ 0 }
+{
     Entry {
         node: 0,
         generation: 0,
