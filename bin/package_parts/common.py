@@ -5,7 +5,7 @@ ROOT = pathlib.Path(__file__).resolve().parent.parent.parent
 NAME = "lecternowl"
 DOC = f"usr/share/doc/{NAME}"
 PROGRAMS = ("mkmfs", "mfsck", "mfs", "mfs9p", "mfsfuse", "mfmig", "mfssim")
-SCRIPTS = {"mfs-mount": "mount", "mfs-umount": "umount"}  # by the names that they have in a package; one man page has both
+SCRIPTS = {"mfs-mount": "mount", "mfs-umount": "umount", "mfs-new": "new-volume"}  # by their names in a package; one man page has all
 
 
 def refuse(why, status=1):
