@@ -61,10 +61,11 @@ def try_words(trial, packages):
 
 
 def try_scripts(trial):
-    """--help of each script, by this machine's python3: a root may have none."""
+    """--help of each script, by this machine's python3 or sh: a root may have none."""
     for name in SCRIPTS:
-        done = run([sys.executable, trial.root.folder / "usr/bin" / name, "--help"])
-        right = done.returncode == 0 and f"\nusage: {name} ".encode() in done.stdout and not done.stderr
+        place = trial.root.folder / "usr/bin" / name
+        done = run([sys.executable if b"python3" in place.read_bytes().split(b"\n", 1)[0] else "sh", place, "--help"])
+        right = done.returncode == 0 and f"\nusage: {name} ".encode() in b"\n" + done.stdout and not done.stderr
         trial.tally.judge(f"{name} --help", "" if right else said(done))
 
 
