@@ -1,6 +1,6 @@
 -- What a connection answered, as a relation of its message and its answer.
-use Rattle.std.proofs.Common.{◌≡◌, ◌∙◌, ℕ, List, [], subst}
-use Rattle.std.specs.Prelude.{Result, Ok, Err, OnOk, OnErr}
+use Rattle.std.proofs.Common.{◌≡◌, ℕ, List, [], subst}
+use Rattle.std.specs.Prelude.{Result, Ok, Err, OnOk}
 use Rattle.tree.specs.declared.Call.{Call}
 use Rattle.tree.specs.declared.Outcome.{Outcome}
 use Rattle.ninep_server.specs.Connections.{Answers, Says}
@@ -32,9 +32,3 @@ pub exchanged_ok : {S A E : Type 0} (called : S → ℕ → ℕ → Call → Out
 exchanged_ok called entered left now capacity len message from answer s t k l (Ok a) none zero answered said =
     exchanged called entered left now capacity len message from answer s t k l none zero answered said
 exchanged_ok called entered left now capacity len message from answer s t k l (Err e) none zero answered said = tt
-
--- what was kept behind nothing is nothing
-pub kept_none : {A E S K : Type 0} (r : Result A E) (s t : S) (k l : K) (from to : List ℕ) → from ≡ []
-    → OnErr r ((t ≡ s) × (l ≡ k) × (to ≡ from)) → OnErr r ((t ≡ s) × (to ≡ []))
-kept_none (Ok a) s t k l from to none stays = tt
-kept_none (Err e) s t k l from to none (same, known, kept) = (same, kept ∙ none)

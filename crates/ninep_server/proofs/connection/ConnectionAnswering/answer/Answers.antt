@@ -1,7 +1,7 @@
 use Rattle.std.proofs.Common.{◌≡◌, ℕ, ap, arith, length}
 use Rattle.std.specs.Prelude.{vec_capacity, vec_len}
-use Rattle.ninep_server.proofs.Exchanged.{exchanged_ok, kept_none}
-use Rattle.ninep_server.proofs.connection.ConnectionAnswers.answer.Goals as goal
+use Rattle.ninep_server.proofs.Exchanged.{exchanged_ok}
+use Rattle.ninep_server.proofs.connection.ConnectionAnswering.answer.Goals as goal
 
 pub returns-clause-ok : goal.returns-clause-ok
 returns-clause-ok g c =
@@ -11,8 +11,3 @@ returns-clause-ok g c =
     exchanged_ok g.S.Sessions.called g.S.Sessions.entered g.S.Sessions.left c.args.now (vec_capacity out) (vec_len out) c.args.bytes.now
     out.items c.answer.new.out.items c.args.sessions.now c.answer.new.sessions c.args.self.now c.answer.new.self c.answer.result c.requires
     zero c.answer.ensures.answered c.answer.ensures.said
-
-pub returns-clause-none : goal.returns-clause-none
-returns-clause-none g c =
-    kept_none c.answer.result c.args.sessions.now c.answer.new.sessions c.args.self.now c.answer.new.self c.args.out.now.items
-    c.answer.new.out.items c.requires c.answer.ensures.none
