@@ -93,6 +93,8 @@ pub room_fits : (r : StatfsReply) → size_of (reply.Statfs r) ≤ 65552
 unfolding room_fields
 room_fits r = let e : length (reply_bytes (reply.Statfs r)) ≡ 80 = alone (room_fields r) in omega (arith, e)
 
+pub ruleset fits = (number_fits, init_fits, entry_fits, attributes_fit, opened_fits, created_fits, written_fits, room_fits)
+
 -- an answer has bytes
 pub has_bytes : (unique : ℕ) (r : Reply) (old new : List ℕ) → new ≡ old ++ answer unique r → new ≡ old → ⊥
 has_bytes unique r old new is same =
