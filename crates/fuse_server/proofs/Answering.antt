@@ -1,5 +1,5 @@
 -- How a message is answered, from what is said to it.
-use Rattle.std.proofs.Common.{◌≡◌, ◌∙◌, ◌⊎◌, ◌↔◌, ◌<◌, ◌+◌, ℕ, Bool, true, false, IsTrue, List, [], ◌++◌, length, Result, Ok, Err, OnOk, OnErr}
+use Rattle.std.proofs.Common.{◌≡◌, ◌∙◌, ◌↔◌, ◌<◌, ◌+◌, ℕ, Bool, true, false, IsTrue, List, [], ◌++◌, length, Result, Ok, Err, OnOk, OnErr}
 use Rattle.std.proofs.Common.{refl, sym, ap, subst, inl, inr}
 use Rattle.errno.specs.declared.Errno.TheVariants.{EINVAL}
 use Rattle.fields.specs.declared.fault.MalformedMessage.{MalformedMessage}
@@ -31,9 +31,9 @@ pub sent : (unique : ℕ) (it : Said) (r : Reply) (old new : List ℕ) → ((u :
 sent unique it r old new same is = (said_is_reply it, is ∙ ap (λ (x : List ℕ). old ++ x) (same unique))
 
 -- what is said to bytes was written
-pub told : {S : Type 0} (may : S → Ask → Heard → S → Type 0) (k : Known) (bytes : List ℕ) (unique capacity : ℕ) (s : S) (old mid : List ℕ) (t : S)
-    (new : List ℕ) (it : Said) → mid ≡ old → Asked may s (it ≡ said.Synced) t → IsSaidToBytes k bytes it → IsSent unique it mid new
-    → IsTold may k bytes unique capacity s old t new
+pub told : {S : Type 0} (may : S → Ask → Heard → S → Type 0) (k : Known) (bytes : List ℕ) (unique capacity : ℕ) (s : S)
+    (old mid : List ℕ) (t : S) (new : List ℕ) (it : Said) → mid ≡ old → Asked may s (it ≡ said.Synced) t → IsSaidToBytes k bytes it
+    → IsSent unique it mid new → IsTold may k bytes unique capacity s old t new
 told may k bytes unique capacity s old mid t new it same asked fits written =
     let P : List ℕ → Type 0 = λ x. IsSent unique it x new in (it, subst P same written, asked, inl fits)
 
@@ -41,8 +41,8 @@ no_sync : no_memory ≡ said.Synced → ⊥
 no_sync e = cc
 
 -- there was no room for the longest answer
-pub no_room : {S A E : Type 0} (may : S → Ask → Heard → S → Type 0) (k : Known) (bytes : List ℕ) (unique capacity : ℕ) (s : S) (old mid new : List ℕ)
-    (r : Result A E) → mid ≡ old → capacity < length old + 65552 → OnOk r (IsSent unique no_memory mid new)
+pub no_room : {S A E : Type 0} (may : S → Ask → Heard → S → Type 0) (k : Known) (bytes : List ℕ) (unique capacity : ℕ) (s : S)
+    (old mid new : List ℕ) (r : Result A E) → mid ≡ old → capacity < length old + 65552 → OnOk r (IsSent unique no_memory mid new)
     → OnOk r (IsTold may k bytes unique capacity s old s new)
 no_room may k bytes unique capacity s old mid new (Ok a) same less written =
     let P : List ℕ → Type 0 = λ x. IsSent unique no_memory x new in
@@ -50,8 +50,8 @@ no_room may k bytes unique capacity s old mid new (Ok a) same less written =
 no_room may k bytes unique capacity s old mid new (Err e) same less written = tt
 
 -- a message that has an answer was answered
-pub loud : {S A E : Type 0} (may : S → Ask → Heard → S → Type 0) (k : Known) (bytes : List ℕ) (opcode unique capacity : ℕ) (s : S) (old : List ℕ) (t : S)
-    (new : List ℕ) (r : Result A E) → opcode ≡ opcode_in bytes → unique ≡ unique_in bytes → is_silent opcode ≡ false
+pub loud : {S A E : Type 0} (may : S → Ask → Heard → S → Type 0) (k : Known) (bytes : List ℕ) (opcode unique capacity : ℕ) (s : S)
+    (old : List ℕ) (t : S) (new : List ℕ) (r : Result A E) → opcode ≡ opcode_in bytes → unique ≡ unique_in bytes → is_silent opcode ≡ false
     → OnOk r (IsTold may k bytes unique capacity s old t new) → OnOk r (IsAnswered may k bytes capacity s old t new)
 loud may k bytes opcode unique capacity s old t new (Ok a) same_opcode same_unique answers it =
     let U : ℕ → Type 0 = λ u. IsTold may k bytes u capacity s old t new in
@@ -99,8 +99,8 @@ to_unread k bytes read fault is gives =
 
 -- a message is answered into an empty buffer
 pub by_any : {S A E : Type 0} (called : S → ℕ → ℕ → Call → Outcome → S → Type 0) (entered : S → ℕ → ℕ → Result ℕ EnterRefusal → S → Type 0)
-    (left : S → S → Type 0) (now : ℕ) (k : Known) (bytes : List ℕ) (capacity : ℕ) (s : S) (old : List ℕ) (t : S) (new : List ℕ) (r : Result A E)
-    → old ≡ [] → OnOk r (IsAnswered (MayHear called entered left now) k bytes capacity s old t new)
+    (left : S → S → Type 0) (now : ℕ) (k : Known) (bytes : List ℕ) (capacity : ℕ) (s : S) (old : List ℕ) (t : S) (new : List ℕ)
+    (r : Result A E) → old ≡ [] → OnOk r (IsAnswered (MayHear called entered left now) k bytes capacity s old t new)
     → OnOk r (IsAnsweredBy called entered left k bytes new s t)
 by_any called entered left now k bytes capacity s old t new (Ok a) empty it =
     let P : List ℕ → Type 0 = λ x. IsAnswered (MayHear called entered left now) k bytes capacity s x t new in

@@ -1,11 +1,9 @@
 -- Answers that requests may have.
-use Rattle.std.proofs.Common.{◌≡◌, true, false, Bool, IsTrue, refl}
-use Rattle.errno.specs.declared.Errno.{Errno}
+use Rattle.std.proofs.Common.{◌≡◌, true, false, refl}
 use Rattle.fuse.specs.declared.request.Request.{Request}
 use Rattle.fuse.specs.declared.request.Request.TheVariants as request
 use Rattle.fuse_nodes.specs.Known.{Known}
 use Rattle.talks.specs.declared.refused.Refused.{Refused}
-use Rattle.fuse_server.specs.declared.said.FuseAnswer.{FuseAnswer}
 use Rattle.fuse_server.specs.declared.said.FuseAnswer.TheVariants as answer_of
 use Rattle.fuse_server.specs.declared.said.Said.{Said}
 use Rattle.fuse_server.specs.declared.said.Said.TheVariants as said

@@ -1,5 +1,5 @@
 -- Replies: which are refusals, and how many bytes they have.
-use Rattle.std.proofs.Common.{◌≡◌, ◌≤◌, ◌<◌, ℕ, ◌+◌, List, [], ◌∷◌, ◌++◌, length, ap, ◌∙◌, arith, lit<}
+use Rattle.std.proofs.Common.{◌≡◌, ◌≤◌, ◌<◌, ℕ, List, [], ◌∷◌, ◌++◌, length, ap, ◌∙◌, arith, lit<}
 use Rattle.std.proofs.lemmas.List.{append-nil, length-append}
 use Rattle.std.specs.Borrow.{Bor}
 use Rattle.errno.specs.declared.Errno.TheVariants as errno
@@ -92,6 +92,8 @@ written_fits n =
 pub room_fits : (r : StatfsReply) → size_of (reply.Statfs r) ≤ 65552
 unfolding room_fields
 room_fits r = let e : length (reply_bytes (reply.Statfs r)) ≡ 80 = alone (room_fields r) in omega (arith, e)
+
+pub ruleset fits = (number_fits, init_fits, entry_fits, attributes_fit, opened_fits, created_fits, written_fits, room_fits)
 
 -- an answer has bytes
 pub has_bytes : (unique : ℕ) (r : Reply) (old new : List ℕ) → new ≡ old ++ answer unique r → new ≡ old → ⊥

@@ -1,15 +1,14 @@
 -- What is said behind a sync, and what is said of anything else.
-use Rattle.std.proofs.Common.{◌≡◌, ℕ, List, ◌∷◌, Result, refl, IsTrue, true, false, Bool}
+use Rattle.std.proofs.Common.{◌≡◌, ℕ, ◌∷◌, Result, refl}
 use Rattle.tree.specs.declared.Call.{Call}
 use Rattle.tree.specs.declared.Call.TheVariants as call
 use Rattle.tree.specs.declared.Outcome.{Outcome}
-use Rattle.talks.specs.Talks.{Exchange, MayHear, Asked, IsDone}
+use Rattle.talks.specs.Talks.{MayHear, Asked, IsDone}
 use Rattle.talks.specs.declared.ask.Ask.TheVariants as ask
 use Rattle.talks.specs.declared.heard.Heard.{Heard}
 use Rattle.talks.specs.declared.sessions.EnterRefusal.{EnterRefusal}
 use Rattle.fuse_server.specs.Asking.{Talked}
 use Rattle.fuse_server.specs.declared.said.FuseAnswer.{FuseAnswer}
-use Rattle.fuse_server.specs.declared.said.Said.{Said}
 use Rattle.fuse_server.specs.declared.said.Said.TheVariants as said
 use Rattle.fuse_server.proofs.Asking.{asks, goes_on}
 

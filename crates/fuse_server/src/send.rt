@@ -34,7 +34,7 @@ fn error<'a>(refused: Refused) -> Reply<'a>
 }
 
 /// The reply of an answer.
-#[tactic(auto, using(crate::proofs::Replies::number_fits, crate::proofs::Replies::init_fits, crate::proofs::Replies::entry_fits, crate::proofs::Replies::attributes_fit, crate::proofs::Replies::opened_fits, crate::proofs::Replies::created_fits, crate::proofs::Replies::written_fits, crate::proofs::Replies::room_fits))]
+#[tactic(auto, using(crate::proofs::Replies::fits))]
 fn reply_of(it: &FuseAnswer) -> Reply<'_>
     ensures told { (unique : ℕ) → answer unique result ≡ answer unique (reply_for it.now) }
     ensures reply { IsReply result }

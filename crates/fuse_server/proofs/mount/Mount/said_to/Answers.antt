@@ -6,5 +6,6 @@ use Rattle.fuse_server.proofs.mount.Mount.said_to.Goals as goal
 
 pub returns-in-Ok-clause-told : goal.returns-in-Ok-clause-told
 returns-in-Ok-clause-told g c =
-    to_read (known_of c.sync.new.self.nodes) c.args.bytes.now c.read.result c.in-Ok.message c.sync.result c.in-Ok.is c.read.ensures.exact
-    (sync_for (known_of c.sync.new.self.nodes) c.in-Ok.message.request c.sync.result (sym c.asks_sync.ensures ∙ c.if-asks_sync.true) c.sync.ensures.sync)
+    let known = known_of c.sync.new.self.nodes in
+    to_read known c.args.bytes.now c.read.result c.in-Ok.message c.sync.result c.in-Ok.is c.read.ensures.exact
+    (sync_for known c.in-Ok.message.request c.sync.result (sym c.asks_sync.ensures ∙ c.if-asks_sync.true) c.sync.ensures.sync)
