@@ -20,6 +20,12 @@ fn code_of(error: &io::Error) -> i32 {
     }
 }
 
+/// Whether a read that failed so is tried again: the message was withdrawn before it was read, or a signal came.
+fn is_passing(error: &io::Error) -> bool {
+    let code = code_of(error);
+    code == WITHDRAWN || code == INTERRUPTED
+}
+
 /// A stream of messages from the kernel, or of answers to it: each read gives one message whole, and each write is one answer. It ends once
 /// the volume is unmounted.
 #[derive(Drop)]
@@ -40,15 +46,9 @@ impl<T: Read> Read for Device<T> {
         for _ in 0..u64::MAX {
             match self.stream.read(buf) {
                 Ok(count) => return Ok(count),
-                Err(error) => {
-                    let code = code_of(&error);
-                    if code == UNMOUNTED {
-                        return Ok(0);
-                    }
-                    if code != WITHDRAWN && code != INTERRUPTED {
-                        return Err(error);
-                    }
-                }
+                Err(error) if code_of(&error) == UNMOUNTED => return Ok(0),
+                Err(error) if !is_passing(&error) => return Err(error),
+                Err(_) => {}
             }
         }
         Ok(0)

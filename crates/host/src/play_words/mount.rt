@@ -43,7 +43,7 @@ pub enum MountProgram {
 
 impl MountProgram {
     /// Its name.
-    fn name(self) -> &'static str {
+    fn name<'a>(self) -> &'a str {
         match self {
             MountProgram::Ninep => "mfs9p",
             MountProgram::Fuse => "mfsfuse",
@@ -51,7 +51,7 @@ impl MountProgram {
     }
 
     /// What it is for.
-    fn about(self) -> &'static str {
+    fn about<'a>(self) -> &'a str {
         match self {
             MountProgram::Ninep => {
                 "Serves the image of a volume by 9P, so that Linux mounts it, while its drivers may die"
@@ -63,7 +63,7 @@ impl MountProgram {
     }
 
     /// How a volume is mounted by it.
-    fn mounting(self) -> &'static str {
+    fn mounting<'a>(self) -> &'a str {
         match self {
             MountProgram::Ninep => BY_NINEP,
             MountProgram::Fuse => BY_FUSE,
