@@ -44,7 +44,8 @@ pub spared_is : (m : BTreeMap ℕ Node) (but id : ℕ) (node : Node) (descriptor
     → Some descriptor ≡ spare_of but id (facts_of node)
     → IsSomeAnd (option_map facts_of (get nat_cmp m id)) (λ (facts : Facts). spare_of but id facts ≡ Some descriptor)
 spared_is m but id node descriptor there is =
-    subst (λ (o : Option Node). IsSomeAnd (option_map facts_of o) (λ (facts : Facts). spare_of but id facts ≡ Some descriptor)) (sym there) (sym is)
+    subst (λ (o : Option Node). IsSomeAnd (option_map facts_of o) (λ (facts : Facts). spare_of but id facts ≡ Some descriptor))
+    (sym there) (sym is)
 
 abbrev NotSpare : ℕ → ℕ → Option Node → Type 0
 NotSpare but id o = IfSome (option_map facts_of o) (λ (facts : Facts). spare_of but id facts ≡ None)
@@ -56,6 +57,8 @@ none_found but id [] none = tt
 none_found but id (e ∷ es) none = either (none_found but id es none.1) (eqb_tells id e.0) where
   either : NotSpare but id (lookup (is_at (nat_cmp id)) es) → (((id == e.0) ≡ true) × (id ≡ e.0)) ⊎ (((id == e.0) ≡ false) × (id ≢ e.0))
       → NotSpare but id (cond (is_at (nat_cmp id) e.0) (Some e.1) (lookup (is_at (nat_cmp id)) es))
-  either rest (inl same) = subst (λ (b : Bool). NotSpare but id (cond b (Some e.1) (lookup (is_at (nat_cmp id)) es))) (sym (at_eq id e.0 ∙ same.0))
+  either rest (inl same) = subst (λ (b : Bool). NotSpare but id (cond b (Some e.1) (lookup (is_at (nat_cmp id)) es)))
+      (sym (at_eq id e.0 ∙ same.0))
       (subst (λ (i : ℕ). spare_of but i (facts_of e.1) ≡ None) (sym same.1) none.0)
-  either rest (inr apart) = subst (λ (b : Bool). NotSpare but id (cond b (Some e.1) (lookup (is_at (nat_cmp id)) es))) (sym (at_eq id e.0 ∙ apart.0)) rest
+  either rest (inr apart) = subst (λ (b : Bool). NotSpare but id (cond b (Some e.1) (lookup (is_at (nat_cmp id)) es)))
+      (sym (at_eq id e.0 ∙ apart.0)) rest

@@ -28,7 +28,8 @@ in_root n room nodes directory name fits root =
 
 in_other : (n room : ℕ) (nodes : ℕ → Option Facts) (directory : ℕ) (name : List ℕ) → length name < room → (directory ≡ 1 → ⊥)
     → path_in (suc n) room nodes directory name
-    ≡ then_of (then_of (placed nodes directory) (λ place. path_in n (room - length name - 1) nodes place.0 place.1)) (λ path. Ok (path ++ 47 ∷ name))
+    ≡ then_of (then_of (placed nodes directory) (λ place. path_in n (room - length name - 1) nodes place.0 place.1))
+    (λ path. Ok (path ++ 47 ∷ name))
 unfolding path_in
 in_other n room nodes directory name fits other =
     let yes : nat_lt (length name) room ≡ true = grind (arith, nat_tests) in
@@ -59,7 +60,8 @@ refused_place old new room nodes directory name refused fits other none (suc n) 
 refused_behind : (old new : List ℕ) (name : List ℕ) (refused : Refused) (said : Result (List ℕ) Refused)
     → IsWrittenBehind old (Err refused) new said → IsWrittenBehind old (Err refused) new (then_of said (λ path. Ok (path ++ 47 ∷ name)))
 refused_behind old new name refused said (inl memory) = inl memory
-refused_behind old new name refused said (inr is) = inr (ap (λ (r : Result (List ℕ) Refused). then_of r (λ path. Ok (path ++ 47 ∷ name))) is)
+refused_behind old new name refused said (inr is) =
+    inr (ap (λ (r : Result (List ℕ) Refused). then_of r (λ path. Ok (path ++ 47 ∷ name))) is)
 
 -- it was written, and then the name
 written_behind : (old between new : List ℕ) (name : List ℕ) (said : Result (List ℕ) Refused) → new ≡ between ++ 47 ∷ name
@@ -81,7 +83,8 @@ pub refused_above : (old new : List ℕ) (room left : ℕ) (nodes : ℕ → Opti
     → Ok place ≡ placed nodes directory → read ≡ place.1
     → ((n : ℕ) → left < n → IsWrittenBehind old (Err refused) new (path_in n left nodes place.0 read))
     → (n : ℕ) → room < n → IsWrittenBehind old (Err refused) new (path_in n room nodes directory name)
-refused_above old new room left nodes directory name place refused read fits is other there same above zero less = absurd (omega (arith, less))
+refused_above old new room left nodes directory name place refused read fits is other there same above zero less =
+    absurd (omega (arith, less))
 refused_above old new room left nodes directory name place refused read fits is other there same above (suc n) less =
     let fewer : left < n = omega (arith, less, is, fits) in
     subst (IsWrittenBehind old (Err refused) new) (sym (in_place n room nodes directory name place fits other there))
@@ -94,7 +97,8 @@ pub written_above : (old between new : List ℕ) (room left : ℕ) (nodes : ℕ 
     → Ok place ≡ placed nodes directory → read ≡ place.1
     → ((n : ℕ) → left < n → IsWrittenBehind old (Ok tt) between (path_in n left nodes place.0 read)) → new ≡ between ++ 47 ∷ name
     → (n : ℕ) → room < n → IsWrittenBehind old (Ok tt) new (path_in n room nodes directory name)
-written_above old between new room left nodes directory name place read fits is other there same above put zero less = absurd (omega (arith, less))
+written_above old between new room left nodes directory name place read fits is other there same above put zero less =
+    absurd (omega (arith, less))
 written_above old between new room left nodes directory name place read fits is other there same above put (suc n) less =
     let fewer : left < n = omega (arith, less, is, fits) in
     subst (IsWrittenBehind old (Ok tt) new) (sym (in_place n room nodes directory name place fits other there))

@@ -77,7 +77,8 @@ same_told k inode kind place None id less = elim (put_at k.nodes k.next (Some (t
 
 keeps_closes : Keeps closes_one
 keeps_closes facts = either (nat_lt 0 (facts.opens - 1)) where
-  either : (b : Bool) → ((if b then record facts { opens = facts.opens - 1 } else record facts { opens = 0; descriptor = None }).inode ≡ facts.inode)
+  either : (b : Bool)
+      → ((if b then record facts { opens = facts.opens - 1 } else record facts { opens = 0; descriptor = None }).inode ≡ facts.inode)
       × ((if b then record facts { opens = facts.opens - 1 } else record facts { opens = 0; descriptor = None }).kind ≡ facts.kind)
   either true = (refl, refl)
   either false = (refl, refl)
@@ -234,12 +235,14 @@ sound_new k inode kind place sound = record {
         | inr apart ↦ absurd (apart.0 at)
       ]
 
-sound_told : (k : Known) (inode : ℕ) (kind : NodeKind) (place : ℕ × List ℕ) (o : Option ℕ) → IsSound k → IsSound (told_as k inode kind place o)
+sound_told : (k : Known) (inode : ℕ) (kind : NodeKind) (place : ℕ × List ℕ) (o : Option ℕ)
+    → IsSound k → IsSound (told_as k inode kind place o)
 sound_told k inode kind place None sound = sound_new k inode kind place sound
 sound_told k inode kind place (Some key) sound = sound_change (told_again place) (λ facts. (refl, refl)) k key sound
 
 -- an inode that has a number still, where one was let go, has another one
-number_left : (numbers : ℕ → Option ℕ) (inode key other id : ℕ) (o : Option ℕ) → numbers inode ≡ o → let_go_as numbers inode key o other ≡ Some id
+number_left : (numbers : ℕ → Option ℕ) (inode key other id : ℕ) (o : Option ℕ)
+    → numbers inode ≡ o → let_go_as numbers inode key o other ≡ Some id
     → (numbers other ≡ Some id) × (inode ≡ other → key ≢ id)
 number_left numbers inode key other id None none is = (is, λ same e. clash same) where
   clash : inode ≡ other → ⊥
@@ -296,7 +299,8 @@ sound_dropped k key (Some facts) there sound = elim (eqb_tells key 1) [
   }
 
 -- fewer inodes have numbers
-sound_fewer : (k : Known) (inode : ℕ) (last : Bool) → IsSound k → IsSound (record k { numbers = if last then put k.numbers inode None else k.numbers })
+sound_fewer : (k : Known) (inode : ℕ) (last : Bool) → IsSound k
+    → IsSound (record k { numbers = if last then put k.numbers inode None else k.numbers })
 sound_fewer k inode false sound = sound
 sound_fewer k inode true sound = record {
   root = sound.root;

@@ -13,17 +13,19 @@ at_eq key other = grind (arith, nat_tests)
 
 mapped : {X Y : Type 0} (f : X → Y) (b c : Bool) (x y : Option X) → b ≡ c
     → option_map f (cond b x y) ≡ (if c then option_map f x else option_map f y)
-mapped f b c x y same = subst (λ (d : Bool). option_map f (cond b x y) ≡ (if d then option_map f x else option_map f y)) same (either b) where
-  either : (b : Bool) → option_map f (cond b x y) ≡ (if b then option_map f x else option_map f y)
-  either true = refl
-  either false = refl
+mapped f b c x y same =
+    subst (λ (d : Bool). option_map f (cond b x y) ≡ (if d then option_map f x else option_map f y)) same (either b) where
+      either : (b : Bool) → option_map f (cond b x y) ≡ (if b then option_map f x else option_map f y)
+      either true = refl
+      either false = refl
 
 -- a map that has another value at a key, as it is seen
 pub seen_put : {X Y : Type 0} (f : X → Y) (m n : BTreeMap ℕ X) (key : ℕ) (x : Option X)
     → ((other : ℕ) → get nat_cmp n other ≡ cond (is_at (nat_cmp key) other) x (get nat_cmp m other))
     → (λ (other : ℕ). option_map f (get nat_cmp n other)) ≡ put (λ (other : ℕ). option_map f (get nat_cmp m other)) key (option_map f x)
 seen_put f m n key x is = λ i other. each other i where
-  each : (other : ℕ) → option_map f (get nat_cmp n other) ≡ put (λ (other : ℕ). option_map f (get nat_cmp m other)) key (option_map f x) other
+  each : (other : ℕ)
+      → option_map f (get nat_cmp n other) ≡ put (λ (other : ℕ). option_map f (get nat_cmp m other)) key (option_map f x) other
   each other = ap (option_map f) (is other) ∙ mapped f _ _ x (get nat_cmp m other) (at_eq key other)
 
 plain : {X : Type 0} (b c : Bool) (x y : Option X) → b ≡ c → cond b x y ≡ (if c then x else y)
@@ -43,7 +45,8 @@ plain_put m n key x is = λ i other. each other i where
 -- what a table has already isn't changed by putting it there
 pub put_same : {X : Type 0} (table : ℕ → Option X) (key : ℕ) (x : Option X) → table key ≡ x → put table key x ≡ table
 put_same table key x is = λ i other. each other (eqb_tells key other) i where
-  each : (other : ℕ) → ((key == other) ≡ true) × (key ≡ other) ⊎ ((key == other) ≡ false) × (key ≢ other) → put table key x other ≡ table other
+  each : (other : ℕ)
+      → ((key == other) ≡ true) × (key ≡ other) ⊎ ((key == other) ≡ false) × (key ≢ other) → put table key x other ≡ table other
   each other (inl same) = rw same.0 (sym is ∙ ap table same.1)
   each other (inr apart) = rw apart.0 refl
 

@@ -32,7 +32,11 @@ pub record Table : Type 0 where
   pub next : ℕ
 
 abbrev pub listing_of : Names → Listing
-listing_of names = record { own = names.own; above = names.above; entries = map (λ (e : Entry). (e.inode, e.name.items)) names.entries.items }
+listing_of names = record {
+  own = names.own;
+  above = names.above;
+  entries = map (λ (e : Entry). (e.inode, e.name.items)) names.entries.items;
+}
 
 abbrev pub opened_of : Handle → Opened
 opened_of (handle.File node) = File node

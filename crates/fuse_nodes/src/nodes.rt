@@ -30,9 +30,9 @@ pub struct Nodes {
 
 impl Nodes {
     ghost use Rattle.fuse_nodes.specs.Known.{known_of, place_of, at_first, found, placed, seen, seen_place};
-    ghost use Rattle.fuse_nodes.specs.Changes.{closed, descriptor_of, dropped, forgotten, let_go, loses, lost, number_in, opened, out_with_last};
+    ghost use Rattle.fuse_nodes.specs.Changes.{closed, descriptor_of, dropped, forgotten, let_go, loses, lost, number_in, opened};
     ghost use Rattle.fuse_nodes.specs.Changes.{closes_one, forgets, renamed, told, told_again, told_as, with_change, with_descriptor};
-    ghost use Rattle.fuse_nodes.specs.Changes.{without_descriptor, IsSpare};
+    ghost use Rattle.fuse_nodes.specs.Changes.{out_with_last, without_descriptor, IsSpare};
 
     /// The root alone; an error where no memory is found for it.
     pub fn new(alloc: Global) -> Result<Nodes, AllocError>
@@ -87,7 +87,8 @@ impl Nodes {
         room: usize,
         path: &mut Vec<u8>,
     ) -> Result<(), Refused>
-        ensures { (n : ℕ) → room < n → IsWrittenBehind path.old.items result path.new.items (path_in n room (known_of self.now).nodes directory name.now) }
+        ensures { (n : ℕ) → room < n → IsWrittenBehind path.old.items result path.new.items
+            (path_in n room (known_of self.now).nodes directory name.now) }
     {
         if room <= name.len() {
             return Err(Refused::By(Errno::ENAMETOOLONG));
