@@ -105,7 +105,7 @@ def small_files(at, room, tell):
         refuse(f"find tells {out.count(chr(10))} lines")
     tell("`find -ls` of them", took)
     drop_caches()
-    took, out = timed(run, "grep", "-rc", "00000999", at / "small")
+    took, out = timed(run, "grep", "-rc", f"{FILES - 1:08}", at / "small")
     if sum(int(it.rsplit(":", 1)[1]) for it in out.splitlines()) != 1:
         refuse("grep doesn't find what is there once")
     tell("`grep -r` of them", took)

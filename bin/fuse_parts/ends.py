@@ -33,7 +33,7 @@ def refused_image(trial):
         refused(volume.try_mount(folder=volume.home / "none"), b"no such folder")
         volume.image.unlink()
         refused(volume.try_mount(), b"no such file")
-        same("files that are left", sorted(os.listdir(volume.home)), ["log", "mnt", "owner"])
+        same("files that are left", sorted(os.listdir(volume.home)), ["log", "mnt"])
 
 
 @end("twice")

@@ -18,9 +18,11 @@ class Volume:
         self.folder.mkdir(parents=True)
         uid, gid = (user, user) if user is not None else (os.getuid(), os.getgid())
         ran(trial.ours["mkmfs"], self.image, *(it for key, value in size.items() for it in (f"--{key.replace('_', '-')}", str(value))))
-        owner = self.home / "owner"
-        owner.write_text(f"user 0 0\n1 chown / {uid} {gid}\n")
-        ran(trial.ours["mfs"], self.image, owner, "--out", self.image)
+        if uid or gid:
+            script = self.home / "script"
+            script.write_text(f"user 0 0\n1 chown / {uid} {gid}\n")
+            ran(trial.ours["mfs"], self.image, script, "--out", self.image)
+            script.unlink()
         if user is not None:
             for it in (self.home, self.image, self.folder):
                 os.chown(it, user, user)
