@@ -1,5 +1,5 @@
 """A volume of 64 MiB mounted by FUSE, beside ext2 of the same size by fuse2fs and a folder of the host's file system."""
-import json, os, pathlib, shutil, sqlite3, subprocess, sys, tarfile, time
+import json, os, pathlib, shutil, signal, sqlite3, subprocess, sys, tarfile, time
 
 
 BIN = pathlib.Path(__file__).resolve().parent.parent
@@ -178,6 +178,7 @@ def lacking():
 
 def bench(room, program, mkmfs, rounds):
     """Measures all, and prints the table."""
+    signal.signal(signal.SIGTERM, lambda *_: sys.exit(143))
     peers = []
     try:
         peers.append(Ours(room, program, mkmfs))

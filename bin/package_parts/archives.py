@@ -43,7 +43,7 @@ def put(folder, files, seconds):
 
 
 def overrides(files):
-    """What lintian isn't to tell of: of each program that has a table of symbols, that it has one; of scripts, that python3 is recommended."""
+    """What lintian isn't to tell of: of a program that has a table of symbols, that it has one; of scripts, that python3 is recommended."""
     unstripped = (UNSTRIPPED.format(name=NAME, path=it) for it in sorted(files) if "/bin/" in it and b"\0.symtab\0" in files[it])
     scripts = [it for it in SCRIPTS if b"python3" in files[f"usr/bin/{it}"][:40]]
     return "".join([*unstripped, *(SCRIPT.format(name=NAME, path=f"usr/bin/{it}") for it in scripts)])

@@ -63,7 +63,8 @@ def try_archive(tally, packages, root):
     differs = sorted(it for it in ours.keys() | wanted.keys() if ours.get(it) != wanted.get(it))
     tally.judge(f"{packages.archive.name} has the same {len(wanted)} files", f"not {differs}" if differs else "")
     tally.judge("in it all belongs to root", f"also to {owners}" if owners != {(0, 0)} else "")
-    tally.judge("in it the programs alone may be run", "" if runs == {f"bin/{it}" for it in (*PROGRAMS, *SCRIPTS)} else f"these may: {sorted(runs)}")
+    right = runs == {f"bin/{it}" for it in (*PROGRAMS, *SCRIPTS)}
+    tally.judge("in it the programs alone may be run", "" if right else f"these may: {sorted(runs)}")
     try_unpacked(tally, packages, root)
 
 
