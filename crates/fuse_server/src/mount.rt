@@ -115,11 +115,3 @@ impl Answers for Mount {
         Mount::answer(self, sessions, now, bytes, out)
     }
 }
-
-#[cfg(test)]
-mod tests {
-    #[test]
-    fn none() {
-        prove!(super::MAX_MESSAGE > 65616);
-    }
-}

@@ -3,12 +3,12 @@ ghost use Rattle.std.specs.Prelude.{⊤};
 
 use bitflags::Flags;
 use errno::Errno;
-use talks::sessions::{EnterRefusal, Sessions};
 use ninep_server::connection::Connection;
 use std::alloc::{AllocError, Global};
 use std::collections::VecDeque;
 use std::fmt::Write;
 use std::test::Fail;
+use talks::sessions::{EnterRefusal, Sessions};
 use tree::{Attributes, Call, Outcome, Reply};
 
 /// Sessions that answer what is written down, and note what they are asked. Where nothing is written down, a call is cut.
