@@ -1,7 +1,7 @@
 -- Streams whose bytes are known, and messages that were answered.
 use Rattle.std.proofs.Common.{◌≡◌, ◌≤◌, ◌+◌, ℕ, zero, suc, List, [], ◌∷◌, ◌++◌, length, take, refl, sym, ap, subst, ◌∙◌, append_assoc, arith}
 use Rattle.std.proofs.Math.Seq.{take-append-add}
-use Rattle.std.proofs.lemmas.List.{append-nil, length-append, length-take-le, take-append-le}
+use Rattle.std.proofs.lemmas.List.{append-nil, length-append, length-take, length-take-le, take-append-le}
 use Rattle.std.proofs.lemmas.List.Elements.{All-nil, All-cons, All-append}
 use Rattle.std.proofs.lemmas.List.Folds.{concat-append}
 use Rattle.std.specs.Prelude.{Option, Some, None, Result, Ok, Err, OnOk, IfErr}
@@ -170,14 +170,21 @@ take_less (suc m) (suc n) (x ∷ xs) h = ap (λ (l : List ℕ). x ∷ l) (take_l
 pub taken_of : (ms ds new : List ℕ) (len n : ℕ) → n ≤ len → n ≤ length ms → new ≡ take n (take len (ms ++ ds)) → new ≡ take n ms
 taken_of ms ds new len n fits less is = is ∙ take_less n len (ms ++ ds) fits ∙ take-append-le n ms ds less
 
--- what was read stands behind what a message had
-pub takes_more : (a b : Option (List ℕ)) (old xs ys post new : List ℕ) (at n : ℕ) → at ≡ length old → take (length old) xs ≡ old
-    → length old ≤ length xs → n ≤ length ys → Consumes a b (take n ys) → new ≡ take (at + n) (take at xs ++ (ys ++ post))
-    → TakesMore a b old new
-takes_more a b old xs ys post new at n e front less fits taken is =
-    let here : new ≡ take (length old + n) (take (length old) xs ++ (ys ++ post)) =
-    subst (λ (m : ℕ). new ≡ take (m + n) (take m xs ++ (ys ++ post))) e is in
-    (take n ys, here ∙ put_behind xs ys post (length old) n less fits ∙ ap (λ (l : List ℕ). l ++ take n ys) front, taken)
+-- what has a list as its front is as long at least
+pub length_of : (xs ys : List ℕ) → take (length xs) ys ≡ xs → length xs ≤ length ys
+length_of xs ys front = omega (arith, ap length front, length-take (length xs) ys)
+
+-- what was read stands behind what a buffer had, which was made longer
+pub takes_more : (a b : Option (List ℕ)) (old longer ys post ds : List ℕ) (at n len : ℕ) → take (length old) longer ≡ old → at ≤ length old
+    → length old ≤ length longer → at + n ≤ len → n ≤ length ys → Consumes a b (take n ys)
+    → TakesMore a b (take at old) (take (at + n) (take len ((take at longer ++ (ys ++ post)) ++ ds)))
+takes_more a b old longer ys post ds at n len front less long whole fits taken =
+    let within : at ≤ length longer = omega (arith, less, long) in
+    let kept : take at longer ≡ take at old = sym (take_less at (length old) longer less) ∙ ap (take at) front in
+    let all : List ℕ = take at longer ++ (ys ++ post) in
+    let here : take (at + n) (take len (all ++ ds)) ≡ take (at + n) all =
+    taken_of all ds _ len (at + n) whole (fits_behind longer ys post at n within fits) refl in
+    (take n ys, here ∙ put_behind longer ys post at n within fits ∙ ap (λ (l : List ℕ). l ++ take n ys) kept, taken)
 
 -- a message was taken, and answered
 pub is_answered : {S : Type 0} (few : ℕ) (R : List ℕ → List ℕ → S → S → Type 0) (a b p q : Option (List ℕ)) (message : List ℕ) (s t : S)

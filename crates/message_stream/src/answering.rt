@@ -8,7 +8,7 @@ ghost use Rattle.message_stream.specs.Answered.{IsAnswered, IsAnsweredAll, Appen
 ghost use Rattle.message_stream.specs.Stopped.{Stops, IsStopped, IsUnread, Responds, RespondsNot};
 ghost use Rattle.message_stream.specs.Exchanges.{by_both};
 
-use crate::framing::{InputRefusal, next_message};
+use crate::framing::{InputRefusal, Message};
 use output::write_text;
 use std::alloc::Global;
 use std::fmt;
@@ -45,7 +45,7 @@ impl fmt::Display for StreamRefusal {
 /// Room for a message and for its answer.
 #[derive(Drop)]
 struct Buffers {
-    message: Vec<u8>,
+    message: Message,
     answer: Vec<u8>,
 }
 
@@ -53,7 +53,7 @@ impl Buffers {
     /// No message yet.
     fn new(alloc: Global) -> Buffers {
         Buffers {
-            message: Vec::new(alloc),
+            message: Message::new(alloc),
             answer: Vec::new(alloc),
         }
     }
@@ -93,10 +93,10 @@ impl Buffers {
         sessions: &mut S,
         answerer: &mut W,
     ) -> Result<(), StreamRefusal>
-        ensures answered { OnOk result (Responds (by_both (W.answers S S.called S.entered S.left)) self.old.message.items
+        ensures answered { OnOk result (Responds (by_both (W.answers S S.called S.entered S.left)) self.old.message
             (O.contents output.old) (O.contents output.new) (sessions.old, answerer.old) (sessions.new, answerer.new)) }
         ensures refused { IfErr result (λ e. (last : W) × RespondsNot (by_both (W.answers S S.called S.entered S.left)) e
-            self.old.message.items (O.contents output.old) (O.contents output.new) (sessions.old, answerer.old) (sessions.new, last)) }
+            self.old.message (O.contents output.old) (O.contents output.new) (sessions.old, answerer.old) (sessions.new, last)) }
     {
         self.answer.clear();
         let (now, bytes) = (seconds(clock), self.message.as_slice());
@@ -112,13 +112,13 @@ impl Buffers {
         input: &mut I,
         answerer: &W,
     ) -> Result<bool, StreamRefusal>
-        ensures message { IfOk result (λ some. OnTrue some (IsMessage W.fewest self.new.message.items)) }
-        ensures taken { Consumes (I.remaining input.old) (I.remaining input.new) self.new.message.items }
+        ensures message { IfOk result (λ some. OnTrue some (IsMessage W.fewest self.new.message)) }
+        ensures taken { Consumes (I.remaining input.old) (I.remaining input.new) self.new.message }
         ensures ended { result ≡ Ok false → IsAtEnd (I.remaining input.old) }
         ensures refused { IfErr result (λ e. IsUnread e (I.remaining input.new)) }
     {
         let (least, most) = (answerer.least(), answerer.most());
-        match next_message(input, least, most, &mut self.message) {
+        match self.message.read_next(input, least, most) {
             Ok(some) => Ok(some),
             Err(refusal) => Err(StreamRefusal::Input(refusal)),
         }

@@ -6,8 +6,10 @@ ghost use Rattle.std.specs.Io.KnownBytes.{Consumes, IsAtEnd, Keeps};
 ghost use Rattle.std.specs.Int.{w32, from_le_bytes};
 ghost use Rattle.message_stream.specs.Messages.{IsMessage, IsCutShort, TakesMore};
 
+use std::alloc::Global;
 use std::fmt;
 use std::io::{ErrorKind, Read};
+use std::marker::Model;
 
 /// The bytes of a size.
 const SIZE: usize = 4;
@@ -37,73 +39,130 @@ impl fmt::Display for InputRefusal {
     }
 }
 
-/// Reads the next message in the place of `message`, at least and at most so many bytes. Whether there was one: there is none where the
-/// stream has ended before it. A message has the bytes of its size, 4, whatever the least is.
-///
-/// All that was taken from the stream stands in `message`, also where it is refused.
-pub fn next_message<I: Read>(
+/// A message, at the front of a buffer that is kept for the next one: what is read over isn't cleared.
+#[derive(Drop)]
+pub struct Message {
+    buffer: Vec<u8>,
+    len: usize,
+}
+
+impl Model for Message {
+    ghost use Rattle.std.specs.Prelude.{◌≤◌, ℕ, List, take, length};
+
+    ghost Value = { List ℕ };
+
+    ghost view = { λ m. take m.len m.buffer.items };
+
+    ghost invariant = { λ m. m.len ≤ length m.buffer.items };
+}
+
+impl Message {
+    /// No bytes yet.
+    pub fn new(alloc: Global) -> Message
+        ensures { result ≡ [] }
+    {
+        Message {
+            buffer: Vec::new(alloc),
+            len: 0,
+        }
+    }
+
+    /// Its bytes.
+    pub fn as_slice(&self) -> &[u8]
+        ensures { result.now ≡ self.now }
+    {
+        &self.buffer[..self.len]
+    }
+
+    /// Reads the next message in its place, at least and at most so many bytes. Whether there was one: there is none where the stream has
+    /// ended before it. A message has the bytes of its size, 4, whatever the least is.
+    ///
+    /// All that was taken from the stream stands here, also where it is refused.
+    pub fn read_next<I: Read>(
+        &mut self,
+        input: &mut I,
+        least: u32,
+        most: u32,
+    ) -> Result<bool, InputRefusal>
+        ensures message { IfOk result (λ some. OnTrue some (IsMessage least self.new)) }
+        ensures few { IfOk result (λ some. OnTrue some (length self.new ≤ most)) }
+        ensures taken { Consumes (I.remaining input.old) (I.remaining input.new) self.new }
+        ensures ended { result ≡ Ok false → IsAtEnd (I.remaining input.new) × (self.new ≡ []) }
+        ensures cut { result ≡ Err InputRefusal.CutShort → IsAtEnd (I.remaining input.new) × IsCutShort least most self.new }
+        ensures size { (size : ℕ) → result ≡ Err (InputRefusal.BadSize size)
+            → (from_le_bytes w32 self.new ≡ size) × ((size < least) ⊎ (size < 4) ⊎ (most < size)) }
+    {
+        self.len = 0;
+        match self.take_more(input, SIZE) {
+            Ok(()) => {}
+            Err(InputRefusal::CutShort) if self.len == 0 => return Ok(false),
+            Err(refusal) => return Err(refusal),
+        }
+        let size = size_in(self.as_slice());
+        if size < least || size < SIZE as u32 || most < size {
+            return Err(InputRefusal::BadSize(size));
+        }
+        self.take_more(input, size as usize)?;
+        Ok(true)
+    }
+
+    /// Takes bytes from a stream behind those that it has, until it has so many.
+    fn take_more<I: Read>(&mut self, input: &mut I, size: usize) -> Result<(), InputRefusal>
+        requires { length self.old ≤ size }
+        ensures taken { TakesMore (I.remaining input.old) (I.remaining input.new) self.old self.new }
+        ensures whole { OnOk result (length self.new ≡ size) }
+        ensures cut { result ≡ Err InputRefusal.CutShort → IsAtEnd (I.remaining input.new) × (length self.new < size) }
+        ensures size { (size : ℕ) → result ≢ Err (InputRefusal.BadSize size) }
+    {
+        let (len, read) = take_until(input, &mut self.buffer, self.len, size);
+        self.len = len;
+        read
+    }
+}
+
+/// Takes bytes from a stream behind the first `at` of a buffer, until there are so many. How many there are then, and why no more.
+fn take_until<I: Read>(
     input: &mut I,
-    least: u32,
-    most: u32,
-    message: &mut Vec<u8>,
-) -> Result<bool, InputRefusal>
-    ensures message { IfOk result (λ some. OnTrue some (IsMessage least message.new.items)) }
-    ensures few { IfOk result (λ some. OnTrue some (length message.new.items ≤ most)) }
-    ensures taken { Consumes (I.remaining input.old) (I.remaining input.new) message.new.items }
-    ensures ended { result ≡ Ok false → IsAtEnd (I.remaining input.new) × (message.new.items ≡ []) }
-    ensures cut { result ≡ Err InputRefusal.CutShort → IsAtEnd (I.remaining input.new) × IsCutShort least most message.new.items }
-    ensures size { (size : ℕ) → result ≡ Err (InputRefusal.BadSize size)
-        → (from_le_bytes w32 message.new.items ≡ size) × ((size < least) ⊎ (size < 4) ⊎ (most < size)) }
+    buffer: &mut Vec<u8>,
+    at: usize,
+    size: usize,
+) -> (usize, Result<(), InputRefusal>)
+    requires begun { at ≤ vec_len buffer.old }
+    requires wanted { at ≤ size }
+    ensures taken { TakesMore (I.remaining input.old) (I.remaining input.new) (take at buffer.old.items) (take result.0 buffer.new.items) }
+    ensures most { result.0 ≤ vec_len buffer.new }
+    ensures whole { OnOk result.1 (result.0 ≡ size) }
+    ensures cut { result.1 ≡ Err InputRefusal.CutShort → IsAtEnd (I.remaining input.new) × (result.0 < size) }
+    ensures size { (size : ℕ) → result.1 ≢ Err (InputRefusal.BadSize size) }
 {
-    message.clear();
-    match take_more(input, message, SIZE) {
-        Ok(()) => {}
-        Err(InputRefusal::CutShort) if message.is_empty() => return Ok(false),
-        Err(refusal) => return Err(refusal),
+    if let Err(refusal) = make_room(buffer, size) {
+        return (at, Err(refusal));
     }
-    let size = size_in(message);
-    if size < least || size < SIZE as u32 || most < size {
-        return Err(InputRefusal::BadSize(size));
-    }
-    take_more(input, message, size as usize)?;
-    Ok(true)
+    let (count, read) = read_into(input, &mut buffer[at..size]);
+    (at + count, read)
 }
 
-/// The size that the first bytes of a message name.
-fn size_in(message: &Vec<u8>) -> u32
-    requires { vec_len message.now ≡ 4 }
-    ensures { result ≡ from_le_bytes w32 message.now.items }
-{
-    u32::from_le_bytes([message[0], message[1], message[2], message[3]])
-}
-
-/// Takes bytes from a stream behind those that a message has, until it has so many.
-fn take_more<I: Read>(input: &mut I, message: &mut Vec<u8>, size: usize) -> Result<(), InputRefusal>
-    requires { vec_len message.old ≤ size }
-    ensures taken { TakesMore (I.remaining input.old) (I.remaining input.new) message.old.items message.new.items }
-    ensures whole { OnOk result (vec_len message.new ≡ size) }
-    ensures cut { result ≡ Err InputRefusal.CutShort → IsAtEnd (I.remaining input.new) × (vec_len message.new < size) }
-    ensures size { (size : ℕ) → result ≢ Err (InputRefusal.BadSize size) }
-{
-    let at = message.len();
-    make_room(message, size)?;
-    let (count, read) = read_into(input, &mut message[at..]);
-    message.truncate(at + count);
-    read
-}
-
-/// Makes a message as long as this, by zeros behind what it has.
-fn make_room(message: &mut Vec<u8>, size: usize) -> Result<(), InputRefusal>
-    requires { vec_len message.old ≤ size }
-    ensures front { take (length message.old.items) message.new.items ≡ message.old.items }
-    ensures long { OnOk result (length message.new.items ≡ size) }
-    ensures same { OnErr result (message.new.items ≡ message.old.items) }
+/// Makes a buffer at least as long as this, by zeros behind what it has.
+fn make_room(buffer: &mut Vec<u8>, size: usize) -> Result<(), InputRefusal>
+    ensures front { take (length buffer.old.items) buffer.new.items ≡ buffer.old.items }
+    ensures long { OnOk result (size ≤ vec_len buffer.new) }
     ensures refused { IfErr result (λ e. e ≡ InputRefusal.OutOfMemory) }
 {
-    match message.resize(size, 0) {
+    if buffer.len() >= size {
+        return Ok(());
+    }
+    match buffer.resize(size, 0) {
         Ok(()) => Ok(()),
         Err(_) => Err(InputRefusal::OutOfMemory),
     }
+}
+
+/// The size that the first bytes of a message name.
+fn size_in(message: &[u8]) -> u32
+    requires { length message.now ≡ 4 }
+    ensures { result ≡ from_le_bytes w32 message.now }
+{
+    u32::from_le_bytes([message[0], message[1], message[2], message[3]])
 }
 
 /// Fills these bytes from a stream. How many were read, and why no more.
