@@ -1,5 +1,5 @@
-//! Tests of a service's sessions: in turn, given up and refused; of how services end: stopped, with a session left, while a driver hangs, let
-//! go, or over a link that has ended; and of the board that its seats share. Each expected value is worked out by hand.
+//! Tests of a service's sessions: in turn, given up and refused; and of how services end: stopped, with a session left, while a driver hangs,
+//! let go, or over a link that has ended. Each expected value is worked out by hand.
 #![tactic(auto)]
 
 #[cfg(test)]
@@ -12,8 +12,6 @@ mod left;
 mod programs;
 #[cfg(test)]
 mod read_back;
-#[cfg(test)]
-mod seats;
 #[cfg(test)]
 mod sessions;
 #[cfg(test)]
