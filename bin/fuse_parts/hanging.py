@@ -1,5 +1,5 @@
 """Drivers that hang: one thread of a program is stopped for a while, as a debugger does it, and goes on then."""
-import contextlib, ctypes, os, signal, time
+import contextlib, ctypes, os, time
 
 SEIZE, INTERRUPT, DETACH = 0x4206, 0x4207, 17  # of ptrace(2), on Linux
 ALL = 0x40000000  # __WALL of waitpid(2): threads too

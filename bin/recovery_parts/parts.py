@@ -1,7 +1,7 @@
 """Where a death's time goes: what the system sees of a program while its drivers are killed, or hang."""
-import re, shutil, statistics, threading, time
+import re, statistics, threading, time
 from fuse_parts.hanging import Hangs
-from fuse_parts.rows import Skip, Wrong
+from fuse_parts.rows import Wrong
 
 TRACED = "clone,clone3,exit,rseq,write,writev"
 LINE = re.compile(r"\d+\s+(\d+\.\d+) (clone|exit|rseq|write(?=v?\(1,))")
@@ -94,8 +94,3 @@ def table(deaths, hangs):
     lines = ["| A death's parts, ms | Deaths | Least | Median | Mean | Most |", "|---|---|---|---|---|---|"]
     lines += [row(name, [it[at] for it in deaths]) for at, name in enumerate(PARTS) if deaths]
     return lines + ([row(HANG, hangs)] if hangs else [])
-
-
-def need_strace():
-    if not shutil.which("strace"):
-        raise Skip("there is no strace")

@@ -1,5 +1,5 @@
 """The file of bin/recovery, through a mount or by messages of 9P."""
-import os, pathlib, subprocess, tempfile, time
+import os, subprocess, tempfile, time
 from fuse_parts.rows import Wrong
 from fuse_parts.volume import Volume
 from interop_parts.ninep_client import Client, number
