@@ -1,5 +1,5 @@
 """The file of bin/recovery, through a mount or by messages of 9P."""
-import os, subprocess, tempfile, time
+import os, subprocess, time
 from fuse_parts.rows import Wrong
 from fuse_parts.volume import Volume
 from interop_parts.ninep_client import Client, number
@@ -7,6 +7,7 @@ from interop_parts.ninep_client import Client, number
 PIECE = 1 << 20
 ASKED = 65536 - 1024  # bytes that a message of 9P moves
 SPARES = ("--spares", "4095")
+TOLD = 0.3  # seconds after which a program has told of its drivers
 
 
 class Mounted:
@@ -41,14 +42,18 @@ class Mounted:
     def process(self):
         return self.volume.process()
 
+    def deaths(self):
+        """How many drivers took the place of another one."""
+        time.sleep(TOLD)
+        return self.volume.deaths()[0]
+
     def end(self):
-        """Unmounts it, mfsck looks at it, and the drivers that took the place of another one are told."""
+        """Unmounts it, and mfsck looks at it."""
         self.volume.umount()
-        started, given_up = self.volume.deaths()
+        given_up = self.volume.deaths()[1]
         self.volume.log.unlink(missing_ok=True)
         if given_up:
             raise Wrong("the device was given up")
-        return started
 
     def let_go(self):
         self.volume.__exit__()
@@ -59,14 +64,14 @@ class Asked:
 
     def __init__(self, trial, size):
         self.trial, self.volume = trial, Volume(trial, "volume", size)
-        self.client = self.said = None
+        self.client, self.said = None, self.volume.home / "said"
 
     def begin(self, *words):
         image = self.volume.image
-        self.said = tempfile.TemporaryFile()
         self.client = Client(None)
         line = [self.trial.program, image, "--out", image, *SPARES, *words]
-        self.client.process = subprocess.Popen(line, stdin=subprocess.PIPE, stdout=subprocess.PIPE, stderr=self.said)
+        with open(self.said, "wb") as said:
+            self.client.process = subprocess.Popen(line, stdin=subprocess.PIPE, stdout=subprocess.PIPE, stderr=said)
         self.client.begin()
 
     def make(self, bytes_):
@@ -98,15 +103,19 @@ class Asked:
     def process(self):
         return self.volume.process()
 
+    def lines(self):
+        """What the program said."""
+        return self.said.read_text("utf-8", "replace").splitlines() if self.said.exists() else []
+
+    def deaths(self):
+        time.sleep(TOLD)
+        return sum(it.startswith("started ") for it in self.lines())
+
     def end(self):
         self.client.process.stdin.close()
-        status = self.client.process.wait()
-        self.said.seek(0)
-        lines = self.said.read().decode("utf-8", "replace").splitlines()
-        if status:
-            raise Wrong(f"mfs9p ended with status {status}: {[it for it in lines if not it.startswith('started ')]}")
+        if status := self.client.process.wait():
+            raise Wrong(f"mfs9p ended with status {status}: {[it for it in self.lines() if not it.startswith('started ')]}")
         self.volume.check()
-        return sum(it.startswith("started ") for it in lines)
 
     def let_go(self):
         if self.client and self.client.process.poll() is None:
