@@ -1,6 +1,6 @@
 """The two archives of a release, whose bytes depend on the files and the commit's time alone."""
 import hashlib, os, pathlib
-from .common import DOC, NAME, SCRIPTS, refuse, run, said
+from .common import DOC, MAKER, NAME, SCRIPTS, refuse, run, said
 from .content import debian_changelog, zipped
 
 CONTROL = """Package: {name}
@@ -61,7 +61,7 @@ def write_deb(release, content, folder, out):
     if lintian := overrides(content):
         files[f"usr/share/lintian/overrides/{NAME}"] = lintian.encode()
     depends = f"Depends: {release.needs}\n" if release.needs else ""
-    control = CONTROL.format(name=NAME, version=release.version, maker=release.maker, size=size_of(files), depends=depends)
+    control = CONTROL.format(name=NAME, version=release.version, maker=MAKER, size=size_of(files), depends=depends)
     sums = "".join(f"{hashlib.md5(files[it]).hexdigest()}  {it}\n" for it in sorted(files))
     tree = folder / "deb"
     put(tree, files | {"DEBIAN/control": control.encode(), "DEBIAN/md5sums": sums.encode()}, release.seconds)

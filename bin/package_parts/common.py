@@ -3,6 +3,7 @@ import os, pathlib, shutil, subprocess, sys
 
 ROOT = pathlib.Path(__file__).resolve().parent.parent.parent
 NAME = "lecternowl"
+MAKER = "Lecternowl maintainers <maintainers@users.noreply.lecternowl.example>"
 DOC = f"usr/share/doc/{NAME}"
 PROGRAMS = ("mkmfs", "mfsck", "mfs", "mfs9p", "mfsfuse", "mfmig", "mfssim")
 SCRIPTS = {"mfs-mount": "mount", "mfs-umount": "umount", "mfs-new": "new-volume"}  # by their names in a package; one man page has all

@@ -1,6 +1,6 @@
 """The files of a package: by its path each one's bytes."""
 import gzip, pathlib, posixpath, re, textwrap, time
-from .common import DOC, NAME, PROGRAMS, ROOT, SCRIPTS, refuse, run, said, told
+from .common import DOC, MAKER, NAME, PROGRAMS, ROOT, SCRIPTS, refuse, run, said, told
 from .help_words import Help, bash_completion, zsh_completion
 
 PAGES = ("README.md", *(f"docs/{it}.md" for it in ("CALLS", "FAULTS", "FORMAT", "LIMITS", "MOUNT", "PROGRAMS", "SPEED")))
@@ -111,7 +111,7 @@ def notice_of(folder):
 def copyright_of(release):
     """The file copyright: whose Lecternowl is, and the notices of what the programs hold of others."""
     year = time.gmtime(release.seconds).tm_year
-    text = RIGHTS.format(name=NAME, version=release.version, year=year, maker=release.maker, kit=release.kit)
+    text = RIGHTS.format(name=NAME, version=release.version, year=year, maker=MAKER, kit=release.kit)
     kit = kit_folder()
     notices = {it: notice_of(kit / "rattle" / it) for it in kit_libraries(kit)}
     return text + "".join(f"\n\n{it}\n{'-' * len(it)}\n\n{notice}\n" for it, notice in notices.items() if notice)
@@ -126,4 +126,4 @@ def debian_changelog(release):
     items = [" ".join(it.replace("**", "").split()) for it in re.split(r"^- ", section, flags=re.M)[1:]]
     lines = [textwrap.fill(it, 78, initial_indent="  * ", subsequent_indent="    ", break_on_hyphens=False) for it in items]
     date = time.strftime("%a, %d %b %Y %H:%M:%S +0000", time.gmtime(release.seconds))
-    return f"{NAME} ({release.version}) UNRELEASED; urgency=medium\n\n" + "\n".join(lines) + f"\n\n -- {release.maker}  {date}\n"
+    return f"{NAME} ({release.version}) UNRELEASED; urgency=medium\n\n" + "\n".join(lines) + f"\n\n -- {MAKER}  {date}\n"

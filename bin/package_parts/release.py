@@ -1,5 +1,5 @@
 """What a release is made of: its programs, version, commit and kit."""
-import os, pathlib, re, subprocess
+import hashlib, os, pathlib, re, subprocess
 from .common import NAME, PROGRAMS, ROOT, refuse, run, said, told
 
 # The package of Debian that has a library which a program may need.
@@ -17,7 +17,7 @@ class Release:
     def __init__(self, folder):
         self.programs = {it: program_of(folder, it) for it in PROGRAMS}
         self.version = version_of(self.programs)
-        commit, seconds, self.maker = told(["git", "-C", ROOT, "log", "-1", "--format=%H%n%ct%n%an <%ae>"]).split("\n")
+        commit, seconds = told(["git", "-C", ROOT, "log", "-1", "--format=%H%n%ct"]).split("\n")
         self.seconds = int(seconds)
         self.commit = commit + (", and what was changed since" if changed(ROOT, MADE_OF) else "")
         self.kit = told(["rt", "version"])
@@ -25,8 +25,9 @@ class Release:
         self.needs = libraries(self.programs)
 
     def text(self):
-        """The file VERSION."""
-        return f"{NAME} {self.version}\ncommit {self.commit}\nkit {self.kit}\n{self.source}\n"
+        """The file VERSION. The sums (SHA-256) tell of a program by itself whether it is one of these."""
+        sums = "".join(f"{hashlib.sha256(place.read_bytes()).hexdigest()}  {name}\n" for name, place in self.programs.items())
+        return f"{NAME} {self.version}\ncommit {self.commit}\nkit {self.kit}\n{self.source}\n{sums}"
 
 
 def changed(clone, paths):

@@ -5,6 +5,7 @@ from .common import DOC, NAME, PROGRAMS, SCRIPTS, refuse, run, said
 NOBODY = 65534
 # What dpkg keeps for itself, besides what a package brings.
 KEPT = ("var/lib/dpkg", "var/log", "var/cache", "work")
+RECOMMENDED = "fuse3,python3"  # by the package, for its scripts
 WHERE = {"PATH": "/usr/sbin:/usr/bin:/sbin:/bin", "LC_ALL": "C"}
 
 
@@ -79,7 +80,7 @@ def fresh_root(tally, packages, folder, bare):
     if not bare and not shutil.which("debootstrap"):
         tally.skip("a Debian to install it in", "there is no debootstrap; it is a bare folder")
     elif not bare:
-        done = run(["debootstrap", "--variant=minbase", suite(), folder])
+        done = run(["debootstrap", "--variant=minbase", f"--include={RECOMMENDED}", suite(), folder])
         if done.returncode == 0:
             tally.judge(f"debootstrap makes a Debian {suite()}")
             return Debian(folder)
