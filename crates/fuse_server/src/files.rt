@@ -192,7 +192,7 @@ impl Mount {
         ensures asked { Asked (MayHear S.called S.entered S.left now) sessions.old (result ≡ Said.Synced) sessions.new }
         ensures sync { IsOfSync result }
     {
-        let session = match self.session(sessions, now, 0) {
+        let session = match self.seats.session(sessions, now, 0) {
             Ok(session) => session,
             Err(refused) => return Said::Plain(FuseAnswer::Refused(refused)),
         };

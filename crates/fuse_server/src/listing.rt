@@ -28,7 +28,7 @@ const DIRECTORY: u32 = 4;
 const NOT_TOLD: u32 = 0;
 
 /// The entry at a place: first the directory itself and the one above, then its names; none past the last one.
-fn entry_at(names: &Names, at: usize) -> Option<ReaddirEntry<'_>>
+pub(crate) fn entry_at(names: &Names, at: usize) -> Option<ReaddirEntry<'_>>
     requires { at + 1 < 2 ^ 64 }
     ensures { IfSome result (λ entry. length entry.name.now ≤ 60) }
 {
@@ -64,7 +64,7 @@ fn named_entry(entries: &[Entry], at: usize, next: u64) -> Option<ReaddirEntry<'
 }
 
 /// An offset as a place.
-fn place_of(offset: u64) -> usize {
+pub(crate) fn place_of(offset: u64) -> usize {
     offset as usize
 }
 
@@ -148,12 +148,12 @@ impl Mount {
     }
 
     /// Whether the entries of an open directory are asked for anew: from the start on, or where none are kept.
-    fn is_fresh(&self, span: Span) -> bool {
+    pub(crate) fn is_fresh(&self, span: Span) -> bool {
         span.offset == 0 || self.handles.names(span.handle).is_err()
     }
 
     /// The entries of an open directory are kept with its handle.
-    fn keep_names<S: Sessions>(
+    pub(crate) fn keep_names<S: Sessions>(
         &mut self,
         sessions: &mut S,
         now: u32,

@@ -4,14 +4,17 @@
 ghost use Rattle.std.specs.Prelude.{IfOk, IsTrue};
 ghost use Rattle.fuse_server.specs.Asking.{Talked};
 ghost use Rattle.fuse_nodes.specs.Known.{known_of};
-ghost use Rattle.fuse_server.specs.Kinds.{is_done, IsKnown, IsEntry};
+ghost use Rattle.fuse_server.specs.Entries.{IsKnown, KeepsNumbers};
+ghost use Rattle.fuse_server.specs.Kinds.{is_done, IsEntry};
 
 use crate::mount::Mount;
 use crate::said::FuseAnswer;
+use crate::talk::Seats;
 use crate::told::{entry_of, kind_of, nothing};
 use errno::Errno;
 use fuse::reply::Entry;
 use fuse_nodes::node::{NodeKind, Place};
+use fuse_nodes::nodes::Nodes;
 use talks::refused::Refused;
 use talks::sessions::Sessions;
 use tree::{Attributes, Call};
@@ -29,6 +32,59 @@ pub(crate) struct NameIn<'a> {
 /// Whether the name that is taken away is the last one of what has these attributes.
 fn is_last(attributes: &Attributes) -> bool {
     attributes.links < 2 || kind_of(attributes.mode) == NodeKind::Directory
+}
+
+impl Seats {
+    /// What stands at a path, if anything does.
+    fn look_for<S: Sessions>(
+        &mut self,
+        sessions: &mut S,
+        now: u32,
+        path: &[u8],
+    ) -> Result<Option<Attributes>, Refused>
+        ensures { Talked S.called S.entered S.left now sessions.old sessions.new }
+    {
+        match self.look(sessions, now, path) {
+            Ok(attributes) => Ok(Some(attributes)),
+            Err(Refused::By(Errno::ENOENT)) => Ok(None),
+            Err(refused) => Err(refused),
+        }
+    }
+
+    /// Asks for a rename: the inode that has the new name now, unless it had both.
+    fn rename_path<S: Sessions>(
+        &mut self,
+        sessions: &mut S,
+        now: u32,
+        old: &[u8],
+        new: &[u8],
+    ) -> Result<u16, Refused>
+        ensures { Talked S.called S.entered S.left now sessions.old sessions.new }
+    {
+        let inode = self.look(sessions, now, old)?.inode;
+        self.ask_done(sessions, now, Call::Rename { old, new })?;
+        Ok(inode)
+    }
+}
+
+/// Looks at a name, and tells the kernel its node.
+#[tactic(auto, using(crate::proofs::Asking::goes_on, crate::proofs::Asking::stays, crate::proofs::Entries::keeps))]
+pub(crate) fn tell<S: Sessions>(
+    seats: &mut Seats,
+    nodes: &mut Nodes,
+    sessions: &mut S,
+    now: u32,
+    name: NameIn<'_>,
+    path: &[u8],
+) -> Result<Entry, Refused>
+    ensures asked { Talked S.called S.entered S.left now sessions.old sessions.new }
+    ensures told { IfOk result (IsKnown (known_of nodes.new)) }
+    ensures kept { KeepsNumbers (known_of nodes.old) (known_of nodes.new) }
+{
+    let attributes = seats.look(sessions, now, path)?;
+    let kind = kind_of(attributes.mode);
+    let node = nodes.told(attributes.inode, kind, name.directory, name.name)?;
+    Ok(entry_of(node, &attributes))
 }
 
 impl Mount {
@@ -49,12 +105,14 @@ impl Mount {
         ensures asked { Talked S.called S.entered S.left now sessions.old sessions.new }
         ensures told { IfOk result (IsKnown (known_of self.new.nodes)) }
     {
-        let attributes = self.look(sessions, now, path)?;
-        let kind = kind_of(attributes.mode);
-        let node = self
-            .nodes
-            .told(attributes.inode, kind, name.directory, name.name)?;
-        Ok(entry_of(node, &attributes))
+        tell(
+            &mut self.seats,
+            &mut self.nodes,
+            sessions,
+            now,
+            name,
+            path,
+        )
     }
 
     /// LOOKUP: node 0 where the name leads to nothing.
@@ -92,7 +150,7 @@ impl Mount {
             old: &old,
             new: &new,
         };
-        self.ask_done(sessions, now, call)?;
+        self.seats.ask_done(sessions, now, call)?;
         Ok(FuseAnswer::Entry(self.tell(sessions, now, name, &new)?))
     }
 
@@ -107,9 +165,9 @@ impl Mount {
         ensures told { IfOk result (λ a. IsTrue (is_done a)) }
     {
         let path = self.path_of(name)?;
-        let was = self.look(sessions, now, &path)?;
+        let was = self.seats.look(sessions, now, &path)?;
         self.hold(sessions, now, was.inode)?;
-        self.ask_done(sessions, now, Call::Unlink { path: &path })?;
+        self.seats.ask_done(sessions, now, Call::Unlink { path: &path })?;
         self.nodes
             .lost(was.inode, name.directory, name.name, is_last(&was));
         Ok(FuseAnswer::Done)
@@ -126,26 +184,10 @@ impl Mount {
         ensures told { IfOk result (λ a. IsTrue (is_done a)) }
     {
         let path = self.path_of(name)?;
-        let was = self.look(sessions, now, &path)?;
-        self.ask_done(sessions, now, Call::Rmdir { path: &path })?;
+        let was = self.seats.look(sessions, now, &path)?;
+        self.seats.ask_done(sessions, now, Call::Rmdir { path: &path })?;
         self.nodes.lost(was.inode, name.directory, name.name, true);
         Ok(FuseAnswer::Done)
-    }
-
-    /// What stands at a path, if anything does.
-    fn look_for<S: Sessions>(
-        &mut self,
-        sessions: &mut S,
-        now: u32,
-        path: &[u8],
-    ) -> Result<Option<Attributes>, Refused>
-        ensures { Talked S.called S.entered S.left now sessions.old sessions.new }
-    {
-        match self.look(sessions, now, path) {
-            Ok(attributes) => Ok(Some(attributes)),
-            Err(Refused::By(Errno::ENOENT)) => Ok(None),
-            Err(refused) => Err(refused),
-        }
     }
 
     /// What a rename replaces, which keeps a descriptor if it is open. EEXIST where nothing is to stand there.
@@ -158,7 +200,7 @@ impl Mount {
     ) -> Result<Option<Attributes>, Refused>
         ensures { Talked S.called S.entered S.left now sessions.old sessions.new }
     {
-        let replaced = self.look_for(sessions, now, path)?;
+        let replaced = self.seats.look_for(sessions, now, path)?;
         if let Some(attributes) = &replaced {
             if flags == NO_REPLACE {
                 return Err(Refused::By(Errno::EEXIST));
@@ -181,21 +223,6 @@ impl Mount {
         self.nodes.renamed(inode, place);
     }
 
-    /// Asks for a rename: the inode that has the new name now, unless it had both.
-    fn rename_path<S: Sessions>(
-        &mut self,
-        sessions: &mut S,
-        now: u32,
-        old: &[u8],
-        new: &[u8],
-    ) -> Result<u16, Refused>
-        ensures { Talked S.called S.entered S.left now sessions.old sessions.new }
-    {
-        let inode = self.look(sessions, now, old)?.inode;
-        self.ask_done(sessions, now, Call::Rename { old, new })?;
-        Ok(inode)
-    }
-
     /// RENAME and RENAME2. EINVAL: a flag isn't known here.
     pub(crate) fn rename<S: Sessions>(
         &mut self,
@@ -215,7 +242,7 @@ impl Mount {
         let new = self.path_of(to)?;
         let place = Place::new(self.alloc, to.directory, to.name)?;
         let replaced = self.replaced(sessions, now, &new, flags)?;
-        let inode = self.rename_path(sessions, now, &old, &new)?;
+        let inode = self.seats.rename_path(sessions, now, &old, &new)?;
         self.moved(inode, replaced, to, place);
         Ok(FuseAnswer::Done)
     }

@@ -28,9 +28,10 @@ const MAJOR: u32 = 7;
 
 const MINOR: u32 = 31;
 
-/// What is taken of all that the kernel offers: reads that nobody waits for (0x1), writes of more than a page (0x20), lookups in one
-/// directory side by side (0x40000), a count of a message's pages (0x400000), and targets of links that it keeps (0x800000).
-const TAKEN: u32 = 0xc4_0021;
+/// What is taken of all that the kernel offers: reads that nobody waits for (0x1), writes of more than a page (0x20), READDIRPLUS (0x2000),
+/// and where READDIR does, that too (0x4000), lookups in one directory side by side (0x40000), a count of a message's pages (0x400000), and
+/// targets of links that it keeps (0x800000).
+const TAKEN: u32 = 0xc4_6021;
 
 /// The pages of a message: 64 KiB.
 const MOST_PAGES: u16 = 16;
@@ -187,6 +188,7 @@ impl Mount {
             Request::Release { handle, .. } => self.release(sessions, now, handle),
             Request::Opendir { .. } => self.open_directory(message.node),
             Request::Readdir { span } => self.readdir(sessions, now, span),
+            Request::Readdirplus { span } => self.readdirplus(sessions, now, span),
             Request::Releasedir { handle, .. } => self.release(sessions, now, handle),
             _ => self.on_making(sessions, now, message),
         }

@@ -3,8 +3,8 @@
 
 ghost use Rattle.fuse_server.specs.Asking.{Talked};
 
-use crate::mount::Mount;
 use errno::Errno;
+use std::alloc::Global;
 use talks::ask::Ask;
 use talks::heard::Heard;
 use talks::refused::Refused;
@@ -25,7 +25,20 @@ fn entering<S: Sessions>(sessions: &mut S, now: u32) -> Result<u8, Refused>
     heard(sessions, now, &Ask::Enter { uid: 0, gid: 0 }).session()
 }
 
-impl Mount {
+/// The sessions of user 0 that have begun.
+#[derive(Drop)]
+pub(crate) struct Seats {
+    begun: Vec<u8>,
+}
+
+impl Seats {
+    /// None.
+    pub(crate) fn new(alloc: Global) -> Seats {
+        Seats {
+            begun: Vec::new(alloc),
+        }
+    }
+
     /// The session of user 0 at this place, which begins where there are no more than so many yet.
     pub(crate) fn session<S: Sessions>(
         &mut self,
@@ -35,12 +48,12 @@ impl Mount {
     ) -> Result<u8, Refused>
         ensures { Talked S.called S.entered S.left now sessions.old sessions.new }
     {
-        if let Some(session) = self.seats.get(at) {
+        if let Some(session) = self.begun.get(at) {
             return Ok(*session);
         }
-        self.seats.reserve(1)?;
+        self.begun.reserve(1)?;
         let session = entering(sessions, now)?;
-        match self.seats.push(session) {
+        match self.begun.push(session) {
             Ok(()) => Ok(session),
             Err(_) => Err(Refused::By(Errno::ENOMEM)),
         }
