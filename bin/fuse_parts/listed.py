@@ -132,8 +132,8 @@ def filled(folder):
 
 
 def long_listings(folder):
-    """What `ls -lR` and `find -ls` say, but for inodes and blocks, and the size, links and time of what isn't a file."""
-    told = lambda it, name: it if it[0][0] == "-" else [it[0], *it[2:4], *it[name:]]
+    """What `ls -lR` and `find -ls` say, but for inodes and blocks, the size, links and time of what isn't a file, and whose a link is."""
+    told = lambda it, name: it if it[0][0] == "-" else [it[0], *(it[2:4] if it[0][0] == "d" else ()), *it[name:]]
     lines = [line.split() for line in ran("ls", "-lR", "--time-style=+%s", cwd=folder).splitlines() if not line.startswith("total ")]
     found = [line.split()[2:] for line in ran("find", ".", "-ls", cwd=folder).splitlines()]
     return [told(it, 6) if len(it) > 1 else it for it in lines], sorted(told(it, 8) for it in found)

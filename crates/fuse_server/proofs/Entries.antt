@@ -16,7 +16,7 @@ use Rattle.fuse_nodes.specs.Known.{Known}
 use Rattle.fuse_nodes.specs.Changes.{told, told_as, number_in, opened}
 use Rattle.fuse_nodes.specs.declared.node.Descriptor.{Descriptor}
 use Rattle.fuse_nodes.specs.declared.node.NodeKind.{NodeKind}
-use Rattle.fuse_server.specs.Entries.{IsKnown, KeepsNumbers, found_bytes, listed_bytes, IsListed}
+use Rattle.fuse_server.specs.Entries.{IsKnown, MaybeKnown, KeepsNumbers, found_bytes, listed_bytes, IsListed}
 
 -- a table has at a key what was put there
 put_there : (table : ℕ → Option ℕ) (key : ℕ) (x : Option ℕ) → put table key x key ≡ x
@@ -35,7 +35,7 @@ known_entry k l inode kind place id e same number node at =
     let P : Known → Type 0 = λ m. m.numbers inode ≡ Some (number_in k inode) in
     let there : l.numbers inode ≡ Some (number_in k inode) = subst P (sym same) (told_number k inode kind place (k.numbers inode) refl) in
     let A : ℕ → Type 0 = λ i. l.numbers i ≡ Some (number_in k inode) in
-    inr (subst A (sym at) there ∙ ap Some (sym number ∙ sym node))
+    subst A (sym at) there ∙ ap Some (sym number ∙ sym node)
 
 -- and the node gets a handle
 pub opened_entry : (k l m : Known) (inode : ℕ) (kind : NodeKind) (place : ℕ × List ℕ) (id : ℕ) (d : Option Descriptor) (e : Entry)
@@ -65,7 +65,7 @@ told_keeps k l inode kind place is =
     let P : Known → Type 0 = λ m. KeepsNumbers k m in
     subst P (sym is) (record { numbers = told_as_keeps k inode kind place (k.numbers inode) refl })
 
-stays_known : (k l : Known) → KeepsNumbers k l → (e : Entry) → IsKnown k e → IsKnown l e
+stays_known : (k l : Known) → KeepsNumbers k l → (e : Entry) → MaybeKnown k e → MaybeKnown l e
 stays_known k l kept e (inl none) = inl none
 stays_known k l kept e (inr there) = inr (kept.numbers e.attributes.inode e.node there)
 
@@ -76,8 +76,8 @@ one_more (x ∷ es) e =
     append_assoc (found_bytes x) (listed_bytes es) (found_bytes e) ∙ ap (λ (y : List ℕ). found_bytes x ++ y) (one_more es e)
 
 all_known : (k l : Known) → KeepsNumbers k l → (es : List (Entry × ReaddirEntry)) (e : Entry × ReaddirEntry)
-    → AllByRecursion (λ (x : Entry × ReaddirEntry). IsKnown k x.0) es → IsKnown l e.0
-    → AllByRecursion (λ (x : Entry × ReaddirEntry). IsKnown l x.0) (es ++ e ∷ [])
+    → AllByRecursion (λ (x : Entry × ReaddirEntry). MaybeKnown k x.0) es → MaybeKnown l e.0
+    → AllByRecursion (λ (x : Entry × ReaddirEntry). MaybeKnown l x.0) (es ++ e ∷ [])
 all_known k l kept [] e all own = (own, tt)
 all_known k l kept (x ∷ es) e all own = (stays_known k l kept x.0 all.0, all_known k l kept es e all.1 own)
 
@@ -87,7 +87,7 @@ unfolding listed_bytes
 none_listed k bytes is = record { entries = []; exact = is; known = tt }
 
 -- an entry more
-pub more_listed : (k l : Known) (old new : List ℕ) (e : Entry) (d : ReaddirEntry) → KeepsNumbers k l → IsKnown l e
+pub more_listed : (k l : Known) (old new : List ℕ) (e : Entry) (d : ReaddirEntry) → KeepsNumbers k l → MaybeKnown l e
     → new ≡ old ++ (fields_bytes (entry_fields e) ++ dirent_bytes d) → IsListed k old → IsListed l new
 more_listed k l old new e d kept own is listed = record {
   entries = listed.entries ++ (e, d) ∷ [];

@@ -7,7 +7,7 @@ use Rattle.fuse.specs.declared.request.Request.TheVariants as request
 use Rattle.fuse_nodes.specs.Known.{Known}
 use Rattle.talks.specs.Numbers.{number_of}
 use Rattle.talks.specs.Plain.{at}
-use Rattle.fuse_server.specs.Entries.{IsKnown, IsListed}
+use Rattle.fuse_server.specs.Entries.{IsKnown, IsListed, nothing}
 use Rattle.fuse_server.specs.declared.said.FuseAnswer.{FuseAnswer}
 use Rattle.fuse_server.specs.declared.said.FuseAnswer.TheVariants as answer_of
 use Rattle.fuse_server.specs.declared.said.Said.{Said}
@@ -68,7 +68,7 @@ abbrev pub IsCount : ℕ → FuseAnswer → Type 0
 IsCount most (answer_of.Write count) = count ≤ most
 IsCount most a = IsTrue (is_refusal a)
 
--- Which answer a request has, by what is known behind it, unless it is a sync that was done. A READ and a READDIR tell no more bytes than
+-- Which answer a request has, by what is known behind it, unless it is a sync that was done or a name that leads to nothing. A READ and a READDIR tell no more bytes than
 -- were asked for, and a WRITE no more than were given.
 abbrev pub IsFor : Known → Request → FuseAnswer → Type 0
 IsFor k (request.Lookup name) a = IsEntry k a
@@ -103,9 +103,15 @@ is_sync (request.Fsync handle fsync_flags) = true
 is_sync (request.Fsyncdir handle fsync_flags) = true
 is_sync r = false
 
+-- LOOKUP, that a name leads to nothing
+abbrev pub is_lookup : Request → Bool
+is_lookup (request.Lookup name) = true
+is_lookup r = false
+
 abbrev pub IsSaidTo : Known → Request → Said → Type 0
 IsSaidTo k r (said.Plain a) = IsFor k r a
 IsSaidTo k r said.Synced = IsTrue (is_sync r)
+IsSaidTo k r said.Missing = IsTrue (is_lookup r)
 
 -- The reply of an answer. Numbers of errors are Linux's: 38 where a request isn't one that is answered here, 71 where the protocol has
 -- another version. Attributes may be kept for a day.
@@ -126,8 +132,16 @@ reply_for (answer_of.Bytes bytes) = reply.Bytes (at (take 65536 bytes.items))
 abbrev pub reply_to : Said → Reply
 reply_to (said.Plain a) = reply_for a
 reply_to said.Synced = reply.Done
+reply_to said.Missing = reply.Entry nothing
 
 -- what is said to a sync: that it was done, or a refusal
 abbrev pub IsOfSync : Said → Type 0
 IsOfSync (said.Plain a) = IsTrue (is_refusal a)
 IsOfSync said.Synced = ⊤
+IsOfSync said.Missing = ⊥
+
+-- what is said to a LOOKUP: an entry, that there is nothing, or a refusal
+abbrev pub IsOfLookup : Known → Said → Type 0
+IsOfLookup k (said.Plain a) = IsEntry k a
+IsOfLookup k said.Synced = ⊥
+IsOfLookup k said.Missing = ⊤

@@ -148,11 +148,12 @@ impl Mount {
     }
 
     /// Whether the entries of an open directory are asked for anew: from the start on, or where none are kept.
-    pub(crate) fn is_fresh(&self, span: Span) -> bool {
+    fn is_fresh(&self, span: Span) -> bool {
         span.offset == 0 || self.handles.names(span.handle).is_err()
     }
 
-    /// The entries of an open directory are kept with its handle.
+    /// The entries of an open directory are kept with its handle: those that it has now, where they are asked for anew, so that changes
+    /// between two messages hide none.
     pub(crate) fn keep_names<S: Sessions>(
         &mut self,
         sessions: &mut S,
@@ -161,6 +162,9 @@ impl Mount {
     ) -> Result<(), Refused>
         ensures { Talked S.called S.entered S.left now sessions.old sessions.new }
     {
+        if !self.is_fresh(span) {
+            return Ok(());
+        }
         let node = self.handles.directory(span.handle)?;
         let names = self.names_of(sessions, now, node)?;
         self.handles.keep(span.handle, names);
@@ -177,8 +181,7 @@ impl Mount {
         Ok(FuseAnswer::Bytes(bytes))
     }
 
-    /// READDIR: the entries from an offset on, as many as have room. At offset 0 they are asked for, and kept with the handle, so that
-    /// changes between two messages hide none.
+    /// READDIR: the entries from an offset on, as many as have room.
     pub(crate) fn readdir<S: Sessions>(
         &mut self,
         sessions: &mut S,
@@ -188,9 +191,7 @@ impl Mount {
         ensures asked { Talked S.called S.entered S.left now sessions.old sessions.new }
         ensures told { IfOk result (IsWithin span.count) }
     {
-        if self.is_fresh(span) {
-            self.keep_names(sessions, now, span)?;
-        }
+        self.keep_names(sessions, now, span)?;
         self.kept(span)
     }
 }

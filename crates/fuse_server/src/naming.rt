@@ -1,16 +1,17 @@
 //! Names: where they lead, further ones, changed ones, and ones that are taken away.
 #![tactic(auto, using(crate::proofs::Asking::goes_on, crate::proofs::Asking::stays))]
 
-ghost use Rattle.std.specs.Prelude.{IfOk, IsTrue};
-ghost use Rattle.fuse_server.specs.Asking.{Talked};
+ghost use Rattle.std.specs.Prelude.{IfOk, IfSome, IsTrue};
+ghost use Rattle.talks.specs.Talks.{MayHear};
+ghost use Rattle.fuse_server.specs.Asking.{Talked, MaybeMissing, AskedFor};
 ghost use Rattle.fuse_nodes.specs.Known.{known_of};
 ghost use Rattle.fuse_server.specs.Entries.{IsKnown, KeepsNumbers};
-ghost use Rattle.fuse_server.specs.Kinds.{is_done, IsEntry};
+ghost use Rattle.fuse_server.specs.Kinds.{is_done, IsEntry, IsOfLookup};
 
 use crate::mount::Mount;
-use crate::said::FuseAnswer;
+use crate::said::{FuseAnswer, Said};
 use crate::talk::Seats;
-use crate::told::{entry_of, kind_of, nothing};
+use crate::told::{entry_of, kind_of};
 use errno::Errno;
 use fuse::reply::Entry;
 use fuse_nodes::node::{NodeKind, Place};
@@ -35,22 +36,6 @@ fn is_last(attributes: &Attributes) -> bool {
 }
 
 impl Seats {
-    /// What stands at a path, if anything does.
-    fn look_for<S: Sessions>(
-        &mut self,
-        sessions: &mut S,
-        now: u32,
-        path: &[u8],
-    ) -> Result<Option<Attributes>, Refused>
-        ensures { Talked S.called S.entered S.left now sessions.old sessions.new }
-    {
-        match self.look(sessions, now, path) {
-            Ok(attributes) => Ok(Some(attributes)),
-            Err(Refused::By(Errno::ENOENT)) => Ok(None),
-            Err(refused) => Err(refused),
-        }
-    }
-
     /// Asks for a rename: the inode that has the new name now, unless it had both.
     fn rename_path<S: Sessions>(
         &mut self,
@@ -67,8 +52,23 @@ impl Seats {
     }
 }
 
+/// The kernel is told of what has these attributes by a name.
+#[tactic(auto, using(crate::proofs::Entries::keeps))]
+fn tell_node(
+    nodes: &mut Nodes,
+    attributes: &Attributes,
+    name: NameIn<'_>,
+) -> Result<Entry, Refused>
+    ensures told { IfOk result (IsKnown (known_of nodes.new)) }
+    ensures kept { KeepsNumbers (known_of nodes.old) (known_of nodes.new) }
+{
+    let kind = kind_of(attributes.mode);
+    let node = nodes.told(attributes.inode, kind, name.directory, name.name)?;
+    Ok(entry_of(node, attributes))
+}
+
 /// Looks at a name, and tells the kernel its node.
-#[tactic(auto, using(crate::proofs::Asking::goes_on, crate::proofs::Asking::stays, crate::proofs::Entries::keeps))]
+#[tactic(auto, using(crate::proofs::Asking::goes_on, crate::proofs::Entries::keeps))]
 pub(crate) fn tell<S: Sessions>(
     seats: &mut Seats,
     nodes: &mut Nodes,
@@ -82,9 +82,7 @@ pub(crate) fn tell<S: Sessions>(
     ensures kept { KeepsNumbers (known_of nodes.old) (known_of nodes.new) }
 {
     let attributes = seats.look(sessions, now, path)?;
-    let kind = kind_of(attributes.mode);
-    let node = nodes.told(attributes.inode, kind, name.directory, name.name)?;
-    Ok(entry_of(node, &attributes))
+    tell_node(nodes, &attributes, name)
 }
 
 impl Mount {
@@ -115,21 +113,38 @@ impl Mount {
         )
     }
 
-    /// LOOKUP: node 0 where the name leads to nothing.
+    /// What a name leads to, of which the kernel is told; nothing where it leads to nothing.
+    fn find<S: Sessions>(
+        &mut self,
+        sessions: &mut S,
+        now: u32,
+        name: NameIn<'_>,
+    ) -> Result<Option<Entry>, Refused>
+        ensures asked { Talked S.called S.entered S.left now sessions.old sessions.new }
+        ensures told { IfOk result (λ found. IfSome found (IsKnown (known_of self.new.nodes))) }
+        ensures missing { IfOk result (λ found. MaybeMissing S.called S.entered S.left now sessions.old found sessions.new) }
+    {
+        let path = self.path_of(name)?;
+        match self.seats.look_for(sessions, now, &path)? {
+            Some(attributes) => Ok(Some(tell_node(&mut self.nodes, &attributes, name)?)),
+            None => Ok(None),
+        }
+    }
+
+    /// LOOKUP.
     pub(crate) fn lookup<S: Sessions>(
         &mut self,
         sessions: &mut S,
         now: u32,
         name: NameIn<'_>,
-    ) -> Result<FuseAnswer, Refused>
-        ensures asked { Talked S.called S.entered S.left now sessions.old sessions.new }
-        ensures told { IfOk result (IsEntry (known_of self.new.nodes)) }
+    ) -> Said
+        ensures asked { AskedFor (MayHear S.called S.entered S.left now) sessions.old result sessions.new }
+        ensures told { IsOfLookup (known_of self.new.nodes) result }
     {
-        let path = self.path_of(name)?;
-        match self.tell(sessions, now, name, &path) {
-            Ok(entry) => Ok(FuseAnswer::Entry(entry)),
-            Err(Refused::By(Errno::ENOENT)) => Ok(FuseAnswer::Entry(nothing())),
-            Err(refused) => Err(refused),
+        match self.find(sessions, now, name) {
+            Ok(Some(entry)) => Said::Plain(FuseAnswer::Entry(entry)),
+            Ok(None) => Said::Missing,
+            Err(refused) => Said::Plain(FuseAnswer::Refused(refused)),
         }
     }
 
@@ -200,14 +215,14 @@ impl Mount {
     ) -> Result<Option<Attributes>, Refused>
         ensures { Talked S.called S.entered S.left now sessions.old sessions.new }
     {
-        let replaced = self.seats.look_for(sessions, now, path)?;
-        if let Some(attributes) = &replaced {
-            if flags == NO_REPLACE {
-                return Err(Refused::By(Errno::EEXIST));
-            }
-            self.hold(sessions, now, attributes.inode)?;
+        let Some(attributes) = self.seats.look_for(sessions, now, path)? else {
+            return Ok(None);
+        };
+        if flags == NO_REPLACE {
+            return Err(Refused::By(Errno::EEXIST));
         }
-        Ok(replaced)
+        self.hold(sessions, now, attributes.inode)?;
+        Ok(Some(attributes))
     }
 
     /// A name became another one. Where both were names of one file, nothing was changed.

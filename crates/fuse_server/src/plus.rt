@@ -4,7 +4,7 @@
 ghost use Rattle.std.specs.Prelude.{◌≡◌, ◌≤◌, ◌+◌, IfOk, IsTrue, length, vec_capacity};
 ghost use Rattle.fuse_nodes.specs.Known.{known_of};
 ghost use Rattle.fuse_server.specs.Asking.{Talked};
-ghost use Rattle.fuse_server.specs.Entries.{IsKnown, KeepsNumbers, IsListed};
+ghost use Rattle.fuse_server.specs.Entries.{MaybeKnown, KeepsNumbers, IsListed};
 ghost use Rattle.fuse_server.specs.Kinds.{IsPlus};
 
 use crate::bounds::most_of;
@@ -45,7 +45,7 @@ fn found<S: Sessions>(
     name: NameIn<'_>,
 ) -> Entry
     ensures asked { Talked S.called S.entered S.left now sessions.old sessions.new }
-    ensures told { IsKnown (known_of nodes.new) result }
+    ensures told { MaybeKnown (known_of nodes.new) result }
     ensures kept { KeepsNumbers (known_of nodes.old) (known_of nodes.new) }
 {
     let Ok(path) = nodes.below(name.directory, name.name) else {
@@ -182,9 +182,7 @@ impl Mount {
         ensures asked { Talked S.called S.entered S.left now sessions.old sessions.new }
         ensures told { IfOk result (IsPlus (known_of self.new.nodes) span.count) }
     {
-        if self.is_fresh(span) {
-            self.keep_names(sessions, now, span)?;
-        }
+        self.keep_names(sessions, now, span)?;
         self.kept_plus(sessions, now, span)
     }
 }

@@ -3,9 +3,9 @@
 
 ghost use Rattle.std.specs.Prelude.{◌≡◌, IfOk, IsTrue};
 ghost use Rattle.fuse_nodes.specs.Known.{known_of};
-ghost use Rattle.talks.specs.Talks.{MayHear, Asked};
-ghost use Rattle.fuse_server.specs.Asking.{Talked};
-ghost use Rattle.fuse_server.specs.Kinds.{is_init, is_sync, IsFor};
+ghost use Rattle.talks.specs.Talks.{MayHear};
+ghost use Rattle.fuse_server.specs.Asking.{Talked, AskedFor};
+ghost use Rattle.fuse_server.specs.Kinds.{is_init, is_sync, IsFor, IsSaidTo};
 ghost use Rattle.fuse_server.specs.Answering.{IsSaidToBytes};
 
 use crate::attributes::bits_of;
@@ -81,7 +81,6 @@ impl Mount {
     {
         let directory = message.node;
         match message.request {
-            Request::Lookup { name } => self.lookup(sessions, now, NameIn { directory, name }),
             Request::Unlink { name } => self.unlink(sessions, now, NameIn { directory, name }),
             Request::Rmdir { name } => self.rmdir(sessions, now, NameIn { directory, name }),
             Request::Link { file, name } => {
@@ -256,7 +255,7 @@ impl Mount {
         }
     }
 
-    /// What is said to a message that is no sync.
+    /// What is said to a message that is neither a sync nor a LOOKUP.
     #[tactic(auto, using(crate::proofs::Asking::goes_on, crate::proofs::KindLaws::refusal_for))]
     fn said_plainly<S: Sessions>(
         &mut self,
@@ -273,14 +272,31 @@ impl Mount {
         }
     }
 
+    /// What is said to a message that is no sync.
+    fn said_of<S: Sessions>(
+        &mut self,
+        sessions: &mut S,
+        now: u32,
+        message: &Message<'_>,
+    ) -> Said
+        ensures asked { AskedFor (MayHear S.called S.entered S.left now) sessions.old result sessions.new }
+        ensures told { IsSaidTo (known_of self.new.nodes) message.now.request result }
+    {
+        let directory = message.node;
+        match message.request {
+            Request::Lookup { name } => self.lookup(sessions, now, NameIn { directory, name }),
+            _ => Said::Plain(self.said_plainly(sessions, now, message)),
+        }
+    }
+
     /// What is said to the bytes of a message: EINVAL where they can't be read.
     pub(crate) fn said_to<S: Sessions>(&mut self, sessions: &mut S, now: u32, bytes: &[u8]) -> Said
-        ensures asked { Asked (MayHear S.called S.entered S.left now) sessions.old (result ≡ Said.Synced) sessions.new }
+        ensures asked { AskedFor (MayHear S.called S.entered S.left now) sessions.old result sessions.new }
         ensures told { IsSaidToBytes (known_of self.new.nodes) bytes.now result }
     {
         match read(bytes) {
             Ok(message) if asks_sync(&message.request) => self.sync(sessions, now),
-            Ok(message) => Said::Plain(self.said_plainly(sessions, now, &message)),
+            Ok(message) => self.said_of(sessions, now, &message),
             Err(_) => Said::Plain(FuseAnswer::Refused(Refused::By(Errno::EINVAL))),
         }
     }

@@ -1,7 +1,10 @@
 //! Calls by the sessions of user 0, by whom all calls are made: the kernel has looked at who may do what.
 #![tactic(auto, using(crate::proofs::Asking::goes_on, crate::proofs::Asking::stays))]
 
-ghost use Rattle.fuse_server.specs.Asking.{Talked};
+ghost use Rattle.std.specs.Prelude.{IfOk};
+ghost use Rattle.talks.specs.Talks.{MayHear};
+ghost use Rattle.talks.specs.declared.ask.Ask.TheVariants as ask;
+ghost use Rattle.fuse_server.specs.Asking.{Talked, TalkedTo, MaybeMissing};
 
 use errno::Errno;
 use std::alloc::Global;
@@ -13,7 +16,8 @@ use tree::{Attributes, Call};
 
 /// A call of a session.
 pub(crate) fn calling<S: Sessions>(sessions: &mut S, now: u32, session: u8, call: Call<'_>) -> Heard
-    ensures { Talked S.called S.entered S.left now sessions.old sessions.new }
+    ensures asked { Talked S.called S.entered S.left now sessions.old sessions.new }
+    ensures heard { MayHear S.called S.entered S.left now sessions.old (ask.Call session call.entry) result sessions.new }
 {
     heard(sessions, now, &Ask::Call { session, call })
 }
@@ -66,7 +70,8 @@ impl Seats {
         now: u32,
         call: Call<'_>,
     ) -> Result<Heard, Refused>
-        ensures { Talked S.called S.entered S.left now sessions.old sessions.new }
+        ensures asked { Talked S.called S.entered S.left now sessions.old sessions.new }
+        ensures heard { IfOk result (λ h. TalkedTo S.called S.entered S.left now sessions.old call.entry h sessions.new) }
     {
         let session = self.session(sessions, now, 0)?;
         Ok(calling(sessions, now, session, call))
@@ -94,5 +99,23 @@ impl Seats {
         ensures { Talked S.called S.entered S.left now sessions.old sessions.new }
     {
         self.ask(sessions, now, Call::Lstat { path })?.attributes()
+    }
+
+    /// The attributes of what a path names, if it names anything.
+    pub(crate) fn look_for<S: Sessions>(
+        &mut self,
+        sessions: &mut S,
+        now: u32,
+        path: &[u8],
+    ) -> Result<Option<Attributes>, Refused>
+        ensures asked { Talked S.called S.entered S.left now sessions.old sessions.new }
+        ensures missing { IfOk result (λ found. MaybeMissing S.called S.entered S.left now sessions.old found sessions.new) }
+    {
+        let heard = self.ask(sessions, now, Call::Lstat { path })?;
+        match heard.attributes() {
+            Ok(attributes) => Ok(Some(attributes)),
+            Err(Refused::By(Errno::ENOENT)) => Ok(None),
+            Err(refused) => Err(refused),
+        }
     }
 }
