@@ -12,7 +12,7 @@ use Rattle.fuse.specs.Replies.{answer}
 use Rattle.fuse_nodes.specs.Known.{Known}
 use Rattle.tree.specs.declared.Call.{Call}
 use Rattle.tree.specs.declared.Outcome.{Outcome}
-use Rattle.talks.specs.Talks.{MayHear, Asked}
+use Rattle.talks.specs.Talks.{MayHear}
 use Rattle.talks.specs.declared.sessions.EnterRefusal.{EnterRefusal}
 use Rattle.talks.specs.declared.ask.Ask.{Ask}
 use Rattle.talks.specs.declared.heard.Heard.{Heard}
@@ -20,6 +20,7 @@ use Rattle.talks.specs.declared.refused.Refused.TheVariants.{By}
 use Rattle.fuse_server.specs.declared.said.FuseAnswer.TheVariants as answer_of
 use Rattle.fuse_server.specs.declared.said.Said.{Said}
 use Rattle.fuse_server.specs.declared.said.Said.TheVariants as said
+use Rattle.fuse_server.specs.Asking.{AskedFor}
 use Rattle.fuse_server.specs.Messages.{opcode_in, unique_in, is_silent}
 use Rattle.fuse_server.specs.Kinds.{IsSaidTo, reply_to}
 use Rattle.fuse_server.specs.Answering.{IsSaidToRead, IsSaidToBytes, IsSent, IsTold, IsAnswered, IsAnsweredAs, IsAnsweredBy, no_memory}
@@ -32,13 +33,10 @@ sent unique it r old new same is = (said_is_reply it, is ∙ ap (λ (x : List �
 
 -- what is said to bytes was written
 pub told : {S : Type 0} (may : S → Ask → Heard → S → Type 0) (k : Known) (bytes : List ℕ) (unique capacity : ℕ) (s : S)
-    (old mid : List ℕ) (t : S) (new : List ℕ) (it : Said) → mid ≡ old → Asked may s (it ≡ said.Synced) t → IsSaidToBytes k bytes it
+    (old mid : List ℕ) (t : S) (new : List ℕ) (it : Said) → mid ≡ old → AskedFor may s it t → IsSaidToBytes k bytes it
     → IsSent unique it mid new → IsTold may k bytes unique capacity s old t new
 told may k bytes unique capacity s old mid t new it same asked fits written =
     let P : List ℕ → Type 0 = λ x. IsSent unique it x new in (it, subst P same written, asked, inl fits)
-
-no_sync : no_memory ≡ said.Synced → ⊥
-no_sync e = cc
 
 -- there was no room for the longest answer
 pub no_room : {S A E : Type 0} (may : S → Ask → Heard → S → Type 0) (k : Known) (bytes : List ℕ) (unique capacity : ℕ) (s : S)
@@ -46,7 +44,7 @@ pub no_room : {S A E : Type 0} (may : S → Ask → Heard → S → Type 0) (k :
     → OnOk r (IsTold may k bytes unique capacity s old s new)
 no_room may k bytes unique capacity s old mid new (Ok a) same less written =
     let P : List ℕ → Type 0 = λ x. IsSent unique no_memory x new in
-    (no_memory, subst P same written, ([], refl, λ e. absurd (no_sync e)), inr (refl, refl, less))
+    (no_memory, subst P same written, ([], refl, tt), inr (refl, refl, less))
 no_room may k bytes unique capacity s old mid new (Err e) same less written = tt
 
 -- a message that has an answer was answered

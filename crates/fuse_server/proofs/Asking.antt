@@ -1,12 +1,21 @@
 -- What sessions are asked, one thing after another.
-use Rattle.std.proofs.Common.{ℕ, List, [], ◌∷◌, ◌++◌, Result, refl, subst}
+use Rattle.std.proofs.Common.{◌≡◌, ℕ, List, [], ◌∷◌, ◌++◌, Result, Ok, Err, refl, subst}
+use Rattle.std.specs.Borrow.{Bor}
+use Rattle.errno.specs.declared.Errno.TheVariants.{ENOENT}
 use Rattle.tree.specs.declared.Call.{Call}
+use Rattle.tree.specs.declared.Call.TheVariants as call
 use Rattle.tree.specs.declared.Outcome.{Outcome}
-use Rattle.talks.specs.Talks.{Exchange, MayHear, Leads}
+use Rattle.tree.specs.declared.Outcome.TheVariants as outcome
+use Rattle.tree.specs.declared.Reply.TheVariants as reply
+use Rattle.talks.specs.Hearing.{attributes_in}
+use Rattle.talks.specs.Talks.{Exchange, MayHear, Leads, Replies}
 use Rattle.talks.specs.declared.ask.Ask.{Ask}
+use Rattle.talks.specs.declared.ask.Ask.TheVariants as ask
 use Rattle.talks.specs.declared.heard.Heard.{Heard}
+use Rattle.talks.specs.declared.heard.Heard.TheVariants as heard_of
+use Rattle.talks.specs.declared.refused.Refused.TheVariants.{By}
 use Rattle.talks.specs.declared.sessions.EnterRefusal.{EnterRefusal}
-use Rattle.fuse_server.specs.Asking.{Talked}
+use Rattle.fuse_server.specs.Asking.{Talked, TalkedTo, Missed}
 
 -- exchanges behind others
 joined : {S : Type 0} (may : S → Ask → Heard → S → Type 0) (s t u : S) (first then : List Exchange) → Leads may s first t
@@ -32,4 +41,22 @@ pub goes_on : {S : Type 0} {called : S → ℕ → ℕ → Call → Outcome → 
 goes_on {called = called} {entered} {left} {now} {s} {t} {u} a b = record {
   log = b.log ++ a.log;
   leads = joined (MayHear called entered left now) s t u a.log b.log a.leads b.leads;
+}
+
+-- a call that was refused for want of what it names
+refused_so : (h : Heard) → attributes_in h ≡ Err (By ENOENT) → Replies h (reply.Refused ENOENT)
+refused_so (heard_of.Outcome (outcome.Reply (reply.Refused errno))) e = cc
+refused_so (heard_of.Outcome (outcome.Reply r)) e = cc
+refused_so (heard_of.Outcome outcome.Cut) e = cc
+refused_so (heard_of.Entered r) e = cc
+refused_so heard_of.Left e = cc
+
+-- a path was looked at, and leads to nothing
+pub missed : {S : Type 0} {called : S → ℕ → ℕ → Call → Outcome → S → Type 0} {entered : S → ℕ → ℕ → Result ℕ EnterRefusal → S → Type 0}
+    {left : S → S → Type 0} {now : ℕ} {s t : S} (path : Bor (List ℕ)) (h : Heard) → TalkedTo called entered left now s (call.Lstat path) h t
+    → attributes_in h ≡ Err (By ENOENT) → Missed called entered left now s t
+missed path h talked e = record {
+  log = record { ask = ask.Call talked.session (call.Lstat path); heard = h } ∷ talked.first.log;
+  leads = (talked.before, talked.first.leads, talked.last);
+  ends = (talked.session, path, refl, refused_so h e);
 }

@@ -1,14 +1,22 @@
 -- Entries name nodes by what is known.
-use Rattle.std.proofs.Common.{◌≡◌, ◌∙◌, ℕ, List, Option, Some, None, refl, sym, ap, subst, inl, inr}
+use Rattle.std.proofs.Common.{◌≡◌, ◌≤◌, ◌+◌, ◌∙◌, ℕ, List, [], ◌∷◌, ◌++◌, length, Option, Some, None, refl, sym, ap, subst, inl, inr, arith}
+use Rattle.std.proofs.Common.{append_assoc}
+use Rattle.std.proofs.lemmas.List.{append-nil, length-append}
+use Rattle.std.specs.List.{AllByRecursion}
 use Rattle.std.specs.Option.{unwrap_or}
 use Rattle.std.proofs.lemmas.Bool.Decides.{eqb_tells}
+use Rattle.fields.specs.Fields.{fields_bytes}
+use Rattle.fields.proofs.WritingLaws.{fields_length}
+use Rattle.fuse.proofs.ReplyLaws.{dirent_length}
+use Rattle.fuse.specs.Replies.{attribute_fields, name_fields, entry_fields, dirent_bytes, padding}
+use Rattle.fuse.specs.declared.entries.ReaddirEntry.{ReaddirEntry}
 use Rattle.fuse.specs.declared.reply.Entry.{Entry}
 use Rattle.fuse_nodes.specs.Tables.{put}
 use Rattle.fuse_nodes.specs.Known.{Known}
 use Rattle.fuse_nodes.specs.Changes.{told, told_as, number_in, opened}
 use Rattle.fuse_nodes.specs.declared.node.Descriptor.{Descriptor}
 use Rattle.fuse_nodes.specs.declared.node.NodeKind.{NodeKind}
-use Rattle.fuse_server.specs.Kinds.{IsKnown}
+use Rattle.fuse_server.specs.Entries.{IsKnown, MaybeKnown, KeepsNumbers, found_bytes, listed_bytes, IsListed}
 
 -- a table has at a key what was put there
 put_there : (table : ℕ → Option ℕ) (key : ℕ) (x : Option ℕ) → put table key x key ≡ x
@@ -27,7 +35,7 @@ known_entry k l inode kind place id e same number node at =
     let P : Known → Type 0 = λ m. m.numbers inode ≡ Some (number_in k inode) in
     let there : l.numbers inode ≡ Some (number_in k inode) = subst P (sym same) (told_number k inode kind place (k.numbers inode) refl) in
     let A : ℕ → Type 0 = λ i. l.numbers i ≡ Some (number_in k inode) in
-    inr (subst A (sym at) there ∙ ap Some (sym number ∙ sym node))
+    subst A (sym at) there ∙ ap Some (sym number ∙ sym node)
 
 -- and the node gets a handle
 pub opened_entry : (k l m : Known) (inode : ℕ) (kind : NodeKind) (place : ℕ × List ℕ) (id : ℕ) (d : Option Descriptor) (e : Entry)
@@ -36,3 +44,65 @@ opened_entry k l m inode kind place id d e same then number node at =
     let P : Known → Type 0 = λ x. IsKnown x e in
     let Q : Known → Type 0 = λ x. IsKnown (opened x id d) e in
     subst P (sym then) (known_entry k l inode kind place id e same number node at)
+
+-- the numbers that inodes have stay theirs, where nothing is told
+pub keeps : (k l : Known) → l ≡ k → KeepsNumbers k l
+keeps k l same = let P : Known → Type 0 = λ m. KeepsNumbers k m in subst P (sym same) (record { numbers = λ inode id h. h })
+
+told_as_keeps : (k : Known) (inode : ℕ) (kind : NodeKind) (place : ℕ × List ℕ) (own : Option ℕ) → k.numbers inode ≡ own
+    → (other id : ℕ) → k.numbers other ≡ Some id → (told_as k inode kind place own).numbers other ≡ Some id
+told_as_keeps k inode kind place (Some own) e other id h = h
+told_as_keeps k inode kind place None e other id h = elim (eqb_tells inode other) [
+  inl same ↦ absurd (let P : ℕ → Type 0 = λ i. k.numbers i ≡ None in never (sym (subst P same.1 e) ∙ h))
+  | inr apart ↦ rw apart.0 h
+] where
+  never : None ≡ Some id → ⊥
+  never x = cc
+
+-- and where a node is told
+pub told_keeps : (k l : Known) (inode : ℕ) (kind : NodeKind) (place : ℕ × List ℕ) → l ≡ told k inode kind place → KeepsNumbers k l
+told_keeps k l inode kind place is =
+    let P : Known → Type 0 = λ m. KeepsNumbers k m in
+    subst P (sym is) (record { numbers = told_as_keeps k inode kind place (k.numbers inode) refl })
+
+stays_known : (k l : Known) → KeepsNumbers k l → (e : Entry) → MaybeKnown k e → MaybeKnown l e
+stays_known k l kept e (inl none) = inl none
+stays_known k l kept e (inr there) = inr (kept.numbers e.attributes.inode e.node there)
+
+one_more : (es : List (Entry × ReaddirEntry)) (e : Entry × ReaddirEntry) → listed_bytes es ++ found_bytes e ≡ listed_bytes (es ++ e ∷ [])
+unfolding listed_bytes
+one_more [] e = sym (append-nil (found_bytes e))
+one_more (x ∷ es) e =
+    append_assoc (found_bytes x) (listed_bytes es) (found_bytes e) ∙ ap (λ (y : List ℕ). found_bytes x ++ y) (one_more es e)
+
+all_known : (k l : Known) → KeepsNumbers k l → (es : List (Entry × ReaddirEntry)) (e : Entry × ReaddirEntry)
+    → AllByRecursion (λ (x : Entry × ReaddirEntry). MaybeKnown k x.0) es → MaybeKnown l e.0
+    → AllByRecursion (λ (x : Entry × ReaddirEntry). MaybeKnown l x.0) (es ++ e ∷ [])
+all_known k l kept [] e all own = (own, tt)
+all_known k l kept (x ∷ es) e all own = (stays_known k l kept x.0 all.0, all_known k l kept es e all.1 own)
+
+-- no entries
+pub none_listed : (k : Known) (bytes : List ℕ) → bytes ≡ [] → IsListed k bytes
+unfolding listed_bytes
+none_listed k bytes is = record { entries = []; exact = is; known = tt }
+
+-- an entry more
+pub more_listed : (k l : Known) (old new : List ℕ) (e : Entry) (d : ReaddirEntry) → KeepsNumbers k l → MaybeKnown l e
+    → new ≡ old ++ (fields_bytes (entry_fields e) ++ dirent_bytes d) → IsListed k old → IsListed l new
+more_listed k l old new e d kept own is listed = record {
+  entries = listed.entries ++ (e, d) ∷ [];
+  exact = is ∙ ap (λ (x : List ℕ). x ++ found_bytes (e, d)) listed.exact ∙ one_more listed.entries (e, d);
+  known = all_known k l kept listed.entries (e, d) listed.known own;
+}
+
+-- how many bytes it has: those of its name alone decide
+pub found_length : (e : Entry) (d : ReaddirEntry) → length (fields_bytes (entry_fields e) ++ dirent_bytes d) ≡ 128 + length (dirent_bytes d)
+unfolding name_fields attribute_fields
+found_length e d =
+    let told : length (fields_bytes (entry_fields e)) ≡ 128 = fields_length (entry_fields e) in
+    omega (arith, told, length-append (fields_bytes (entry_fields e)) (dirent_bytes d))
+
+pub same_length : (c d : ReaddirEntry) → c.name.now ≡ d.name.now → length (dirent_bytes c) ≡ length (dirent_bytes d)
+same_length c d same =
+    let P : List ℕ → Type 0 = λ name. 24 + length name + length (padding (length name)) ≡ length (dirent_bytes c) in
+    sym (subst P same (dirent_length c (padding (length c.name.now)) refl)) ∙ dirent_length d (padding (length d.name.now)) refl

@@ -58,6 +58,7 @@ is_reply a = tt
 pub said_is_reply : (it : Said) → IsReply (reply_to it)
 said_is_reply (said.Plain a) = is_reply a
 said_is_reply said.Synced = tt
+said_is_reply said.Missing = tt
 
 -- fields and nothing behind them
 alone : (fields : List Field) → length (fields_bytes fields ++ []) ≡ total_length fields

@@ -10,7 +10,7 @@ use Rattle.fuse.specs.Replies.{IsReply, answer}
 use Rattle.fuse_nodes.specs.Known.{Known}
 use Rattle.tree.specs.declared.Call.{Call}
 use Rattle.tree.specs.declared.Outcome.{Outcome}
-use Rattle.talks.specs.Talks.{MayHear, Asked}
+use Rattle.talks.specs.Talks.{MayHear}
 use Rattle.talks.specs.declared.sessions.EnterRefusal.{EnterRefusal}
 use Rattle.talks.specs.declared.ask.Ask.{Ask}
 use Rattle.talks.specs.declared.heard.Heard.{Heard}
@@ -18,6 +18,7 @@ use Rattle.talks.specs.declared.refused.Refused.TheVariants.{By}
 use Rattle.fuse_server.specs.declared.said.FuseAnswer.TheVariants as answer_of
 use Rattle.fuse_server.specs.declared.said.Said.{Said}
 use Rattle.fuse_server.specs.declared.said.Said.TheVariants as said
+use Rattle.fuse_server.specs.Asking.{AskedFor}
 use Rattle.fuse_server.specs.Kinds.{IsSaidTo, reply_to}
 use Rattle.fuse_server.specs.Messages.{opcode_in, unique_in, is_silent}
 
@@ -40,9 +41,10 @@ abbrev pub IsSent : ℕ → Said → List ℕ → List ℕ → Type 0
 IsSent unique it old new = IsReply (reply_to it) × (new ≡ old ++ answer unique (reply_to it))
 
 -- One answer more, with this number: what may be said to the bytes, behind exchanges that led the sessions from one state to the other, or
--- that there is no memory, and then nothing was asked. That a sync was done is said only where it was, and that was the last exchange.
+-- that there is no memory, and then nothing was asked. That a sync was done, or that a name leads to nothing, is said right behind the
+-- exchange that says so.
 abbrev pub IsTold : {S : Type 0} → (S → Ask → Heard → S → Type 0) → Known → List ℕ → ℕ → ℕ → S → List ℕ → S → List ℕ → Type 0
-IsTold may k bytes unique capacity s old t new = (it : Said) × IsSent unique it old new × Asked may s (it ≡ said.Synced) t
+IsTold may k bytes unique capacity s old t new = (it : Said) × IsSent unique it old new × AskedFor may s it t
     × (IsSaidToBytes k bytes it ⊎ ((it ≡ no_memory) × (t ≡ s) × (capacity < length old + 65552)))
 
 -- A message that has no answer: nothing is asked, and nothing is said.

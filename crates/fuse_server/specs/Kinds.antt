@@ -1,6 +1,5 @@
 -- Which answer a request has.
-use Rattle.std.specs.Prelude.{⊤, ◌≡◌, ◌≤◌, ◌⊎◌, ℕ, Some, Bool, true, false, IsTrue, take, length}
-use Rattle.fuse.specs.declared.reply.Entry.{Entry}
+use Rattle.std.specs.Prelude.{⊤, ◌≤◌, ℕ, Bool, true, false, IsTrue, take, length}
 use Rattle.fuse.specs.declared.reply.Reply.{Reply}
 use Rattle.fuse.specs.declared.reply.Reply.TheVariants as reply
 use Rattle.fuse.specs.declared.request.Request.{Request}
@@ -8,6 +7,7 @@ use Rattle.fuse.specs.declared.request.Request.TheVariants as request
 use Rattle.fuse_nodes.specs.Known.{Known}
 use Rattle.talks.specs.Numbers.{number_of}
 use Rattle.talks.specs.Plain.{at}
+use Rattle.fuse_server.specs.Entries.{IsKnown, IsListed, nothing}
 use Rattle.fuse_server.specs.declared.said.FuseAnswer.{FuseAnswer}
 use Rattle.fuse_server.specs.declared.said.FuseAnswer.TheVariants as answer_of
 use Rattle.fuse_server.specs.declared.said.Said.{Said}
@@ -45,10 +45,6 @@ abbrev pub is_bytes : FuseAnswer → Bool
 is_bytes (answer_of.Bytes bytes) = true
 is_bytes a = is_refusal a
 
--- An entry names its inode's node, by what is known then, or node 0, which is nothing.
-abbrev pub IsKnown : Known → Entry → Type 0
-IsKnown k e = (e.node ≡ 0) ⊎ (k.numbers e.attributes.inode ≡ Some e.node)
-
 abbrev pub IsEntry : Known → FuseAnswer → Type 0
 IsEntry k (answer_of.Entry entry) = IsKnown k entry
 IsEntry k a = IsTrue (is_refusal a)
@@ -62,12 +58,17 @@ abbrev pub IsWithin : ℕ → FuseAnswer → Type 0
 IsWithin most (answer_of.Bytes bytes) = length bytes.items ≤ most
 IsWithin most a = IsTrue (is_refusal a)
 
+-- bytes of entries, at most so many
+abbrev pub IsPlus : Known → ℕ → FuseAnswer → Type 0
+IsPlus k most (answer_of.Bytes bytes) = (length bytes.items ≤ most) × IsListed k bytes.items
+IsPlus k most a = IsTrue (is_refusal a)
+
 -- a count of bytes that were written, at most so many
 abbrev pub IsCount : ℕ → FuseAnswer → Type 0
 IsCount most (answer_of.Write count) = count ≤ most
 IsCount most a = IsTrue (is_refusal a)
 
--- Which answer a request has, by what is known behind it, unless it is a sync that was done. A READ and a READDIR tell no more bytes than
+-- Which answer a request has, by what is known behind it, unless it is a sync that was done or a name that leads to nothing. A READ and a READDIR tell no more bytes than
 -- were asked for, and a WRITE no more than were given.
 abbrev pub IsFor : Known → Request → FuseAnswer → Type 0
 IsFor k (request.Lookup name) a = IsEntry k a
@@ -90,6 +91,7 @@ IsFor k (request.Release handle flags release_flags lock_owner) a = IsTrue (is_d
 IsFor k (request.Init major minor readahead flags more) a = IsTrue (is_init a)
 IsFor k (request.Opendir flags open_flags) a = IsTrue (is_open a)
 IsFor k (request.Readdir span) a = IsWithin span.count a
+IsFor k (request.Readdirplus span) a = IsPlus k span.count a
 IsFor k (request.Releasedir handle flags release_flags lock_owner) a = IsTrue (is_done a)
 IsFor k (request.Create flags mode umask open_flags name) a = IsCreate k a
 IsFor k request.Destroy a = IsTrue (is_done a)
@@ -101,9 +103,15 @@ is_sync (request.Fsync handle fsync_flags) = true
 is_sync (request.Fsyncdir handle fsync_flags) = true
 is_sync r = false
 
+-- LOOKUP, that a name leads to nothing
+abbrev pub is_lookup : Request → Bool
+is_lookup (request.Lookup name) = true
+is_lookup r = false
+
 abbrev pub IsSaidTo : Known → Request → Said → Type 0
 IsSaidTo k r (said.Plain a) = IsFor k r a
 IsSaidTo k r said.Synced = IsTrue (is_sync r)
+IsSaidTo k r said.Missing = IsTrue (is_lookup r)
 
 -- The reply of an answer. Numbers of errors are Linux's: 38 where a request isn't one that is answered here, 71 where the protocol has
 -- another version. Attributes may be kept for a day.
@@ -124,8 +132,16 @@ reply_for (answer_of.Bytes bytes) = reply.Bytes (at (take 65536 bytes.items))
 abbrev pub reply_to : Said → Reply
 reply_to (said.Plain a) = reply_for a
 reply_to said.Synced = reply.Done
+reply_to said.Missing = reply.Entry nothing
 
 -- what is said to a sync: that it was done, or a refusal
 abbrev pub IsOfSync : Said → Type 0
 IsOfSync (said.Plain a) = IsTrue (is_refusal a)
 IsOfSync said.Synced = ⊤
+IsOfSync said.Missing = ⊥
+
+-- what is said to a LOOKUP: an entry, that there is nothing, or a refusal
+abbrev pub IsOfLookup : Known → Said → Type 0
+IsOfLookup k (said.Plain a) = IsEntry k a
+IsOfLookup k said.Synced = ⊥
+IsOfLookup k said.Missing = ⊤

@@ -1,4 +1,5 @@
 pub mod Messages
 pub mod Asking
+pub mod Entries
 pub mod Kinds
 pub mod Answering

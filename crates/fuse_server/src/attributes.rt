@@ -7,7 +7,7 @@ ghost use Rattle.fuse_server.specs.Kinds.{is_attributes, is_bytes, is_room};
 
 use crate::mount::Mount;
 use crate::said::FuseAnswer;
-use crate::talk::calling;
+use crate::talk::{Seats, calling};
 use crate::told::{kind_of, room_of, told};
 use errno::Errno;
 use fuse_nodes::node::NodeKind;
@@ -79,44 +79,7 @@ fn answer_of(attributes: &Attributes) -> FuseAnswer
     FuseAnswer::Attributes(told(attributes))
 }
 
-impl Mount {
-    /// The attributes of a node, by its descriptor, if it has one, or its path. ESTALE where the path leads to another inode.
-    pub(crate) fn attributes<S: Sessions>(
-        &mut self,
-        sessions: &mut S,
-        now: u32,
-        node: u64,
-    ) -> Result<Attributes, Refused>
-        ensures { Talked S.called S.entered S.left now sessions.old sessions.new }
-    {
-        let known = self.nodes.get(node)?;
-        let inode = known.inode;
-        if let Some(descriptor) = known.descriptor {
-            let call = Call::Fstat { fd: descriptor.fd };
-            return calling(sessions, now, descriptor.session, call).attributes();
-        }
-        let path = self.nodes.path(node)?;
-        let attributes = self.look(sessions, now, &path)?;
-        if attributes.inode != inode {
-            return Err(Refused::Stale);
-        }
-        Ok(attributes)
-    }
-
-    /// GETATTR.
-    pub(crate) fn getattr<S: Sessions>(
-        &mut self,
-        sessions: &mut S,
-        now: u32,
-        node: u64,
-    ) -> Result<FuseAnswer, Refused>
-        ensures asked { Talked S.called S.entered S.left now sessions.old sessions.new }
-        ensures told { IfOk result (λ a. IsTrue (is_attributes a)) }
-    {
-        let attributes = self.attributes(sessions, now, node)?;
-        Ok(answer_of(&attributes))
-    }
-
+impl Seats {
     /// Makes changes, one after the other.
     fn change<S: Sessions>(
         &mut self,
@@ -136,6 +99,52 @@ impl Mount {
             left = more;
         }
         Ok(())
+    }
+
+    /// The room of the volume.
+    fn space<S: Sessions>(&mut self, sessions: &mut S, now: u32) -> Result<Statfs, Refused>
+        ensures { Talked S.called S.entered S.left now sessions.old sessions.new }
+    {
+        self.ask(sessions, now, Call::Statfs)?.space()
+    }
+}
+
+impl Mount {
+    /// The attributes of a node, by its descriptor, if it has one, or its path. ESTALE where the path leads to another inode.
+    pub(crate) fn attributes<S: Sessions>(
+        &mut self,
+        sessions: &mut S,
+        now: u32,
+        node: u64,
+    ) -> Result<Attributes, Refused>
+        ensures { Talked S.called S.entered S.left now sessions.old sessions.new }
+    {
+        let known = self.nodes.get(node)?;
+        let inode = known.inode;
+        if let Some(descriptor) = known.descriptor {
+            let call = Call::Fstat { fd: descriptor.fd };
+            return calling(sessions, now, descriptor.session, call).attributes();
+        }
+        let path = self.nodes.path(node)?;
+        let attributes = self.seats.look(sessions, now, &path)?;
+        if attributes.inode != inode {
+            return Err(Refused::Stale);
+        }
+        Ok(attributes)
+    }
+
+    /// GETATTR.
+    pub(crate) fn getattr<S: Sessions>(
+        &mut self,
+        sessions: &mut S,
+        now: u32,
+        node: u64,
+    ) -> Result<FuseAnswer, Refused>
+        ensures asked { Talked S.called S.entered S.left now sessions.old sessions.new }
+        ensures told { IfOk result (λ a. IsTrue (is_attributes a)) }
+    {
+        let attributes = self.attributes(sessions, now, node)?;
+        Ok(answer_of(&attributes))
     }
 
     /// SETATTR of a symbolic link. ENOSYS for its times: programs then go on without.
@@ -161,7 +170,7 @@ impl Mount {
         ensures told { IfOk result (λ a. IsTrue (is_attributes a)) }
     {
         let path = self.nodes.path(node)?;
-        self.change(sessions, now, &path, changes)?;
+        self.seats.change(sessions, now, &path, changes)?;
         self.getattr(sessions, now, node)
     }
 
@@ -196,16 +205,10 @@ impl Mount {
     {
         let path = self.nodes.path(node)?;
         let target = self
+            .seats
             .ask(sessions, now, Call::Readlink { path: &path })?
             .target()?;
         Ok(FuseAnswer::Bytes(bytes_of(&target).to_vec(self.alloc)?))
-    }
-
-    /// The room of the volume.
-    fn space<S: Sessions>(&mut self, sessions: &mut S, now: u32) -> Result<Statfs, Refused>
-        ensures { Talked S.called S.entered S.left now sessions.old sessions.new }
-    {
-        self.ask(sessions, now, Call::Statfs)?.space()
     }
 
     /// STATFS.
@@ -217,7 +220,7 @@ impl Mount {
         ensures asked { Talked S.called S.entered S.left now sessions.old sessions.new }
         ensures told { IfOk result (λ a. IsTrue (is_room a)) }
     {
-        let room = self.space(sessions, now)?;
+        let room = self.seats.space(sessions, now)?;
         Ok(FuseAnswer::Statfs(room_of(&room)))
     }
 }

@@ -5,7 +5,7 @@
 ghost use Rattle.fuse_server.specs.Asking.{Talked};
 
 use crate::mount::Mount;
-use crate::talk::calling;
+use crate::talk::{Seats, calling};
 use bitflags::Flags;
 use errno::Errno;
 use fuse_nodes::node::Descriptor;
@@ -69,7 +69,7 @@ fn are_full(opened: &Result<Descriptor, Refused>) -> bool {
     matches!(opened, Err(Refused::By(Errno::ENFILE)))
 }
 
-impl Mount {
+impl Seats {
     /// Opens a path by the first session that has descriptors; ENFILE where none has.
     fn open_somewhere<S: Sessions>(
         &mut self,
@@ -88,7 +88,9 @@ impl Mount {
         }
         Err(Refused::By(Errno::ENFILE))
     }
+}
 
+impl Mount {
     /// Closes the descriptor of a file, but not of this node, that has a name, by which it is opened again; ENFILE where there is none.
     fn make_room<S: Sessions>(
         &mut self,
@@ -116,12 +118,12 @@ impl Mount {
     ) -> Result<Descriptor, Refused>
         ensures { Talked S.called S.entered S.left now sessions.old sessions.new }
     {
-        let opened = self.open_somewhere(sessions, now, opening);
+        let opened = self.seats.open_somewhere(sessions, now, opening);
         if !are_full(&opened) {
             return opened;
         }
         self.make_room(sessions, now, but)?;
-        self.open_somewhere(sessions, now, opening)
+        self.seats.open_somewhere(sessions, now, opening)
     }
 
     /// Whether a descriptor has this inode open; ESTALE where it has another one, and then it is closed.

@@ -2,8 +2,8 @@
 #![tactic(auto, using(crate::proofs::Asking::goes_on, crate::proofs::Asking::stays))]
 
 ghost use Rattle.std.specs.Prelude.{◌≡◌, ◌≤◌, ℕ, IfOk, IsTrue, length};
-ghost use Rattle.talks.specs.Talks.{MayHear, Asked};
-ghost use Rattle.fuse_server.specs.Asking.{Talked};
+ghost use Rattle.talks.specs.Talks.{MayHear};
+ghost use Rattle.fuse_server.specs.Asking.{Talked, AskedFor};
 ghost use Rattle.fuse_server.specs.Kinds.{is_open, is_done, IsWithin, IsCount, IsOfSync};
 
 use crate::bounds::{most_of, within};
@@ -16,9 +16,8 @@ use fuse::request::Span;
 use fuse_nodes::handles::Handle;
 use fuse_nodes::node::Descriptor;
 use std::alloc::Global;
-use talks::ask::Ask;
 use talks::refused::Refused;
-use talks::sessions::{Sessions, heard};
+use talks::sessions::Sessions;
 use tree::{Call, MAX_SIZE, MAX_TRANSFER, Whence};
 
 /// An offset as a position; none past the largest one.
@@ -180,24 +179,23 @@ impl Mount {
         ensures asked { Talked S.called S.entered S.left now sessions.old sessions.new }
         ensures told { IfOk result (λ a. IsTrue (is_done a)) }
     {
-        match self.handles.close(handle)? {
-            Handle::File { node } => self.let_go(sessions, now, node),
-            Handle::Directory { .. } => {}
-        }
+        let Handle::File { node } = self.handles.close(handle)? else {
+            return Ok(FuseAnswer::Done);
+        };
+        self.let_go(sessions, now, node);
         Ok(FuseAnswer::Done)
     }
 
     /// FSYNC and FSYNCDIR: all that was written reaches the disk.
     pub(crate) fn sync<S: Sessions>(&mut self, sessions: &mut S, now: u32) -> Said
-        ensures asked { Asked (MayHear S.called S.entered S.left now) sessions.old (result ≡ Said.Synced) sessions.new }
+        ensures asked { AskedFor (MayHear S.called S.entered S.left now) sessions.old result sessions.new }
         ensures sync { IsOfSync result }
     {
-        let session = match self.session(sessions, now, 0) {
-            Ok(session) => session,
+        let heard = match self.seats.ask(sessions, now, Call::Sync) {
+            Ok(heard) => heard,
             Err(refused) => return Said::Plain(FuseAnswer::Refused(refused)),
         };
-        let call = Call::Sync;
-        match heard(sessions, now, &Ask::Call { session, call }).done() {
+        match heard.done() {
             Ok(()) => Said::Synced,
             Err(refused) => Said::Plain(FuseAnswer::Refused(refused)),
         }

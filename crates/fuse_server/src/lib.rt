@@ -10,6 +10,7 @@ mod listing;
 mod making;
 pub mod mount;
 mod naming;
+mod plus;
 mod said;
 mod send;
 mod serving;

@@ -28,7 +28,7 @@ const DIRECTORY: u32 = 4;
 const NOT_TOLD: u32 = 0;
 
 /// The entry at a place: first the directory itself and the one above, then its names; none past the last one.
-fn entry_at(names: &Names, at: usize) -> Option<ReaddirEntry<'_>>
+pub(crate) fn entry_at(names: &Names, at: usize) -> Option<ReaddirEntry<'_>>
     requires { at + 1 < 2 ^ 64 }
     ensures { IfSome result (λ entry. length entry.name.now ≤ 60) }
 {
@@ -64,7 +64,7 @@ fn named_entry(entries: &[Entry], at: usize, next: u64) -> Option<ReaddirEntry<'
 }
 
 /// An offset as a place.
-fn place_of(offset: u64) -> usize {
+pub(crate) fn place_of(offset: u64) -> usize {
     offset as usize
 }
 
@@ -152,8 +152,9 @@ impl Mount {
         span.offset == 0 || self.handles.names(span.handle).is_err()
     }
 
-    /// The entries of an open directory are kept with its handle.
-    fn keep_names<S: Sessions>(
+    /// The entries of an open directory are kept with its handle: those that it has now, where they are asked for anew, so that changes
+    /// between two messages hide none.
+    pub(crate) fn keep_names<S: Sessions>(
         &mut self,
         sessions: &mut S,
         now: u32,
@@ -161,6 +162,9 @@ impl Mount {
     ) -> Result<(), Refused>
         ensures { Talked S.called S.entered S.left now sessions.old sessions.new }
     {
+        if !self.is_fresh(span) {
+            return Ok(());
+        }
         let node = self.handles.directory(span.handle)?;
         let names = self.names_of(sessions, now, node)?;
         self.handles.keep(span.handle, names);
@@ -177,8 +181,7 @@ impl Mount {
         Ok(FuseAnswer::Bytes(bytes))
     }
 
-    /// READDIR: the entries from an offset on, as many as have room. At offset 0 they are asked for, and kept with the handle, so that
-    /// changes between two messages hide none.
+    /// READDIR: the entries from an offset on, as many as have room.
     pub(crate) fn readdir<S: Sessions>(
         &mut self,
         sessions: &mut S,
@@ -188,9 +191,7 @@ impl Mount {
         ensures asked { Talked S.called S.entered S.left now sessions.old sessions.new }
         ensures told { IfOk result (IsWithin span.count) }
     {
-        if self.is_fresh(span) {
-            self.keep_names(sessions, now, span)?;
-        }
+        self.keep_names(sessions, now, span)?;
         self.kept(span)
     }
 }

@@ -4,12 +4,14 @@
 ghost use Rattle.std.specs.Prelude.{IfOk, IsTrue};
 ghost use Rattle.fuse_server.specs.Asking.{Talked};
 ghost use Rattle.fuse_nodes.specs.Known.{known_of};
-ghost use Rattle.fuse_server.specs.Kinds.{IsKnown, IsEntry, IsCreate};
+ghost use Rattle.fuse_server.specs.Entries.{IsKnown};
+ghost use Rattle.fuse_server.specs.Kinds.{IsEntry, IsCreate};
 
 use crate::descriptors::{NEW, Opening, close};
 use crate::mount::Mount;
 use crate::naming::NameIn;
 use crate::said::FuseAnswer;
+use crate::talk::Seats;
 use crate::told::{entry_of, kind_of, opened_file};
 use errno::Errno;
 use fuse::reply::{Entry, Opened};
@@ -52,7 +54,7 @@ fn is_file(mode: u32) -> bool {
     kind == FILE || kind == 0
 }
 
-impl Mount {
+impl Seats {
     /// What was made becomes the asker's.
     fn give<S: Sessions>(
         &mut self,
@@ -67,6 +69,22 @@ impl Mount {
         self.ask_done(sessions, now, Call::Chown { path, uid, gid })
     }
 
+    /// A file that was made becomes the asker's: its attributes.
+    fn look_at_made<S: Sessions>(
+        &mut self,
+        sessions: &mut S,
+        now: u32,
+        path: &[u8],
+        owner: Owner,
+    ) -> Result<Attributes, Refused>
+        ensures { Talked S.called S.entered S.left now sessions.old sessions.new }
+    {
+        self.give(sessions, now, path, owner)?;
+        self.look(sessions, now, path)
+    }
+}
+
+impl Mount {
     /// What was made becomes the asker's, and the kernel is told of it.
     fn tell_made<S: Sessions>(
         &mut self,
@@ -79,7 +97,7 @@ impl Mount {
         ensures asked { Talked S.called S.entered S.left now sessions.old sessions.new }
         ensures told { IfOk result (IsEntry (known_of self.new.nodes)) }
     {
-        self.give(sessions, now, path, owner)?;
+        self.seats.give(sessions, now, path, owner)?;
         Ok(FuseAnswer::Entry(self.tell(sessions, now, name, path)?))
     }
 
@@ -141,7 +159,7 @@ impl Mount {
             path: &path,
             mode: mode_of(mode),
         };
-        self.ask_done(sessions, now, call)?;
+        self.seats.ask_done(sessions, now, call)?;
         self.tell_made(sessions, now, name, &path, owner)
     }
 
@@ -161,22 +179,8 @@ impl Mount {
             target,
             path: &path,
         };
-        self.ask_done(sessions, now, call)?;
+        self.seats.ask_done(sessions, now, call)?;
         Ok(FuseAnswer::Entry(self.tell(sessions, now, name, &path)?))
-    }
-
-    /// A file that was made becomes the asker's: its attributes.
-    fn look_at_made<S: Sessions>(
-        &mut self,
-        sessions: &mut S,
-        now: u32,
-        path: &[u8],
-        owner: Owner,
-    ) -> Result<Attributes, Refused>
-        ensures { Talked S.called S.entered S.left now sessions.old sessions.new }
-    {
-        self.give(sessions, now, path, owner)?;
-        self.look(sessions, now, path)
     }
 
     /// The kernel is told of a file that was made, and has it open by this descriptor.
@@ -217,7 +221,7 @@ impl Mount {
         ensures asked { Talked S.called S.entered S.left now sessions.old sessions.new }
         ensures told { IfOk result (IsCreate (known_of self.new.nodes)) }
     {
-        let attributes = self.look_at_made(sessions, now, path, owner)?;
+        let attributes = self.seats.look_at_made(sessions, now, path, owner)?;
         let (entry, opened) = self.tell_opened(name, &attributes, descriptor)?;
         Ok(FuseAnswer::Create(entry, opened))
     }

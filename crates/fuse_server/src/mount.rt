@@ -1,13 +1,14 @@
 //! A mount, which answers the kernel's messages.
 
-ghost use Rattle.std.specs.Prelude.{◌≡◌, ◌<◌, ◌+◌, ◌↔◌, IsTrue, Err, IfErr, OnOk, OnErr, length, vec_len, vec_capacity};
-ghost use Rattle.fuse_nodes.specs.Known.{known_of};
+ghost use Rattle.std.specs.Prelude.{◌≡◌, ◌<◌, ◌+◌, ◌↔◌, IsTrue, Err, IfOk, IfErr, OnOk, OnErr, length, vec_len, vec_capacity};
+ghost use Rattle.fuse_nodes.specs.Known.{known_of, at_first};
 ghost use Rattle.talks.specs.Talks.{MayHear};
 ghost use Rattle.fuse_server.specs.Messages.{opcode_in, is_silent};
 ghost use Rattle.fuse_server.specs.Answering.{IsAnswered, IsAnsweredBy, IsTold};
 
 use crate::heads::{HEAD, Head, head_of, is_silent};
 use crate::send::{MAX_ANSWER, refuse, send};
+use crate::talk::Seats;
 use fuse_nodes::handles::Handles;
 use fuse_nodes::nodes::Nodes;
 use std::alloc::{AllocError, Global};
@@ -24,18 +25,19 @@ pub struct Mount {
     pub(crate) alloc: Global,
     pub(crate) nodes: Nodes,
     pub(crate) handles: Handles,
-    // The sessions of user 0 that have begun.
-    pub(crate) seats: Vec<u8>,
+    pub(crate) seats: Seats,
 }
 
 impl Mount {
     /// A mount that begins: the kernel knows the root alone. An error: no memory was found for it.
-    pub fn new(alloc: Global) -> Result<Mount, AllocError> {
+    pub fn new(alloc: Global) -> Result<Mount, AllocError>
+        ensures { IfOk result (λ mount. known_of mount.nodes ≡ at_first) }
+    {
         Ok(Mount {
             alloc,
             nodes: Nodes::new(alloc)?,
             handles: Handles::new(alloc),
-            seats: Vec::new(alloc),
+            seats: Seats::new(alloc),
         })
     }
 

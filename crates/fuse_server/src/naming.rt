@@ -1,17 +1,21 @@
 //! Names: where they lead, further ones, changed ones, and ones that are taken away.
 #![tactic(auto, using(crate::proofs::Asking::goes_on, crate::proofs::Asking::stays))]
 
-ghost use Rattle.std.specs.Prelude.{IfOk, IsTrue};
-ghost use Rattle.fuse_server.specs.Asking.{Talked};
+ghost use Rattle.std.specs.Prelude.{IfOk, IfSome, IsTrue};
+ghost use Rattle.talks.specs.Talks.{MayHear};
+ghost use Rattle.fuse_server.specs.Asking.{Talked, MaybeMissing, AskedFor};
 ghost use Rattle.fuse_nodes.specs.Known.{known_of};
-ghost use Rattle.fuse_server.specs.Kinds.{is_done, IsKnown, IsEntry};
+ghost use Rattle.fuse_server.specs.Entries.{IsKnown, KeepsNumbers};
+ghost use Rattle.fuse_server.specs.Kinds.{is_done, IsEntry, IsOfLookup};
 
 use crate::mount::Mount;
-use crate::said::FuseAnswer;
-use crate::told::{entry_of, kind_of, nothing};
+use crate::said::{FuseAnswer, Said};
+use crate::talk::Seats;
+use crate::told::{entry_of, kind_of};
 use errno::Errno;
 use fuse::reply::Entry;
 use fuse_nodes::node::{NodeKind, Place};
+use fuse_nodes::nodes::Nodes;
 use talks::refused::Refused;
 use talks::sessions::Sessions;
 use tree::{Attributes, Call};
@@ -29,6 +33,56 @@ pub(crate) struct NameIn<'a> {
 /// Whether the name that is taken away is the last one of what has these attributes.
 fn is_last(attributes: &Attributes) -> bool {
     attributes.links < 2 || kind_of(attributes.mode) == NodeKind::Directory
+}
+
+impl Seats {
+    /// Asks for a rename: the inode that has the new name now, unless it had both.
+    fn rename_path<S: Sessions>(
+        &mut self,
+        sessions: &mut S,
+        now: u32,
+        old: &[u8],
+        new: &[u8],
+    ) -> Result<u16, Refused>
+        ensures { Talked S.called S.entered S.left now sessions.old sessions.new }
+    {
+        let inode = self.look(sessions, now, old)?.inode;
+        self.ask_done(sessions, now, Call::Rename { old, new })?;
+        Ok(inode)
+    }
+}
+
+/// The kernel is told of what has these attributes by a name.
+#[tactic(auto, using(crate::proofs::Entries::keeps))]
+fn tell_node(
+    nodes: &mut Nodes,
+    attributes: &Attributes,
+    name: NameIn<'_>,
+) -> Result<Entry, Refused>
+    ensures told { IfOk result (IsKnown (known_of nodes.new)) }
+    ensures kept { KeepsNumbers (known_of nodes.old) (known_of nodes.new) }
+{
+    let kind = kind_of(attributes.mode);
+    let node = nodes.told(attributes.inode, kind, name.directory, name.name)?;
+    Ok(entry_of(node, attributes))
+}
+
+/// Looks at a name, and tells the kernel its node.
+#[tactic(auto, using(crate::proofs::Asking::goes_on, crate::proofs::Entries::keeps))]
+pub(crate) fn tell<S: Sessions>(
+    seats: &mut Seats,
+    nodes: &mut Nodes,
+    sessions: &mut S,
+    now: u32,
+    name: NameIn<'_>,
+    path: &[u8],
+) -> Result<Entry, Refused>
+    ensures asked { Talked S.called S.entered S.left now sessions.old sessions.new }
+    ensures told { IfOk result (IsKnown (known_of nodes.new)) }
+    ensures kept { KeepsNumbers (known_of nodes.old) (known_of nodes.new) }
+{
+    let attributes = seats.look(sessions, now, path)?;
+    tell_node(nodes, &attributes, name)
 }
 
 impl Mount {
@@ -49,29 +103,48 @@ impl Mount {
         ensures asked { Talked S.called S.entered S.left now sessions.old sessions.new }
         ensures told { IfOk result (IsKnown (known_of self.new.nodes)) }
     {
-        let attributes = self.look(sessions, now, path)?;
-        let kind = kind_of(attributes.mode);
-        let node = self
-            .nodes
-            .told(attributes.inode, kind, name.directory, name.name)?;
-        Ok(entry_of(node, &attributes))
+        tell(
+            &mut self.seats,
+            &mut self.nodes,
+            sessions,
+            now,
+            name,
+            path,
+        )
     }
 
-    /// LOOKUP: node 0 where the name leads to nothing.
+    /// What a name leads to, of which the kernel is told; nothing where it leads to nothing.
+    fn find<S: Sessions>(
+        &mut self,
+        sessions: &mut S,
+        now: u32,
+        name: NameIn<'_>,
+    ) -> Result<Option<Entry>, Refused>
+        ensures asked { Talked S.called S.entered S.left now sessions.old sessions.new }
+        ensures told { IfOk result (λ found. IfSome found (IsKnown (known_of self.new.nodes))) }
+        ensures missing { IfOk result (λ found. MaybeMissing S.called S.entered S.left now sessions.old found sessions.new) }
+    {
+        let path = self.path_of(name)?;
+        match self.seats.look_for(sessions, now, &path)? {
+            Some(attributes) => Ok(Some(tell_node(&mut self.nodes, &attributes, name)?)),
+            None => Ok(None),
+        }
+    }
+
+    /// LOOKUP.
     pub(crate) fn lookup<S: Sessions>(
         &mut self,
         sessions: &mut S,
         now: u32,
         name: NameIn<'_>,
-    ) -> Result<FuseAnswer, Refused>
-        ensures asked { Talked S.called S.entered S.left now sessions.old sessions.new }
-        ensures told { IfOk result (IsEntry (known_of self.new.nodes)) }
+    ) -> Said
+        ensures asked { AskedFor (MayHear S.called S.entered S.left now) sessions.old result sessions.new }
+        ensures told { IsOfLookup (known_of self.new.nodes) result }
     {
-        let path = self.path_of(name)?;
-        match self.tell(sessions, now, name, &path) {
-            Ok(entry) => Ok(FuseAnswer::Entry(entry)),
-            Err(Refused::By(Errno::ENOENT)) => Ok(FuseAnswer::Entry(nothing())),
-            Err(refused) => Err(refused),
+        match self.find(sessions, now, name) {
+            Ok(Some(entry)) => Said::Plain(FuseAnswer::Entry(entry)),
+            Ok(None) => Said::Missing,
+            Err(refused) => Said::Plain(FuseAnswer::Refused(refused)),
         }
     }
 
@@ -92,7 +165,7 @@ impl Mount {
             old: &old,
             new: &new,
         };
-        self.ask_done(sessions, now, call)?;
+        self.seats.ask_done(sessions, now, call)?;
         Ok(FuseAnswer::Entry(self.tell(sessions, now, name, &new)?))
     }
 
@@ -107,9 +180,9 @@ impl Mount {
         ensures told { IfOk result (λ a. IsTrue (is_done a)) }
     {
         let path = self.path_of(name)?;
-        let was = self.look(sessions, now, &path)?;
+        let was = self.seats.look(sessions, now, &path)?;
         self.hold(sessions, now, was.inode)?;
-        self.ask_done(sessions, now, Call::Unlink { path: &path })?;
+        self.seats.ask_done(sessions, now, Call::Unlink { path: &path })?;
         self.nodes
             .lost(was.inode, name.directory, name.name, is_last(&was));
         Ok(FuseAnswer::Done)
@@ -126,26 +199,10 @@ impl Mount {
         ensures told { IfOk result (λ a. IsTrue (is_done a)) }
     {
         let path = self.path_of(name)?;
-        let was = self.look(sessions, now, &path)?;
-        self.ask_done(sessions, now, Call::Rmdir { path: &path })?;
+        let was = self.seats.look(sessions, now, &path)?;
+        self.seats.ask_done(sessions, now, Call::Rmdir { path: &path })?;
         self.nodes.lost(was.inode, name.directory, name.name, true);
         Ok(FuseAnswer::Done)
-    }
-
-    /// What stands at a path, if anything does.
-    fn look_for<S: Sessions>(
-        &mut self,
-        sessions: &mut S,
-        now: u32,
-        path: &[u8],
-    ) -> Result<Option<Attributes>, Refused>
-        ensures { Talked S.called S.entered S.left now sessions.old sessions.new }
-    {
-        match self.look(sessions, now, path) {
-            Ok(attributes) => Ok(Some(attributes)),
-            Err(Refused::By(Errno::ENOENT)) => Ok(None),
-            Err(refused) => Err(refused),
-        }
     }
 
     /// What a rename replaces, which keeps a descriptor if it is open. EEXIST where nothing is to stand there.
@@ -158,14 +215,14 @@ impl Mount {
     ) -> Result<Option<Attributes>, Refused>
         ensures { Talked S.called S.entered S.left now sessions.old sessions.new }
     {
-        let replaced = self.look_for(sessions, now, path)?;
-        if let Some(attributes) = &replaced {
-            if flags == NO_REPLACE {
-                return Err(Refused::By(Errno::EEXIST));
-            }
-            self.hold(sessions, now, attributes.inode)?;
+        let Some(attributes) = self.seats.look_for(sessions, now, path)? else {
+            return Ok(None);
+        };
+        if flags == NO_REPLACE {
+            return Err(Refused::By(Errno::EEXIST));
         }
-        Ok(replaced)
+        self.hold(sessions, now, attributes.inode)?;
+        Ok(Some(attributes))
     }
 
     /// A name became another one. Where both were names of one file, nothing was changed.
@@ -179,21 +236,6 @@ impl Mount {
                 .lost(attributes.inode, to.directory, to.name, last);
         }
         self.nodes.renamed(inode, place);
-    }
-
-    /// Asks for a rename: the inode that has the new name now, unless it had both.
-    fn rename_path<S: Sessions>(
-        &mut self,
-        sessions: &mut S,
-        now: u32,
-        old: &[u8],
-        new: &[u8],
-    ) -> Result<u16, Refused>
-        ensures { Talked S.called S.entered S.left now sessions.old sessions.new }
-    {
-        let inode = self.look(sessions, now, old)?.inode;
-        self.ask_done(sessions, now, Call::Rename { old, new })?;
-        Ok(inode)
     }
 
     /// RENAME and RENAME2. EINVAL: a flag isn't known here.
@@ -215,7 +257,7 @@ impl Mount {
         let new = self.path_of(to)?;
         let place = Place::new(self.alloc, to.directory, to.name)?;
         let replaced = self.replaced(sessions, now, &new, flags)?;
-        let inode = self.rename_path(sessions, now, &old, &new)?;
+        let inode = self.seats.rename_path(sessions, now, &old, &new)?;
         self.moved(inode, replaced, to, place);
         Ok(FuseAnswer::Done)
     }

@@ -3,7 +3,7 @@
 use fuse::reply::{Attributes, Entry, InitReply, Opened, StatfsReply};
 use talks::refused::Refused;
 
-/// The answer to a message that isn't a sync done.
+/// The answer to a message that is neither a sync done nor a name that leads to nothing.
 #[derive(Drop)]
 pub(crate) enum FuseAnswer {
     Refused(Refused),
@@ -24,10 +24,12 @@ pub(crate) enum FuseAnswer {
     Bytes(Vec<u8>),
 }
 
-/// What is said to a message: an answer, or that all that was written lies on the disk.
+/// What is said to a message: an answer, that all that was written lies on the disk, or that a name leads to nothing.
 #[derive(Drop)]
 pub(crate) enum Said {
     Plain(FuseAnswer),
     /// A sync was done.
     Synced,
+    /// A name was looked for, and leads to nothing.
+    Missing,
 }

@@ -8,7 +8,7 @@ ghost use Rattle.fuse_server.specs.Answering.{IsSent, no_memory};
 
 use crate::bounds::within;
 use crate::said::{FuseAnswer, Said};
-use crate::told::VALID;
+use crate::told::{VALID, nothing};
 use errno::Errno;
 use fuse::reply::Reply;
 use fuse::writing::write;
@@ -65,6 +65,7 @@ fn reply_of(it: &FuseAnswer) -> Reply<'_>
 }
 
 /// The reply of what is said.
+#[tactic(auto, using(crate::proofs::Replies::fits))]
 fn reply_to(said: &Said) -> Reply<'_>
     ensures told { (unique : ℕ) → answer unique result ≡ answer unique (reply_to said.now) }
     ensures reply { IsReply result }
@@ -73,6 +74,7 @@ fn reply_to(said: &Said) -> Reply<'_>
     match said {
         Said::Plain(answer) => reply_of(answer),
         Said::Synced => Reply::Done,
+        Said::Missing => Reply::Entry { entry: nothing() },
     }
 }
 

@@ -3,9 +3,9 @@
 
 ghost use Rattle.std.specs.Prelude.{◌≡◌, IfOk, IsTrue};
 ghost use Rattle.fuse_nodes.specs.Known.{known_of};
-ghost use Rattle.talks.specs.Talks.{MayHear, Asked};
-ghost use Rattle.fuse_server.specs.Asking.{Talked};
-ghost use Rattle.fuse_server.specs.Kinds.{is_init, is_sync, IsFor};
+ghost use Rattle.talks.specs.Talks.{MayHear};
+ghost use Rattle.fuse_server.specs.Asking.{Talked, AskedFor};
+ghost use Rattle.fuse_server.specs.Kinds.{is_init, is_sync, IsFor, IsSaidTo};
 ghost use Rattle.fuse_server.specs.Answering.{IsSaidToBytes};
 
 use crate::attributes::bits_of;
@@ -28,9 +28,10 @@ const MAJOR: u32 = 7;
 
 const MINOR: u32 = 31;
 
-/// What is taken of all that the kernel offers: reads that nobody waits for (0x1), writes of more than a page (0x20), lookups in one
-/// directory side by side (0x40000), a count of a message's pages (0x400000), and targets of links that it keeps (0x800000).
-const TAKEN: u32 = 0xc4_0021;
+/// What is taken of all that the kernel offers: reads that nobody waits for (0x1), writes of more than a page (0x20), READDIRPLUS (0x2000),
+/// and where READDIR does, that too (0x4000), lookups in one directory side by side (0x40000), a count of a message's pages (0x400000), and
+/// targets of links that it keeps (0x800000).
+const TAKEN: u32 = 0xc4_6021;
 
 /// The pages of a message: 64 KiB.
 const MOST_PAGES: u16 = 16;
@@ -80,7 +81,6 @@ impl Mount {
     {
         let directory = message.node;
         match message.request {
-            Request::Lookup { name } => self.lookup(sessions, now, NameIn { directory, name }),
             Request::Unlink { name } => self.unlink(sessions, now, NameIn { directory, name }),
             Request::Rmdir { name } => self.rmdir(sessions, now, NameIn { directory, name }),
             Request::Link { file, name } => {
@@ -187,6 +187,7 @@ impl Mount {
             Request::Release { handle, .. } => self.release(sessions, now, handle),
             Request::Opendir { .. } => self.open_directory(message.node),
             Request::Readdir { span } => self.readdir(sessions, now, span),
+            Request::Readdirplus { span } => self.readdirplus(sessions, now, span),
             Request::Releasedir { handle, .. } => self.release(sessions, now, handle),
             _ => self.on_making(sessions, now, message),
         }
@@ -254,7 +255,7 @@ impl Mount {
         }
     }
 
-    /// What is said to a message that is no sync.
+    /// What is said to a message that is neither a sync nor a LOOKUP.
     #[tactic(auto, using(crate::proofs::Asking::goes_on, crate::proofs::KindLaws::refusal_for))]
     fn said_plainly<S: Sessions>(
         &mut self,
@@ -271,14 +272,31 @@ impl Mount {
         }
     }
 
+    /// What is said to a message that is no sync.
+    fn said_of<S: Sessions>(
+        &mut self,
+        sessions: &mut S,
+        now: u32,
+        message: &Message<'_>,
+    ) -> Said
+        ensures asked { AskedFor (MayHear S.called S.entered S.left now) sessions.old result sessions.new }
+        ensures told { IsSaidTo (known_of self.new.nodes) message.now.request result }
+    {
+        let directory = message.node;
+        match message.request {
+            Request::Lookup { name } => self.lookup(sessions, now, NameIn { directory, name }),
+            _ => Said::Plain(self.said_plainly(sessions, now, message)),
+        }
+    }
+
     /// What is said to the bytes of a message: EINVAL where they can't be read.
     pub(crate) fn said_to<S: Sessions>(&mut self, sessions: &mut S, now: u32, bytes: &[u8]) -> Said
-        ensures asked { Asked (MayHear S.called S.entered S.left now) sessions.old (result ≡ Said.Synced) sessions.new }
+        ensures asked { AskedFor (MayHear S.called S.entered S.left now) sessions.old result sessions.new }
         ensures told { IsSaidToBytes (known_of self.new.nodes) bytes.now result }
     {
         match read(bytes) {
             Ok(message) if asks_sync(&message.request) => self.sync(sessions, now),
-            Ok(message) => Said::Plain(self.said_plainly(sessions, now, &message)),
+            Ok(message) => self.said_of(sessions, now, &message),
             Err(_) => Said::Plain(FuseAnswer::Refused(Refused::By(Errno::EINVAL))),
         }
     }

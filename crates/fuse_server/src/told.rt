@@ -1,6 +1,7 @@
 //! Attributes of nodes and the room of a volume, as answers have them.
 
 ghost use Rattle.std.specs.Prelude.{◌≡◌};
+ghost use Rattle.fuse_server.specs.Entries.{nothing};
 
 use fuse::reply::{self, Entry, Opened, StatfsReply};
 use fuse_nodes::node::NodeKind;
@@ -68,7 +69,7 @@ pub(crate) fn entry_of(node: u64, attributes: &Attributes) -> Entry
 
 /// That a name leads to nothing.
 pub(crate) fn nothing() -> Entry
-    ensures { result.node ≡ 0 }
+    ensures { result ≡ nothing }
 {
     Entry {
         node: 0,

@@ -1,5 +1,5 @@
 use Rattle.fuse_server.specs.Asking.{Talked}
-use Rattle.fuse_server.proofs.mount.Mount.open_somewhere.Given as goal
+use Rattle.fuse_server.proofs.talk.Seats.open_somewhere.Given as goal
 
 abbrev pub invariant-seats : goal.invariant-seats
 invariant-seats g l = Talked g.S.Sessions.called g.S.Sessions.entered g.S.Sessions.left l.now l.initial.sessions l.sessions

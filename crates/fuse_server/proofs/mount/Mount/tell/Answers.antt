@@ -1,9 +1,0 @@
-use Rattle.fuse_nodes.specs.Known.{known_of}
-use Rattle.fuse_server.proofs.Entries.{known_entry}
-use Rattle.fuse_server.proofs.mount.Mount.tell.Goals as goal
-
-pub returns-clause-told : goal.returns-clause-told
-returns-clause-told g c =
-    known_entry (known_of c.look.new.self.nodes) (known_of c.told.new.self) c.in_ok-attributes.attributes.inode c.kind_of-kind.result
-    (c.args.name.directory, c.args.name.name.now) c.in_ok-node.node c.entry_of.result c.in_ok-node.ensures.ok c.in_ok-node.ensures.number
-    c.entry_of.ensures.node c.entry_of.ensures.inode

@@ -1,0 +1,8 @@
+use Rattle.fuse_server.proofs.Asking.{goes_on}
+use Rattle.fuse_server.proofs.mount.Mount.tell_made.Goals as goal
+
+pub returns-in_err-tell-clause-asked : goal.returns-in_err-tell-clause-asked
+returns-in_err-tell-clause-asked g c = goes_on c.give.ensures c.tell.ensures.asked
+
+pub returns-clause-asked : goal.returns-clause-asked
+returns-clause-asked g c = goes_on c.give.ensures c.tell.ensures.asked

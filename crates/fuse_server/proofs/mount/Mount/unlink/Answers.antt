@@ -1,0 +1,11 @@
+use Rattle.fuse_server.proofs.Asking.{goes_on}
+use Rattle.fuse_server.proofs.mount.Mount.unlink.Goals as goal
+
+pub returns-in_err-hold-clause-asked : goal.returns-in_err-hold-clause-asked
+returns-in_err-hold-clause-asked g c = goes_on c.look.ensures c.hold.ensures
+
+pub returns-in_err-ask_done-clause-asked : goal.returns-in_err-ask_done-clause-asked
+returns-in_err-ask_done-clause-asked g c = goes_on (goes_on c.look.ensures c.hold.ensures) c.ask_done.ensures
+
+pub returns-clause-asked : goal.returns-clause-asked
+returns-clause-asked g c = goes_on (goes_on c.look.ensures c.hold.ensures) c.ask_done.ensures
