@@ -3,13 +3,14 @@ import os
 from .common import DOC, run, said
 from .try_root import NOBODY, WHERE, Bare
 
-# Runs in a namespace of mounts of its own, so that nothing of it is left: $1 is the root, $2 the user.
-APART = """set -e
-mount -t tmpfs -o mode=755 tmpfs "$1/dev"
-mknod -m 666 "$1/dev/fuse" c 10 229
-mknod -m 666 "$1/dev/null" c 1 3
-mount -t proc proc "$1/proc"
-exec chroot --userspec="$2:$2" "$1" sh -ec "$3" sh
+# Runs in a namespace of mounts of its own, so that nothing of it is left: $1 is the root, $2 the user, $3 the work. A Debian that was
+# started has /etc/mtab, by which fusermount3 knows what a user mounted.
+APART = """mount -t tmpfs -o mode=755 tmpfs "$1/dev" &&
+mknod -m 666 "$1/dev/fuse" c 10 229 &&
+mknod -m 666 "$1/dev/null" c 1 3 &&
+mount -t proc proc "$1/proc" || exit
+[ -L "$1/etc/mtab" ] || { ln -s ../proc/self/mounts "$1/etc/mtab" && trap 'rm "$1/etc/mtab"' EXIT; }
+chroot --userspec="$2:$2" "$1" sh -ec "$3" sh
 """
 # Prints what is in the volume at each of two mounts, and what mfsck says.
 WORK = f"""cd /work

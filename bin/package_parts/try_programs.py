@@ -45,7 +45,7 @@ class Trial:
 def readme_answers(root):
     """What README says that the second of its two commands prints."""
     text = (root.folder / DOC / "README.md").read_text(encoding="utf-8")
-    found = re.search(r"the second:\n\n((?:    .*\n)+)", text)
+    found = re.search(r"the answer to each call:\n\n((?:    .*\n)+)", text)
     return re.sub(r"^    ", "", found[1], flags=re.M) if found else "no answers stand in README\n"
 
 
