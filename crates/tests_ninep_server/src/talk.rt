@@ -27,11 +27,11 @@ fn put(out: &mut String, word: &[u8]) {
     }
 }
 
-/// A call of one path, and a number where it has one.
-fn put_path(out: &mut String, name: &[u8], path: &[u8], number: Option<u32>) {
+/// A call of one path, and its numbers.
+fn put_path(out: &mut String, name: &[u8], path: &[u8], numbers: &[u32]) {
     put(out, name);
     put(out, path);
-    if let Some(number) = number {
+    for number in numbers {
         let _ = write!(out, " {number}");
     }
 }
@@ -47,24 +47,24 @@ fn put_paths(out: &mut String, name: &[u8], first: &[u8], second: &[u8]) {
 fn put_call(out: &mut String, call: &Call<'_>) {
     match *call {
         Call::Open { path, flags, mode } => {
-            put_path(out, b"open", path, Some(u32::from(flags.bits())));
-            let _ = write!(out, " {mode}");
+            put_path(
+                out,
+                b"open",
+                path,
+                &[u32::from(flags.bits()), u32::from(mode)],
+            )
         }
-        Call::Lstat { path } => put_path(out, b"lstat", path, None),
-        Call::Mkdir { path, mode } => put_path(out, b"mkdir", path, Some(u32::from(mode))),
-        Call::Unlink { path } => put_path(out, b"unlink", path, None),
-        Call::Rmdir { path } => put_path(out, b"rmdir", path, None),
-        Call::Readlink { path } => put_path(out, b"readlink", path, None),
-        Call::Chmod { path, mode } => put_path(out, b"chmod", path, Some(u32::from(mode))),
-        Call::Truncate { path, size } => put_path(out, b"truncate", path, Some(size)),
+        Call::Lstat { path } => put_path(out, b"lstat", path, &[]),
+        Call::Mkdir { path, mode } => put_path(out, b"mkdir", path, &[u32::from(mode)]),
+        Call::Unlink { path } => put_path(out, b"unlink", path, &[]),
+        Call::Rmdir { path } => put_path(out, b"rmdir", path, &[]),
+        Call::Readlink { path } => put_path(out, b"readlink", path, &[]),
+        Call::Chmod { path, mode } => put_path(out, b"chmod", path, &[u32::from(mode)]),
+        Call::Truncate { path, size } => put_path(out, b"truncate", path, &[size]),
         Call::Chown { path, uid, gid } => {
-            put_path(out, b"chown", path, Some(u32::from(uid)));
-            let _ = write!(out, " {gid}");
+            put_path(out, b"chown", path, &[u32::from(uid), u32::from(gid)])
         }
-        Call::Utime { path, atime, mtime } => {
-            put_path(out, b"utime", path, Some(atime));
-            let _ = write!(out, " {mtime}");
-        }
+        Call::Utime { path, atime, mtime } => put_path(out, b"utime", path, &[atime, mtime]),
         Call::Link { old, new } => put_paths(out, b"link", old, new),
         Call::Rename { old, new } => put_paths(out, b"rename", old, new),
         Call::Symlink { target, path } => put_paths(out, b"symlink", target, path),
