@@ -11,6 +11,7 @@ ghost use Rattle.true_replies.specs.Events.{opening_media};
 ghost use Rattle.board.specs.View.{IsKeeper, opener};
 
 mod measures;
+mod steps;
 mod work;
 
 use bdev::BlockDriver;

@@ -72,6 +72,18 @@ fn ask_all<R: Wait>(
     came
 }
 
+/// Measures how long it takes to ask for all answers.
+fn measure_trips<R: Wait>(
+    rt: &HostRuntime,
+    waits: &R,
+    asks: &mut Sender<BlockRequest>,
+    answered: &mut Receiver<BlockReply>,
+) -> io::Result<()> {
+    let start = Instant::now(rt)?;
+    let came = ask_all(waits, asks, answered);
+    tell(rt, "bare round trips", came, "trips", start)
+}
+
 /// Measures round trips of a request and a reply between two threads, with nothing else done.
 fn round_trips<R: Threads + Wait + Copy + Send + 'static>(
     rt: &HostRuntime,
@@ -82,12 +94,10 @@ fn round_trips<R: Threads + Wait + Copy + Send + 'static>(
     let Ok(handle) = thread::spawn(&waits, move || answer_all(&waits, asked, answers)) else {
         return say(rt, "no thread");
     };
-    let start = Instant::now(rt)?;
-    let came = ask_all(&waits, &mut asks, &mut answered);
-    tell(rt, "bare round trips", came, "trips", start)?;
+    let measured = measure_trips(rt, &waits, &mut asks, &mut answered);
     drop(asks);
     handle.join(&waits);
-    Ok(())
+    measured
 }
 
 /// Lets a tick pass each millisecond, and adds up how long the ticks take, from where the gate is passed to where it is asked again.
@@ -102,6 +112,23 @@ struct TimesTicks {
 }
 
 impl TimesTicks {
+    /// No tick has begun.
+    fn new(rt: &HostRuntime) -> io::Result<TimesTicks> {
+        Ok(TimesTicks {
+            rt: *rt,
+            start: Instant::now(rt)?,
+            ticks: AtomicU64::new(0),
+            took: AtomicU64::new(0),
+            began: AtomicU64::new(0),
+        })
+    }
+
+    /// How many ticks there were, and how long they took, in nanoseconds.
+    fn counts(&self) -> (u64, u64) {
+        let ticks = self.ticks.load(Ordering::SeqCst);
+        (ticks, self.took.load(Ordering::SeqCst))
+    }
+
     /// Nanoseconds since the start.
     fn now(&self) -> u64 {
         match self.start.elapsed(&self.rt) {
@@ -150,6 +177,8 @@ fn time_ticks<
     reincarnation: Reincarnation<RamDriver>,
     board: Board,
     seat: Seat,
+    gate: Arc<TimesTicks>,
+    timing: &TimesTicks,
 ) -> io::Result<()>
     requires range { (N.opening.first ≡ 0) × (N.opening.count ≡ 1) }
     requires image { N.opening.media ≡ image.now }
@@ -160,15 +189,6 @@ fn time_ticks<
         return say(rt, "no memory");
     };
     let board = Arc::new(alloc, board)?;
-    let timing = TimesTicks {
-        rt: *rt,
-        start: Instant::now(rt)?,
-        ticks: AtomicU64::new(0),
-        took: AtomicU64::new(0),
-        began: AtomicU64::new(0),
-    };
-    let gate = Arc::new(alloc, timing)?;
-    let asked = Arc::try_clone(&gate)?;
     let (link, running) = start_drivers::<N, RamDriver, TimesTicks, R>(
         alloc,
         waits,
@@ -177,14 +197,34 @@ fn time_ticks<
         reincarnation,
         &board,
         seat,
-        asked,
+        gate,
     )?;
     thread::sleep(rt, Duration::from_millis(COUNTED));
-    let ticks = gate.ticks.load(Ordering::SeqCst);
-    let took = gate.took.load(Ordering::SeqCst);
+    let (ticks, took) = timing.counts();
     drop(link);
     let _ = running.stop(&waits);
     eprintln!(*rt; "ticks over an idle driver: {ticks} in {took} nanoseconds")
+}
+
+/// Times the ticks by which these drivers are started.
+fn ticks_over<R: Threads + Wait + Copy + Send + Sync + 'static>(
+    rt: &HostRuntime,
+    waits: R,
+    reincarnation: Reincarnation<RamDriver>,
+) -> io::Result<()> {
+    let gate = Arc::new(rt.alloc(), TimesTicks::new(rt)?)?;
+    let asked = Arc::try_clone(&gate)?;
+    let (board, seat) = Board::new(rt.alloc())?;
+    time_ticks::<Brand, R>(
+        rt,
+        waits,
+        &[0; 512],
+        reincarnation,
+        board,
+        seat,
+        asked,
+        &gate,
+    )
 }
 
 /// Measures ticks.
@@ -197,8 +237,7 @@ fn ticks<R: Threads + Wait + Copy + Send + Sync + 'static>(
     let Ok(reincarnation) = Reincarnation::new(alloc, patient(), supply) else {
         return say(rt, "no memory");
     };
-    let (board, seat) = Board::new(alloc)?;
-    time_ticks::<Brand, R>(rt, waits, &[0; 512], reincarnation, board, seat)
+    ticks_over(rt, waits, reincarnation)
 }
 
 /// Measures both.

@@ -113,6 +113,14 @@ fn is_tried(values: Clean, value: u8) -> bool {
     }
 }
 
+/// The finding of an image.
+fn finding(alloc: Global, image: &[u8]) -> Result<Option<Finding>, Fail> {
+    match check(alloc, image)? {
+        Verdict::Clean(_) => Ok(None),
+        Verdict::Found(finding) => Ok(Some(finding)),
+    }
+}
+
 /// How many of these bytes' values leave the volume clean, of those that are tried; it is an error where a check says something else of
 /// one.
 fn clean_values(alloc: Global, from: usize, to: usize) -> Result<u32, Fail> {
@@ -131,10 +139,10 @@ fn clean_values_at(alloc: Global, image: &mut [u8], place: usize) -> Result<u32,
     for value in 0..=255u8 {
         if is_tried(values, value) {
             put(image, place, &[value]);
-            let verdict = check(alloc, image)?;
             let clean = is_clean(values, value, own);
-            if matches!(verdict, Verdict::Clean(_)) != clean {
-                return Err(Fail::new(format_args!("{place} {value}: {verdict:?}")));
+            let found = finding(alloc, image)?;
+            if found.is_none() != clean {
+                return Err(Fail::new(format_args!("{place} {value}: {found:?}")));
             }
             count = count.saturating_add(u32::from(clean));
         }
@@ -144,71 +152,86 @@ fn clean_values_at(alloc: Global, image: &mut [u8], place: usize) -> Result<u32,
 }
 
 /// Puts bytes at a place.
-fn put(image: &mut [u8], at: usize, bytes: &[u8]) {
+pub fn put(image: &mut [u8], at: usize, bytes: &[u8]) {
     for (place, byte) in image.iter_mut().skip(at).zip(bytes) {
         *place = *byte;
     }
+}
+
+/// It is an error where a count is another one.
+fn is_counted(count: u32, wanted: u32) -> Result<(), Fail> {
+    if count == wanted {
+        return Ok(());
+    }
+    Err(Fail::new(format_args!("{count}, and not {wanted}")))
+}
+
+/// So many of these bytes' values leave the volume clean, of those that are tried.
+fn are_clean(alloc: Global, from: usize, to: usize, wanted: u32) -> Result<(), Fail> {
+    is_counted(clean_values(alloc, from, to)?, wanted)
 }
 
 // In all 86632 values are tried, of which 32548 leave the volume clean.
 
 #[test]
 fn each_byte_of_the_boot_block(rt: HostRuntime) -> Result<(), Fail> {
-    assert_eq!(rt; clean_values(rt.alloc(), 0, 1024)?, 1024 * 4);
-    Ok(())
+    are_clean(rt.alloc(), 0, 1024, 1024 * 4)
 }
 
 #[test]
 fn each_byte_of_the_superblock(rt: HostRuntime) -> Result<(), Fail> {
     // six bytes of pads and 993 behind it, 16 numbers of inodes, 58 of zones, and 23 bytes that have to be as they are
-    assert_eq!(rt;
-        clean_values(rt.alloc(), 1024, 2048)?,
-        999 * 4 + 16 + 58 + 23
-    );
-    Ok(())
+    are_clean(rt.alloc(), 1024, 2048, 999 * 4 + 16 + 58 + 23)
 }
 
 #[test]
 fn each_byte_of_the_maps(rt: HostRuntime) -> Result<(), Fail> {
     // of the inode map 1019 bytes that nothing looks at, one without a bit, and 4
-    assert_eq!(rt; clean_values(rt.alloc(), 2048, 3072)?, 1019 * 4 + 128 + 4);
+    are_clean(rt.alloc(), 2048, 3072, 1019 * 4 + 128 + 4)?;
     // of the zone map 1016, one without three bits, and 7
-    assert_eq!(rt; clean_values(rt.alloc(), 3072, 4096)?, 1016 * 4 + 32 + 7);
-    Ok(())
+    are_clean(rt.alloc(), 3072, 4096, 1016 * 4 + 32 + 7)
 }
 
 #[test]
 fn each_byte_of_the_inodes(rt: HostRuntime) -> Result<(), Fail> {
     // of the root's inode 17 bytes of any value, one of two, and 46; those of 31 inodes that aren't marked
-    assert_eq!(rt;
-        clean_values(rt.alloc(), 4096, 6144)?,
-        17 * 256 + 2 + 46 + 1984 * 4
-    );
-    Ok(())
+    are_clean(rt.alloc(), 4096, 6144, 17 * 256 + 2 + 46 + 1984 * 4)
 }
 
 #[test]
 fn each_byte_of_the_roots_zone(rt: HostRuntime) -> Result<(), Fail> {
-    assert_eq!(rt; clean_values(rt.alloc(), 6144, LOOKED_AT)?, 896 * 4 + 128);
-    Ok(())
+    are_clean(rt.alloc(), 6144, LOOKED_AT, 896 * 4 + 128)
 }
 
-/// The finding of an image.
-fn finding(alloc: Global, image: &[u8]) -> Result<Option<Finding>, Fail> {
-    match check(alloc, image)? {
-        Verdict::Clean(_) => Ok(None),
-        Verdict::Found(finding) => Ok(Some(finding)),
+/// The check of an image says so; it is an error, with this number, where it says something else.
+fn is_found(
+    alloc: Global,
+    image: &[u8],
+    wanted: Option<Finding>,
+    number: usize,
+) -> Result<(), Fail> {
+    let found = finding(alloc, image)?;
+    if found == wanted {
+        return Ok(());
     }
+    Err(Fail::new(format_args!("{number}: {found:?}, and not {wanted:?}")))
+}
+
+/// The bytes of an image up to this one are no volume.
+fn is_short(alloc: Global, image: &[u8], length: usize) -> Result<(), Fail> {
+    let place = if length < 1055 { 1 } else { 6 };
+    let short = image.get(..length).unwrap_or(&[]);
+    is_found(alloc, short, Some(Finding { number: 1, place }), length)
 }
 
 #[test]
 fn images_cut_short(rt: HostRuntime) -> Result<(), Fail> {
     let image = new_volume(rt.alloc(), 1024)?;
-    assert_eq!(rt; image.len(), 65536);
+    if image.len() != 65536 {
+        return Err(Fail::from("another length"));
+    }
     for length in 0..65536usize {
-        let place = if length < 1055 { 1 } else { 6 };
-        let found = finding(rt.alloc(), image.get(..length).unwrap_or(&[]))?;
-        assert_eq!(rt; found, Some(Finding { number: 1, place }), "{length}");
+        is_short(rt.alloc(), &image, length)?;
     }
     Ok(())
 }
@@ -269,15 +292,21 @@ static KNOWN: [(&[Put], &[Put], Option<(u32, u32)>); 8] = [
     (LINK, ZERO_BYTE, Some((17, 2))),
 ];
 
+/// Puts bytes at their places.
+fn put_all(image: &mut [u8], puts: &[Put]) {
+    for (at, bytes) in puts {
+        put(image, *at, *bytes);
+    }
+}
+
 #[test]
 fn images_of_malice(rt: HostRuntime) -> Result<(), Fail> {
-    for (first, second, wanted) in &KNOWN {
+    for (row, (first, second, wanted)) in KNOWN.iter().enumerate() {
         let mut image = new_volume(rt.alloc(), 1024)?;
-        for (at, bytes) in first.iter().chain(second.iter()) {
-            put(&mut image, *at, *bytes);
-        }
+        put_all(&mut image, first);
+        put_all(&mut image, second);
         let wanted = wanted.map(|(number, place)| Finding { number, place });
-        assert_eq!(rt; finding(rt.alloc(), &image)?, wanted);
+        is_found(rt.alloc(), &image, wanted, row)?;
     }
     Ok(())
 }
@@ -388,30 +417,32 @@ fn plays<R: Threads + Wait + Clock + Copy + Send + Sync + 'static>(
     Ok(count)
 }
 
+/// So many clean values of these bytes are played on.
+fn are_played<R: Threads + Wait + Clock + Copy + Send + Sync + 'static>(
+    alloc: Global,
+    rt: R,
+    from: usize,
+    to: usize,
+    wanted: u32,
+) -> Result<(), Fail> {
+    is_counted(plays(alloc, rt, from, to)?, wanted)
+}
+
 // In all 1164 plays.
 
 #[test]
 fn plays_before_the_maps(rt: HostRuntime) -> Result<(), Fail> {
     // four for each 32nd byte of the boot block, and of those behind the superblock; the numbers of inodes and of zones
-    assert_eq!(rt; plays(rt.alloc(), rt, 0, 2048)?, 4 * (32 + 31) + 16 + 58);
-    Ok(())
+    are_played(rt.alloc(), rt, 0, 2048, 4 * (32 + 31) + 16 + 58)
 }
 
 #[test]
 fn plays_on_the_maps(rt: HostRuntime) -> Result<(), Fail> {
-    assert_eq!(rt;
-        plays(rt.alloc(), rt, 2048, 4096)?,
-        4 * (31 + 31) + 128 + 32
-    );
-    Ok(())
+    are_played(rt.alloc(), rt, 2048, 4096, 4 * (31 + 31) + 128 + 32)
 }
 
 #[test]
 fn plays_on_the_inodes_and_the_root(rt: HostRuntime) -> Result<(), Fail> {
     // 17 bytes of the root's inode, and two types; each 32nd byte of the other inodes, and behind the root's entries
-    assert_eq!(rt;
-        plays(rt.alloc(), rt, 4096, LOOKED_AT)?,
-        4 * (17 + 62 + 28) + 2
-    );
-    Ok(())
+    are_played(rt.alloc(), rt, 4096, LOOKED_AT, 4 * (17 + 62 + 28) + 2)
 }

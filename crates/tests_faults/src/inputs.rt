@@ -1,5 +1,6 @@
 //! Schedules, scripts and boot sectors of drawn bytes: each is refused by name, or run.
 
+use crate::images::put;
 use crate::replies::are_replies;
 use fixtures::{new_volume, whole};
 use fixtures_faults::draws::Draws;
@@ -175,7 +176,7 @@ fn what_became(said: &Said, is_refusal: bool) -> Became {
 }
 
 /// How many inputs were run, and how many were refused.
-#[derive(Clone, Copy, Debug)]
+#[derive(Clone, Copy)]
 struct Counts {
     run: u32,
     refused: u32,
@@ -195,28 +196,40 @@ impl Counts {
         Ok(())
     }
 
-    /// Whether some were run, some were refused, and so many in all.
-    fn are_all(&self) -> bool {
-        self.run > 0 && self.refused > 0 && self.run.saturating_add(self.refused) == COUNT
+    /// Some were run, some were refused, and so many in all.
+    fn are_all(&self) -> Result<(), Fail> {
+        let (run, refused) = (self.run, self.refused);
+        if run > 0 && refused > 0 && run.saturating_add(refused) == COUNT {
+            return Ok(());
+        }
+        Err(Fail::new(format_args!("{run} run, {refused} refused")))
     }
 }
 
 /// Nothing was counted.
 const NONE: Counts = Counts { run: 0, refused: 0 };
 
+/// What becomes of a schedule that is run on an image.
+fn run_of(alloc: Global, image: &[u8], schedule: &[u8]) -> Result<Became, AllocError> {
+    let said = said(alloc, image, schedule, &whole())?;
+    let err = str::from_utf8(said.2.as_slice()).unwrap_or("");
+    Ok(what_became(&said, is_bad_line(err, schedule)))
+}
+
+/// What becomes of a drawn one.
+fn drawn_run(alloc: Global, image: &[u8], draws: &mut Draws) -> Result<Became, AllocError> {
+    let schedule = any_text(alloc, draws, SCHEDULE)?;
+    run_of(alloc, image, schedule.as_slice())
+}
+
 #[test]
 fn schedules_of_drawn_bytes(rt: HostRuntime) -> Result<(), Fail> {
-    let alloc = rt.alloc();
-    let image = new_volume(alloc, 1024)?;
+    let image = new_volume(rt.alloc(), 1024)?;
     let (mut draws, mut counts) = (Draws::new(1), NONE);
     for _ in 0..COUNT {
-        let schedule = any_text(alloc, &mut draws, SCHEDULE)?;
-        let said = said(alloc, image.as_slice(), schedule.as_slice(), &whole())?;
-        let err = str::from_utf8(said.2.as_slice()).unwrap_or("");
-        counts.count(what_became(&said, is_bad_line(err, schedule.as_slice())))?;
+        counts.count(drawn_run(rt.alloc(), &image, &mut draws)?)?;
     }
-    assert!(rt; counts.are_all(), "{counts:?}");
-    Ok(())
+    counts.are_all()
 }
 
 /// Whether these bytes are replies to the calls of a script.
@@ -258,22 +271,37 @@ fn play_of<R: Threads + Wait + Clock + Copy + Send + Sync + 'static>(
     ))
 }
 
-#[test]
-fn scripts_of_drawn_bytes(rt: HostRuntime) -> Result<(), Fail> {
-    let alloc = rt.alloc();
-    let (mut draws, mut counts) = (Draws::new(2), NONE);
-    for _ in 0..COUNT {
-        let script = any_text(alloc, &mut draws, SCRIPT)?;
-        counts.count(play_of(alloc, rt, script.as_slice())?)?;
-    }
-    assert!(rt; counts.are_all(), "{counts:?}");
-    Ok(())
+/// What becomes of a drawn one.
+fn drawn_play<R: Threads + Wait + Clock + Copy + Send + Sync + 'static>(
+    alloc: Global,
+    rt: R,
+    draws: &mut Draws,
+) -> Result<Became, AllocError> {
+    let script = any_text(alloc, draws, SCRIPT)?;
+    play_of(alloc, rt, script.as_slice())
 }
 
-/// Puts bytes at a place.
-fn put(image: &mut [u8], at: usize, bytes: &[u8]) {
-    for (place, byte) in image.iter_mut().skip(at).zip(bytes) {
-        *place = *byte;
+#[test]
+fn scripts_of_drawn_bytes(rt: HostRuntime) -> Result<(), Fail> {
+    let (mut draws, mut counts) = (Draws::new(2), NONE);
+    for _ in 0..COUNT {
+        counts.count(drawn_play(rt.alloc(), rt, &mut draws)?)?;
+    }
+    counts.are_all()
+}
+
+/// An entry of a table, at a place: all zeros, one of MINIX's type that begins and ends near the volume, or the bytes that are there.
+fn put_entry(image: &mut [u8], at: usize, draws: &mut Draws) {
+    let first = u8::try_from(draws.below(4)).unwrap_or(0);
+    let count = u8::try_from(draws.below(8).saturating_add(122)).unwrap_or(0);
+    match draws.below(8) {
+        0 => {}
+        1 | 2 => put(
+            image,
+            at,
+            &[0, 0, 0, 0, 0x81, 0, 0, 0, first, 0, 0, 0, count, 0, 0, 0],
+        ),
+        _ => put(image, at, &[0; 16]),
     }
 }
 
@@ -287,18 +315,7 @@ fn put_boot_sector(image: &mut [u8], draws: &mut Draws) {
     }
     put(image, 510, &[0x55, 0xaa]);
     for entry in 0..4usize {
-        let at = entry.saturating_mul(16).saturating_add(446);
-        let first = u8::try_from(draws.below(4)).unwrap_or(0);
-        let count = u8::try_from(draws.below(8).saturating_add(122)).unwrap_or(0);
-        match draws.below(8) {
-            0 => {}
-            1 | 2 => put(
-                image,
-                at,
-                &[0, 0, 0, 0, 0x81, 0, 0, 0, first, 0, 0, 0, count, 0, 0, 0],
-            ),
-            _ => put(image, at, &[0; 16]),
-        }
+        put_entry(image, entry.saturating_mul(16).saturating_add(446), draws);
     }
 }
 
@@ -313,22 +330,32 @@ fn is_place_refusal(line: &str) -> bool {
     names.iter().any(|name| *name == line) || line.starts_with("NotClean finding ")
 }
 
+/// What becomes of a run on the volume of a drawn minor of an image.
+fn run_on(alloc: Global, image: &[u8], draws: &mut Draws) -> Result<Became, AllocError> {
+    let setup = Setup {
+        minor: u8::try_from(draws.below(6)).unwrap_or(0),
+        ..whole()
+    };
+    let said = said(alloc, image, b"call 0 0 0 1 stat /\n", &setup)?;
+    let err = str::from_utf8(said.2.as_slice()).unwrap_or("");
+    Ok(what_became(&said, is_place_refusal(err)))
+}
+
+/// A sector of zeros, and a new volume.
+fn disk(alloc: Global) -> Result<Vec<u8>, AllocError> {
+    let mut image = vec![in alloc; 0; 512]?;
+    let volume = new_volume(alloc, 1024)?;
+    image.extend_from_slice(volume.as_slice())?;
+    Ok(image)
+}
+
 #[test]
 fn boot_sectors_of_drawn_bytes(rt: HostRuntime) -> Result<(), Fail> {
-    let alloc = rt.alloc();
-    let mut image = vec![in alloc; 0; 512]?;
-    image.extend_from_slice(new_volume(alloc, 1024)?.as_slice())?;
+    let mut image = disk(rt.alloc())?;
     let (mut draws, mut counts) = (Draws::new(3), NONE);
     for _ in 0..COUNT {
-        put_boot_sector(image.as_mut_slice(), &mut draws);
-        let setup = Setup {
-            minor: u8::try_from(draws.below(6)).unwrap_or(0),
-            ..whole()
-        };
-        let said = said(alloc, image.as_slice(), b"call 0 0 0 1 stat /\n", &setup)?;
-        let err = str::from_utf8(said.2.as_slice()).unwrap_or("");
-        counts.count(what_became(&said, is_place_refusal(err)))?;
+        put_boot_sector(&mut image, &mut draws);
+        counts.count(run_on(rt.alloc(), &image, &mut draws)?)?;
     }
-    assert!(rt; counts.are_all(), "{counts:?}");
-    Ok(())
+    counts.are_all()
 }

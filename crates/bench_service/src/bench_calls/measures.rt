@@ -1,6 +1,7 @@
 //! What is measured, in a session.
 
-use crate::bench_calls::work::{Caller, at_start, copies, measure, once, repeat, rewind};
+use crate::bench_calls::steps::{Row, Step, opened};
+use crate::bench_calls::work::{Caller, copies, once, repeat, rows};
 use bench_layers::timing::{say, tell};
 use board::counting::parameters::ServiceParameters;
 use board::counting::recorder::Recorder;
@@ -12,7 +13,7 @@ use std::sync::Wait;
 use std::thread::Threads;
 use std::time::Instant;
 use std::{io, thread};
-use tree::{Call, OpenFlags};
+use tree::Call;
 
 /// Measures calls in a session of user 0, and in eight.
 pub(crate) fn measure_all<
@@ -48,6 +49,25 @@ fn ask<N: ServiceParameters, R: Threads + Wait + Copy, L: Recorder<N>, S: FileSe
     done
 }
 
+/// Lets each of these sessions ask for the root in a thread of its own; how many calls were done.
+fn ask_each<
+    N: ServiceParameters + Send + Sync,
+    R: Threads + Wait + Copy + Send + Sync,
+    L: Recorder<N> + Send,
+    S: FileServer<L> + Send,
+>(waits: &R, sessions: Vec<Session<N, Shared<N, R, L, S>>>) -> io::Result<u32> {
+    let each = thread::map_vec(
+        waits,
+        sessions,
+        &|session: Session<N, Shared<N, R, L, S>>| -> u32 { ask(session) },
+    )?;
+    let mut done = 0u32;
+    for calls in each.iter() {
+        done = done.saturating_add(*calls);
+    }
+    Ok(done)
+}
+
 /// Measures so many sessions, each of which asks for the root in a thread of its own.
 fn in_threads<
     N: ServiceParameters + Send + Sync,
@@ -63,84 +83,102 @@ fn in_threads<
         sessions.push(session)?;
     }
     let start = Instant::now(rt)?;
-    let each = thread::map_vec(
-        waits,
-        sessions,
-        &|session: Session<N, Shared<N, R, L, S>>| -> u32 { ask(session) },
-    )?;
-    let mut done = 0u32;
-    for calls in each.iter() {
-        done = done.saturating_add(*calls);
-    }
+    let done = ask_each(waits, sessions)?;
     eprintln!(*rt; "sessions in threads: {count}")?;
     tell(rt, "stat of the root", done, "calls", start)
 }
 
 /// All that is measured in one session.
 fn all<C: Caller>(rt: &HostRuntime, caller: &mut C) -> io::Result<()> {
-    small_calls(rt, caller)?;
+    rows(rt, caller, &[], &SMALL)?;
     let mut to = vec![in rt.alloc(); 0u8; 65536]?;
     bytes_at_hand(rt, caller, &vec![in rt.alloc(); 7u8; 65536]?, &mut to)?;
-    bytes_of_drivers(rt, caller, &vec![in rt.alloc(); 8u8; 65536]?)?;
+    rows(rt, caller, &vec![in rt.alloc(); 8u8; 65536]?, &OF_DRIVERS)?;
     names(rt, caller)
 }
 
-/// The flags of an open: to read and write, a file that is made where none is there.
-fn read_write_create() -> OpenFlags {
-    OpenFlags::READ | OpenFlags::WRITE | OpenFlags::CREATE
-}
-
-/// Opens a path, which may be made.
-fn opened(path: &[u8]) -> Call<'_> {
-    Call::Open {
-        path,
-        flags: read_write_create(),
-        mode: 0o644,
-    }
-}
-
 /// Calls that move few bytes.
-fn small_calls<C: Caller>(rt: &HostRuntime, caller: &mut C) -> io::Result<()> {
-    measure(
-        rt,
-        caller,
-        "stat of the root",
-        40000,
-        &[Call::Stat { path: b"/" }],
-    )?;
-    let _ = once(caller, &[opened(b"/f"), Call::Close { fd: 0 }]);
-    measure(
-        rt,
-        caller,
-        "stat of a file",
-        40000,
-        &[Call::Stat { path: b"/f" }],
-    )?;
-    let open_close = [opened(b"/f"), Call::Close { fd: 0 }];
-    measure(rt, caller, "open and close", 20000, &open_close)?;
-    let create_unlink = [
-        opened(b"/n"),
-        Call::Close { fd: 0 },
-        Call::Unlink { path: b"/n" },
-    ];
-    measure(
-        rt,
-        caller,
-        "create, close and unlink",
-        10000,
-        &create_unlink,
-    )
-}
+static SMALL: [Row; 5] = [
+    (Some(("stat of the root", 40000)), &[Step::Stat(b"/")]),
+    (None, &[Step::Open(b"/f"), Step::Close]),
+    (Some(("stat of a file", 40000)), &[Step::Stat(b"/f")]),
+    (
+        Some(("open and close", 20000)),
+        &[Step::Open(b"/f"), Step::Close],
+    ),
+    (
+        Some(("create, close and unlink", 10000)),
+        &[Step::Open(b"/n"), Step::Close, Step::Unlink(b"/n")],
+    ),
+];
 
-/// A write of these bytes.
-fn writing(bytes: &[u8]) -> Call<'_> {
-    Call::Write { fd: 0, bytes }
-}
+/// Writes a file, whose bytes stand in frames then.
+static WRITTEN: [Row; 1] = [(None, &[Step::Open(b"/f"), Step::Write(65536), Step::Sync])];
 
-/// A read of so many bytes.
-fn reading<'a>(count: u32) -> Call<'a> {
-    Call::Read { fd: 0, count }
-}
+/// Reads and writes of a page at its beginning.
+static OF_PAGES: [Row; 2] = [
+    (
+        Some(("seek and 4 KiB read at hand", 20000)),
+        &[Step::Rewind, Step::Read(4096)],
+    ),
+    (
+        Some(("seek and 4 KiB write at hand", 20000)),
+        &[Step::Rewind, Step::Write(4096)],
+    ),
+];
+
+/// Reads and writes of all of it; then it is closed.
+static OF_ALL: [Row; 3] = [
+    (
+        Some(("seek and 64 KiB read at hand", 2000)),
+        &[Step::Rewind, Step::Read(65536)],
+    ),
+    (
+        Some(("seek and 64 KiB write at hand", 2000)),
+        &[Step::Rewind, Step::Write(65536)],
+    ),
+    (None, &[Step::Sync, Step::Close]),
+];
+
+/// Reads and writes that go to the drivers: a file of 8 MiB, written, synced and read.
+static OF_DRIVERS: [Row; 11] = [
+    (None, &[Step::Open(b"/big")]),
+    (
+        Some(("64 KiB writes to new zones", 128)),
+        &[Step::Write(65536)],
+    ),
+    (Some(("sync", 1)), &[Step::Sync]),
+    (None, &[Step::Rewind]),
+    (
+        Some(("64 KiB reads from the driver", 128)),
+        &[Step::Read(65536)],
+    ),
+    (None, &[Step::Rewind]),
+    (
+        Some(("4 KiB reads from the driver", 2048)),
+        &[Step::Read(4096)],
+    ),
+    (None, &[Step::Rewind]),
+    (
+        Some(("64 KiB writes to the driver", 128)),
+        &[Step::Write(65536)],
+    ),
+    (Some(("sync", 1)), &[Step::Sync]),
+    (None, &[Step::Close]),
+];
+
+/// A directory is made.
+static MADE: [Row; 1] = [(None, &[Step::Mkdir(b"/d")])];
+
+/// It is listed, and the last of its 1,000 names is looked up.
+static LISTED: [Row; 3] = [
+    (None, &[Step::OpenToRead(b"/d")]),
+    (Some(("readdir of 1,000 names", 100)), &[Step::Readdir]),
+    (
+        Some(("stat of the last of 1,000 names", 1000)),
+        &[Step::Stat(b"/d/999")],
+    ),
+];
 
 /// Reads and writes of bytes that stand in frames.
 fn bytes_at_hand<C: Caller>(
@@ -149,112 +187,18 @@ fn bytes_at_hand<C: Caller>(
     whole: &[u8],
     to: &mut [u8],
 ) -> io::Result<()> {
-    let page = whole.get(..4096).unwrap_or(&[]);
-    let _ = once(caller, &[opened(b"/f")]);
-    let _ = once(caller, &[writing(whole)]);
-    let _ = once(caller, &[Call::Sync]);
-    copies(rt, page, to, 20000)?;
-    at_start(
-        rt,
-        caller,
-        "seek and 4 KiB read at hand",
-        20000,
-        &reading(4096),
-    )?;
-    at_start(
-        rt,
-        caller,
-        "seek and 4 KiB write at hand",
-        20000,
-        &writing(page),
-    )?;
+    rows(rt, caller, whole, &WRITTEN)?;
+    copies(rt, whole.get(..4096).unwrap_or(&[]), to, 20000)?;
+    rows(rt, caller, whole, &OF_PAGES)?;
     copies(rt, whole, to, 2000)?;
-    at_start(
-        rt,
-        caller,
-        "seek and 64 KiB read at hand",
-        2000,
-        &reading(65536),
-    )?;
-    at_start(
-        rt,
-        caller,
-        "seek and 64 KiB write at hand",
-        2000,
-        &writing(whole),
-    )?;
-    let _ = once(caller, &[Call::Sync, Call::Close { fd: 0 }]);
-    Ok(())
-}
-
-/// Reads and writes that go to the drivers: a file of 8 MiB, written, synced and read.
-fn bytes_of_drivers<C: Caller>(rt: &HostRuntime, caller: &mut C, whole: &[u8]) -> io::Result<()> {
-    let _ = once(caller, &[opened(b"/big")]);
-    measure(
-        rt,
-        caller,
-        "64 KiB writes to new zones",
-        128,
-        &[writing(whole)],
-    )?;
-    measure(rt, caller, "sync", 1, &[Call::Sync])?;
-    let _ = once(caller, &[rewind()]);
-    measure(
-        rt,
-        caller,
-        "64 KiB reads from the driver",
-        128,
-        &[reading(65536)],
-    )?;
-    let _ = once(caller, &[rewind()]);
-    measure(
-        rt,
-        caller,
-        "4 KiB reads from the driver",
-        2048,
-        &[reading(4096)],
-    )?;
-    let _ = once(caller, &[rewind()]);
-    measure(
-        rt,
-        caller,
-        "64 KiB writes to the driver",
-        128,
-        &[writing(whole)],
-    )?;
-    measure(rt, caller, "sync", 1, &[Call::Sync])?;
-    let _ = once(caller, &[Call::Close { fd: 0 }]);
-    Ok(())
+    rows(rt, caller, whole, &OF_ALL)
 }
 
 /// A directory of 1,000 names: made, listed, looked up.
 fn names<C: Caller>(rt: &HostRuntime, caller: &mut C) -> io::Result<()> {
-    let alloc = rt.alloc();
-    let _ = once(
-        caller,
-        &[Call::Mkdir {
-            path: b"/d",
-            mode: 0o755,
-        }],
-    );
-    make_names(alloc, caller, 1000)?;
-    let _ = once(
-        caller,
-        &[Call::Open {
-            path: b"/d",
-            flags: OpenFlags::READ,
-            mode: 0,
-        }],
-    );
-    measure(
-        rt,
-        caller,
-        "readdir of 1,000 names",
-        100,
-        &[Call::Readdir { fd: 0 }],
-    )?;
-    let last = Call::Stat { path: b"/d/999" };
-    measure(rt, caller, "stat of the last of 1,000 names", 1000, &[last])
+    rows(rt, caller, &[], &MADE)?;
+    make_names(rt.alloc(), caller, 1000)?;
+    rows(rt, caller, &[], &LISTED)
 }
 
 /// Makes so many files in a directory.

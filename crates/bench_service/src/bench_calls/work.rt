@@ -1,5 +1,6 @@
 //! Work that is measured: calls, made again and again.
 
+use crate::bench_calls::steps::{Row, calls_of};
 use bench_layers::timing::{copy, micros_since, tell};
 use board::counting::parameters::ServiceParameters;
 use board::counting::recorder::Recorder;
@@ -9,7 +10,7 @@ use serve::session::Session;
 use std::io;
 use std::sync::Wait;
 use std::time::Instant;
-use tree::{Call, Outcome, Reply, Whence};
+use tree::{Call, Outcome, Reply};
 
 /// Who makes calls.
 pub(crate) trait Caller {
@@ -46,7 +47,7 @@ pub(crate) fn repeat<C: Caller>(caller: &mut C, times: u32, calls: &[Call<'_>]) 
 }
 
 /// Measures these calls, made so many times.
-pub(crate) fn measure<C: Caller>(
+fn measure<C: Caller>(
     rt: &HostRuntime,
     caller: &mut C,
     what: &str,
@@ -58,36 +59,23 @@ pub(crate) fn measure<C: Caller>(
     tell(rt, what, done, "calls", start)
 }
 
-/// Back to the first byte.
-pub(crate) fn rewind<'a>() -> Call<'a> {
-    Call::Seek {
-        fd: 0,
-        whence: Whence::Set,
-        offset: 0,
-    }
-}
-
-/// Makes a call so many times, each time after a seek to the first byte; how many calls were done.
-fn repeat_at_start<C: Caller>(caller: &mut C, times: u32, call: &Call<'_>) -> u32 {
-    let mut done = 0u32;
-    for _ in 0..times {
-        done = done.wrapping_add(u32::from(caller.make(&rewind())));
-        done = done.wrapping_add(u32::from(caller.make(call)));
-    }
-    done
-}
-
-/// Measures a call, made so many times, each time after a seek to the first byte.
-pub(crate) fn at_start<C: Caller>(
+/// Makes the calls of rows, which write from these bytes, and measures those that are to be measured.
+pub(crate) fn rows<C: Caller>(
     rt: &HostRuntime,
     caller: &mut C,
-    what: &str,
-    times: u32,
-    call: &Call<'_>,
+    bytes: &[u8],
+    rows: &[Row],
 ) -> io::Result<()> {
-    let start = Instant::now(rt)?;
-    let done = repeat_at_start(caller, times, call);
-    tell(rt, what, done, "calls", start)
+    for (measured, steps) in rows {
+        let calls = calls_of(rt.alloc(), steps, bytes)?;
+        match *measured {
+            Some((what, times)) => measure(rt, caller, what, times, &calls)?,
+            None => {
+                let _ = once(caller, &calls);
+            }
+        }
+    }
+    Ok(())
 }
 
 /// Measures a plain copy of these bytes, so many times.

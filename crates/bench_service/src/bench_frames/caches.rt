@@ -108,6 +108,25 @@ fn measure_on<
     measured
 }
 
+/// Measures a cache over a driver of media with these bytes.
+fn measure_image<R: Threads + Wait + Copy + Send + Sync + 'static>(
+    rt: &HostRuntime,
+    waits: R,
+    image: &[u8],
+    volume: &Geometry,
+    frames: u32,
+) -> io::Result<()>
+    requires { IsGeometry volume.now }
+{
+    let alloc = rt.alloc();
+    let supply = vec![in alloc; driver()]?;
+    let Ok(reincarnation) = Reincarnation::new(alloc, Policy::default(), supply) else {
+        return say(rt, "no memory");
+    };
+    let (board, seat) = Board::new(alloc)?;
+    measure_on::<Brand, R>(rt, waits, image, reincarnation, board, seat, volume, frames)
+}
+
 /// Measures a cache of so many frames for a volume of at most 16 MiB.
 pub(crate) fn measure_frames<R: Threads + Wait + Copy + Send + Sync + 'static>(
     rt: &HostRuntime,
@@ -117,22 +136,7 @@ pub(crate) fn measure_frames<R: Threads + Wait + Copy + Send + Sync + 'static>(
 ) -> io::Result<()>
     requires { IsGeometry volume.now }
 {
-    let alloc = rt.alloc();
     eprintln!(*rt; "{frames} frames of {} bytes", volume.block_size)?;
-    let image = vec![in alloc; 0u8; 16777216]?;
-    let supply = vec![in alloc; driver()]?;
-    let Ok(reincarnation) = Reincarnation::new(alloc, Policy::default(), supply) else {
-        return say(rt, "no memory");
-    };
-    let (board, seat) = Board::new(alloc)?;
-    measure_on::<Brand, R>(
-        rt,
-        waits,
-        &image,
-        reincarnation,
-        board,
-        seat,
-        volume,
-        frames,
-    )
+    let image = vec![in rt.alloc(); 0u8; 16777216]?;
+    measure_image(rt, waits, &image, volume, frames)
 }
