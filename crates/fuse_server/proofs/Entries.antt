@@ -5,9 +5,9 @@ use Rattle.std.proofs.lemmas.List.{append-nil, length-append}
 use Rattle.std.specs.List.{AllByRecursion}
 use Rattle.std.specs.Option.{unwrap_or}
 use Rattle.std.proofs.lemmas.Bool.Decides.{eqb_tells}
-use Rattle.fields.specs.Fields.{fields_bytes}
+use Rattle.std.specs.Borrow.{Bor}
+use Rattle.fields.specs.Fields.{Four, Eight, Number, fields_bytes}
 use Rattle.fields.proofs.WritingLaws.{fields_length}
-use Rattle.fuse.proofs.ReplyLaws.{dirent_length}
 use Rattle.fuse.specs.Replies.{attribute_fields, name_fields, entry_fields, dirent_bytes, padding}
 use Rattle.fuse.specs.declared.entries.ReaddirEntry.{ReaddirEntry}
 use Rattle.fuse.specs.declared.reply.Entry.{Entry}
@@ -53,7 +53,7 @@ told_as_keeps : (k : Known) (inode : ℕ) (kind : NodeKind) (place : ℕ × List
     → (other id : ℕ) → k.numbers other ≡ Some id → (told_as k inode kind place own).numbers other ≡ Some id
 told_as_keeps k inode kind place (Some own) e other id h = h
 told_as_keeps k inode kind place None e other id h = elim (eqb_tells inode other) [
-  inl same ↦ absurd (let P : ℕ → Type 0 = λ i. k.numbers i ≡ None in never (sym (subst P same.1 e) ∙ h))
+  | inl same ↦ absurd (let P : ℕ → Type 0 = λ i. k.numbers i ≡ None in never (sym (subst P same.1 e) ∙ h))
   | inr apart ↦ rw apart.0 h
 ] where
   never : None ≡ Some id → ⊥
@@ -95,14 +95,34 @@ more_listed k l old new e d kept own is listed = record {
   known = all_known k l kept listed.entries (e, d) listed.known own;
 }
 
--- how many bytes it has: those of its name alone decide
-pub found_length : (e : Entry) (d : ReaddirEntry) → length (fields_bytes (entry_fields e) ++ dirent_bytes d) ≡ 128 + length (dirent_bytes d)
-unfolding name_fields attribute_fields
-found_length e d =
-    let told : length (fields_bytes (entry_fields e)) ≡ 128 = fields_length (entry_fields e) in
-    omega (arith, told, length-append (fields_bytes (entry_fields e)) (dirent_bytes d))
+-- how many bytes an entry has
+dirent_length : (e : ReaddirEntry) → length (dirent_bytes e) ≡ 24 + length (e.name.now ++ padding (length e.name.now))
+dirent_length e =
+    let head = Number Eight e.inode ∷ Number Eight e.next ∷ Number Four (length e.name.now) ∷ Number Four e.kind ∷ [] in
+    let so_many : length (fields_bytes head) ≡ 24 = fields_length head in
+    omega (arith, length-append (fields_bytes head) (e.name.now ++ padding (length e.name.now)), so_many)
 
-pub same_length : (c d : ReaddirEntry) → c.name.now ≡ d.name.now → length (dirent_bytes c) ≡ length (dirent_bytes d)
+same_length : (c d : ReaddirEntry) → c.name ≡ d.name → length (dirent_bytes c) ≡ length (dirent_bytes d)
 same_length c d same =
-    let P : List ℕ → Type 0 = λ name. 24 + length name + length (padding (length name)) ≡ length (dirent_bytes c) in
-    sym (subst P same (dirent_length c (padding (length c.name.now)) refl)) ∙ dirent_length d (padding (length d.name.now)) refl
+    let P : Bor (List ℕ) → Type 0 = λ name. length (dirent_bytes c) ≡ 24 + length (name.now ++ padding (length name.now)) in
+    subst P same (dirent_length c) ∙ sym (dirent_length d)
+
+-- with what its name leads to: its name alone decides
+pub found_length : (e : Entry) (c d : ReaddirEntry) (len : ℕ) → c.name ≡ d.name → len ≡ length (dirent_bytes d)
+    → length (fields_bytes (entry_fields e) ++ dirent_bytes c) ≡ 128 + len
+unfolding name_fields attribute_fields
+found_length e c d len same is =
+    let told : length (fields_bytes (entry_fields e)) ≡ 128 = fields_length (entry_fields e) in
+    omega (arith, told, length-append (fields_bytes (entry_fields e)) (dirent_bytes c), same_length c d same, is)
+
+-- where it had room, and was written
+pub pushed_within : (e : Entry) (c d : ReaddirEntry) (len most : ℕ) (old mid new : List ℕ) → c.name ≡ d.name → len ≡ length (dirent_bytes d)
+    → mid ≡ old → new ≡ mid ++ (fields_bytes (entry_fields e) ++ dirent_bytes c) → length old + 128 + len ≤ most → length new ≤ most
+pushed_within e c d len most old mid new same is stays written room = omega (
+  arith,
+  ap length written,
+  ap length stays,
+  length-append mid (fields_bytes (entry_fields e) ++ dirent_bytes c),
+  found_length e c d len same is,
+  room,
+)

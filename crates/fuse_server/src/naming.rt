@@ -54,11 +54,7 @@ impl Seats {
 
 /// The kernel is told of what has these attributes by a name.
 #[tactic(auto, using(crate::proofs::Entries::keeps))]
-fn tell_node(
-    nodes: &mut Nodes,
-    attributes: &Attributes,
-    name: NameIn<'_>,
-) -> Result<Entry, Refused>
+fn tell_node(nodes: &mut Nodes, attributes: &Attributes, name: NameIn<'_>) -> Result<Entry, Refused>
     ensures told { IfOk result (IsKnown (known_of nodes.new)) }
     ensures kept { KeepsNumbers (known_of nodes.old) (known_of nodes.new) }
 {
@@ -103,14 +99,7 @@ impl Mount {
         ensures asked { Talked S.called S.entered S.left now sessions.old sessions.new }
         ensures told { IfOk result (IsKnown (known_of self.new.nodes)) }
     {
-        tell(
-            &mut self.seats,
-            &mut self.nodes,
-            sessions,
-            now,
-            name,
-            path,
-        )
+        tell(&mut self.seats, &mut self.nodes, sessions, now, name, path)
     }
 
     /// What a name leads to, of which the kernel is told; nothing where it leads to nothing.
@@ -182,7 +171,8 @@ impl Mount {
         let path = self.path_of(name)?;
         let was = self.seats.look(sessions, now, &path)?;
         self.hold(sessions, now, was.inode)?;
-        self.seats.ask_done(sessions, now, Call::Unlink { path: &path })?;
+        self.seats
+            .ask_done(sessions, now, Call::Unlink { path: &path })?;
         self.nodes
             .lost(was.inode, name.directory, name.name, is_last(&was));
         Ok(FuseAnswer::Done)
@@ -200,7 +190,8 @@ impl Mount {
     {
         let path = self.path_of(name)?;
         let was = self.seats.look(sessions, now, &path)?;
-        self.seats.ask_done(sessions, now, Call::Rmdir { path: &path })?;
+        self.seats
+            .ask_done(sessions, now, Call::Rmdir { path: &path })?;
         self.nodes.lost(was.inode, name.directory, name.name, true);
         Ok(FuseAnswer::Done)
     }

@@ -35,8 +35,9 @@ struct Listing<'a> {
     room: usize,
 }
 
-/// What a name leads to, which the kernel is told. Node 0 for the directory itself and the one above, which it doesn't count, and where
+/// What a name leads to, of which the kernel is told. Node 0 for the directory itself and the one above, which it doesn't count, and where
 /// nothing is found that can be told: the kernel then asks for the name when it wants it.
+#[tactic(auto, using(crate::proofs::Asking::goes_on, crate::proofs::Asking::stays, crate::proofs::Entries::keeps))]
 fn found<S: Sessions>(
     seats: &mut Seats,
     nodes: &mut Nodes,
@@ -103,19 +104,19 @@ fn push_found<S: Sessions>(
     ensures room { length bytes.new.items ≤ listing.entry.room }
     ensures listed { IsListed (known_of nodes.old) bytes.old.items → IsListed (known_of nodes.new) bytes.new.items }
 {
-    if !has_room(bytes, listing.room, entry.len()) {
-        return false;
+    if has_room(bytes, listing.room, entry.len()) {
+        let name = NameIn {
+            directory: listing.directory,
+            name: entry.name,
+        };
+        let told = found(seats, nodes, sessions, now, name);
+        let written = as_found(entry, &told);
+        match push_entry_plus(bytes, &told, &written) {
+            Ok(()) => return true,
+            Err(_) => unreachable!(),
+        }
     }
-    let name = NameIn {
-        directory: listing.directory,
-        name: entry.name,
-    };
-    let found = found(seats, nodes, sessions, now, name);
-    let entry = as_found(entry, &found);
-    match push_entry_plus(bytes, &found, &entry) {
-        Ok(()) => true,
-        Err(_) => unreachable!(),
-    }
+    false
 }
 
 /// Tells the entries of an open directory, as they are written. Their room is found before anything is told.

@@ -273,12 +273,7 @@ impl Mount {
     }
 
     /// What is said to a message that is no sync.
-    fn said_of<S: Sessions>(
-        &mut self,
-        sessions: &mut S,
-        now: u32,
-        message: &Message<'_>,
-    ) -> Said
+    fn said_of<S: Sessions>(&mut self, sessions: &mut S, now: u32, message: &Message<'_>) -> Said
         ensures asked { AskedFor (MayHear S.called S.entered S.left now) sessions.old result sessions.new }
         ensures told { IsSaidTo (known_of self.new.nodes) message.now.request result }
     {

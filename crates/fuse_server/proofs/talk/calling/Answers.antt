@@ -2,7 +2,10 @@ use Rattle.talks.specs.declared.ask.Ask.TheVariants as ask
 use Rattle.fuse_server.proofs.Asking.{asks}
 use Rattle.fuse_server.proofs.talk.calling.Goals as goal
 
-pub returns : goal.returns
-returns g c =
+pub returns-clause-asked : goal.returns-clause-asked
+returns-clause-asked g c =
     asks g.S.Sessions.called g.S.Sessions.entered g.S.Sessions.left c.args.now c.args.sessions.now (ask.Call c.args.session c.args.call)
     c.heard.result c.heard.new.sessions c.heard.ensures
+
+pub returns-clause-heard : goal.returns-clause-heard
+returns-clause-heard g c = c.heard.ensures
