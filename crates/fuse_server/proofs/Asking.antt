@@ -1,5 +1,5 @@
 -- What sessions are asked, one thing after another.
-use Rattle.std.proofs.Common.{◌≡◌, ℕ, List, [], ◌∷◌, ◌++◌, Result, Ok, Err, refl, subst}
+use Rattle.std.proofs.Common.{◌≡◌, ℕ, List, [], ◌∷◌, ◌++◌, Result, Err, refl, subst}
 use Rattle.std.specs.Borrow.{Bor}
 use Rattle.errno.specs.declared.Errno.TheVariants.{ENOENT}
 use Rattle.tree.specs.declared.Call.{Call}

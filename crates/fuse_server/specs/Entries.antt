@@ -4,7 +4,6 @@ use Rattle.std.specs.List.{AllByRecursion}
 use Rattle.fields.specs.Fields.{fields_bytes}
 use Rattle.fuse.specs.Replies.{entry_fields, dirent_bytes}
 use Rattle.fuse.specs.declared.entries.ReaddirEntry.{ReaddirEntry}
-use Rattle.fuse.specs.declared.reply.Attributes.{Attributes}
 use Rattle.fuse.specs.declared.reply.Entry.{Entry}
 use Rattle.fuse_nodes.specs.Known.{Known}
 

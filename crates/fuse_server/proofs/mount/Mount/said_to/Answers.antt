@@ -1,7 +1,7 @@
 use Rattle.std.proofs.Common.{sym, ◌∙◌}
 use Rattle.fuse_nodes.specs.Known.{known_of}
 use Rattle.fuse_server.proofs.KindLaws.{sync_for}
-use Rattle.fuse_server.proofs.Answering.{to_read, to_unread}
+use Rattle.fuse_server.proofs.Answering.{to_read}
 use Rattle.fuse_server.proofs.mount.Mount.said_to.Goals as goal
 
 pub returns-in-Ok-clause-told : goal.returns-in-Ok-clause-told
