@@ -64,9 +64,9 @@ def entries_of(told, found):
     """Each entry of an answer: its node, the inode of that, its own inode, the next offset, its type, and its name."""
     at = 0
     while at < len(told):
-        node, inode = struct.unpack_from("<Q", told, at)[0], struct.unpack_from("<Q", told, at + 40)[0]
+        node, inode = (struct.unpack_from("<Q", told, at + place)[0] if found else 0 for place in (0, 40))
         own, offset, size, kind = struct.unpack_from("<QQII", told, at + found)
-        yield node if found else 0, inode, own, offset, kind, told[at + found + 24:at + found + 24 + size]
+        yield node, inode, own, offset, kind, told[at + found + 24:at + found + 24 + size]
         at += found + (24 + size + 7) // 8 * 8
     same("the end of the last entry", at, len(told))
 
