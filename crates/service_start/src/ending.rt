@@ -15,7 +15,8 @@ use std::sync::Wait;
 use tree::Outcome;
 
 /// Where a session says of a call that it was cut exactly once the link to the drivers had ended, and that link is one to drivers in
-/// threads, its budget was spent then: it had received 2^40 messages, which is all that it gives. So it had wherever it has ended.
+/// threads, its budget was spent then: it had received 2^40 messages, which is all that it gives, by its own count (`cut`). What is said
+/// of the record of a link that has ended, without the link (`ended`), holds of every record: messages that left no mark may be any.
 pub fn cut_once_spent<N: ServiceParameters, R: Wait + Copy>()
     ensures cut { (v : Opening) (outcome : Outcome) (seen : List Mark)
         → (is : IsCutAtEnd ⟦<RecordingLink<N, ChannelLink<R>> as Link>⟧ ⟦<RecordingLink<N, ChannelLink<R>> as Recorder<N>>⟧.marks v outcome seen)
