@@ -32,9 +32,10 @@ const REQUESTS: usize = 32;
 /// How many orders the channel of a driver holds: so many requests, a ping and a stop.
 const ORDERS: usize = 34;
 
-/// A driver's thread, and an end of the channel of its orders.
+/// The thread of the driver of an endpoint, and an end of the channel of its orders.
 #[derive(Drop)]
 pub(crate) struct Worker {
+    endpoint: Endpoint,
     handle: JoinHandle<()>,
     orders: Sender<Order>,
 }
@@ -42,9 +43,23 @@ pub(crate) struct Worker {
 impl Worker {
     /// Tells the driver to end, and joins its thread.
     pub(crate) fn end<R: Threads + Wait>(self, rt: &R) {
-        let Worker { handle, mut orders } = self;
+        let Worker {
+            endpoint: _,
+            handle,
+            mut orders,
+        } = self;
         let _ = orders.send(rt, Order::Stop);
         handle.join(rt);
+    }
+}
+
+/// Joins the thread of a driver that has reported its exit, which is its last act: so a driver that has ended takes no memory.
+fn join_ended<R: Threads + Wait>(rt: &R, endpoint: Endpoint, workers: &mut Vec<Worker>) {
+    for at in 0..workers.len() {
+        if workers[at].endpoint == endpoint {
+            workers.swap_remove(at).end(rt);
+            return;
+        }
     }
 }
 
@@ -178,6 +193,7 @@ impl<
         let task = self.task(endpoint, taken, theirs)?;
         let handle = start_driver(rt, task, theirs_to_take).ok_or(AllocError)?;
         let worker = Worker {
+            endpoint,
             handle,
             orders: for_end,
         };
@@ -265,13 +281,16 @@ impl<
     }
 
     // One report, if there is one.
-    fn hear_one<R: Wait>(&mut self, rt: &R) -> bool {
+    fn hear_one<R: Threads + Wait>(&mut self, rt: &R, workers: &mut Vec<Worker>) -> bool {
         let Some(report) = self.lines.heard.try_receive(rt) else {
             return false;
         };
         let tick = self.last;
         let event = match report {
-            Report::Exit(endpoint) => Event::Exit(endpoint, tick),
+            Report::Exit(endpoint) => {
+                join_ended(rt, endpoint, workers);
+                Event::Exit(endpoint, tick)
+            }
             Report::Complaint(endpoint) => Event::Complaint(endpoint, tick),
         };
         self.fault(rt, event);
@@ -279,9 +298,9 @@ impl<
     }
 
     // All that was reported since the last tick.
-    fn hear<R: Wait>(&mut self, rt: &R) {
+    fn hear<R: Threads + Wait>(&mut self, rt: &R, workers: &mut Vec<Worker>) {
         for _ in rt.forever() {
-            if !self.hear_one(rt) {
+            if !self.hear_one(rt, workers) {
                 return;
             }
         }
@@ -307,7 +326,7 @@ impl<
         rt: &R,
         workers: &mut Vec<Worker>,
     ) {
-        self.hear(rt);
+        self.hear(rt, workers);
         let pulse = self.shared.board.pulse(&mut self.seat);
         let tick = self.ticks;
         self.last = tick;
@@ -337,7 +356,7 @@ impl<
         true
     }
 
-    // Lets ticks pass, as the gate does, until all is to end; then the drivers whose threads were made meanwhile are told, and joined. By
+    // Lets ticks pass, as the gate does, until all is to end; then the drivers whose threads are left are told, and joined. By
     // then it has let its ends go.
     fn run<R: Threads + Wait + Copy + Send + 'static>(mut self, rt: &R) {
         let mut workers: Vec<Worker> = Vec::new(self.alloc);
