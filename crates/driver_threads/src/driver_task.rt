@@ -1,4 +1,4 @@
-//! What a driver's thread does.
+//! What a driver's thread does, which is made before its driver is started and waits for that.
 
 ghost use Rattle.std.specs.Prelude.{◌≡◌};
 ghost use Rattle.std.specs.Arc.{arc_value};
@@ -17,10 +17,9 @@ use std::sync::{Arc, Wait};
 use std::thread;
 use std::thread::{JoinHandle, Threads};
 
-/// A driver, with the ends of channels that its thread uses, and what it shares with the others.
+/// What a driver's thread has but its driver: the ends of channels that it uses, and what it shares with the others.
 #[derive(Drop)]
-pub(crate) struct DriverTask<N: ServiceParameters, D: BlockDriver, G: Gate> {
-    driver: D,
+pub(crate) struct DriverTask<N: ServiceParameters, G: Gate> {
     orders: Receiver<Order>,
     news: NewsSender,
     reports: Sender<Report>,
@@ -34,21 +33,19 @@ pub(crate) struct DriverTask<N: ServiceParameters, D: BlockDriver, G: Gate> {
     ghost seated: { seat.table ≡ arc_value shared.board },
 }
 
-impl<N: ServiceParameters, D: BlockDriver, G: Gate> DriverTask<N, D, G> {
-    /// A driver that takes these orders, and sends by this end of the server's line.
+impl<N: ServiceParameters, G: Gate> DriverTask<N, G> {
+    /// For a driver that takes these orders, and sends by this end of the server's line.
     pub(crate) fn new(
-        driver: D,
         orders: Receiver<Order>,
         news: NewsSender,
         reports: Sender<Report>,
         pinged: Arc<AtomicBool>,
         shared: Shared<N, G>,
         seat: Seat,
-    ) -> DriverTask<N, D, G>
+    ) -> DriverTask<N, G>
         requires { seat.table ≡ arc_value shared.board }
     {
         DriverTask {
-            driver,
             orders,
             news,
             reports,
@@ -71,14 +68,19 @@ impl<N: ServiceParameters, D: BlockDriver, G: Gate> DriverTask<N, D, G> {
 
     // One step, under the lock of the media, which puts an answer into the reply; none where all is to end. It doesn't ask whether a later
     // driver was started: then the media refuse the step.
-    fn step<R: Wait>(&mut self, rt: &R, reply: &mut BlockReply) -> Option<Stepped> {
+    fn step<R: Wait, D: BlockDriver>(
+        &mut self,
+        rt: &R,
+        driver: &mut D,
+        reply: &mut BlockReply,
+    ) -> Option<Stepped> {
         let generation = self.news.endpoint().generation;
         self.shared.gate.pass(Point::DriverStep(generation));
         if self.shared.ending.is_rung() {
             return None;
         }
         let mut media = self.shared.media.lock(rt);
-        Some((&mut *media).step(&mut self.driver, generation, reply))
+        Some((&mut *media).step(driver, generation, reply))
     }
 
     // Sends an answer, stamped with the driver's endpoint. Whether the driver goes on: it ends where the server has left.
@@ -90,11 +92,16 @@ impl<N: ServiceParameters, D: BlockDriver, G: Gate> DriverTask<N, D, G> {
     }
 
     // Works on a request until it is answered. Whether the driver goes on: a failed one ends.
-    fn serve<R: Wait>(&mut self, rt: &R, exchange: Box<Exchange>) -> bool {
+    fn serve<R: Wait, D: BlockDriver>(
+        &mut self,
+        rt: &R,
+        driver: &mut D,
+        exchange: Box<Exchange>,
+    ) -> bool {
         let mut exchange = exchange;
-        let _ = self.driver.accept(exchange.request);
+        let _ = driver.accept(exchange.request);
         for _ in rt.forever() {
-            match self.step(rt, &mut exchange.reply) {
+            match self.step(rt, driver, &mut exchange.reply) {
                 Some(Stepped::Working) => self.beat(),
                 Some(Stepped::Idle) => return true,
                 Some(Stepped::Done(_)) => return self.answer(rt, exchange),
@@ -118,7 +125,7 @@ impl<N: ServiceParameters, D: BlockDriver, G: Gate> DriverTask<N, D, G> {
     }
 
     // Takes one order, and does it. Whether the driver goes on.
-    fn turn<R: Wait>(&mut self, rt: &R) -> bool {
+    fn turn<R: Wait, D: BlockDriver>(&mut self, rt: &R, driver: &mut D) -> bool {
         let order = self.order(rt);
         self.has_served = matches!(order, Some(Order::Ask(_)));
         match order {
@@ -128,32 +135,35 @@ impl<N: ServiceParameters, D: BlockDriver, G: Gate> DriverTask<N, D, G> {
                 self.beat();
                 true
             }
-            Some(Order::Ask(exchange)) => self.serve(rt, exchange),
+            Some(Order::Ask(exchange)) => self.serve(rt, driver, exchange),
         }
     }
 
-    // Takes orders to the last; then the driver is dropped.
-    fn run_to_end<R: Wait>(mut self, rt: &R) {
-        self.run(rt);
+    // Waits for its driver, and takes orders to the last; then the driver is dropped. Nothing where no driver comes any more.
+    fn run_to_end<R: Wait, D: BlockDriver>(mut self, rt: &R, drivers: Receiver<D>) {
+        let mut drivers = drivers;
+        if let Some(mut driver) = drivers.receive(rt) {
+            self.run(rt, &mut driver);
+        }
     }
 
     // Takes orders until it is told to end, nobody sends it any, the server has left or a step fails.
-    fn run<R: Wait>(&mut self, rt: &R) {
+    fn run<R: Wait, D: BlockDriver>(&mut self, rt: &R, driver: &mut D) {
         for _ in rt.forever() {
-            if !self.turn(rt) {
+            if !self.turn(rt, driver) {
                 return;
             }
         }
     }
 }
 
-/// Starts a driver's thread. None where no thread could be made: the driver is dropped then.
+/// Makes a driver's thread, which takes its driver from this channel. None where no thread could be made.
 pub(crate) fn start_driver<
     N: ServiceParameters + Send + Sync + 'static,
     D: BlockDriver + 'static,
     G: Gate + 'static,
     R: Threads + Wait + Copy + Send + 'static,
->(rt: &R, task: DriverTask<N, D, G>) -> Option<JoinHandle<()>> {
+>(rt: &R, task: DriverTask<N, G>, drivers: Receiver<D>) -> Option<JoinHandle<()>> {
     let mine = *rt;
-    thread::spawn(rt, move || task.run_to_end(&mine)).ok()
+    thread::spawn(rt, move || task.run_to_end(&mine, drivers)).ok()
 }

@@ -8,7 +8,7 @@ ghost use Rattle.shared_media.specs.Confined.{IsImageOutside, KeepsOutside};
 ghost use Rattle.shared_media.specs.Marking.{AreChangesOutside};
 
 use crate::shared::Shared;
-use crate::supervisor::{Lines, Supervisor, start_supervisor};
+use crate::supervisor::{Lines, Supervisor, Worker, start_supervisor};
 use bdev::BlockDriver;
 use board::counting::parameters::ServiceParameters;
 use board::{Board, Seat};
@@ -30,6 +30,12 @@ use std::thread::{JoinHandle, Threads};
 
 /// How many messages the lines of the server and of the reincarnation server hold (own).
 const LINE: usize = 64;
+
+/// The endpoint of the driver that is started first.
+const FIRST: Endpoint = Endpoint {
+    slot: DISK_DRIVER,
+    generation: 1,
+};
 
 /// The media that drivers share, as a thread has them that takes their changes while the drivers run. The media are given back, when the
 /// threads are stopped, once each of these was let go.
@@ -64,10 +70,11 @@ impl<N: ServiceParameters> MediaHandle<N> {
     }
 }
 
-/// The thread of the reincarnation server, which has those of the drivers, and the media that they share. Where it is let go and not
-/// stopped, all its threads are told to end, and end by themselves.
+/// The thread of the first driver, that of the reincarnation server, which has those of the other drivers, and the media that they share.
+/// Where it is let go and not stopped, all its threads are told to end, and end by themselves.
 pub struct Running<N: ServiceParameters> {
     supervisor: JoinHandle<()>,
+    first: Worker,
     media: MediaHandle<N>,
     ending: Arc<Bell>,
 }
@@ -76,6 +83,7 @@ impl<N: ServiceParameters> Drop for Running<N> {
     fn drop(self) {
         let Self {
             supervisor: _,
+            first: _,
             media: _,
             ending,
         } = self;
@@ -111,7 +119,8 @@ fn open_lines<R: Threads + Wait + Copy>(
 }
 
 /// Starts the reincarnation server on these media, and makes the link to the drivers that it will start, which write in this range of the
-/// media alone: a first sector, and how many there are. Where no memory or no thread was found, all is let go.
+/// media alone: a first sector, and how many there are. The first driver's thread is made too, and waits for its driver. Where no memory or
+/// no thread was found, all is let go. (Where none is found for a later driver, that is a fault of it, by the policy.)
 ///
 /// The seat is one of the board's without a number. No driver is started before the gate lets the first tick pass.
 pub fn start_drivers<
@@ -142,12 +151,14 @@ pub fn start_drivers<
     };
     let ending = Arc::try_clone(&shared.ending)?;
     let (link, lines) = open_lines(alloc, rt)?;
-    let supervisor = Supervisor::new(alloc, reincarnation, lines, shared, seat);
+    let mut supervisor = Supervisor::new(alloc, reincarnation, lines, shared, seat);
+    let first = supervisor.make_ready(&rt, FIRST)?;
     let supervisor = start_supervisor(&rt, supervisor).ok_or(AllocError)?;
     Ok((
         link,
         Running {
             supervisor,
+            first,
             media,
             ending,
         },
@@ -174,16 +185,18 @@ impl<N: ServiceParameters> Running<N> {
     /// each as it was handed in. The link has to be let go of before, since else a driver may wait for room in it.
     ///
     /// None where a `MediaHandle` is left.
-    pub fn stop<R: Threads>(self, rt: &R) -> Option<Media>
+    pub fn stop<R: Threads + Wait>(self, rt: &R) -> Option<Media>
         ensures { IfSome result (KeepsOutside N.opening) }
     {
         let Running {
             supervisor,
+            first,
             media,
             ending,
         } = self;
         ending.ring();
         supervisor.join(rt);
+        first.end(rt);
         let MediaHandle { media } = media;
         match Arc::try_unwrap(media) {
             Ok(media) => Some(media.into_inner().into_media()),

@@ -32,11 +32,35 @@ const REQUESTS: usize = 32;
 /// How many orders the channel of a driver holds: so many requests, a ping and a stop.
 const ORDERS: usize = 34;
 
-/// A driver's thread, and an end of the channel of its orders.
+/// The thread of the driver of an endpoint, and an end of the channel of its orders.
 #[derive(Drop)]
-struct Worker {
+pub(crate) struct Worker {
+    endpoint: Endpoint,
     handle: JoinHandle<()>,
     orders: Sender<Order>,
+}
+
+impl Worker {
+    /// Tells the driver to end, and joins its thread.
+    pub(crate) fn end<R: Threads + Wait>(self, rt: &R) {
+        let Worker {
+            endpoint: _,
+            handle,
+            mut orders,
+        } = self;
+        let _ = orders.send(rt, Order::Stop);
+        handle.join(rt);
+    }
+}
+
+/// Joins the thread of a driver that has reported its exit, which is its last act: so a driver that has ended takes no memory.
+fn join_ended<R: Threads + Wait>(rt: &R, endpoint: Endpoint, workers: &mut Vec<Worker>) {
+    for at in 0..workers.len() {
+        if workers[at].endpoint == endpoint {
+            workers.swap_remove(at).end(rt);
+            return;
+        }
+    }
 }
 
 // The driver that was started last: an end of the channel of its orders, and whether a ping is on its way to it.
@@ -46,10 +70,11 @@ struct Pinging {
     pinged: Arc<AtomicBool>,
 }
 
-// What the start of a driver's thread gives: the thread, the line for the server's link and an end for pings.
+// A thread that waits for the driver of an endpoint: how the driver comes to it, the line for the server's link and an end for pings.
 #[derive(Drop)]
-struct Spawned {
-    worker: Worker,
+struct Ready<D: BlockDriver> {
+    endpoint: Endpoint,
+    drivers: Sender<D>,
     orders: OrderLine,
     pinging: Pinging,
 }
@@ -101,6 +126,8 @@ pub(crate) struct Supervisor<N: ServiceParameters, D: BlockDriver, G: Gate> {
     ticks: u64,
     last: u64,
     running: Option<Pinging>,
+    // The thread that waits for its driver, if one does.
+    ready: Option<Ready<D>>,
     ghost seated: { seat.table ≡ arc_value shared.board },
     ghost low: { ticks < 2 ^ 48 },
     ghost passed: { last ≤ ticks },
@@ -130,31 +157,30 @@ impl<
             ticks: 0,
             last: 0,
             running: None,
+            ready: None,
         }
     }
 
-    // What a driver's thread works with. Refused where no memory was found: the driver is dropped then.
+    // What a driver's thread works with. Refused where no memory was found.
     fn task(
         &mut self,
         endpoint: Endpoint,
-        driver: D,
         orders: Receiver<Order>,
         pinged: Arc<AtomicBool>,
-    ) -> Result<DriverTask<N, D, G>, AllocError> {
+    ) -> Result<DriverTask<N, G>, AllocError> {
         let news = self.lines.news.another(endpoint)?;
         let reports = self.lines.report_end.another()?;
         let shared = self.shared.another()?;
         let seat = self.shared.board.split(&mut self.seat, None)?;
-        Ok(DriverTask::new(driver, orders, news, reports, pinged, shared, seat))
+        Ok(DriverTask::new(orders, news, reports, pinged, shared, seat))
     }
 
-    // A thread for a driver, with all that it needs. Refused where no memory or no thread was found: the driver is dropped then.
+    // A thread for the driver of this endpoint, with all that it needs. Refused where no memory or no thread was found.
     fn spawn<R: Threads + Wait + Copy + Send + 'static>(
         &mut self,
         rt: &R,
         endpoint: Endpoint,
-        driver: D,
-    ) -> Result<Spawned, AllocError> {
+    ) -> Result<(Worker, Ready<D>), AllocError> {
         let pinged = Arc::new(self.alloc, AtomicBool::new(false))?;
         let theirs = Arc::try_clone(&pinged)?;
         let OrderEnds {
@@ -163,19 +189,69 @@ impl<
             for_end,
             orders,
         } = OrderEnds::new(self.alloc)?;
-        let task = self.task(endpoint, driver, taken, theirs)?;
-        let handle = start_driver(rt, task).ok_or(AllocError)?;
-        Ok(Spawned {
-            worker: Worker {
-                handle,
-                orders: for_end,
+        let (drivers, theirs_to_take) = bounded::<D>(self.alloc, 1)?;
+        let task = self.task(endpoint, taken, theirs)?;
+        let handle = start_driver(rt, task, theirs_to_take).ok_or(AllocError)?;
+        let worker = Worker {
+            endpoint,
+            handle,
+            orders: for_end,
+        };
+        Ok((
+            worker,
+            Ready {
+                endpoint,
+                drivers,
+                orders,
+                pinging: Pinging {
+                    orders: for_pings,
+                    pinged,
+                },
             },
+        ))
+    }
+
+    /// Makes the thread for the driver of this endpoint, which waits for it. Refused where no memory or no thread was found.
+    pub(crate) fn make_ready<R: Threads + Wait + Copy + Send + 'static>(
+        &mut self,
+        rt: &R,
+        endpoint: Endpoint,
+    ) -> Result<Worker, AllocError> {
+        let (worker, ready) = self.spawn(rt, endpoint)?;
+        self.ready = Some(ready);
+        Ok(worker)
+    }
+
+    // Hands a driver to its thread, which is made where none waits for this endpoint, and tells the server. Refused where no memory or no
+    // thread was found: the driver is dropped then.
+    fn hand_over<R: Threads + Wait + Copy + Send + 'static>(
+        &mut self,
+        rt: &R,
+        endpoint: Endpoint,
+        driver: D,
+        workers: &mut Vec<Worker>,
+    ) -> Result<(), AllocError> {
+        if !self.is_ready(endpoint) {
+            workers.reserve(1)?;
+            let worker = self.make_ready(rt, endpoint)?;
+            workers.push_reserved(worker);
+        }
+        let ready = self.ready.take().ok_or(AllocError)?;
+        let Ready {
+            endpoint: _,
+            mut drivers,
             orders,
-            pinging: Pinging {
-                orders: for_pings,
-                pinged,
-            },
-        })
+            pinging,
+        } = ready;
+        let _ = drivers.send(rt, driver);
+        self.running = Some(pinging);
+        let _ = self.lines.news.started(rt, endpoint, orders);
+        Ok(())
+    }
+
+    // Whether a thread waits for the driver of this endpoint.
+    fn is_ready(&self, endpoint: Endpoint) -> bool {
+        matches!(&self.ready, Some(ready) if ready.endpoint == endpoint)
     }
 
     // Starts a driver: its generation is adopted first, then the server is told. Where no thread is made, that is an exit of the driver.
@@ -190,15 +266,9 @@ impl<
         self.shared
             .board
             .started(&mut self.seat, endpoint.generation);
-        if workers.reserve(1).is_ok() {
-            if let Ok(spawned) = self.spawn(rt, endpoint, driver) {
-                workers.push_reserved(spawned.worker);
-                self.running = Some(spawned.pinging);
-                let _ = self.lines.news.started(rt, endpoint, spawned.orders);
-                return;
-            }
+        if self.hand_over(rt, endpoint, driver, workers).is_err() {
+            self.fault(rt, Event::Exit(endpoint, self.last));
         }
-        self.fault(rt, Event::Exit(endpoint, self.last));
     }
 
     // An exit or a complaint, at which no driver is started.
@@ -211,13 +281,16 @@ impl<
     }
 
     // One report, if there is one.
-    fn hear_one<R: Wait>(&mut self, rt: &R) -> bool {
+    fn hear_one<R: Threads + Wait>(&mut self, rt: &R, workers: &mut Vec<Worker>) -> bool {
         let Some(report) = self.lines.heard.try_receive(rt) else {
             return false;
         };
         let tick = self.last;
         let event = match report {
-            Report::Exit(endpoint) => Event::Exit(endpoint, tick),
+            Report::Exit(endpoint) => {
+                join_ended(rt, endpoint, workers);
+                Event::Exit(endpoint, tick)
+            }
             Report::Complaint(endpoint) => Event::Complaint(endpoint, tick),
         };
         self.fault(rt, event);
@@ -225,9 +298,9 @@ impl<
     }
 
     // All that was reported since the last tick.
-    fn hear<R: Wait>(&mut self, rt: &R) {
+    fn hear<R: Threads + Wait>(&mut self, rt: &R, workers: &mut Vec<Worker>) {
         for _ in rt.forever() {
-            if !self.hear_one(rt) {
+            if !self.hear_one(rt, workers) {
                 return;
             }
         }
@@ -253,7 +326,7 @@ impl<
         rt: &R,
         workers: &mut Vec<Worker>,
     ) {
-        self.hear(rt);
+        self.hear(rt, workers);
         let pulse = self.shared.board.pulse(&mut self.seat);
         let tick = self.ticks;
         self.last = tick;
@@ -283,7 +356,8 @@ impl<
         true
     }
 
-    // Lets ticks pass, as the gate does, until all is to end; then all drivers are told, and joined. By then it has let its ends go.
+    // Lets ticks pass, as the gate does, until all is to end; then the drivers whose threads are left are told, and joined. By
+    // then it has let its ends go.
     fn run<R: Threads + Wait + Copy + Send + 'static>(mut self, rt: &R) {
         let mut workers: Vec<Worker> = Vec::new(self.alloc);
         for _ in rt.forever() {
@@ -293,16 +367,9 @@ impl<
         }
         drop(self);
         for worker in workers {
-            join(rt, worker);
+            worker.end(rt);
         }
     }
-}
-
-// Tells a driver to end, and joins its thread.
-fn join<R: Threads + Wait>(rt: &R, worker: Worker) {
-    let Worker { handle, mut orders } = worker;
-    let _ = orders.send(rt, Order::Stop);
-    handle.join(rt);
 }
 
 /// Starts the thread of the reincarnation server. None where no thread could be made: all its drivers are dropped then.

@@ -116,7 +116,7 @@ fn start_and_do<
 /// tenth of a second. The drivers, what starts them and what writes back changed blocks run in threads of their own.
 ///
 /// It is refused as [`ServeRefusal`] says, and then no image comes. That the last sync was cut, or a session was refused as `Stopped`, is
-/// told only once the drivers' threads had sent 2^40 messages.
+/// told only once the link to the drivers had ended (`do_all`); here no link is named any more.
 pub fn serve<R: Threads + Wait + Copy + Send + Sync + 'static, D: BlockDriver + 'static, T: Task>(
     alloc: Global,
     rt: R,

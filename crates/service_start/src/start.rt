@@ -188,8 +188,8 @@ fn start_and_run<
 /// does. The first driver is started at the gate's first tick.
 ///
 /// It is refused as `prepare` is, which is looked at first; `Mount` as a mount is, by the volume as the drivers give it, or since the
-/// device was given up or the link to the drivers ended before all of it was read; and `OutOfMemory`, also where a thread is refused. Then
-/// nothing runs, and the image's bytes are let go.
+/// device was given up or the link to the drivers ended before all of it was read; and `OutOfMemory`, also where a thread is refused, but
+/// that of a later driver, which is a fault of the driver. Then nothing runs, and the image's bytes are let go.
 pub fn serve<
     R: Threads + Wait + Copy + Send + Sync + 'static,
     D: BlockDriver + 'static,

@@ -81,7 +81,7 @@ pub(crate) fn filled_up(alloc: Global, drivers: Vec<Driver>) -> Result<Vec<Drive
 }
 
 // The threads are stopped, or let go; the media's bytes after a stop.
-fn ended<N: ServiceParameters, R: Threads + Copy>(
+fn ended<N: ServiceParameters, R: Threads + Wait + Copy>(
     alloc: Global,
     rt: R,
     running: Running<N>,

@@ -75,25 +75,32 @@ user 0 0
 /// What a start came to: what calls came to in the service, or its refusal.
 type Started = Result<Option<Vec<Outcome>>, StartRefusal>;
 
-/// How long a tick is, in milliseconds.
-const PACE: u64 = 5;
+/// A trial.
+#[derive(Clone, Copy)]
+struct Trial {
+    number: u16,
+    /// How many drivers there are but the first.
+    spares: u8,
+    /// How long a tick is, in milliseconds.
+    pace: u64,
+}
 
-/// Starts a service on an image, of which there is a copy, over six drivers and a gate that were made before the order: which of its
-/// requests is refused, or 0 for none.
+/// Starts a service on an image, of which there is a copy, over drivers and a gate that were made before the order: which of its requests
+/// is refused, or 0 for none.
 fn started<R: Threads + Wait + Clock + Copy + Send + Sync + 'static>(
     alloc: Global,
     rt: R,
     image: &[u8],
     calls: &[TimedCall<'_>],
-    number: u16,
+    trial: Trial,
     request: u32,
 ) -> Result<(Started, bool), AllocError> {
-    let supply = drivers_for(alloc, 5, false, table_in(image))?;
-    let gate = Arc::new(alloc, Ticking::new(rt, PACE))?;
+    let supply = drivers_for(alloc, trial.spares, false, table_in(image))?;
+    let gate = Arc::new(alloc, Ticking::new(rt, trial.pace))?;
     let image = Vec::from_slice(alloc, image)?;
     let setup = patient();
     if request > 0 {
-        refuse(alloc, number, request);
+        refuse(alloc, trial.number, request);
     }
     let came = serve(
         alloc,
@@ -122,13 +129,13 @@ fn is_last_start<R: Threads + Wait + Clock + Copy + Send + Sync + 'static>(
     rt: R,
     image: &[u8],
     calls: &[TimedCall<'_>],
-    number: u16,
+    trial: Trial,
     request: u32,
     undisturbed: &Started,
 ) -> Result<bool, Fail> {
-    let (came, refused) = started(alloc, rt, image, calls, number, request)?;
+    let (came, refused) = started(alloc, rt, image, calls, trial, request)?;
     is_last(
-        number,
+        trial.number,
         request,
         refused,
         is_started(&came, undisturbed, refused),
@@ -141,14 +148,14 @@ fn starts_each_refused<R: Threads + Wait + Clock + Copy + Send + Sync + 'static>
     rt: R,
     image: &[u8],
     calls: &[TimedCall<'_>],
-    number: u16,
+    trial: Trial,
 ) -> Result<(), Fail> {
-    let (undisturbed, _) = started(alloc, rt, image, calls, number, 0)?;
+    let (undisturbed, _) = started(alloc, rt, image, calls, trial, 0)?;
     if !matches!(&undisturbed, Ok(Some(_))) {
         return Err(Fail::from("not started"));
     }
     for request in 1..=MOST {
-        if is_last_start(alloc, rt, image, calls, number, request, &undisturbed)? {
+        if is_last_start(alloc, rt, image, calls, trial, request, &undisturbed)? {
             return Ok(());
         }
     }
@@ -159,16 +166,32 @@ fn starts_each_refused<R: Threads + Wait + Clock + Copy + Send + Sync + 'static>
 fn start_each_refused<R: Threads + Wait + Clock + Copy + Send + Sync + 'static>(
     alloc: Global,
     rt: R,
-    number: u16,
+    trial: Trial,
     script: &str,
 ) -> Result<(), Fail> {
     let image = new_volume(alloc, 1024)?;
     let script = read_script(alloc, script.as_bytes())?;
     let calls = script.calls(alloc)?;
-    starts_each_refused(alloc, rt, &image, calls.as_slice(), number)
+    starts_each_refused(alloc, rt, &image, calls.as_slice(), trial)
 }
 
 #[test]
 fn starts_of_a_service(rt: HostRuntime) -> Result<(), Fail> {
-    start_each_refused(rt.alloc(), rt, 24, SCRIPT)
+    let trial = Trial {
+        number: 24,
+        spares: 5,
+        pace: 5,
+    };
+    start_each_refused(rt.alloc(), rt, trial, SCRIPT)
+}
+
+/// Where no memory is found for the first driver's thread that is the start's refusal, and no fault of the driver, in whose place none comes.
+#[test]
+fn starts_over_one_driver(rt: HostRuntime) -> Result<(), Fail> {
+    let trial = Trial {
+        number: 27,
+        spares: 0,
+        pace: 50,
+    };
+    start_each_refused(rt.alloc(), rt, trial, SCRIPT)
 }

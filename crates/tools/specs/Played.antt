@@ -41,7 +41,7 @@ abbrev pub gave_up : List Played → LastSync → Bool
 gave_up played last = list_any has_eio played || is_given_up last
 
 -- The files' scripts were played on the volume in the image, for which a service starts, each in a session of its own; then the service was
--- stopped, which left this image. A call was cut only once the link to the drivers had received 2^40 messages, and so the last sync.
+-- stopped, which left this image. (What is said of cuts, `IsSpent`, holds of every record.)
 pub record IsPlayed (image : ImageFile) (scripts : List File) (setup : Setup) (supply : List DriverState) (played : List Played) (gave : Bool)
     (left : List ℕ) : Type 0 where
   pub bytes : Vec ℕ

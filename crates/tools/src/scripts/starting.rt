@@ -114,7 +114,7 @@ fn start_and_play<
 /// its own, and stops the service.
 ///
 /// The service is refused as `service_start::start::serve` refuses it, and then nothing is played; of a service that started no image may
-/// come. A call is told as cut, or the last sync, only once the link to the drivers had received 2^40 messages.
+/// come. A call is told as cut, or the last sync, only once the link to the drivers had ended (`play_on`); here no link is named any more.
 pub fn play_scripts<
     R: Threads + Wait + Copy + Send + Sync + 'static,
     D: BlockDriver + 'static,
