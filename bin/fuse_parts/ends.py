@@ -132,6 +132,24 @@ def in_front(trial):
         volume.umount()
 
 
+@end("small")
+def small(trial):
+    """Drivers that have ended take no memory: forty deaths later the program has hardly more addresses, where a thread has 8 MiB."""
+    with Volume(trial, "small") as volume:
+        volume.mount("--kill-every", "150")
+        sizes = []
+        for deaths in (10, 50):
+            until = time.monotonic() + 120
+            while volume.deaths()[0] < deaths and time.monotonic() < until:
+                (volume.folder / "file").write_bytes(os.urandom(8192))
+                os.sync()
+            holds(f"{deaths} drivers died", volume.deaths()[0] >= deaths)
+            status = open(f"/proc/{volume.process()}/status").read()
+            sizes.append(int(status.split("VmSize:")[1].split()[0]))
+        holds(f"it has {sizes[0]} KiB, and then {sizes[1]}", sizes[1] - sizes[0] < 65536)
+        volume.umount()
+
+
 @end("full")
 def full(trial):
     """A full volume refuses with ENOSPC what finds no room, keeps all else, and has its room back behind a removal."""
