@@ -134,7 +134,8 @@ def in_front(trial):
 
 @end("small")
 def small(trial):
-    """Drivers that have ended take no memory: forty deaths later the program has hardly more addresses, where a thread has 8 MiB."""
+    """Drivers that have ended take no memory: forty deaths later the program has no forty threads' addresses more, of 8 MiB each (but those
+    that the C library keeps for a thread that comes, 64 MiB at a time)."""
     with Volume(trial, "small") as volume:
         volume.mount("--kill-every", "150")
         sizes = []
@@ -146,7 +147,7 @@ def small(trial):
             holds(f"{deaths} drivers died", volume.deaths()[0] >= deaths)
             status = open(f"/proc/{volume.process()}/status").read()
             sizes.append(int(status.split("VmSize:")[1].split()[0]))
-        holds(f"it has {sizes[0]} KiB, and then {sizes[1]}", sizes[1] - sizes[0] < 65536)
+        holds(f"it has {sizes[0]} KiB, and then {sizes[1]}", sizes[1] - sizes[0] < 204800)
         volume.umount()
 
 
