@@ -1,5 +1,5 @@
 """What people do on a volume for a long time; each work has a folder of its own there, and may be done again and again."""
-import random, shutil, sqlite3
+import random, shutil, sqlite3, time
 from fuse_parts.programs import fio, git_ran, tar
 from fuse_parts.rows import Wrong, need, ran, same
 from fuse_parts.source import source_in
@@ -50,6 +50,7 @@ class Works:
         clone = at / "clone"
         ran("git", "clone", "-q", "--no-local", self.repository, clone)
         for commit in self.draw.sample(range(COMMITS), 3):
+            time.sleep(1.1)  # times are of whole seconds: make takes a file for built that was changed in the second in which it was built
             git_ran(clone, "checkout", "-q", f"c{commit}")
             ran("make", "-s", "-C", clone, "-j2")
             same("what the program prints", ran(clone / "program"), f"{sum(value(commit, it) for it in range(FILES))}\n")
