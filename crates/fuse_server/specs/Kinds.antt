@@ -68,8 +68,8 @@ abbrev pub IsCount : ℕ → FuseAnswer → Type 0
 IsCount most (answer_of.Write count) = count ≤ most
 IsCount most a = IsTrue (is_refusal a)
 
--- Which answer a request has, by what is known behind it, unless it is a sync that was done or a name that leads to nothing. A READ and a READDIR tell no more bytes than
--- were asked for, and a WRITE no more than were given.
+-- Which answer a request has, by what is known behind it, unless it is a sync that was done or a name that leads to nothing. A READ and a
+-- READDIR tell no more bytes than were asked for, and a WRITE no more than were given.
 abbrev pub IsFor : Known → Request → FuseAnswer → Type 0
 IsFor k (request.Lookup name) a = IsEntry k a
 IsFor k (request.Getattr flags handle) a = IsTrue (is_attributes a)

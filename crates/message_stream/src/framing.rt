@@ -69,7 +69,7 @@ impl Message {
 
     /// Its bytes.
     pub fn as_slice(&self) -> &[u8]
-        ensures { result.now ≡ self.now }
+        ensures value { result.now ≡ self.now }
     {
         &self.buffer[..self.len]
     }

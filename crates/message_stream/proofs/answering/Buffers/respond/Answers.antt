@@ -11,7 +11,7 @@ returns-in-Ok-clause-answered g c =
     (subst (λ (o : List ℕ). R c.args.self.now.message o (c.args.sessions.now, c.args.answerer.now)
     (c.answer.new.sessions, c.answer.new.self)) (sym c.as_slice.ensures.value)
     (subst (λ (m : List ℕ). R m c.answer.new.out.items (c.args.sessions.now, c.args.answerer.now)
-    (c.answer.new.sessions, c.answer.new.self)) c.as_slice-bytes.ensures c.in-Ok.ensures.ok))
+    (c.answer.new.sessions, c.answer.new.self)) c.as_slice-bytes.ensures.value c.in-Ok.ensures.ok))
 
 pub returns-in-Ok-clause-refused : goal.returns-in-Ok-clause-refused
 returns-in-Ok-clause-refused g c =
@@ -21,7 +21,7 @@ returns-in-Ok-clause-refused g c =
     (subst (λ (o : List ℕ). R c.args.self.now.message o (c.args.sessions.now, c.args.answerer.now)
     (c.answer.new.sessions, c.answer.new.self)) (sym c.as_slice.ensures.value)
     (subst (λ (m : List ℕ). R m c.answer.new.out.items (c.args.sessions.now, c.args.answerer.now)
-    (c.answer.new.sessions, c.answer.new.self)) c.as_slice-bytes.ensures c.in-Ok.ensures.ok))
+    (c.answer.new.sessions, c.answer.new.self)) c.as_slice-bytes.ensures.value c.in-Ok.ensures.ok))
 
 pub returns-in-Err-clause-refused : goal.returns-in-Err-clause-refused
 returns-in-Err-clause-refused g c =
