@@ -8,7 +8,7 @@ use Rattle.tree.specs.Sums.{sum_below, some_below, least_below}
 use Rattle.tree.specs.Tree.{Tree}
 use Rattle.tree.specs.Answers.{refused, some_bytes, wrote, position, node_is, names_are, room_is}
 use Rattle.tree.specs.Effects.{tree_after_call}
-use Rattle.tests_definitions.proofs.SmallTrees.{small, tight, start, user0, at, path, flags, after, house, desk, Rows}
+use Rattle.tests_definitions.proofs.SmallTrees.{bytes, text, small, tight, start, user0, at, path, flags, after, house, desk, Rows}
 
 -- 14 zones are used: the 13 of the entries, and the file's page
 room : Rows small desk ((user0, Statfs, room_is (record { block_size = 64; zones = 58; free_zones = 44; inodes = 8; free_inodes = 2 })) ∷ [])
@@ -42,22 +42,22 @@ unfolding desk sum_below some_below least_below
 after_read = refl
 
 writes : Rows small desk (
-    (user0, Write 1 (path "BC"), wrote 2)
-    ∷ (user0, Write 3 (path "B"), wrote 1)
-    ∷ (user0, Write 1 (at []), wrote 0)
-    ∷ (user0, Write 2 (path "B"), refused EBADF)
-    ∷ (user0, Write 0 (path "B"), refused EBADF)
-    ∷ (user0, Write 4 (path "B"), refused EBADF)
-    ∷ (user0, Write 4 (at []), refused EBADF)
+    (user0, Write 1 (text "BC"), wrote 2)
+    ∷ (user0, Write 3 (text "B"), wrote 1)
+    ∷ (user0, Write 1 (bytes []), wrote 0)
+    ∷ (user0, Write 2 (text "B"), refused EBADF)
+    ∷ (user0, Write 0 (text "B"), refused EBADF)
+    ∷ (user0, Write 4 (text "B"), refused EBADF)
+    ∷ (user0, Write 4 (bytes []), refused EBADF)
     ∷ [])
 unfolding desk sum_below some_below least_below
 writes = refl
 
 -- over 65536 bytes; such a write never fits here either
 long_writes : Rows small desk (
-    (user0, Write 1 (at (replicate 65537 0)), refused EINVAL)
-    ∷ (user0, Write 1 (at (replicate 65536 0)), refused ENOSPC)
-    ∷ (user0, Write 2 (at (replicate 65537 0)), refused EBADF)
+    (user0, Write 1 (bytes (replicate 65537 0)), refused EINVAL)
+    ∷ (user0, Write 1 (bytes (replicate 65536 0)), refused ENOSPC)
+    ∷ (user0, Write 2 (bytes (replicate 65537 0)), refused EBADF)
     ∷ [])
 unfolding desk sum_below some_below least_below
 long_writes = refl
@@ -67,17 +67,17 @@ unfoldable far_out : Tree
 far_out = after desk (Seek 1 Set (pos 2147483647) ∷ Seek 2 Set (pos 2147483647) ∷ [])
 
 far_writes : Rows small far_out (
-    (user0, Write 1 (path "B"), refused EFBIG)
-    ∷ (user0, Write 1 (at []), wrote 0)
-    ∷ (user0, Write 1 (at (replicate 65537 0)), refused EINVAL)
-    ∷ (user0, Write 2 (path "B"), refused EBADF)
+    (user0, Write 1 (text "B"), refused EFBIG)
+    ∷ (user0, Write 1 (bytes []), wrote 0)
+    ∷ (user0, Write 1 (bytes (replicate 65537 0)), refused EINVAL)
+    ∷ (user0, Write 2 (text "B"), refused EBADF)
     ∷ (user0, Read 2 9, some_bytes [])
     ∷ [])
 unfolding far_out desk sum_below some_below least_below
 far_writes = refl
 
 -- with an append flag the position doesn't matter
-appends : Rows small (after far_out (Seek 3 Set (pos 2147483647) ∷ [])) ((user0, Write 3 (path "B"), wrote 1) ∷ [])
+appends : Rows small (after far_out (Seek 3 Set (pos 2147483647) ∷ [])) ((user0, Write 3 (text "B"), wrote 1) ∷ [])
 unfolding far_out desk sum_below some_below least_below
 appends = refl
 
@@ -86,29 +86,29 @@ unfoldable filled : Tree
 filled = after house (Open (path "/f") (flags 3) 0 ∷ Truncate (path "/f") 1000 ∷ Open (path "/f") (flags 1) 0 ∷ [])
 
 tight_writes : Rows tight filled (
-    (user0, Write 0 (path "B"), refused ENOSPC)
-    ∷ (user0, Write 0 (at []), wrote 0)
-    ∷ (user0, Write 1 (path "B"), refused EBADF)
-    ∷ (user0, Write 0 (at (replicate 65537 0)), refused EINVAL)
+    (user0, Write 0 (text "B"), refused ENOSPC)
+    ∷ (user0, Write 0 (bytes []), wrote 0)
+    ∷ (user0, Write 1 (text "B"), refused EBADF)
+    ∷ (user0, Write 0 (bytes (replicate 65537 0)), refused EINVAL)
     ∷ [])
 unfolding filled house sum_below some_below least_below
 tight_writes = refl
 
-tight_far : Rows tight (after filled (Seek 0 Set (pos 2147483647) ∷ [])) ((user0, Write 0 (path "B"), refused EFBIG) ∷ [])
+tight_far : Rows tight (after filled (Seek 0 Set (pos 2147483647) ∷ [])) ((user0, Write 0 (text "B"), refused EFBIG) ∷ [])
 unfolding filled house sum_below some_below least_below
 tight_far = refl
 
 -- 14 zones suffice for one page of /f, and its bytes may change then
-fitting_writes : Rows (record tight { zones = 20 }) filled ((user0, Write 0 (path "B"), wrote 1) ∷ (user0, Write 0 (at (replicate 65 1)), refused ENOSPC) ∷ [])
+fitting_writes : Rows (record tight { zones = 20 }) filled ((user0, Write 0 (text "B"), wrote 1) ∷ (user0, Write 0 (bytes (replicate 65 1)), refused ENOSPC) ∷ [])
 unfolding filled house sum_below some_below least_below
 fitting_writes = refl
 
-kept_page : Rows (record tight { zones = 20 }) desk ((user0, Write 1 (at (replicate 63 1)), wrote 63) ∷ (user0, Write 1 (at (replicate 64 1)), refused ENOSPC) ∷ [])
+kept_page : Rows (record tight { zones = 20 }) desk ((user0, Write 1 (bytes (replicate 63 1)), wrote 63) ∷ (user0, Write 1 (bytes (replicate 64 1)), refused ENOSPC) ∷ [])
 unfolding desk sum_below some_below least_below
 kept_page = refl
 
 -- what a write leaves, at 200: size, times, its own position; a refused one leaves all
-after_write : Rows small (tree_after_call small desk user0 200 (Write 1 (path "BC"))) (
+after_write : Rows small (tree_after_call small desk user0 200 (Write 1 (text "BC"))) (
     (user0, Fstat 1, node_is (record { inode = 5; mode = 33188; links = 1; uid = 0; gid = 0; size = 3; atime = 100; mtime = 200; ctime = 200 }))
     ∷ (user0, Seek 1 Cur (pos 0), position 3)
     ∷ (user0, Seek 2 Cur (pos 0), position 0)
@@ -117,21 +117,21 @@ after_write : Rows small (tree_after_call small desk user0 200 (Write 1 (path "B
 unfolding desk sum_below some_below least_below
 after_write = refl
 
-after_append : Rows small (tree_after_call small desk user0 200 (Write 3 (path "BC"))) (
+after_append : Rows small (tree_after_call small desk user0 200 (Write 3 (text "BC"))) (
     (user0, Seek 3 Cur (pos 0), position 3)
     ∷ (user0, Read 2 9, some_bytes (codes "ABC"))
     ∷ [])
 unfolding desk sum_below some_below least_below
 after_append = refl
 
-after_no_bytes : Rows small (tree_after_call small desk user0 200 (Write 3 (at []))) (
+after_no_bytes : Rows small (tree_after_call small desk user0 200 (Write 3 (bytes []))) (
     (user0, Fstat 3, node_is (record { inode = 5; mode = 33188; links = 1; uid = 0; gid = 0; size = 1; atime = 100; mtime = 100; ctime = 100 }))
     ∷ (user0, Seek 3 Cur (pos 0), position 0)
     ∷ [])
 unfolding desk sum_below some_below least_below
 after_no_bytes = refl
 
-after_refused : Rows small (tree_after_call small desk user0 200 (Write 1 (at (replicate 3500 1)))) (
+after_refused : Rows small (tree_after_call small desk user0 200 (Write 1 (bytes (replicate 3500 1)))) (
     (user0, Fstat 1, node_is (record { inode = 5; mode = 33188; links = 1; uid = 0; gid = 0; size = 1; atime = 100; mtime = 100; ctime = 100 }))
     ∷ (user0, Seek 1 Cur (pos 0), position 1)
     ∷ [])
@@ -139,12 +139,12 @@ unfolding desk sum_below some_below least_below
 after_refused = refl
 
 -- a write past the end leaves a hole that reads as zeros
-hole : Rows small (after desk (Seek 1 End (pos 2) ∷ Write 1 (path "B") ∷ [])) ((user0, Read 2 9, some_bytes (65 ∷ 0 ∷ 0 ∷ 66 ∷ [])) ∷ [])
+hole : Rows small (after desk (Seek 1 End (pos 2) ∷ Write 1 (text "B") ∷ [])) ((user0, Read 2 9, some_bytes (65 ∷ 0 ∷ 0 ∷ 66 ∷ [])) ∷ [])
 unfolding desk sum_below some_below least_below
 hole = refl
 
 -- Page 4096 lies in the triple range: it takes itself and three indirect blocks.
-far_page : Rows small (after desk (Seek 1 Set (pos 262144) ∷ Write 1 (path "B") ∷ [])) (
+far_page : Rows small (after desk (Seek 1 Set (pos 262144) ∷ Write 1 (text "B") ∷ [])) (
     (user0, Statfs, room_is (record { block_size = 64; zones = 58; free_zones = 40; inodes = 8; free_inodes = 2 }))
     ∷ (user0, Fstat 1, node_is (record { inode = 5; mode = 33188; links = 1; uid = 0; gid = 0; size = 262145; atime = 100; mtime = 100; ctime = 100 }))
     ∷ [])

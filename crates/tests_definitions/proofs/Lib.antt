@@ -1,5 +1,6 @@
 pub mod SmallTrees
 mod PathRows
+mod StartRows
 mod OpenRows
 mod ByteRows
 mod NodeRows

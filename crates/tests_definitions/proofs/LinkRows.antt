@@ -1,6 +1,6 @@
 -- Link and unlink: what they answer and leave, each refusal, and of two the one that is answered.
 use Rattle.std.proofs.Common.{◌++◌, List, [], ◌∷◌, refl, codes, replicate, ℕ}
-use Rattle.std.specs.Borrow.{Bor}
+use Rattle.tree.specs.declared.PathFrom.{PathFrom}
 use Rattle.errno.specs.declared.Errno.TheVariants.{EPERM, ENOENT, EACCES, EEXIST, ENOTDIR, EINVAL, ENAMETOOLONG, EMLINK, ENOSPC}
 use Rattle.tree.specs.declared.Call.TheVariants.{Stat, Link, Unlink, Statfs}
 use Rattle.tree.specs.Sums.{sum_below, some_below, least_below}
@@ -12,19 +12,19 @@ use Rattle.tests_definitions.proofs.SmallTrees.{small, tight, user0, other, at, 
 use Rattle.tests_definitions.proofs.SmallTrees.{zero_path, wide_path}
 
 -- the refusals of an old path, where the new one is this; and of a new path, where the old one is this
-abbrev old_paths : Bor (List ℕ) → List Row
+abbrev old_paths : PathFrom → List Row
 old_paths new =
     (other, Link empty_path new, refused ENOENT) ∷ (other, Link long_path new, refused ENAMETOOLONG)
     ∷ (other, Link (path "d") new, refused EINVAL) ∷ (other, Link zero_path new, refused EINVAL)
     ∷ (other, Link wide_path new, refused ENAMETOOLONG) ∷ []
 
-abbrev new_paths : Bor (List ℕ) → List Row
+abbrev new_paths : PathFrom → List Row
 new_paths old =
     (other, Link old empty_path, refused ENOENT) ∷ (other, Link old long_path, refused ENAMETOOLONG)
     ∷ (other, Link old (path "d"), refused EINVAL) ∷ (other, Link old zero_path, refused EINVAL)
     ∷ (other, Link old wide_path, refused ENAMETOOLONG) ∷ []
 
-abbrev old_walks : Bor (List ℕ) → List Row
+abbrev old_walks : PathFrom → List Row
 old_walks new =
     (other, Link (path "/f/x") new, refused ENOTDIR) ∷ (other, Link (path "/p/x") new, refused EACCES)
     ∷ (other, Link (path "/none") new, refused ENOENT) ∷ []

@@ -10,7 +10,7 @@ use Rattle.tree.specs.Sums.{sum_below, some_below, least_below}
 use Rattle.tree.specs.Tree.{Tree}
 use Rattle.tree.specs.Answers.{refused, done, some_bytes, descriptor, node_is, room_is}
 use Rattle.tree.specs.Effects.{tree_after_call, may_want_memory}
-use Rattle.tests_definitions.proofs.SmallTrees.{small, user, user0, other, path, flags, after, house, Row, Rows, empty_path, long_path}
+use Rattle.tests_definitions.proofs.SmallTrees.{bytes, text, small, user, user0, other, path, flags, after, house, Row, Rows, empty_path, long_path}
 use Rattle.tests_definitions.proofs.SmallTrees.{zero_path, wide_path}
 
 -- chmod, chown, utime and truncate of a path that is refused, with arguments that may be, and ones that may not
@@ -124,7 +124,7 @@ grown = refl
 
 -- a file of 65 bytes has two pages; cut to 64 it keeps one, and what grows back is a hole
 unfoldable written : Tree
-written = after house (Open (path "/f") (flags 3) 0 ∷ Seek 0 Set (pos 63) ∷ Write 0 (path "AB") ∷ Truncate (path "/f") 64 ∷ Truncate (path "/f") 66
+written = after house (Open (path "/f") (flags 3) 0 ∷ Seek 0 Set (pos 63) ∷ Write 0 (text "AB") ∷ Truncate (path "/f") 64 ∷ Truncate (path "/f") 66
     ∷ Seek 0 Set (pos 63) ∷ [])
 
 regrown : Rows small written (
@@ -144,10 +144,10 @@ plain = refl
 -- every call, with its first refusal where it has one
 abbrev all_calls : List Call
 all_calls =
-    Open empty_path (flags 0) 512 ∷ Close 7 ∷ Dup 7 ∷ Read 7 70000 ∷ Write 7 (path "A") ∷ Seek 7 Set (pos 0) ∷ Stat empty_path ∷ Fstat 7
+    Open empty_path (flags 0) 512 ∷ Close 7 ∷ Dup 7 ∷ Read 7 70000 ∷ Write 7 (text "A") ∷ Seek 7 Set (pos 0) ∷ Stat empty_path ∷ Fstat 7
     ∷ Link empty_path empty_path ∷ Unlink empty_path ∷ Mkdir (path "/x") 493 ∷ Rmdir empty_path ∷ Rename empty_path empty_path
     ∷ Chmod (path "/f") 0 ∷ Chown (path "/f") 0 0 ∷ Utime (path "/f") 0 0 ∷ Truncate (path "/f") 0 ∷ Readdir 7 ∷ Sync ∷ Statfs
-    ∷ Symlink empty_path empty_path ∷ Readlink empty_path ∷ Lstat empty_path ∷ []
+    ∷ Symlink (bytes []) empty_path ∷ Readlink empty_path ∷ Lstat empty_path ∷ []
 
 abbrev in_session : ℕ → Call → Row
 in_session session call = (record user0 { session = session }, call, refused EINVAL)

@@ -8,7 +8,7 @@ use Rattle.tree.specs.declared.Whence.TheVariants.{Set}
 use Rattle.tree.specs.Sums.{sum_below, some_below, least_below}
 use Rattle.tree.specs.Tree.{OpenFile, Tree}
 use Rattle.tree.specs.Answers.{refused, done, descriptor, some_bytes, node_is, room_is}
-use Rattle.tests_definitions.proofs.SmallTrees.{small, tight, user0, other, path, flags, after, house, Row, Rows, empty_path, long_path}
+use Rattle.tests_definitions.proofs.SmallTrees.{text, small, tight, user0, other, path, flags, after, house, Row, Rows, empty_path, long_path}
 use Rattle.tests_definitions.proofs.SmallTrees.{zero_path, wide_path}
 
 -- the flags by their letters
@@ -182,7 +182,7 @@ unfolding no_inode house sum_below some_below least_below
 inodes_spent = refl
 
 -- what open leaves: a new file of its user and mode, one more name in the root, and with t an empty file
-made : Rows small (after house (Open (path "/new") (flags 11) 288 ∷ Write 0 (path "AB") ∷ [])) (
+made : Rows small (after house (Open (path "/new") (flags 11) 288 ∷ Write 0 (text "AB") ∷ [])) (
     (user0, Fstat 0, node_is (record { inode = 7; mode = 33056; links = 1; uid = 0; gid = 0; size = 2; atime = 100; mtime = 100; ctime = 100 }))
     ∷ (user0, Stat (path "/"), node_is (record { inode = 1; mode = 16877; links = 4; uid = 0; gid = 0; size = 384; atime = 50; mtime = 100; ctime = 100 }))
     ∷ (user0, Statfs, room_is (record { block_size = 64; zones = 58; free_zones = 43; inodes = 8; free_inodes = 1 }))
@@ -191,7 +191,7 @@ made : Rows small (after house (Open (path "/new") (flags 11) 288 ∷ Write 0 (p
 unfolding house sum_below some_below least_below
 made = refl
 
-emptied : Rows small (after house (Open (path "/f") (flags 3) 0 ∷ Write 0 (path "AB") ∷ Open (path "/f") (flags 34) 0 ∷ [])) (
+emptied : Rows small (after house (Open (path "/f") (flags 3) 0 ∷ Write 0 (text "AB") ∷ Open (path "/f") (flags 34) 0 ∷ [])) (
     (user0, Fstat 0, node_is (record { inode = 5; mode = 33188; links = 1; uid = 0; gid = 0; size = 0; atime = 100; mtime = 100; ctime = 100 }))
     ∷ (user0, Statfs, room_is (record { block_size = 64; zones = 58; free_zones = 45; inodes = 8; free_inodes = 2 }))
     ∷ [])
@@ -200,7 +200,7 @@ emptied = refl
 
 -- Close and dup. /f is open as 0 and 1, with one byte.
 unfoldable two : Tree
-two = after house (Open (path "/f") (flags 3) 0 ∷ Write 0 (path "A") ∷ Dup 0 ∷ [])
+two = after house (Open (path "/f") (flags 3) 0 ∷ Write 0 (text "A") ∷ Dup 0 ∷ [])
 
 descriptors : Rows small two (
     (user0, Close 0, done)

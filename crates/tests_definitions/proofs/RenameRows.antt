@@ -1,6 +1,6 @@
 -- Rename: what it answers and leaves, and each refusal.
 use Rattle.std.proofs.Common.{◌++◌, List, [], ◌∷◌, refl, ℕ}
-use Rattle.std.specs.Borrow.{Bor}
+use Rattle.tree.specs.declared.PathFrom.{PathFrom}
 use Rattle.errno.specs.declared.Errno.TheVariants.{ENOENT, EACCES, EBUSY, ENOTDIR, EISDIR, EINVAL, ENAMETOOLONG, ENOTEMPTY, EMLINK, ENOSPC}
 use Rattle.tree.specs.declared.Call.TheVariants.{Open, Stat, Fstat, Link, Rename, Chmod, Statfs}
 use Rattle.tree.specs.Sums.{sum_below, some_below, least_below}
@@ -53,13 +53,13 @@ unfolding rooms sum_below some_below least_below
 refused_renames = refl
 
 -- the refusals of an old path, where the new one is this; and of a new path, where the old one is this
-abbrev old_paths : Bor (List ℕ) → List Row
+abbrev old_paths : PathFrom → List Row
 old_paths new =
     (other, Rename empty_path new, refused ENOENT) ∷ (other, Rename long_path new, refused ENAMETOOLONG)
     ∷ (other, Rename (path "d") new, refused EINVAL) ∷ (other, Rename zero_path new, refused EINVAL)
     ∷ (other, Rename wide_path new, refused ENAMETOOLONG) ∷ []
 
-abbrev new_paths : Bor (List ℕ) → List Row
+abbrev new_paths : PathFrom → List Row
 new_paths old =
     (other, Rename old empty_path, refused ENOENT) ∷ (other, Rename old long_path, refused ENAMETOOLONG)
     ∷ (other, Rename old (path "d"), refused EINVAL) ∷ (other, Rename old zero_path, refused EINVAL)

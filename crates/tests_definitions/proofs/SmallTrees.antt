@@ -6,6 +6,8 @@ use Rattle.std.specs.Borrow.{Bor}
 use Rattle.layout.specs.declared.Geometry.{Geometry}
 use Rattle.tree.specs.declared.Who.{Who}
 use Rattle.tree.specs.declared.OpenFlags.{OpenFlags}
+use Rattle.tree.specs.declared.Start.TheVariants.{Root, Inode}
+use Rattle.tree.specs.declared.PathFrom.{PathFrom}
 use Rattle.tree.specs.declared.Call.{Call}
 use Rattle.tree.specs.declared.Call.TheVariants.{Open, Close, Write, Mkdir}
 use Rattle.tree.specs.Sums.{put}
@@ -51,13 +53,25 @@ user0 = user 0 0
 abbrev pub other : Who
 other = user 9 9
 
--- a path or bytes, as a call has them
-abbrev pub at : List ℕ → Bor (List ℕ)
-at bytes = record { ref_ptr = (0, 0); now = bytes }
+-- bytes, as a call has them
+abbrev pub bytes : List ℕ → Bor (List ℕ)
+bytes b = record { ref_ptr = (0, 0); now = b }
+
+-- bytes from a text
+abbrev pub text : String → Bor (List ℕ)
+text t = bytes (codes t)
+
+-- a path from the root
+abbrev pub at : List ℕ → PathFrom
+at b = record { start = Root; bytes = bytes b }
 
 -- the same from a text
-abbrev pub path : String → Bor (List ℕ)
-path text = at (codes text)
+abbrev pub path : String → PathFrom
+path t = at (codes t)
+
+-- a path from a node
+abbrev pub from : ℕ → String → PathFrom
+from n t = record { start = Inode n; bytes = text t }
 
 -- flags from their number
 abbrev pub flags : ℕ → OpenFlags
@@ -158,7 +172,7 @@ desk = record {
 
 -- the calls that open them
 abbrev pub opening : List Call
-opening = Open (path "/d") (flags 1) 0 ∷ Open (path "/f") (flags 3) 0 ∷ Write 1 (path "A") ∷ Open (path "/f") (flags 1) 0 ∷ Open (path "/f") (flags 6) 0 ∷ []
+opening = Open (path "/d") (flags 1) 0 ∷ Open (path "/f") (flags 3) 0 ∷ Write 1 (text "A") ∷ Open (path "/f") (flags 1) 0 ∷ Open (path "/f") (flags 6) 0 ∷ []
 
 -- A row of a table: who calls, at 100, what, and what the call answers.
 abbrev pub Row : Type 0
@@ -169,14 +183,14 @@ abbrev pub Rows : Geometry → Tree → List Row → Type 0
 Rows g t rows = map (λ row. reply_to g t row.0 100 row.1) rows ≡ map (λ row. row.2) rows
 
 -- the paths that can't be read: empty, 1025 bytes, relative, with a zero byte, with a part of 61 bytes
-abbrev pub empty_path : Bor (List ℕ)
+abbrev pub empty_path : PathFrom
 empty_path = at []
 
-abbrev pub long_path : Bor (List ℕ)
+abbrev pub long_path : PathFrom
 long_path = at (replicate 1025 47)
 
-abbrev pub zero_path : Bor (List ℕ)
+abbrev pub zero_path : PathFrom
 zero_path = at (codes "/d" ++ 0 ∷ [])
 
-abbrev pub wide_path : Bor (List ℕ)
+abbrev pub wide_path : PathFrom
 wide_path = at (codes "/" ++ replicate 61 97)

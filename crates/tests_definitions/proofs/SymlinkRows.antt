@@ -12,7 +12,7 @@ use Rattle.tree.specs.Sums.{put, sum_below, some_below, least_below}
 use Rattle.tree.specs.Tree.{Node, is_file, Tree}
 use Rattle.tree.specs.Changes.{target_file}
 use Rattle.tree.specs.Answers.{Answer, refused, done, some_bytes, descriptor, node_is, room_is}
-use Rattle.tests_definitions.proofs.SmallTrees.{small, start, user0, other, at, path, flags, after, folder, no_bytes, Row, Rows}
+use Rattle.tests_definitions.proofs.SmallTrees.{bytes, text, small, start, user0, other, at, path, flags, after, folder, no_bytes, Row, Rows}
 
 -- a link with a target
 abbrev link_to : List ℕ → Node
@@ -38,7 +38,7 @@ of_folder n links size atime = node_is (record {
 
 -- a link to nothing
 unfoldable linked : Tree
-linked = after start (Symlink (path "d") (path "/l") ∷ [])
+linked = after start (Symlink (text "d") (path "/l") ∷ [])
 
 fresh : Rows small linked (
     (user0, Lstat (path "/l"), of_link 2 1)
@@ -54,7 +54,7 @@ fresh = refl
 
 -- then a directory there
 unfoldable pointed : Tree
-pointed = after start (Symlink (path "d") (path "/l") ∷ Mkdir (path "/d") 493 ∷ [])
+pointed = after start (Symlink (text "d") (path "/l") ∷ Mkdir (path "/d") 493 ∷ [])
 
 led : Rows small pointed (
     (user0, Stat (path "/l"), of_folder 3 2 128 100)
@@ -67,7 +67,7 @@ led : Rows small pointed (
     ∷ (user0, Link (path "/l") (path "/m"), done)
     ∷ (user0, Mkdir (path "/l/x") 493, done)
     ∷ (user0, Mkdir (path "/l") 493, refused EEXIST)
-    ∷ (user0, Symlink (path "x") (path "/l"), refused EEXIST)
+    ∷ (user0, Symlink (text "x") (path "/l"), refused EEXIST)
     ∷ (user0, Truncate (path "/l") 0, refused EISDIR)
     ∷ [])
 unfolding pointed sum_below some_below least_below
@@ -160,17 +160,17 @@ ways = refl
 
 -- symlink's refusals, in their order
 refusals : Rows small many (
-    (other, Symlink (at []) (at []), refused ENOENT)
-    ∷ (other, Symlink (at (replicate 1024 0)) (at []), refused ENAMETOOLONG)
-    ∷ (other, Symlink (at (replicate 1023 0)) (at []), refused EINVAL)
-    ∷ (other, Symlink (at (replicate 1023 47)) (path "f"), refused EINVAL)
-    ∷ (other, Symlink (path "x") (path "/f/g"), refused ENOTDIR)
-    ∷ (other, Symlink (path "x") (path "/a/g"), refused EACCES)
-    ∷ (other, Symlink (path "x") (path "/f"), refused EEXIST)
-    ∷ (other, Symlink (path "x") (path "/s1"), refused EEXIST)
-    ∷ (other, Symlink (path "x") (path "/"), refused EEXIST)
-    ∷ (other, Symlink (path "x") (path "/.."), refused EEXIST)
-    ∷ (other, Symlink (path "x") (path "/g"), refused EACCES)
+    (other, Symlink (bytes []) (at []), refused ENOENT)
+    ∷ (other, Symlink (bytes (replicate 1024 0)) (at []), refused ENAMETOOLONG)
+    ∷ (other, Symlink (bytes (replicate 1023 0)) (at []), refused EINVAL)
+    ∷ (other, Symlink (bytes (replicate 1023 47)) (path "f"), refused EINVAL)
+    ∷ (other, Symlink (text "x") (path "/f/g"), refused ENOTDIR)
+    ∷ (other, Symlink (text "x") (path "/a/g"), refused EACCES)
+    ∷ (other, Symlink (text "x") (path "/f"), refused EEXIST)
+    ∷ (other, Symlink (text "x") (path "/s1"), refused EEXIST)
+    ∷ (other, Symlink (text "x") (path "/"), refused EEXIST)
+    ∷ (other, Symlink (text "x") (path "/.."), refused EEXIST)
+    ∷ (other, Symlink (text "x") (path "/g"), refused EACCES)
     ∷ (other, Readlink (at []), refused ENOENT)
     ∷ (other, Lstat (path "f"), refused EINVAL)
     ∷ [])

@@ -23,7 +23,7 @@ same_body g t n node changed tree there body links fits =
 -- chmod
 pub chmod_keeps : ChmodKeeps
 chmod_keeps g t who now mode path small tree = in_session g t who now (Chmod path mode) tree (λ _.
-    chmod_each t (user_of who) now (Keeps g t) (keeps_closed g t tree) path.now mode (λ fits n node there.
+    chmod_each t (user_of who) now (Keeps g t) (keeps_closed g t tree) path mode (λ fits n node there.
     let old = tree.nodes.each n node there in
     same_body g t n node (with_ctime now (record node { permissions = mode })) tree there refl refl
     (record {
@@ -41,7 +41,7 @@ chmod_keeps g t who now mode path small tree = in_session g t who now (Chmod pat
 -- chown
 pub chown_keeps : ChownKeeps
 chown_keeps g t who now uid gid path small u v tree = in_session g t who now (Chown path uid gid) tree (λ _.
-    chown_each t (user_of who) now (Keeps g t) (keeps_closed g t tree) path.now uid gid (λ n node there.
+    chown_each t (user_of who) now (Keeps g t) (keeps_closed g t tree) path uid gid (λ n node there.
     let old = tree.nodes.each n node there in
     same_body g t n node (with_ctime now (record node { uid = uid; gid = gid })) tree there refl refl
     (record {
@@ -59,7 +59,7 @@ chown_keeps g t who now uid gid path small u v tree = in_session g t who now (Ch
 -- utime
 pub utime_keeps : UtimeKeeps
 utime_keeps g t who now atime mtime path small a m tree = in_session g t who now (Utime path atime mtime) tree (λ _.
-    utime_each t (user_of who) now (Keeps g t) (keeps_closed g t tree) path.now atime mtime (λ n node there.
+    utime_each t (user_of who) now (Keeps g t) (keeps_closed g t tree) path atime mtime (λ n node there.
     let old = tree.nodes.each n node there in
     same_body g t n node (with_ctime now (record node { atime = atime; mtime = mtime })) tree there refl refl
     (record {

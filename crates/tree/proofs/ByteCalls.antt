@@ -48,7 +48,7 @@ file_changed g t n now node f new small there is no_link fits tree =
 -- truncate
 pub truncate_keeps : TruncateKeeps
 truncate_keeps g t who now size path small tree = in_session g t who now (Truncate path size) tree (λ _.
-    truncate_each t (user_of who) now (Keeps g t) (keeps_closed g t tree) g path.now size (λ n node f within there is no_link.
+    truncate_each t (user_of who) now (Keeps g t) (keeps_closed g t tree) g path size (λ n node f within there is no_link.
     file_changed g t n now node f (file_after_resize g f size) small there is no_link
     (resized_fits g f size within (file_fits g node f (tree.nodes.each n node there) is)) tree))
 

@@ -20,8 +20,8 @@ use Rattle.tree.proofs.Gone.{empty_weighs, gone_is_tree}
 -- link
 pub link_keeps : LinkKeeps
 link_keeps g t who now old new is small bytes tree = in_session g t who now (Link old new) tree (λ _.
-    link_each g t (user_of who) now (Keeps g t) (keeps_closed g t tree) old.now new.now (λ n node place made.
-    let at = new_place t (user_of who) new.now made.parts place bytes made.read made.walked made.free in
+    link_each g t (user_of who) now (Keeps g t) (keeps_closed g t tree) old new (λ n node place made.
+    let at = new_place t (user_of who) new made.parts place bytes made.read made.walked made.free in
     let inside = tree.nodes.inside n (ap is_some made.there) in
     let fit = tree.nodes.each n node made.there in
     let few = made.few in
@@ -44,8 +44,8 @@ link_keeps g t who now old new is small bytes tree = in_session g t who now (Lin
 -- mkdir
 pub mkdir_keeps : MkdirKeeps
 mkdir_keeps g t who now path mode is caller small bytes tree = in_session g t who now (Mkdir path mode) tree (λ _.
-    mkdir_each g t (user_of who) now (Keeps g t) (keeps_closed g t tree) path.now mode (λ _. tree) (λ n place parent made.
-    let at = new_place t (user_of who) path.now made.parts place bytes made.read made.walked made.free in
+    mkdir_each g t (user_of who) now (Keeps g t) (keeps_closed g t tree) path mode (λ _. tree) (λ n place parent made.
+    let at = new_place t (user_of who) path made.parts place bytes made.read made.walked made.free in
     taken_if_it_fits g t done
     (on_node (with_entry (with_node t n (Some (new_node now (user_of who) mode 2 (empty_directory place.directory)))) now place n) place.directory (more_links 1)) tree (λ fits.
     made_is_tree g is t tree now small (user_of who) caller.uid caller.gid mode made.fits place at n made.inode
@@ -54,6 +54,6 @@ mkdir_keeps g t who now path mode is caller small bytes tree = in_session g t wh
 -- rmdir
 pub rmdir_keeps : RmdirKeeps
 rmdir_keeps g t who now path small tree = in_session g t who now (Rmdir path) tree (λ _.
-    rmdir_each g t (user_of who) now (Keeps g t) (keeps_closed g t tree) path.now (λ n node place gone.
+    rmdir_each g t (user_of who) now (Keeps g t) (keeps_closed g t tree) path (λ n node place gone.
     gone_is_tree g t tree now small place (is_place t (user_of who) gone.parts place gone.walked) n gone.found
     (ap kind_of gone.there ∙ gone.directory) (empty_weighs t n node gone.there gone.empty) gone.closed))

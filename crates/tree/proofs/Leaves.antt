@@ -1,8 +1,9 @@
 -- Calls that leave the tree.
-use Rattle.std.proofs.Common.{◌≡◌, ℕ, List, refl, ap}
+use Rattle.std.proofs.Common.{◌≡◌, ℕ, refl, ap}
 use Rattle.std.specs.Prelude.{Result, Ok, Err, nat_le, not}
 use Rattle.lemmas.proofs.Bools.{false_not_true}
 use Rattle.errno.specs.declared.Errno.TheVariants.{EINVAL, EBADF, ENOTDIR}
+use Rattle.tree.specs.declared.PathFrom.{PathFrom}
 use Rattle.tree.specs.declared.User.{User}
 use Rattle.tree.specs.declared.Who.{Who}
 use Rattle.errno.specs.declared.Errno.{Errno}
@@ -44,13 +45,13 @@ bound t (Ok x) f h = h x
 bound t (Err e) f h = record { same = refl }
 
 -- stat leaves the tree
-stat_leaves : (t : Tree) (user : User) (path : List ℕ) → Leaves t (stat t user path)
+stat_leaves : (t : Tree) (user : User) (path : PathFrom) → Leaves t (stat t user path)
 stat_leaves t user path =
     bound t (walk t user path) (λ n. node_at t n >>= λ node. Ok (node_is (attributes_of n node), t)) (λ n.
     bound t (node_at t n) (λ node. Ok (node_is (attributes_of n node), t)) (λ node. answered t _))
 
 -- lstat leaves the tree
-lstat_leaves : (t : Tree) (user : User) (path : List ℕ) → Leaves t (lstat t user path)
+lstat_leaves : (t : Tree) (user : User) (path : PathFrom) → Leaves t (lstat t user path)
 lstat_leaves t user path =
     bound t (read_path path) (λ parts. walk_to_last t user parts >>= λ n. node_at t n >>= λ node. Ok (node_is (attributes_of n node), t))
     (λ parts.
@@ -58,7 +59,7 @@ lstat_leaves t user path =
     bound t (node_at t n) (λ node. Ok (node_is (attributes_of n node), t)) (λ node. answered t _)))
 
 -- readlink leaves the tree
-readlink_leaves : (t : Tree) (user : User) (path : List ℕ) → Leaves t (readlink t user path)
+readlink_leaves : (t : Tree) (user : User) (path : PathFrom) → Leaves t (readlink t user path)
 readlink_leaves t user path =
     bound t (read_path path) (λ parts. walk_to_last t user parts >>= λ n. or_refuse (target_of (t.nodes n)) EINVAL
     >>= λ target. Ok (some_bytes target, t)) (λ parts.
@@ -85,16 +86,16 @@ session_refused who = refuse_if (nat_le most_sessions who.session) EINVAL
 
 -- the law of calls that only look
 pub looks_leave : LooksLeave
-looks_leave g t who now (Stat path) h = (bound t (session_refused who) (λ _. effect_in_session g t who now (Stat path)) (λ _. stat_leaves t (user_of who) path.now)).same
+looks_leave g t who now (Stat path) h = (bound t (session_refused who) (λ _. effect_in_session g t who now (Stat path)) (λ _. stat_leaves t (user_of who) path)).same
 looks_leave g t who now (Fstat fd) h = (bound t (session_refused who) (λ _. effect_in_session g t who now (Fstat fd)) (λ _. fstat_leaves t who.session fd)).same
 looks_leave g t who now (Readdir fd) h = (bound t (session_refused who) (λ _. effect_in_session g t who now (Readdir fd)) (λ _. readdir_leaves t who.session fd)).same
 looks_leave g t who now Sync h = (bound t (session_refused who) (λ _. effect_in_session g t who now Sync) (λ _. answered t _)).same
 looks_leave g t who now Statfs h = (bound t (session_refused who) (λ _. effect_in_session g t who now Statfs) (λ _. answered t _)).same
 looks_leave g t who now (Readlink path) h =
     (bound t (session_refused who) (λ _. effect_in_session g t who now (Readlink path))
-    (λ _. readlink_leaves t (user_of who) path.now)).same
+    (λ _. readlink_leaves t (user_of who) path)).same
 looks_leave g t who now (Lstat path) h =
-    (bound t (session_refused who) (λ _. effect_in_session g t who now (Lstat path)) (λ _. lstat_leaves t (user_of who) path.now)).same
+    (bound t (session_refused who) (λ _. effect_in_session g t who now (Lstat path)) (λ _. lstat_leaves t (user_of who) path)).same
 looks_leave g t who now (Symlink target path) h = absurd (false_not_true h)
 looks_leave g t who now (Open path flags mode) h = absurd (false_not_true h)
 looks_leave g t who now (Close fd) h = absurd (false_not_true h)

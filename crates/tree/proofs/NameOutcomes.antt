@@ -1,14 +1,15 @@
 -- What holds of the refusals and of the successes of link, mkdir and rmdir holds of the calls.
-use Rattle.std.proofs.Common.{◌≡◌, ◌<◌, ◌≤◌, ℕ, List, true, false, refl}
+use Rattle.std.proofs.Common.{◌≡◌, ◌<◌, ◌≤◌, ℕ, true, false, refl}
 use Rattle.std.specs.Prelude.{None, Some, Ok, Err, not, nat_le, nat_lt}
 use Rattle.std.proofs.lemmas.Bool.{leb-false, ltb-false, not-false}
 use Rattle.layout.specs.declared.Geometry.{Geometry}
 use Rattle.errno.specs.declared.Errno.TheVariants.{EPERM, ENOENT, EACCES, EBUSY, EEXIST, ENOTDIR, EINVAL, EMLINK, ENOTEMPTY, ENOSPC}
+use Rattle.tree.specs.declared.PathFrom.{PathFrom}
 use Rattle.tree.specs.declared.User.{User}
-use Rattle.tree.specs.Names.{Name, inode_of}
+use Rattle.tree.specs.Names.{inode_of}
 use Rattle.tree.specs.Tree.{Node, Tree, is_dir, is_open, with_node, on_node, most_links, most_permissions}
 use Rattle.tree.specs.Refusals.{◌>>=◌, or_refuse, refuse_if}
-use Rattle.tree.specs.Walk.{read_path, walk_to_last, parent_walk, node_at, has_last_name, is_taken, Place, may_access, to_write}
+use Rattle.tree.specs.Walk.{read_path, walk_to_last, parent_walk, node_at, has_last_name, is_taken, Place, may_access, to_write, Way}
 use Rattle.tree.specs.Changes.{with_ctime, more_links, fewer_links, new_node, empty_directory, free_inode}
 use Rattle.tree.specs.Answers.{done, if_it_fits}
 use Rattle.tree.specs.NameCalls.{with_entry, without_entry, is_empty, link, mkdir, rmdir}
@@ -23,16 +24,16 @@ with_new_directory t user now mode place n =
 
 module _ (g : Geometry) (t : Tree) (user : User) (now : ℕ) (P : Effects → Type 0) (steps : IsClosed P) where
   -- A link that is made.
-  pub record IsLinkMade (new : List ℕ) (n : ℕ) (node : Node) (place : Place) : Type 0 where
+  pub record IsLinkMade (new : PathFrom) (n : ℕ) (node : Node) (place : Place) : Type 0 where
     pub there : t.nodes n ≡ Some node
     pub file : is_dir node ≡ false
     pub few : node.links < most_links
-    pub parts : List Name
+    pub parts : Way
     pub read : read_path new ≡ Ok parts
     pub walked : parent_walk t user parts ≡ Ok place
     pub free : is_taken place parts ≡ false
 
-  module _ (old new : List ℕ) (made : (n : ℕ) (node : Node) (place : Place) → IsLinkMade new n node place
+  module _ (old new : PathFrom) (made : (n : ℕ) (node : Node) (place : Place) → IsLinkMade new n node place
       → P (λ z. if_it_fits (with_zones z g) done (with_entry (with_node t n (Some (with_ctime now (more_links 1 node)))) now place n))) where
     abbrev put_link : ℕ → Node → Place → Effects
     put_link n node place z = if_it_fits (with_zones z g) done (with_entry (with_node t n (Some (with_ctime now (more_links 1 node)))) now place n)
@@ -43,25 +44,25 @@ module _ (g : Geometry) (t : Tree) (user : User) (now : ℕ) (P : Effects → Ty
     abbrev from_free : ℕ → Node → Place → Effects
     from_free n node place z = node_at t place.directory >>= λ parent. from_parent n node place parent z
 
-    abbrev from_place : List Name → ℕ → Node → Place → Effects
+    abbrev from_place : Way → ℕ → Node → Place → Effects
     from_place parts n node place z = refuse_if (is_taken place parts) EEXIST >>= λ _. from_free n node place z
 
-    abbrev from_few : List Name → ℕ → Node → Effects
+    abbrev from_few : Way → ℕ → Node → Effects
     from_few parts n node z = parent_walk t user parts >>= λ place. from_place parts n node place z
 
-    abbrev from_file : List Name → ℕ → Node → Effects
+    abbrev from_file : Way → ℕ → Node → Effects
     from_file parts n node z = refuse_if (nat_le most_links node.links) EMLINK >>= λ _. from_few parts n node z
 
-    abbrev from_node : List Name → ℕ → Node → Effects
+    abbrev from_node : Way → ℕ → Node → Effects
     from_node parts n node z = refuse_if (is_dir node) EPERM >>= λ _. from_file parts n node z
 
-    abbrev from_walk : List Name → ℕ → Effects
+    abbrev from_walk : Way → ℕ → Effects
     from_walk parts n z = node_at t n >>= λ node. from_node parts n node z
 
-    abbrev from_new : List Name → List Name → Effects
+    abbrev from_new : Way → Way → Effects
     from_new old_parts parts z = walk_to_last t user old_parts >>= λ n. from_walk parts n z
 
-    abbrev from_old : List Name → Effects
+    abbrev from_old : Way → Effects
     from_old old_parts z = read_path new >>= λ parts. from_new old_parts parts z
 
     pub link_each : P (λ z. link (with_zones z g) t user now old new)
@@ -87,9 +88,9 @@ module _ (g : Geometry) (t : Tree) (user : User) (now : ℕ) (P : Effects → Ty
         })))))))))))
 
   -- What mkdir has asked before it takes an inode.
-  pub record IsDirectoryAsked (path : List ℕ) (mode : ℕ) (place : Place) (above : Node) : Type 0 where
+  pub record IsDirectoryAsked (path : PathFrom) (mode : ℕ) (place : Place) (above : Node) : Type 0 where
     pub fits : mode ≤ most_permissions
-    pub parts : List Name
+    pub parts : Way
     pub read : read_path path ≡ Ok parts
     pub walked : parent_walk t user parts ≡ Ok place
     pub free : is_taken place parts ≡ false
@@ -97,9 +98,9 @@ module _ (g : Geometry) (t : Tree) (user : User) (now : ℕ) (P : Effects → Ty
     pub few : above.links < most_links
 
   -- A directory that is made.
-  pub record IsDirectoryMade (path : List ℕ) (mode n : ℕ) (place : Place) (above : Node) : Type 0 where
+  pub record IsDirectoryMade (path : PathFrom) (mode n : ℕ) (place : Place) (above : Node) : Type 0 where
     pub fits : mode ≤ most_permissions
-    pub parts : List Name
+    pub parts : Way
     pub read : read_path path ≡ Ok parts
     pub walked : parent_walk t user parts ≡ Ok place
     pub free : is_taken place parts ≡ false
@@ -108,7 +109,7 @@ module _ (g : Geometry) (t : Tree) (user : User) (now : ℕ) (P : Effects → Ty
     pub inode : IsFree g t n
 
   -- Up to the inode, over any volumes: what holds of a directory that asks for an inode holds of the call.
-  module _ (volumes : ℕ → Geometry) (path : List ℕ) (mode : ℕ) (asks : (place : Place) (parent : Node) → IsDirectoryAsked path mode place parent
+  module _ (volumes : ℕ → Geometry) (path : PathFrom) (mode : ℕ) (asks : (place : Place) (parent : Node) → IsDirectoryAsked path mode place parent
       → P (λ z. free_inode (volumes z) t >>= λ n. if_it_fits (volumes z) done (with_new_directory t user now mode place n))) where
     abbrev below_few : Place → Effects
     below_few place z = free_inode (volumes z) t >>= λ n. if_it_fits (volumes z) done (with_new_directory t user now mode place n)
@@ -122,10 +123,10 @@ module _ (g : Geometry) (t : Tree) (user : User) (now : ℕ) (P : Effects → Ty
     abbrev below_free : Place → Effects
     below_free place z = node_at t place.directory >>= λ parent. below_parent place parent z
 
-    abbrev below_place : List Name → Place → Effects
+    abbrev below_place : Way → Place → Effects
     below_place parts place z = refuse_if (is_taken place parts) EEXIST >>= λ _. below_free place z
 
-    abbrev below_parts : List Name → Effects
+    abbrev below_parts : Way → Effects
     below_parts parts z = parent_walk t user parts >>= λ place. below_place parts place z
 
     abbrev below_mode : Effects
@@ -150,7 +151,7 @@ module _ (g : Geometry) (t : Tree) (user : User) (now : ℕ) (P : Effects → Ty
           few = leb-false most_links parent.links (passed _ _ u few);
         }))))))))
 
-  pub mkdir_each : (path : List ℕ) (mode : ℕ) → (NoInodeFree g t → P (λ z. Err ENOSPC))
+  pub mkdir_each : (path : PathFrom) (mode : ℕ) → (NoInodeFree g t → P (λ z. Err ENOSPC))
       → ((n : ℕ) (place : Place) (parent : Node) → IsDirectoryMade path mode n place parent → P (λ z. if_it_fits (with_zones z g) done (with_new_directory t user now mode place n)))
       → P (λ z. mkdir (with_zones z g) t user now path mode)
   mkdir_each path mode full made =
@@ -169,7 +170,7 @@ module _ (g : Geometry) (t : Tree) (user : User) (now : ℕ) (P : Effects → Ty
 
   -- A directory that goes.
   pub record IsDirectoryGone (n : ℕ) (node : Node) (place : Place) : Type 0 where
-    pub parts : List Name
+    pub parts : Way
     pub walked : parent_walk t user parts ≡ Ok place
     pub found : inode_of place.names place.name ≡ Some n
     pub there : t.nodes n ≡ Some node
@@ -177,7 +178,7 @@ module _ (g : Geometry) (t : Tree) (user : User) (now : ℕ) (P : Effects → Ty
     pub empty : is_empty node ≡ true
     pub closed : is_open t n ≡ false
 
-  module _ (path : List ℕ) (gone : (n : ℕ) (node : Node) (place : Place) → IsDirectoryGone n node place
+  module _ (path : PathFrom) (gone : (n : ℕ) (node : Node) (place : Place) → IsDirectoryGone n node place
       → P (λ z. Ok (done, with_node (on_node (without_entry t now place) place.directory (fewer_links 1)) n None))) where
     abbrev take : Place → ℕ → Effects
     take place n z = Ok (done, with_node (on_node (without_entry t now place) place.directory (fewer_links 1)) n None)
@@ -203,10 +204,10 @@ module _ (g : Geometry) (t : Tree) (user : User) (now : ℕ) (P : Effects → Ty
     abbrev after_place : Place → Effects
     after_place place z = or_refuse (inode_of place.names place.name) ENOENT >>= λ n. after_name place n z
 
-    abbrev after_last : List Name → Effects
+    abbrev after_last : Way → Effects
     after_last parts z = parent_walk t user parts >>= λ place. after_place place z
 
-    abbrev after_parts : List Name → Effects
+    abbrev after_parts : Way → Effects
     after_parts parts z = refuse_if (not (has_last_name parts)) EINVAL >>= λ _. after_last parts z
 
     pub rmdir_each : P (λ z. rmdir t user now path)

@@ -5,11 +5,12 @@ use Rattle.std.proofs.lemmas.Bool.{ltb-false}
 use Rattle.layout.specs.declared.Geometry.{Geometry}
 use Rattle.errno.specs.declared.Errno.{Errno}
 use Rattle.errno.specs.declared.Errno.TheVariants.{EPERM, ENOENT, EACCES, EISDIR, EINVAL, EFBIG}
+use Rattle.tree.specs.declared.PathFrom.{PathFrom}
 use Rattle.tree.specs.declared.User.{User}
-use Rattle.tree.specs.Names.{Name, inode_of}
+use Rattle.tree.specs.Names.{inode_of}
 use Rattle.tree.specs.Tree.{Body, File, is_file, is_directory, Node, Tree, target_of, is_dir, with_node, most_size, most_permissions}
 use Rattle.tree.specs.Refusals.{◌>>=◌, or_refuse, refuse_if}
-use Rattle.tree.specs.Walk.{read_path, walk, walk_to_last, parent_walk, node_at, has_last_name, Place, may_access, to_write, is_owner}
+use Rattle.tree.specs.Walk.{read_path, walk, walk_to_last, parent_walk, node_at, has_last_name, Place, may_access, to_write, is_owner, Way}
 use Rattle.tree.specs.Changes.{with_ctime, with_body, file_after_resize}
 use Rattle.tree.specs.Answers.{done, some_bytes, node_is}
 use Rattle.tree.specs.NodeCalls.{attributes_of, file_or, stat, lstat, readlink, chmod, chown, utime, truncate}
@@ -40,26 +41,26 @@ plain_file node e h = plain_in e h node.body node
 
 module _ (t : Tree) (user : User) (now : ℕ) (P : Effects → Type 0) (steps : IsClosed P) where
   -- a node that a path leads to
-  found_each : (path : List ℕ) (f : ℕ → Node → Effects) → ((n : ℕ) (node : Node) → t.nodes n ≡ Some node → P (f n node))
+  found_each : (path : PathFrom) (f : ℕ → Node → Effects) → ((n : ℕ) (node : Node) → t.nodes n ≡ Some node → P (f n node))
       → P (λ z. walk t user path >>= λ n. node_at t n >>= λ node. f n node z)
   found_each path f each =
       steps _ (walk t user path) (λ n z. node_at t n >>= λ node. f n node z) (plain_walk t user path) (λ n _.
       steps _ (node_at t n) (f n) (plain_node t n) (λ node found. each n node (was_there _ _ _ found)))
 
   -- one that is asked for a right, and changed
-  changed_each : (path : List ℕ) (refused : Node → Bool) (change : Node → Node)
+  changed_each : (path : PathFrom) (refused : Node → Bool) (change : Node → Node)
       → ((n : ℕ) (node : Node) → t.nodes n ≡ Some node → P (λ z. Ok (done, with_node t n (Some (change node)))))
       → P (λ z. walk t user path >>= λ n. node_at t n >>= λ node. refuse_if (refused node) EPERM >>= λ _. Ok (done, with_node t n (Some (change node))))
   changed_each path refused change each =
       found_each path (λ n node z. refuse_if (refused node) EPERM >>= λ _. Ok (done, with_node t n (Some (change node)))) (λ n node there.
       steps _ (refuse_if (refused node) EPERM) (λ _ z. Ok (done, with_node t n (Some (change node)))) (plain_refuse _ _ refl) (λ _ _. each n node there))
 
-  pub stat_each : (path : List ℕ) → ((n : ℕ) (node : Node) → t.nodes n ≡ Some node → P (λ z. Ok (node_is (attributes_of n node), t))) → P (λ z. stat t user path)
+  pub stat_each : (path : PathFrom) → ((n : ℕ) (node : Node) → t.nodes n ≡ Some node → P (λ z. Ok (node_is (attributes_of n node), t))) → P (λ z. stat t user path)
   stat_each path each = found_each path (λ n node z. Ok (node_is (attributes_of n node), t)) each
 
   -- a node that a path names, as it stands
-  module _ (path : List ℕ) (tell : ℕ → Effects) (each : (n : ℕ) → P (tell n)) where
-    abbrev named_at : List Name → Effects
+  module _ (path : PathFrom) (tell : ℕ → Effects) (each : (n : ℕ) → P (tell n)) where
+    abbrev named_at : Way → Effects
     named_at parts z = walk_to_last t user parts >>= λ n. tell n z
 
     named_last : P (λ z. read_path path >>= λ parts. named_at parts z)
@@ -67,16 +68,16 @@ module _ (t : Tree) (user : User) (now : ℕ) (P : Effects → Type 0) (steps : 
         steps _ (read_path path) named_at (plain_read path) (λ parts _.
         steps _ (walk_to_last t user parts) tell (plain_walk_to_last t user parts) (λ n _. each n))
 
-  pub lstat_each : (path : List ℕ) → ((n : ℕ) (node : Node) → P (λ z. Ok (node_is (attributes_of n node), t))) → P (λ z. lstat t user path)
+  pub lstat_each : (path : PathFrom) → ((n : ℕ) (node : Node) → P (λ z. Ok (node_is (attributes_of n node), t))) → P (λ z. lstat t user path)
   lstat_each path each = named_last path (λ n z. node_at t n >>= λ node. Ok (node_is (attributes_of n node), t)) (λ n.
       steps _ (node_at t n) (λ node z. Ok (node_is (attributes_of n node), t)) (plain_node t n) (λ node _. each n node))
 
-  pub readlink_each : (path : List ℕ) → ((target : List ℕ) → P (λ z. Ok (some_bytes target, t))) → P (λ z. readlink t user path)
+  pub readlink_each : (path : PathFrom) → ((target : List ℕ) → P (λ z. Ok (some_bytes target, t))) → P (λ z. readlink t user path)
   readlink_each path each = named_last path (λ n z. or_refuse (target_of (t.nodes n)) EINVAL >>= λ target. Ok (some_bytes target, t)) (λ n.
       steps _ (or_refuse (target_of (t.nodes n)) EINVAL) (λ target z. Ok (some_bytes target, t)) (plain_or _ _ refl)
       (λ target _. each target))
 
-  pub chmod_each : (path : List ℕ) (mode : ℕ)
+  pub chmod_each : (path : PathFrom) (mode : ℕ)
       → (mode ≤ most_permissions → (n : ℕ) (node : Node) → t.nodes n ≡ Some node → P (λ z. Ok (done, with_node t n (Some (with_ctime now (record node { permissions = mode }))))))
       → P (λ z. chmod t user now path mode)
   chmod_each path mode each =
@@ -84,18 +85,18 @@ module _ (t : Tree) (user : User) (now : ℕ) (P : Effects → Type 0) (steps : 
       (plain_refuse _ _ refl) (λ x fits.
       changed_each path (λ node. not (is_owner user node)) (λ node. with_ctime now (record node { permissions = mode })) (each (ltb-false most_permissions mode (passed _ _ x fits))))
 
-  pub chown_each : (path : List ℕ) (uid gid : ℕ)
+  pub chown_each : (path : PathFrom) (uid gid : ℕ)
       → ((n : ℕ) (node : Node) → t.nodes n ≡ Some node → P (λ z. Ok (done, with_node t n (Some (with_ctime now (record node { uid = uid; gid = gid }))))))
       → P (λ z. chown t user now path uid gid)
   chown_each path uid gid each = changed_each path (λ node. not (user.uid == 0)) (λ node. with_ctime now (record node { uid = uid; gid = gid })) each
 
-  pub utime_each : (path : List ℕ) (atime mtime : ℕ)
+  pub utime_each : (path : PathFrom) (atime mtime : ℕ)
       → ((n : ℕ) (node : Node) → t.nodes n ≡ Some node → P (λ z. Ok (done, with_node t n (Some (with_ctime now (record node { atime = atime; mtime = mtime }))))))
       → P (λ z. utime t user now path atime mtime)
   utime_each path atime mtime each = changed_each path (λ node. not (is_owner user node)) (λ node. with_ctime now (record node { atime = atime; mtime = mtime })) each
 
   -- A file that another size is set of.
-  module _ (path : List ℕ) (size : ℕ) (set_size : ℕ → Node → File → Effects)
+  module _ (path : PathFrom) (size : ℕ) (set_size : ℕ → Node → File → Effects)
       (each : (n : ℕ) (node : Node) (f : File) → size ≤ most_size → t.nodes n ≡ Some node → node.body ≡ is_file f → node.symbolic ≡ false
       → P (set_size n node f)) where
     abbrev at_regular : ℕ → Node → File → Effects
@@ -116,7 +117,7 @@ module _ (t : Tree) (user : User) (now : ℕ) (P : Effects → Type 0) (steps : 
         steps _ (refuse_if (not (may_access user node to_write)) EACCES) (λ _. set_size n node f) (plain_refuse _ _ refl) (λ _ _.
         each n node f (ltb-false most_size size (passed _ _ x fits)) there (file_is node EISDIR f is_f) (passed _ _ y regular))))))
 
-  pub truncate_each : (g : Geometry) (path : List ℕ) (size : ℕ)
+  pub truncate_each : (g : Geometry) (path : PathFrom) (size : ℕ)
       → ((n : ℕ) (node : Node) (f : File) → size ≤ most_size → t.nodes n ≡ Some node → node.body ≡ is_file f → node.symbolic ≡ false
       → P (λ z. Ok (done, with_node t n (Some (with_body now (is_file (file_after_resize g f size)) node)))))
       → P (λ z. truncate g t user now path size)
@@ -124,13 +125,13 @@ module _ (t : Tree) (user : User) (now : ℕ) (P : Effects → Type 0) (steps : 
 
   -- A file that loses a name.
   pub record IsUnlinked (n : ℕ) (node : Node) (place : Place) : Type 0 where
-    pub parts : List Name
+    pub parts : Way
     pub walked : parent_walk t user parts ≡ Ok place
     pub found : inode_of place.names place.name ≡ Some n
     pub there : t.nodes n ≡ Some node
     pub file : is_dir node ≡ false
 
-  module _ (path : List ℕ) (lose : Place → ℕ → Effects) (each : (n : ℕ) (node : Node) (place : Place) → IsUnlinked n node place → P (lose place n)) where
+  module _ (path : PathFrom) (lose : Place → ℕ → Effects) (each : (n : ℕ) (node : Node) (place : Place) → IsUnlinked n node place → P (lose place n)) where
     abbrev from_node : Place → ℕ → Node → Effects
     from_node place n node z = refuse_if (is_dir node) EPERM >>= λ _. lose place n z
 
@@ -146,10 +147,10 @@ module _ (t : Tree) (user : User) (now : ℕ) (P : Effects → Type 0) (steps : 
     abbrev from_place : Place → Effects
     from_place place z = or_refuse (inode_of place.names place.name) ENOENT >>= λ n. from_name place n z
 
-    abbrev from_last : List Name → Effects
+    abbrev from_last : Way → Effects
     from_last parts z = parent_walk t user parts >>= λ place. from_place place z
 
-    abbrev from_parts : List Name → Effects
+    abbrev from_parts : Way → Effects
     from_parts parts z = refuse_if (not (has_last_name parts)) EINVAL >>= λ _. from_last parts z
 
     named_each : P (λ z. read_path path >>= λ parts. from_parts parts z)
@@ -164,6 +165,6 @@ module _ (t : Tree) (user : User) (now : ℕ) (P : Effects → Type 0) (steps : 
         steps _ (refuse_if (is_dir node) EPERM) (λ _. lose place n) (plain_refuse _ _ refl) (λ x file.
         each n node place (record { parts = parts; walked = walked; found = was_there _ _ _ named; there = was_there _ _ _ at_node; file = passed _ _ x file })))))))))
 
-  pub unlink_each : (path : List ℕ) → ((n : ℕ) (node : Node) (place : Place) → IsUnlinked n node place → P (λ z. Ok (done, with_name_lost (without_entry t now place) now n)))
+  pub unlink_each : (path : PathFrom) → ((n : ℕ) (node : Node) (place : Place) → IsUnlinked n node place → P (λ z. Ok (done, with_name_lost (without_entry t now place) now n)))
       → P (λ z. unlink t user now path)
   unlink_each path each = named_each path (λ place n z. Ok (done, with_name_lost (without_entry t now place) now n)) each

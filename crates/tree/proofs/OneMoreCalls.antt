@@ -54,17 +54,17 @@ module _ (g : Geometry) (t : Tree) (full : NoInodeFree g t) (who : Who) (now : �
   -- a call that may make a node wants an inode
   call_wants : (call : Call) → may_make call ≡ true → WantsInode g t (λ z. effect_in_session (volumes g z) t who now call)
   call_wants (Open path flags mode) _ =
-      open_up_to_inode g t (user_of who) now who.session path.now flags.0 mode (WantsInode g t) (wants_closed g t) (volumes g)
+      open_up_to_inode g t (user_of who) now who.session path flags.0 mode (WantsInode g t) (wants_closed g t) (volumes g)
       (λ slot n node is.
       wants_none g t (descriptor slot.fd) (λ z. with_open (after_truncate_flag (volumes g z) t now flags.0 n node) slot n flags.0) (λ z.
       cut_is (volumes g z) t now flags.0 n (λ u. IsNoMore u t) (no_more_itself t) node.body node (λ f body. no_more_at t n node _ is.at_inode)))
       (λ slot place parts asked.
       wants_inode g t full (descriptor slot.fd) (with_new_file t (user_of who) now flags.0 mode slot place) (file_there flags.0 mode slot place))
   call_wants (Mkdir path mode) _ =
-      mkdir_up_to_inode g t (user_of who) now (WantsInode g t) (wants_closed g t) (volumes g) path.now mode (λ place parent asked.
+      mkdir_up_to_inode g t (user_of who) now (WantsInode g t) (wants_closed g t) (volumes g) path mode (λ place parent asked.
       wants_inode g t full done (with_new_directory t (user_of who) now mode place) (directory_there mode place))
   call_wants (Symlink target path) _ =
-      symlink_up_to_inode g t (user_of who) now (WantsInode g t) (wants_closed g t) (volumes g) target.now path.now (λ place asked.
+      symlink_up_to_inode g t (user_of who) now (WantsInode g t) (wants_closed g t) (volumes g) target.now path (λ place asked.
       wants_inode g t full done (with_new_link t (user_of who) now target.now place) (link_there target.now place))
   call_wants (Readlink path) never = absurd (false_not_true never)
   call_wants (Lstat path) never = absurd (false_not_true never)

@@ -1,5 +1,5 @@
 -- Open keeps a tree a tree.
-use Rattle.std.proofs.Common.{◌≡◌, ◌<◌, ◌+◌, ◌^◌, ℕ, List, Bool, true, false, refl, sym, ap, subst, ◌∙◌, arith}
+use Rattle.std.proofs.Common.{◌≡◌, ◌<◌, ◌+◌, ◌^◌, ℕ, Bool, true, false, refl, sym, ap, subst, ◌∙◌, arith}
 use mathlib.Core.Logic.{inl, inr}
 use Rattle.std.specs.Prelude.{Option, None, Some, is_some, Ok, Result, not, IsTrue, if◌then◌else◌, ◌&&◌}
 use Rattle.std.specs.List.{All}
@@ -7,16 +7,16 @@ use Rattle.std.proofs.lemmas.Bool.{cases_Bool, cond_both, cond-true, cond-false,
 use Rattle.lemmas.proofs.Bools.{false_not_true}
 use Rattle.layout.specs.declared.Geometry.{Geometry}
 use Rattle.layout.specs.Places.{IsGeometry}
+use Rattle.tree.specs.declared.PathFrom.{PathFrom}
 use Rattle.tree.specs.declared.User.{User}
 use Rattle.tree.specs.declared.Call.TheVariants.{Open}
-use Rattle.tree.specs.Names.{Name, inode_of}
+use Rattle.tree.specs.Names.{inode_of}
 use Rattle.tree.specs.Flags.{writes, truncates}
 use Rattle.tree.specs.Tree.{Body, File, is_file, is_directory, Node, Tree, is_dir, is_dir_at, is_link_at, with_node, most_sessions}
 use Rattle.errno.specs.declared.Errno.{Errno}
-use Rattle.tree.proofs.Walks.{walk_ends_at_no_link}
 use Rattle.tree.specs.IsTree.{HasTarget, IsTree}
 use Rattle.tree.specs.Refusals.{◌>>=◌}
-use Rattle.tree.specs.Walk.{Place, Found, is_there, is_missing, found_at, finds_link, open_look_up, look_up, walk_parts, parent_walk}
+use Rattle.tree.specs.Walk.{Place, Found, is_there, is_missing, found_at, finds_link, open_look_up, look_up, walk_parts, parent_walk, Way}
 use Rattle.tree.specs.Walk.{has_last_name}
 use Rattle.tree.specs.Changes.{new_node, empty_file, with_body, file_after_resize}
 use Rattle.tree.specs.Answers.{descriptor, if_it_fits}
@@ -38,7 +38,7 @@ use Rattle.tree.proofs.Linked.{linked}
 use Rattle.tree.proofs.Keeping.{Keeps, keeps_closed, in_session, taken_if_it_fits}
 
 -- What a name that is missing tells.
-pub record IsMissingAt (t : Tree) (user : User) (parts : List Name) (place : Place) : Type 0 where
+pub record IsMissingAt (t : Tree) (user : User) (parts : Way) (place : Place) : Type 0 where
   pub last : has_last_name parts ≡ true
   pub walked : parent_walk t user parts ≡ Ok place
   pub free : inode_of place.names place.name ≡ None
@@ -59,7 +59,7 @@ found_missing place other None e h = (e, ap (place_or place) (sym (ap (λ o. eli
 found_missing place other (Some n) e h = absurd (false_not_true (ap is_missing_place (sym (ap (λ o. elim o [ None ↦ is_missing place | Some n ↦ is_there n ]) e) ∙ h)))
 
 -- a look-up that finds no name
-pub missing_at : (t : Tree) (user : User) (parts : List Name) (place : Place) → look_up t user parts ≡ Ok (is_missing place) → IsMissingAt t user parts place
+pub missing_at : (t : Tree) (user : User) (parts : Way) (place : Place) → look_up t user parts ≡ Ok (is_missing place) → IsMissingAt t user parts place
 missing_at t user parts place h = elim (cases_Bool (has_last_name parts)) [
   | inl last ↦
       let looked = sym (cond-true (has_last_name parts) (parent_walk t user parts >>= λ x. Ok (found_at x)) (walk_parts t user parts >>= λ n. Ok (is_there n)) last) ∙ h in
@@ -77,11 +77,11 @@ missing_at t user parts place h = elim (cases_Bool (has_last_name parts)) [
 ]
 
 -- what open finds where its look-up found this
-abbrev after_look : (t : Tree) (user : User) (as_is : Bool) (parts : List Name) (x : Found) → Result Found Errno
+abbrev after_look : (t : Tree) (user : User) (as_is : Bool) (parts : Way) (x : Found) → Result Found Errno
 after_look t user as_is parts x = if not as_is && finds_link t x then (walk_parts t user parts >>= λ n. Ok (is_there n)) else Ok x
 
 -- a look-up for open finds no name where the look-up finds none
-open_missing_at : (t : Tree) (user : User) (as_is : Bool) (parts : List Name) (place : Place)
+open_missing_at : (t : Tree) (user : User) (as_is : Bool) (parts : Way) (place : Place)
     → open_look_up t user as_is parts ≡ Ok (is_missing place) → look_up t user parts ≡ Ok (is_missing place)
 open_missing_at t user as_is parts place h =
     let first = both_steps (look_up t user parts) (after_look t user as_is parts) (is_missing place) h in
@@ -92,28 +92,6 @@ open_missing_at t user as_is parts place h =
           absurd (false_not_true
           (ap is_missing_place (ok_is (is_there walked.0) (is_missing place) (Ok (is_there walked.0)) refl walked.2)))
       | inr stays ↦ first.1 ∙ sym (cond-false _ (walk_parts t user parts >>= λ n. Ok (is_there n)) (Ok first.0) stays) ∙ first.2
-    ]
-
--- the node that was found
-abbrev node_or : ℕ → Found → ℕ
-node_or x (is_there n) = n
-node_or x (is_missing place) = x
-
--- where links are followed, what open finds is no link
-open_finds_no_link : (t : Tree) (user : User) (parts : List Name) (n : ℕ) → is_link_at t.nodes 1 ≡ false
-    → open_look_up t user false parts ≡ Ok (is_there n) → is_link_at t.nodes n ≡ false
-open_finds_no_link t user parts n root h =
-    let first = both_steps (look_up t user parts) (after_look t user false parts) (is_there n) h in
-    elim (cases_Bool (finds_link t first.0)) [
-      | inl followed ↦
-          let walked = both_steps (walk_parts t user parts) (λ m. Ok (is_there m)) (is_there n)
-          (sym (cond-true _ (walk_parts t user parts >>= λ m. Ok (is_there m)) (Ok first.0) followed) ∙ first.2) in
-          let same : walked.0 ≡ n = ap (node_or 0) (ok_is (is_there walked.0) (is_there n) (Ok (is_there walked.0)) refl walked.2) in
-          walk_ends_at_no_link t user parts n root (walked.1 ∙ ap Ok same)
-      | inr stays ↦
-          let same : first.0 ≡ is_there n = ok_is first.0 (is_there n) (Ok first.0) refl
-          (sym (cond-false _ (walk_parts t user parts >>= λ m. Ok (is_there m)) (Ok first.0) stays) ∙ first.2) in
-          sym (ap (finds_link t) same) ∙ stays
     ]
 
 -- the root of a tree is no link
@@ -139,9 +117,9 @@ pub cut_is : (g : Geometry) (t : Tree) (now flags n : ℕ) (Q : Tree → Type 0)
 cut_is g t now flags n Q stays (is_file f) node cut = cond_both (truncates flags) _ t Q (λ _. cut f refl) (λ _. stays)
 cut_is g t now flags n Q stays (is_directory d) node cut = stays
 
-module _ (g : Geometry) (t : Tree) (user : User) (now session : ℕ) (path : List ℕ) (flags mode : ℕ) (session_in : session < most_sessions)
-    (is : IsGeometry g) (uid : user.uid < 2 ^ 16) (gid : user.gid < 2 ^ 16) (small : now < 2 ^ 32) (bytes : All (λ b. b < 256) path) (tree : IsTree g t) where
-  slot_free : (slot : Slot) (parts : List Name) (found : Found) → IsAsked g t user now session path flags mode (Keeps g t) (keeps_closed g t tree) slot parts found
+module _ (g : Geometry) (t : Tree) (user : User) (now session : ℕ) (path : PathFrom) (flags mode : ℕ) (session_in : session < most_sessions)
+    (is : IsGeometry g) (uid : user.uid < 2 ^ 16) (gid : user.gid < 2 ^ 16) (small : now < 2 ^ 32) (bytes : All (λ b. b < 256) path.bytes.now) (tree : IsTree g t) where
+  slot_free : (slot : Slot) (parts : Way) (found : Found) → IsAsked g t user now session path flags mode (Keeps g t) (keeps_closed g t tree) slot parts found
       → (u : Tree) → IsOver t u → IsFreeSlot u slot
   slot_free slot parts found asked u over = record {
     session = let same = asked.session_is in omega (arith, same, session_in);
@@ -150,14 +128,6 @@ module _ (g : Geometry) (t : Tree) (user : User) (now session : ℕ) (path : Lis
     no_descriptor = ap (λ f. f slot.session slot.fd) over.descriptors ∙ ap (λ s. t.descriptors s slot.fd) asked.session_is ∙ asked.fd.1;
     no_file = ap (λ f. f slot.number) over.files ∙ asked.number.1;
   }
-
-  -- a node that is opened is no link
-  no_link : (slot : Slot) (n : ℕ) (node : Node) → IsThere g t user now session path flags mode (Keeps g t)
-      (keeps_closed g t tree) slot n node → node.symbolic ≡ false
-  no_link slot n node is_it =
-      sym (ap (λ o. elim o [ None ↦ false | Some x ↦ x.symbolic ]) is_it.at_inode)
-      ∙ open_finds_no_link t user is_it.parts n (root_no_link g t tree)
-      (subst (λ b. open_look_up t user b is_it.parts ≡ Ok (is_there n)) is_it.not_exclusive is_it.asked.looked)
 
   opened_there : (slot : Slot) (n : ℕ) (node : Node) → IsThere g t user now session path flags mode (Keeps g t) (keeps_closed g t tree) slot n node
       → IsTree g (with_open (after_truncate_flag g t now flags n node) slot n flags)
@@ -171,7 +141,7 @@ module _ (g : Geometry) (t : Tree) (user : User) (now session : ℕ) (path : Lis
       let new = with_body now (is_file (file_after_resize g f 0)) node in
       let u = with_node t n (Some new) in
       opened_is_tree g u
-      (file_changed g t n now node f (file_after_resize g f 0) small is_it.at_inode body (no_link slot n node is_it)
+      (file_changed g t n now node f (file_after_resize g f 0) small is_it.at_inode body is_it.no_link
       (resized_fits g f 0 (omega arith) (file_fits g node f (tree.nodes.each n node is_it.at_inode) body)) tree)
       slot (slot_free slot is_it.parts (is_there n) is_it.asked u (record { files = refl; descriptors = refl })) n flags
       (ap is_some (put-same t.nodes n (Some new))) good (λ w. ap kind_of (put-same t.nodes n (Some new))))
@@ -204,6 +174,6 @@ module _ (g : Geometry) (t : Tree) (user : User) (now session : ℕ) (path : Lis
 -- open
 pub open_keeps : OpenKeeps
 open_keeps g t who now path flags mode is caller small bytes tree = in_session g t who now (Open path flags mode) tree (λ session_in.
-    open_each g t (user_of who) now who.session path.now flags.0 mode (Keeps g t) (keeps_closed g t tree) (λ _. tree)
-    (opened_there g t (user_of who) now who.session path.now flags.0 mode session_in is caller.uid caller.gid small bytes tree)
-    (opened_new g t (user_of who) now who.session path.now flags.0 mode session_in is caller.uid caller.gid small bytes tree))
+    open_each g t (user_of who) now who.session path flags.0 mode (Keeps g t) (keeps_closed g t tree) (λ _. tree)
+    (opened_there g t (user_of who) now who.session path flags.0 mode session_in is caller.uid caller.gid small bytes tree)
+    (opened_new g t (user_of who) now who.session path flags.0 mode session_in is caller.uid caller.gid small bytes tree))

@@ -1,15 +1,15 @@
 -- What holds of the refusals and of the successes of open holds of the call.
-use Rattle.std.proofs.Common.{◌≡◌, ◌<◌, ◌≤◌, ℕ, List, false, refl}
+use Rattle.std.proofs.Common.{◌≡◌, ◌<◌, ◌≤◌, ℕ, false, refl}
 use Rattle.std.specs.Prelude.{None, Some, Ok, Err, not, ◌&&◌, ◌||◌, nat_lt}
 use Rattle.std.proofs.lemmas.Bool.{ltb-false, or_parts}
 use Rattle.layout.specs.declared.Geometry.{Geometry}
-use Rattle.errno.specs.declared.Errno.TheVariants.{ENOENT, EACCES, EEXIST, EISDIR, EINVAL, ENFILE, EMFILE, ENOSPC}
+use Rattle.errno.specs.declared.Errno.TheVariants.{ENOENT, EACCES, EEXIST, EISDIR, EINVAL, ENFILE, EMFILE, ELOOP, ENOSPC}
+use Rattle.tree.specs.declared.PathFrom.{PathFrom}
 use Rattle.tree.specs.declared.User.{User}
-use Rattle.tree.specs.Names.{Name}
 use Rattle.tree.specs.Flags.{reads, writes, creates, is_exclusive, bad_flags}
 use Rattle.tree.specs.Tree.{Node, Tree, is_dir, with_node, most_descriptors, most_open_files, most_permissions}
 use Rattle.tree.specs.Refusals.{◌>>=◌, refuse_if, free_place}
-use Rattle.tree.specs.Walk.{read_path, node_at, Place, Found, is_there, is_missing, open_look_up, may_access, to_read, to_write}
+use Rattle.tree.specs.Walk.{read_path, node_at, Place, Found, is_there, is_missing, open_look_up, may_access, to_read, to_write, Way}
 use Rattle.tree.specs.Changes.{new_node, empty_file, free_inode}
 use Rattle.tree.specs.Answers.{descriptor, if_it_fits}
 use Rattle.tree.specs.NameCalls.{with_entry}
@@ -24,9 +24,9 @@ abbrev pub with_new_file : Tree → User → ℕ → ℕ → ℕ → Slot → Pl
 with_new_file t user now flags mode slot place n =
     with_open (with_entry (with_node t n (Some (new_node now user mode 1 empty_file))) now place n) slot n flags
 
-module _ (g : Geometry) (t : Tree) (user : User) (now session : ℕ) (path : List ℕ) (flags mode : ℕ) (P : Effects → Type 0) (steps : IsClosed P) where
+module _ (g : Geometry) (t : Tree) (user : User) (now session : ℕ) (path : PathFrom) (flags mode : ℕ) (P : Effects → Type 0) (steps : IsClosed P) where
   -- What open has asked before it looks at what it found.
-  pub record IsAsked (slot : Slot) (parts : List Name) (found : Found) : Type 0 where
+  pub record IsAsked (slot : Slot) (parts : Way) (found : Found) : Type 0 where
     pub good : bad_flags flags ≡ false
     pub fits : mode ≤ most_permissions
     pub session_is : slot.session ≡ session
@@ -37,22 +37,23 @@ module _ (g : Geometry) (t : Tree) (user : User) (now session : ℕ) (path : Lis
 
   -- A node that is there.
   pub record IsThere (slot : Slot) (n : ℕ) (node : Node) : Type 0 where
-    pub parts : List Name
+    pub parts : Way
     pub asked : IsAsked slot parts (is_there n)
     pub at_inode : t.nodes n ≡ Some node
     pub not_exclusive : (creates flags && is_exclusive flags) ≡ false
+    pub no_link : node.symbolic ≡ false
     pub not_a_directory : (is_dir node && writes flags) ≡ false
 
   -- A name that is missing, and an inode for it.
   pub record IsMissing (slot : Slot) (place : Place) (n : ℕ) : Type 0 where
-    pub parts : List Name
+    pub parts : Way
     pub asked : IsAsked slot parts (is_missing place)
     pub inode : IsFree g t n
 
   -- Up to the inode, over any volumes: what holds of a node that is there, and of a missing name that asks for an inode, holds of the call.
   module _ (volumes : ℕ → Geometry)
       (there : (slot : Slot) (n : ℕ) (node : Node) → IsThere slot n node → P (λ z. Ok (descriptor slot.fd, with_open (after_truncate_flag (volumes z) t now flags n node) slot n flags)))
-      (asks : (slot : Slot) (place : Place) (parts : List Name) → IsAsked slot parts (is_missing place)
+      (asks : (slot : Slot) (place : Place) (parts : Way) → IsAsked slot parts (is_missing place)
       → P (λ z. free_inode (volumes z) t >>= λ n. if_it_fits (volumes z) (descriptor slot.fd) (with_new_file t user now flags mode slot place n))) where
     abbrev open_node : Slot → ℕ → Node → Effects
     open_node slot n node z = Ok (descriptor slot.fd, with_open (after_truncate_flag (volumes z) t now flags n node) slot n flags)
@@ -60,8 +61,11 @@ module _ (g : Geometry) (t : Tree) (user : User) (now session : ℕ) (path : Lis
     abbrev may_open : Slot → ℕ → Node → Effects
     may_open slot n node z = refuse_if ((reads flags && not (may_access user node to_read)) || (writes flags && not (may_access user node to_write))) EACCES >>= λ _. open_node slot n node z
 
+    abbrev at_no_link : Slot → ℕ → Node → Effects
+    at_no_link slot n node z = refuse_if (is_dir node && writes flags) EISDIR >>= λ _. may_open slot n node z
+
     abbrev at_node : Slot → ℕ → Node → Effects
-    at_node slot n node z = refuse_if (is_dir node && writes flags) EISDIR >>= λ _. may_open slot n node z
+    at_node slot n node z = refuse_if node.symbolic ELOOP >>= λ _. at_no_link slot n node z
 
     abbrev from_node : Slot → ℕ → Effects
     from_node slot n z = node_at t n >>= λ node. at_node slot n node z
@@ -75,10 +79,11 @@ module _ (g : Geometry) (t : Tree) (user : User) (now session : ℕ) (path : Lis
     abbrev from_place : Slot → Place → Effects
     from_place slot place z = node_at t place.directory >>= λ parent. at_parent slot place parent z
 
-    found_each : (slot : Slot) (parts : List Name) (found : Found) → IsAsked slot parts found → P (λ z. open_found (volumes z) t user now slot flags mode found)
+    found_each : (slot : Slot) (parts : Way) (found : Found) → IsAsked slot parts found → P (λ z. open_found (volumes z) t user now slot flags mode found)
     found_each slot parts (is_there n) asked =
         steps _ (refuse_if (creates flags && is_exclusive flags) EEXIST) (λ _. from_node slot n) (plain_refuse _ _ refl) (λ y shared.
         steps _ (node_at t n) (at_node slot n) (plain_node t n) (λ node node_is.
+        steps _ (refuse_if node.symbolic ELOOP) (λ _. at_no_link slot n node) (plain_refuse _ _ refl) (λ u plain.
         steps _ (refuse_if (is_dir node && writes flags) EISDIR) (λ _. may_open slot n node) (plain_refuse _ _ refl) (λ x file.
         steps _ (refuse_if ((reads flags && not (may_access user node to_read)) || (writes flags && not (may_access user node to_write))) EACCES) (λ _. open_node slot n node) (plain_refuse _ _ refl) (λ _ _.
         there slot n node
@@ -87,8 +92,9 @@ module _ (g : Geometry) (t : Tree) (user : User) (now session : ℕ) (path : Lis
           asked = asked;
           at_inode = was_there _ _ _ node_is;
           not_exclusive = passed _ _ y shared;
+          no_link = passed _ _ u plain;
           not_a_directory = passed _ _ x file;
-        })))))
+        }))))))
     found_each slot parts (is_missing place) asked =
         steps _ (refuse_if (not (creates flags)) ENOENT) (λ _. from_place slot place) (plain_refuse _ _ refl) (λ _ _.
         steps _ (node_at t place.directory) (at_parent slot place) (plain_node t place.directory) (λ parent _.
@@ -101,7 +107,7 @@ module _ (g : Geometry) (t : Tree) (user : User) (now session : ℕ) (path : Lis
     abbrev at_found : ℕ → ℕ → Found → Effects
     at_found fd k found z = open_found (volumes z) t user now (slot_at fd k) flags mode found
 
-    abbrev at_parts : ℕ → ℕ → List Name → Effects
+    abbrev at_parts : ℕ → ℕ → Way → Effects
     at_parts fd k parts z = open_look_up t user (creates flags && is_exclusive flags) parts >>= λ found. at_found fd k found z
 
     abbrev at_slot : ℕ → ℕ → Effects

@@ -1,16 +1,17 @@
 -- The refusals of link, open and rename, in their order.
-use Rattle.std.proofs.Common.{◌≡◌, ℕ, List, Bool, true, false, ap, ◌∙◌}
+use Rattle.std.proofs.Common.{◌≡◌, ℕ, Bool, true, false, ap, ◌∙◌}
 use Rattle.std.specs.Prelude.{Some, Result, Ok, Err, not, ◌&&◌, ◌||◌, nat_le, nat_lt, if◌then◌else◌}
 use Rattle.std.proofs.lemmas.Bool.{cond-false}
 use Rattle.layout.specs.declared.Geometry.{Geometry}
 use Rattle.errno.specs.declared.Errno.{Errno}
-use Rattle.errno.specs.declared.Errno.TheVariants.{EPERM, ENOENT, EACCES, EEXIST, EISDIR, EINVAL, EMLINK, EMFILE, ENFILE}
+use Rattle.errno.specs.declared.Errno.TheVariants.{EPERM, ENOENT, EACCES, EEXIST, EISDIR, EINVAL, EMLINK, EMFILE, ENFILE, ELOOP}
+use Rattle.tree.specs.declared.PathFrom.{PathFrom}
 use Rattle.tree.specs.declared.User.{User}
-use Rattle.tree.specs.Names.{Name, inode_of}
+use Rattle.tree.specs.Names.{inode_of}
 use Rattle.tree.specs.Flags.{reads, writes, creates, is_exclusive, bad_flags}
 use Rattle.tree.specs.Tree.{Node, Tree, is_dir, with_node, most_links, most_descriptors, most_open_files, most_permissions}
 use Rattle.tree.specs.Refusals.{◌>>=◌, or_refuse, refuse_if, free_place}
-use Rattle.tree.specs.Walk.{read_path, walk_to_last, parent_walk, node_at, has_last_name, is_taken, Place, Found, open_look_up, may_access}
+use Rattle.tree.specs.Walk.{read_path, walk_to_last, parent_walk, node_at, has_last_name, is_taken, Place, Found, open_look_up, may_access, Way}
 use Rattle.tree.specs.Walk.{to_read, to_write}
 use Rattle.tree.specs.Changes.{with_ctime, more_links, new_node, empty_file, free_inode}
 use Rattle.tree.specs.Answers.{done, descriptor, Effect, if_it_fits}
@@ -38,7 +39,7 @@ holds b e f h = ap (λ x. refuse_if x e >>= λ _. f) h
 at_there : (t : Tree) (n : ℕ) (node : Node) (f : Node → Effect) → t.nodes n ≡ Some node → (node_at t n >>= f) ≡ f node
 at_there t n node f h = goes_on (node_at t n) f node (ap (λ o. or_refuse o ENOENT) h)
 
-module _ (g : Geometry) (t : Tree) (user : User) (now : ℕ) (old new : List ℕ) where
+module _ (g : Geometry) (t : Tree) (user : User) (now : ℕ) (old new : PathFrom) where
   abbrev put_link : ℕ → Node → Place → Effect
   put_link n node place = if_it_fits g done (with_entry (with_node t n (Some (with_ctime now (more_links 1 node)))) now place n)
 
@@ -48,26 +49,26 @@ module _ (g : Geometry) (t : Tree) (user : User) (now : ℕ) (old new : List ℕ
   abbrev at_free : ℕ → Node → Place → Effect
   at_free n node place = node_at t place.directory >>= at_parent n node place
 
-  abbrev at_place : List Name → ℕ → Node → Place → Effect
+  abbrev at_place : Way → ℕ → Node → Place → Effect
   at_place qs n node place = refuse_if (is_taken place qs) EEXIST >>= λ _. at_free n node place
 
-  abbrev at_few : List Name → ℕ → Node → Effect
+  abbrev at_few : Way → ℕ → Node → Effect
   at_few qs n node = parent_walk t user qs >>= at_place qs n node
 
-  abbrev at_file : List Name → ℕ → Node → Effect
+  abbrev at_file : Way → ℕ → Node → Effect
   at_file qs n node = refuse_if (nat_le most_links node.links) EMLINK >>= λ _. at_few qs n node
 
-  abbrev at_node : List Name → ℕ → Node → Effect
+  abbrev at_node : Way → ℕ → Node → Effect
   at_node qs n node = refuse_if (is_dir node) EPERM >>= λ _. at_file qs n node
 
-  abbrev after_new_read : List Name → List Name → Effect
+  abbrev after_new_read : Way → Way → Effect
   after_new_read ps qs = walk_to_last t user ps >>= λ n. node_at t n >>= at_node qs n
 
-  abbrev after_old_read : List Name → Effect
+  abbrev after_old_read : Way → Effect
   after_old_read ps = read_path new >>= after_new_read ps
 
   -- link as far as its node
-  to_node : (ps qs : List Name) (n : ℕ) (node : Node) → read_path old ≡ Ok ps → read_path new ≡ Ok qs → walk_to_last t user ps ≡ Ok n
+  to_node : (ps qs : Way) (n : ℕ) (node : Node) → read_path old ≡ Ok ps → read_path new ≡ Ok qs → walk_to_last t user ps ≡ Ok n
       → t.nodes n ≡ Some node
       → link g t user now old new ≡ at_node qs n node
   to_node ps qs n node a b c d =
@@ -75,7 +76,7 @@ module _ (g : Geometry) (t : Tree) (user : User) (now : ℕ) (old new : List ℕ
       ∙ goes_on (walk_to_last t user ps) (λ m. node_at t m >>= at_node qs m) n c ∙ at_there t n node (at_node qs n) d
 
   -- link as far as its new place
-  to_place : (ps qs : List Name) (n : ℕ) (node : Node) → read_path old ≡ Ok ps → read_path new ≡ Ok qs → walk_to_last t user ps ≡ Ok n
+  to_place : (ps qs : Way) (n : ℕ) (node : Node) → read_path old ≡ Ok ps → read_path new ≡ Ok qs → walk_to_last t user ps ≡ Ok n
       → t.nodes n ≡ Some node
       → is_dir node ≡ false → nat_le most_links node.links ≡ false → link g t user now old new ≡ at_few qs n node
   to_place ps qs n node a b c d e f = to_node ps qs n node a b c d ∙ passes (is_dir node) EPERM (at_file qs n node) e ∙ passes (nat_le most_links node.links) EMLINK (at_few qs n node) f
@@ -106,8 +107,11 @@ module _ (g : Geometry) (t : Tree) (user : User) (now : ℕ) (slot : Slot) (flag
   abbrev at_openable : ℕ → Node → Effect
   at_openable n node = refuse_if ((reads flags && not (may_access user node to_read)) || (writes flags && not (may_access user node to_write))) EACCES >>= λ _. open_it n node
 
+  abbrev at_no_link : ℕ → Node → Effect
+  at_no_link n node = refuse_if (is_dir node && writes flags) EISDIR >>= λ _. at_openable n node
+
   abbrev at_found : ℕ → Node → Effect
-  at_found n node = refuse_if (is_dir node && writes flags) EISDIR >>= λ _. at_openable n node
+  at_found n node = refuse_if node.symbolic ELOOP >>= λ _. at_no_link n node
 
   abbrev make_it : Place → ℕ → Effect
   make_it place n = if_it_fits g (descriptor slot.fd) (with_open (with_entry (with_node t n (Some (new_node now user mode 1 empty_file))) now place n) slot n flags)
@@ -121,9 +125,15 @@ module _ (g : Geometry) (t : Tree) (user : User) (now : ℕ) (slot : Slot) (flag
   pub found_in_order : FoundRefusesInOrder g t user now slot flags mode
   found_in_order = record {
     exclusive = λ n h. holds (creates flags && is_exclusive flags) EEXIST (node_at t n >>= at_found n) h;
-    directory = λ n node a b h. passes (creates flags && is_exclusive flags) EEXIST (node_at t n >>= at_found n) a ∙ at_there t n node (at_found n) b ∙ holds (is_dir node && writes flags) EISDIR (at_openable n node) h;
-    permission = λ n node a b c h.
-        passes (creates flags && is_exclusive flags) EEXIST (node_at t n >>= at_found n) a ∙ at_there t n node (at_found n) b ∙ passes (is_dir node && writes flags) EISDIR (at_openable n node) c
+    symbolic = λ n node a b h.
+        passes (creates flags && is_exclusive flags) EEXIST (node_at t n >>= at_found n) a ∙ at_there t n node (at_found n) b
+        ∙ holds node.symbolic ELOOP (at_no_link n node) h;
+    directory = λ n node a b c h.
+        passes (creates flags && is_exclusive flags) EEXIST (node_at t n >>= at_found n) a ∙ at_there t n node (at_found n) b
+        ∙ passes node.symbolic ELOOP (at_no_link n node) c ∙ holds (is_dir node && writes flags) EISDIR (at_openable n node) h;
+    permission = λ n node a b c d h.
+        passes (creates flags && is_exclusive flags) EEXIST (node_at t n >>= at_found n) a ∙ at_there t n node (at_found n) b
+        ∙ passes node.symbolic ELOOP (at_no_link n node) c ∙ passes (is_dir node && writes flags) EISDIR (at_openable n node) d
         ∙ holds _ EACCES (open_it n node) h;
     missing = λ place h. holds (not (creates flags)) ENOENT (at_missing place) (ap not h);
     parent = λ place parent a b h.
@@ -138,11 +148,11 @@ module _ (g : Geometry) (t : Tree) (user : User) (now : ℕ) (slot : Slot) (flag
 pub found_order : FoundOrder
 found_order = found_in_order
 
-module _ (g : Geometry) (t : Tree) (user : User) (now session : ℕ) (path : List ℕ) (flags mode : ℕ) where
+module _ (g : Geometry) (t : Tree) (user : User) (now session : ℕ) (path : PathFrom) (flags mode : ℕ) where
   abbrev after_look : ℕ → ℕ → Found → Effect
   after_look fd k found = open_found g t user now (record { session = session; fd = fd; number = k }) flags mode found
 
-  abbrev after_path : ℕ → ℕ → List Name → Effect
+  abbrev after_path : ℕ → ℕ → Way → Effect
   after_path fd k ps = open_look_up t user (creates flags && is_exclusive flags) ps >>= after_look fd k
 
   abbrev after_number : ℕ → ℕ → Effect
@@ -178,7 +188,7 @@ module _ (g : Geometry) (t : Tree) (user : User) (now session : ℕ) (path : Lis
 pub open_order : OpenOrder
 open_order = open_in_order
 
-module _ (g : Geometry) (t : Tree) (user : User) (now : ℕ) (old new : List ℕ) where
+module _ (g : Geometry) (t : Tree) (user : User) (now : ℕ) (old new : PathFrom) where
   abbrev move_onto : Place → Place → ℕ → Node → Effect
   move_onto from to n node = rename_onto g t now from to n node (inode_of to.names to.name)
 
@@ -194,34 +204,34 @@ module _ (g : Geometry) (t : Tree) (user : User) (now : ℕ) (old new : List ℕ
   abbrev move_from_parent : Place → Place → ℕ → Node → Effect
   move_from_parent from to n p = refuse_if (not (may_access user p to_write)) EACCES >>= λ _. node_at t to.directory >>= move_to_parent from to n
 
-  abbrev move_to : List Name → Place → ℕ → Place → Effect
+  abbrev move_to : Way → Place → ℕ → Place → Effect
   move_to qs from n to = node_at t from.directory >>= move_from_parent from to n
 
-  abbrev move_from : List Name → Place → Effect
+  abbrev move_from : Way → Place → Effect
   move_from qs from = or_refuse (inode_of from.names from.name) ENOENT >>= λ n. parent_walk t user qs >>= move_to qs from n
 
-  abbrev move_after_new : List Name → List Name → Effect
+  abbrev move_after_new : Way → Way → Effect
   move_after_new ps qs = refuse_if (not (has_last_name ps) || not (has_last_name qs)) EINVAL >>= λ _. parent_walk t user ps >>= move_from qs
 
-  abbrev move_after_old : List Name → Effect
+  abbrev move_after_old : Way → Effect
   move_after_old ps = read_path new >>= move_after_new ps
 
-  abbrev lasts : List Name → List Name → Bool
+  abbrev lasts : Way → Way → Bool
   lasts ps qs = not (has_last_name ps) || not (has_last_name qs)
 
   -- rename as far as its old place
-  to_old : (ps qs : List Name) → read_path old ≡ Ok ps → read_path new ≡ Ok qs → lasts ps qs ≡ false → rename g t user now old new ≡ (parent_walk t user ps >>= move_from qs)
+  to_old : (ps qs : Way) → read_path old ≡ Ok ps → read_path new ≡ Ok qs → lasts ps qs ≡ false → rename g t user now old new ≡ (parent_walk t user ps >>= move_from qs)
   to_old ps qs a b c = goes_on (read_path old) move_after_old ps a ∙ goes_on (read_path new) (move_after_new ps) qs b ∙ passes (lasts ps qs) EINVAL (parent_walk t user ps >>= move_from qs) c
 
   -- rename as far as its new place
-  to_new : (ps qs : List Name) (from : Place) (n : ℕ) → read_path old ≡ Ok ps → read_path new ≡ Ok qs → lasts ps qs ≡ false → parent_walk t user ps ≡ Ok from
+  to_new : (ps qs : Way) (from : Place) (n : ℕ) → read_path old ≡ Ok ps → read_path new ≡ Ok qs → lasts ps qs ≡ false → parent_walk t user ps ≡ Ok from
       → inode_of from.names from.name ≡ Some n → rename g t user now old new ≡ (parent_walk t user qs >>= move_to qs from n)
   to_new ps qs from n a b c d e =
       to_old ps qs a b c ∙ goes_on (parent_walk t user ps) (move_from qs) from d
       ∙ goes_on (or_refuse (inode_of from.names from.name) ENOENT) (λ m. parent_walk t user qs >>= move_to qs from m) n (ap (λ o. or_refuse o ENOENT) e)
 
   -- rename as far as the permission of the new place's directory
-  to_permission : (ps qs : List Name) (from to : Place) (n : ℕ) (p q : Node) → read_path old ≡ Ok ps → read_path new ≡ Ok qs → lasts ps qs ≡ false
+  to_permission : (ps qs : Way) (from to : Place) (n : ℕ) (p q : Node) → read_path old ≡ Ok ps → read_path new ≡ Ok qs → lasts ps qs ≡ false
       → parent_walk t user ps ≡ Ok from → inode_of from.names from.name ≡ Some n → parent_walk t user qs ≡ Ok to → t.nodes from.directory ≡ Some p
       → may_access user p to_write ≡ true → t.nodes to.directory ≡ Some q → rename g t user now old new ≡ move_to_parent from to n q
   to_permission ps qs from to n p q a b c d e w there may other =
@@ -229,7 +239,7 @@ module _ (g : Geometry) (t : Tree) (user : User) (now : ℕ) (old new : List ℕ
       ∙ passes (not (may_access user p to_write)) EACCES (node_at t to.directory >>= move_to_parent from to n) (ap not may) ∙ at_there t to.directory q (move_to_parent from to n) other
 
   -- rename as far as its nodes
-  to_nodes : (ps qs : List Name) (from to : Place) (n : ℕ) (p q node : Node) → IsRenameAsked t user old new ps qs from to n p q node → rename g t user now old new ≡ move_node from to n node
+  to_nodes : (ps qs : Way) (from to : Place) (n : ℕ) (p q node : Node) → IsRenameAsked t user old new ps qs from to n p q node → rename g t user now old new ≡ move_node from to n node
   to_nodes ps qs from to n p q node is =
       to_permission ps qs from to n p q is.old_read is.new_read is.last is.from_walked is.found is.to_walked is.from_there is.from_may is.to_there
       ∙ passes (not (may_access user q to_write)) EACCES (node_at t n >>= move_node from to n) (ap not is.to_may) ∙ at_there t n node (move_node from to n) is.there
@@ -238,7 +248,7 @@ module _ (g : Geometry) (t : Tree) (user : User) (now : ℕ) (old new : List ℕ
   within to n node = is_dir node && is_within g t to.directory n
 
   -- rename as far as what stands at the new place
-  to_onto : (ps qs : List Name) (from to : Place) (n : ℕ) (p q node : Node) → IsRenameAsked t user old new ps qs from to n p q node
+  to_onto : (ps qs : Way) (from to : Place) (n : ℕ) (p q node : Node) → IsRenameAsked t user old new ps qs from to n p q node
       → is_same n (inode_of to.names to.name) ≡ false → within to n node ≡ false → rename g t user now old new ≡ move_onto from to n node
   to_onto ps qs from to n p q node is other outside =
       to_nodes ps qs from to n p q node is ∙ cond-false (is_same n (inode_of to.names to.name)) (Ok (done, t)) (move_apart from to n node) other

@@ -81,7 +81,7 @@ module _ (g : Geometry) (t : Tree) (who : Who) (now : ℕ) (s : ℕ) (other : s 
 
   call_stays : (call : Call) → Stays (λ z. effect_in_session (with_zones z g) t who now call)
   call_stays (Open path flags mode) =
-      open_each g t (user_of who) now who.session path.now flags.0 mode Stays closed (λ _. refl)
+      open_each g t (user_of who) now who.session path flags.0 mode Stays closed (λ _. refl)
       (λ slot n node is. opened_stays (after_truncate_flag g t now flags.0 n node) slot n flags.0 (over_cut g t now flags.0 n node) is.asked.session_is)
       (λ slot place n is. let made = with_entry (with_node t n (Some (new_node now (user_of who) mode 1 empty_file))) now place n in
       fit_stays _ (with_open made slot n flags.0)
@@ -92,42 +92,42 @@ module _ (g : Geometry) (t : Tree) (who : Who) (now : ℕ) (s : ℕ) (other : s 
   call_stays (Write fd bytes) = write_each t who.session Stays closed g now fd bytes.now (λ found node f _ _. refl)
       (λ found node f _ _ _ _. fit_stays _ _ refl)
   call_stays (Seek fd whence offset) = seek_each t who.session Stays closed fd whence offset (λ found node f at _ _ _. refl)
-  call_stays (Stat path) = stat_each t (user_of who) now Stays closed path.now (λ n node _. refl)
+  call_stays (Stat path) = stat_each t (user_of who) now Stays closed path (λ n node _. refl)
   call_stays (Fstat fd) = fstat_each t who.session Stays closed fd (λ found node. refl)
   call_stays (Link old new) =
-      link_each g t (user_of who) now Stays closed old.now new.now (λ n node place made.
+      link_each g t (user_of who) now Stays closed old new (λ n node place made.
       fit_stays _ (with_entry (with_node t n (Some (with_ctime now (more_links 1 node)))) now place n)
       (over_stays _ (over_on_node t _ place.directory _ (over_with_node t t n _ (over_itself t)))))
   call_stays (Unlink path) =
-      unlink_each t (user_of who) now Stays closed path.now (λ n node place _.
+      unlink_each t (user_of who) now Stays closed path (λ n node place _.
       over_stays (with_name_lost (without_entry t now place) now n)
       (over_nameless t (on_node (without_entry t now place) n (with_link_lost now)) n (over_on_node t _ n _ (over_on_node t t place.directory _ (over_itself t)))))
   call_stays (Mkdir path mode) =
-      mkdir_each g t (user_of who) now Stays closed path.now mode (λ _. refl) (λ n place parent made.
+      mkdir_each g t (user_of who) now Stays closed path mode (λ _. refl) (λ n place parent made.
       fit_stays _ (on_node (with_entry (with_node t n (Some (new_node now (user_of who) mode 2 (empty_directory place.directory)))) now place n) place.directory (more_links 1))
       (over_stays _ (over_on_node t _ place.directory _ (over_on_node t _ place.directory _ (over_with_node t t n _ (over_itself t))))))
   call_stays (Rmdir path) =
-      rmdir_each g t (user_of who) now Stays closed path.now (λ n node place _.
+      rmdir_each g t (user_of who) now Stays closed path (λ n node place _.
       over_stays (with_node (on_node (without_entry t now place) place.directory (fewer_links 1)) n None)
       (over_with_node t (on_node (without_entry t now place) place.directory (fewer_links 1)) n None (over_on_node t _ place.directory _ (over_on_node t t place.directory _ (over_itself t)))))
   call_stays (Rename old new) =
-      rename_each g t (user_of who) now old.now new.now Stays closed refl
+      rename_each g t (user_of who) now old new Stays closed refl
       (λ from to n node _. fit_stays _ (with_moved (without_moved t now from node) now to n node) (over_stays _ (over_moved t now from to n node)))
       (λ from to n node q another _. fit_stays _ (without_replaced (with_moved (without_moved t now from node) now to n node) now to q another)
       (over_stays _ (over_replaced t _ now to q another (over_moved t now from to n node))))
-  call_stays (Chmod path mode) = chmod_each t (user_of who) now Stays closed path.now mode (λ _ n node _. refl)
-  call_stays (Chown path uid gid) = chown_each t (user_of who) now Stays closed path.now uid gid (λ n node _. refl)
-  call_stays (Utime path atime mtime) = utime_each t (user_of who) now Stays closed path.now atime mtime (λ n node _. refl)
-  call_stays (Truncate path size) = truncate_each t (user_of who) now Stays closed g path.now size (λ n node f _ _ _ _. refl)
+  call_stays (Chmod path mode) = chmod_each t (user_of who) now Stays closed path mode (λ _ n node _. refl)
+  call_stays (Chown path uid gid) = chown_each t (user_of who) now Stays closed path uid gid (λ n node _. refl)
+  call_stays (Utime path atime mtime) = utime_each t (user_of who) now Stays closed path atime mtime (λ n node _. refl)
+  call_stays (Truncate path size) = truncate_each t (user_of who) now Stays closed g path size (λ n node f _ _ _ _. refl)
   call_stays (Readdir fd) = readdir_each t who.session Stays closed fd (λ found node d _ _ _. refl)
   call_stays Sync = refl
   call_stays Statfs = refl
   call_stays (Symlink target path) =
-      symlink_each g t (user_of who) now Stays closed target.now path.now (λ _. refl) (λ n place made.
+      symlink_each g t (user_of who) now Stays closed target.now path (λ _. refl) (λ n place made.
       fit_stays _ (with_new_link t (user_of who) now target.now place n)
       (over_stays _ (over_on_node t _ place.directory _ (over_with_node t t n _ (over_itself t)))))
-  call_stays (Readlink path) = readlink_each t (user_of who) now Stays closed path.now (λ target. refl)
-  call_stays (Lstat path) = lstat_each t (user_of who) now Stays closed path.now (λ n node. refl)
+  call_stays (Readlink path) = readlink_each t (user_of who) now Stays closed path (λ target. refl)
+  call_stays (Lstat path) = lstat_each t (user_of who) now Stays closed path (λ n node. refl)
 
   stays : (call : Call) → Stays (λ z. effect_of (with_zones z g) t who now call)
   stays call = closed _ (refuse_if (nat_le most_sessions who.session) EINVAL) (λ _ z. effect_in_session (with_zones z g) t who now call) (plain_refuse _ _ refl) (λ _ _. call_stays call)

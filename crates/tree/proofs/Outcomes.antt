@@ -1,6 +1,6 @@
 -- What holds of each refusal, and of each success, of a call holds of the call. A call is looked at on volumes of all sizes
 -- at once: an effect for each number of zones.
-use Rattle.std.proofs.Common.{◌≡◌, ◌≤◌, ◌+◌, ◌-◌, ℕ, List, Bool, true, false, refl, sym, ap, subst, ◌∙◌, arith, length}
+use Rattle.std.proofs.Common.{◌≡◌, ◌≤◌, ◌+◌, ◌-◌, ℕ, Bool, true, false, refl, sym, ap, subst, ◌∙◌, arith, length}
 use mathlib.Core.Logic.{inl, inr, ◌⊎◌}
 use Rattle.std.specs.Prelude.{Option, None, Some, is_some, is_none, IsTrue, Result, Ok, Err, not, ◌==◌, ◌||◌, ◌&&◌, nat_lt, if◌then◌else◌}
 use Rattle.std.specs.List.{list_any}
@@ -9,13 +9,16 @@ use Rattle.lemmas.proofs.Bools.{false_not_true}
 use Rattle.layout.specs.declared.Geometry.{Geometry}
 use Rattle.errno.specs.declared.Errno.{Errno}
 use Rattle.errno.specs.declared.Errno.TheVariants.{ENOENT, EACCES, EINVAL, ENAMETOOLONG, ENOSPC}
+use Rattle.tree.specs.declared.PathFrom.{PathFrom}
+use Rattle.tree.specs.declared.Start.{Start}
+use Rattle.tree.specs.declared.Start.TheVariants.{Root, Inode}
 use Rattle.tree.specs.declared.User.{User}
 use Rattle.tree.specs.Sums.{some_below, least_below}
-use Rattle.tree.specs.Names.{Name, Names, most_name, same_name, dot, dot_dot, inode_of}
+use Rattle.tree.specs.Names.{Name, Names, same_name, dot, dot_dot, inode_of}
 use Rattle.tree.specs.Tree.{Body, is_file, is_directory, Node, Tree}
 use Rattle.tree.specs.Refusals.{◌>>=◌, or_refuse, refuse_if, free_place}
-use Rattle.tree.specs.Walk.{read_path, parts_of, begins_with_slash, most_path, enter, next, walk_parts, walk, node_at, parent_walk}
-use Rattle.tree.specs.Walk.{has_last_name, all_but_last, last_part, Found, is_there, is_missing, found_at, found_or, finds_link, look_up}
+use Rattle.tree.specs.Walk.{is_root, first_node, parent_way, has_long_part, read_path, parts_of, begins_with_slash, most_path, enter, next, walk_parts, walk, node_at, parent_walk, Way}
+use Rattle.tree.specs.Walk.{has_last_name, last_part, Found, is_there, is_missing, found_at, found_or, finds_link, look_up}
 use Rattle.tree.specs.Walk.{open_look_up, walk_to_last, may_access, to_search}
 use Rattle.tree.specs.Changes.{free_inode}
 use Rattle.tree.specs.Answers.{Effect}
@@ -90,43 +93,56 @@ plain_step : (t : Tree) (user : User) (here : ℕ) (part : Name) → is_plain (e
 plain_step t user here part = plain_bind (enter user (t.nodes here)) (λ dir. next here dir.0 dir.1 part) (plain_enter user (t.nodes here))
     (λ dir. plain_next here dir.0 dir.1 part)
 
--- a walk from the root
-pub plain_walk_parts : (t : Tree) (user : User) (parts : List Name) → is_plain (walk_parts t user parts) ≡ true
-plain_walk_parts t user = walks_keep t user (λ _. Unit {0}) (λ r. is_plain r ≡ true) (record {
+-- the node where a walk begins
+plain_first : (t : Tree) (user : User) (start : Start) → is_plain (first_node t user start) ≡ true
+plain_first t user Root = refl
+plain_first t user (Inode n) =
+    plain_bind (refuse_if (not (user.uid == 0)) EACCES) (λ _. node_at t n >>= λ _. Ok n) (plain_refuse _ _ refl) (λ _.
+    plain_bind (node_at t n) (λ _. Ok n) (plain_node t n) (λ _. refl))
+
+-- a walk
+pub plain_walk_parts : (t : Tree) (user : User) (way : Way) → is_plain (walk_parts t user way) ≡ true
+plain_walk_parts t user way = walks_keep t user (λ _. Unit {0}) (λ r. is_plain r ≡ true) (record {
   root = tt;
   steps = λ here there part at is none. tt;
   refused = λ here part e is. subst (λ r. is_plain r ≡ true) is (plain_step t user here part);
   looping = refl;
   long = refl;
   reached = λ here at. refl;
-})
+}) way (λ n is. tt) (λ e is. subst (λ r. is_plain r ≡ true) is (plain_first t user way.start))
 
 -- a path that is read
-pub plain_read : (path : List ℕ) → is_plain (read_path path) ≡ true
+pub plain_read : (path : PathFrom) → is_plain (read_path path) ≡ true
 plain_read path =
-    plain_bind (refuse_if (length path == 0) ENOENT) (λ _. refuse_if (nat_lt most_path (length path)) ENAMETOOLONG >>= λ _. from_fitting) (plain_refuse _ ENOENT refl) (λ _.
-    plain_bind (refuse_if (nat_lt most_path (length path)) ENAMETOOLONG) (λ _. from_fitting) (plain_refuse _ ENAMETOOLONG refl) (λ _.
-    plain_bind (refuse_if (not (begins_with_slash path) || list_any (λ c. c == 0) path) EINVAL) (λ _. from_clean) (plain_refuse _ EINVAL refl) (λ _.
-    plain_bind (refuse_if (list_any (λ part. nat_lt most_name (length part)) (parts_of path)) ENAMETOOLONG) (λ _. Ok (parts_of path)) (plain_refuse _ ENAMETOOLONG refl) (λ _. refl))))
+    plain_bind (refuse_if (is_root path.start && (length path.bytes.now == 0)) ENOENT) (λ _. from_some) (plain_refuse _ ENOENT refl) (λ _.
+    plain_bind (refuse_if (nat_lt most_path (length path.bytes.now)) ENAMETOOLONG) (λ _. from_fitting) (plain_refuse _ ENAMETOOLONG refl) (λ _.
+    plain_bind (refuse_if ((is_root path.start && not (begins_with_slash path.bytes.now)) || list_any (λ c. c == 0) path.bytes.now) EINVAL) (λ _. from_clean) (plain_refuse _ EINVAL refl) (λ _.
+    plain_bind (refuse_if (has_long_part path.bytes.now) ENAMETOOLONG) (λ _. from_short) (plain_refuse _ ENAMETOOLONG refl) (λ _. refl))))
   where
-    from_clean : Result (List Name) Errno
-    from_clean = refuse_if (list_any (λ part. nat_lt most_name (length part)) (parts_of path)) ENAMETOOLONG >>= λ _. Ok (parts_of path)
+    from_short : Result Way Errno
+    from_short = Ok (record { start = if begins_with_slash path.bytes.now then Root else path.start; parts = parts_of path.bytes.now })
 
-    from_fitting : Result (List Name) Errno
-    from_fitting = refuse_if (not (begins_with_slash path) || list_any (λ c. c == 0) path) EINVAL >>= λ _. from_clean
+    from_clean : Result Way Errno
+    from_clean = refuse_if (has_long_part path.bytes.now) ENAMETOOLONG >>= λ _. from_short
+
+    from_fitting : Result Way Errno
+    from_fitting = refuse_if ((is_root path.start && not (begins_with_slash path.bytes.now)) || list_any (λ c. c == 0) path.bytes.now) EINVAL >>= λ _. from_clean
+
+    from_some : Result Way Errno
+    from_some = refuse_if (nat_lt most_path (length path.bytes.now)) ENAMETOOLONG >>= λ _. from_fitting
 
 -- a walk along a path
-pub plain_walk : (t : Tree) (user : User) (path : List ℕ) → is_plain (walk t user path) ≡ true
+pub plain_walk : (t : Tree) (user : User) (path : PathFrom) → is_plain (walk t user path) ≡ true
 plain_walk t user path = plain_bind (read_path path) (walk_parts t user) (plain_read path) (plain_walk_parts t user)
 
 -- a walk to a place
-pub plain_parent_walk : (t : Tree) (user : User) (parts : List Name) → is_plain (parent_walk t user parts) ≡ true
+pub plain_parent_walk : (t : Tree) (user : User) (parts : Way) → is_plain (parent_walk t user parts) ≡ true
 plain_parent_walk t user parts =
-    plain_bind (walk_parts t user (all_but_last parts)) (λ here. enter user (t.nodes here) >>= λ dir. Ok (record { directory = here; names = dir.1; name = last_part parts })) (plain_walk_parts t user (all_but_last parts)) (λ here.
-    plain_bind (enter user (t.nodes here)) (λ dir. Ok (record { directory = here; names = dir.1; name = last_part parts })) (plain_enter user (t.nodes here)) (λ dir. refl))
+    plain_bind (walk_parts t user (parent_way parts)) (λ here. enter user (t.nodes here) >>= λ dir. Ok (record { directory = here; names = dir.1; name = last_part parts.parts })) (plain_walk_parts t user (parent_way parts)) (λ here.
+    plain_bind (enter user (t.nodes here)) (λ dir. Ok (record { directory = here; names = dir.1; name = last_part parts.parts })) (plain_enter user (t.nodes here)) (λ dir. refl))
 
 -- a look-up
-pub plain_look_up : (t : Tree) (user : User) (parts : List Name) → is_plain (look_up t user parts) ≡ true
+pub plain_look_up : (t : Tree) (user : User) (parts : Way) → is_plain (look_up t user parts) ≡ true
 plain_look_up t user parts =
     cond_both (has_last_name parts) (parent_walk t user parts >>= λ place. Ok (found_at place)) (walk_parts t user parts >>= λ n. Ok (is_there n)) (λ r. is_plain r ≡ true)
     (λ _. plain_bind (parent_walk t user parts) (λ place. Ok (found_at place)) (plain_parent_walk t user parts) (λ place. refl))
@@ -138,12 +154,12 @@ plain_found (is_there n) = refl
 plain_found (is_missing place) = refl
 
 -- a walk that doesn't follow its last part
-pub plain_walk_to_last : (t : Tree) (user : User) (parts : List Name) → is_plain (walk_to_last t user parts) ≡ true
+pub plain_walk_to_last : (t : Tree) (user : User) (parts : Way) → is_plain (walk_to_last t user parts) ≡ true
 plain_walk_to_last t user parts = plain_bind (look_up t user parts) (λ found. found_or found ENOENT) (plain_look_up t user parts)
     (λ found. plain_found found)
 
 -- a look-up for open
-pub plain_open_look_up : (t : Tree) (user : User) (as_is : Bool) (parts : List Name) → is_plain (open_look_up t user as_is parts) ≡ true
+pub plain_open_look_up : (t : Tree) (user : User) (as_is : Bool) (parts : Way) → is_plain (open_look_up t user as_is parts) ≡ true
 plain_open_look_up t user as_is parts =
     plain_bind (look_up t user parts) (λ found. if not as_is && finds_link t found then (walk_parts t user parts >>= λ n. Ok (is_there n))
     else Ok found) (plain_look_up t user parts) (λ found.

@@ -1,7 +1,7 @@
 -- The place that a parent walk finds, and a directory without one of its names.
-use Rattle.std.proofs.Common.{◌≡◌, ℕ, List, Bool, true, false, refl, sym, ap, subst, ◌∙◌, arith, [], ◌∷◌, cond}
+use Rattle.std.proofs.Common.{◌≡◌, ℕ, Bool, true, refl, sym, ap, subst, ◌∙◌, arith, [], ◌∷◌, cond}
 use mathlib.Core.Logic.{inl, inr}
-use Rattle.std.specs.Prelude.{T, Option, None, Some, Ok, Err, not}
+use Rattle.std.specs.Prelude.{Option, None, Some, Ok, Err, not}
 use Rattle.std.specs.List.{list_all}
 use Rattle.std.specs.Ordering.{eq_by_cmp, is_eq}
 use Rattle.std.specs.Cmp.{alike_right}
@@ -15,7 +15,7 @@ use Rattle.tree.specs.Names.{Name, Names, name_cmp, is_name, inode_of, without_n
 use Rattle.tree.specs.Tree.{Body, Directory, is_file, is_directory, Node, Tree}
 use Rattle.tree.specs.IsTree.{IsDirectory}
 use Rattle.tree.specs.Refusals.{◌>>=◌}
-use Rattle.tree.specs.Walk.{enter, may_access, to_search, walk_parts, parent_walk, Place, all_but_last, last_part}
+use Rattle.tree.specs.Walk.{enter, may_access, to_search, walk_parts, parent_walk, parent_way, Place, last_part, Way}
 use Rattle.tree.proofs.Maps.{not_nothing}
 use Rattle.tree.proofs.Steps.{not_refused, ok_is, both_steps}
 
@@ -56,12 +56,12 @@ entered user None dir h = absurd (not_refused ENOENT dir h)
 entered user (Some node) dir h = entered_body user node.body node dir refl h
 
 -- a place that a parent walk finds
-pub is_place : (t : Tree) (user : User) (parts : List Name) (place : Place) → parent_walk t user parts ≡ Ok place → IsPlace t place
+pub is_place : (t : Tree) (user : User) (parts : Way) (place : Place) → parent_walk t user parts ≡ Ok place → IsPlace t place
 is_place t user parts place h =
-    let first = both_steps (walk_parts t user (all_but_last parts)) (λ here. enter user (t.nodes here) >>= λ dir. Ok (record { directory = here; names = dir.1; name = last_part parts })) place h in
-    let second = both_steps (enter user (t.nodes first.0)) (λ dir. Ok (record { directory = first.0; names = dir.1; name = last_part parts })) place first.2 in
+    let first = both_steps (walk_parts t user (parent_way parts)) (λ here. enter user (t.nodes here) >>= λ dir. Ok (record { directory = here; names = dir.1; name = last_part parts.parts })) place h in
+    let second = both_steps (enter user (t.nodes first.0)) (λ dir. Ok (record { directory = first.0; names = dir.1; name = last_part parts.parts })) place first.2 in
     let found = entered user (t.nodes first.0) second.0 second.1 in
-    subst (IsPlace t) (ok_is _ place (Ok (record { directory = first.0; names = second.0.1; name = last_part parts })) refl second.2)
+    subst (IsPlace t) (ok_is _ place (Ok (record { directory = first.0; names = second.0.1; name = last_part parts.parts })) refl second.2)
     (record { node = found.node; directory = found.directory; there = found.there; body = found.body; names = found.same })
 
 -- all names that are left can be names

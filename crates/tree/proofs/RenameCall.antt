@@ -1,12 +1,13 @@
 -- Rename keeps a tree a tree.
-use Rattle.std.proofs.Common.{◌≡◌, ◌≢◌, ◌<◌, ◌^◌, ℕ, List, Bool, true, false, sym, ap, subst, ◌∙◌}
+use Rattle.std.proofs.Common.{◌≡◌, ◌≢◌, ◌<◌, ◌^◌, ℕ, true, false, sym, ap, subst, ◌∙◌}
 use mathlib.Core.Logic.{inl, inr}
 use Rattle.std.specs.Prelude.{None, is_some, not, ◌&&◌}
 use Rattle.std.specs.List.{All}
-use Rattle.std.proofs.lemmas.Bool.{cases_Bool, cond-true, cond-false, and_cases, not-false, not_from_false}
-use Rattle.lemmas.proofs.Bools.{and_false_right, false_not_true}
+use Rattle.std.proofs.lemmas.Bool.{cases_Bool, cond-true, cond-false, not-false, not_from_false}
+use Rattle.lemmas.proofs.Bools.{and_false_right}
 use Rattle.layout.specs.declared.Geometry.{Geometry}
 use Rattle.layout.specs.Places.{IsGeometry}
+use Rattle.tree.specs.declared.PathFrom.{PathFrom}
 use Rattle.tree.specs.declared.User.{User}
 use Rattle.tree.specs.declared.Call.TheVariants.{Rename}
 use Rattle.tree.specs.Names.{is_name}
@@ -30,8 +31,8 @@ use Rattle.tree.proofs.MovedFile.{file_moved, file_moved_onto}
 use Rattle.tree.proofs.MovedTree.{directory_moved, directory_moved_onto}
 use Rattle.tree.proofs.Keeping.{Keeps, keeps_closed, as_it_is, in_session, taken_if_it_fits}
 
-module _ (g : Geometry) (t : Tree) (user : User) (now : ℕ) (old_path new_path : List ℕ) (is : IsGeometry g) (small : now < 2 ^ 32)
-    (bytes : All (λ b. b < 256) new_path) (tree : IsTree g t) where
+module _ (g : Geometry) (t : Tree) (user : User) (now : ℕ) (old_path new_path : PathFrom) (is : IsGeometry g) (small : now < 2 ^ 32)
+    (bytes : All (λ b. b < 256) new_path.bytes.now) (tree : IsTree g t) where
   is_named : (old new : Place) (n : ℕ) (node : Node) → IsMove g t user now old_path new_path (Keeps g t) (keeps_closed g t tree) old new n node → is_name new.name ≡ true
   is_named old new n node move = last_named t user new_path move.new_parts new bytes move.read move.to move.last
 
@@ -84,6 +85,6 @@ module _ (g : Geometry) (t : Tree) (user : User) (now : ℕ) (old_path new_path 
 -- rename
 pub rename_keeps : RenameKeeps
 rename_keeps g t who now old new is small bytes tree = in_session g t who now (Rename old new) tree (λ _.
-    as_it_is g t (λ h. rename h t (user_of who) now old.now new.now)
-    (rename_each g t (user_of who) now old.now new.now (Keeps g t) (keeps_closed g t tree) tree
-    (to_free g t (user_of who) now old.now new.now is small bytes tree) (onto g t (user_of who) now old.now new.now is small bytes tree)))
+    as_it_is g t (λ h. rename h t (user_of who) now old new)
+    (rename_each g t (user_of who) now old new (Keeps g t) (keeps_closed g t tree) tree
+    (to_free g t (user_of who) now old new is small bytes tree) (onto g t (user_of who) now old new is small bytes tree)))

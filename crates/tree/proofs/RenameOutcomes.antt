@@ -1,15 +1,16 @@
 -- What holds of the refusals and of the successes of rename holds of the call.
-use Rattle.std.proofs.Common.{◌≡◌, ◌≢◌, ℕ, List, Bool, true, false, refl}
+use Rattle.std.proofs.Common.{◌≡◌, ◌≢◌, ℕ, Bool, true, false, refl}
 use Rattle.std.specs.Prelude.{Option, None, Some, Result, Ok, not, ◌&&◌, ◌||◌, ◌==◌, nat_le, if◌then◌else◌}
 use Rattle.std.proofs.lemmas.Bool.{or_parts, not-false, eqb-false}
 use Rattle.layout.specs.declared.Geometry.{Geometry}
 use Rattle.errno.specs.declared.Errno.{Errno}
 use Rattle.errno.specs.declared.Errno.TheVariants.{ENOENT, EACCES, EBUSY, EINVAL, EISDIR, ENOTDIR, ENOTEMPTY}
+use Rattle.tree.specs.declared.PathFrom.{PathFrom}
 use Rattle.tree.specs.declared.User.{User}
-use Rattle.tree.specs.Names.{Name, inode_of}
+use Rattle.tree.specs.Names.{inode_of}
 use Rattle.tree.specs.Tree.{Node, Tree, is_dir, is_open, most_links}
 use Rattle.tree.specs.Refusals.{◌>>=◌, or_refuse, refuse_if}
-use Rattle.tree.specs.Walk.{read_path, parent_walk, node_at, has_last_name, Place, may_access, to_write}
+use Rattle.tree.specs.Walk.{read_path, parent_walk, node_at, has_last_name, Place, may_access, to_write, Way}
 use Rattle.tree.specs.Answers.{done, if_it_fits}
 use Rattle.tree.specs.NameCalls.{is_empty, is_within, can_replace, has_room_for_link, without_moved, with_moved, without_replaced, rename_onto, is_same, rename}
 use Rattle.tree.proofs.Steps.{passed, was_there, both_steps}
@@ -54,11 +55,11 @@ pub at_test : (P : Effects → Type 0) (b : Bool) (F G : Effects) → (b ≡ tru
 at_test P true F G yes_case no_case = yes_case refl
 at_test P false F G yes_case no_case = no_case refl
 
-module _ (g : Geometry) (t : Tree) (user : User) (now : ℕ) (old_path new_path : List ℕ) (P : Effects → Type 0) (steps : IsClosed P) where
+module _ (g : Geometry) (t : Tree) (user : User) (now : ℕ) (old_path new_path : PathFrom) (P : Effects → Type 0) (steps : IsClosed P) where
   -- The node that moves, from its old place to the new one.
   pub record IsMove (old new : Place) (n : ℕ) (node : Node) : Type 0 where
-    pub old_parts : List Name
-    pub new_parts : List Name
+    pub old_parts : Way
+    pub new_parts : Way
     pub read_old : read_path old_path ≡ Ok old_parts
     pub read : read_path new_path ≡ Ok new_parts
     pub last : has_last_name new_parts ≡ true
@@ -141,19 +142,19 @@ module _ (g : Geometry) (t : Tree) (user : User) (now : ℕ) (old_path new_path 
     abbrev at_new : Place → ℕ → Place → Effects
     at_new old n new z = node_at t old.directory >>= λ parent. at_old_parent old new n parent z
 
-    abbrev at_found : List Name → Place → ℕ → Effects
+    abbrev at_found : Way → Place → ℕ → Effects
     at_found new_parts old n z = parent_walk t user new_parts >>= λ new. at_new old n new z
 
-    abbrev at_old : List Name → Place → Effects
+    abbrev at_old : Way → Place → Effects
     at_old new_parts old z = or_refuse (inode_of old.names old.name) ENOENT >>= λ n. at_found new_parts old n z
 
-    abbrev at_last : List Name → List Name → Effects
+    abbrev at_last : Way → Way → Effects
     at_last old_parts new_parts z = parent_walk t user old_parts >>= λ old. at_old new_parts old z
 
-    abbrev at_parts : List Name → List Name → Effects
+    abbrev at_parts : Way → Way → Effects
     at_parts old_parts new_parts z = refuse_if (not (has_last_name old_parts) || not (has_last_name new_parts)) EINVAL >>= λ _. at_last old_parts new_parts z
 
-    abbrev at_old_read : List Name → Effects
+    abbrev at_old_read : Way → Effects
     at_old_read old_parts z = read_path new_path >>= λ new_parts. at_parts old_parts new_parts z
 
     pub rename_each : P (λ z. rename (with_zones z g) t user now old_path new_path)

@@ -1,16 +1,17 @@
 -- A rename of one name of a node onto another of the same node changes nothing.
-use Rattle.std.proofs.Common.{◌≡◌, ℕ, List, refl, sym, subst, ◌∙◌}
+use Rattle.std.proofs.Common.{◌≡◌, ℕ, refl, sym, subst, ◌∙◌}
 use Rattle.std.specs.Prelude.{Some, Ok, Err, nat_le}
 use Rattle.lemmas.proofs.Options.{some_same}
 use Rattle.layout.specs.declared.Geometry.{Geometry}
 use Rattle.errno.specs.declared.Errno.TheVariants.{EINVAL}
+use Rattle.tree.specs.declared.PathFrom.{PathFrom}
 use Rattle.tree.specs.declared.User.{User}
 use Rattle.tree.specs.declared.Who.{Who}
-use Rattle.tree.specs.Names.{Name, inode_of}
+use Rattle.tree.specs.Names.{inode_of}
 use Rattle.tree.specs.Tree.{Tree, most_sessions}
 use Rattle.tree.specs.Refusals.{◌>>=◌, refuse_if}
 use Rattle.tree.specs.NameCalls.{rename}
-use Rattle.tree.specs.Walk.{Place, read_path, parent_walk}
+use Rattle.tree.specs.Walk.{Place, read_path, parent_walk, Way}
 use Rattle.tree.specs.Effects.{user_of}
 use Rattle.tree.proofs.Maps.{not_nothing}
 use Rattle.tree.specs.Room.{with_zones}
@@ -20,14 +21,14 @@ use Rattle.tree.proofs.Outcomes.{Effects, IsClosed, plain_refuse}
 use Rattle.tree.proofs.RenameOutcomes.{rename_each}
 
 -- what a name leads to, it leads to by each way of reading it
-same_found : (t : Tree) (user : User) (path : List ℕ) (n : ℕ) → IsNameOf t user path n → (parts : List Name) (place : Place) → read_path path ≡ Ok parts
+same_found : (t : Tree) (user : User) (path : PathFrom) (n : ℕ) → IsNameOf t user path n → (parts : Way) (place : Place) → read_path path ≡ Ok parts
     → parent_walk t user parts ≡ Ok place → inode_of place.names place.name ≡ Some n
 same_found t user path n name parts place read walked =
     let same_parts : name.parts ≡ parts = ok_is name.parts parts (read_path path) name.read read in
     let same_place : name.place ≡ place = ok_is name.place place (parent_walk t user parts) (subst (λ ps. parent_walk t user ps ≡ Ok name.place) same_parts name.walked) walked in
     subst (λ p. inode_of p.names p.name ≡ Some n) same_place name.found
 
-module _ (g : Geometry) (t : Tree) (who : Who) (now n : ℕ) (old new : List ℕ) (old_name : IsNameOf t (user_of who) old n) (new_name : IsNameOf t (user_of who) new n) where
+module _ (g : Geometry) (t : Tree) (who : Who) (now n : ℕ) (old new : PathFrom) (old_name : IsNameOf t (user_of who) old n) (new_name : IsNameOf t (user_of who) new n) where
   abbrev Stays : Effects → Type 0
   Stays F = tree_after t (F g.zones) ≡ t
 
@@ -47,4 +48,4 @@ module _ (g : Geometry) (t : Tree) (who : Who) (now n : ℕ) (old new : List ℕ
 
 -- rename
 pub rename_of_same_stays : RenameOfSameStays
-rename_of_same_stays g t who now n old new old_name new_name = same_stays g t who now n old.now new.now old_name new_name
+rename_of_same_stays g t who now n old new old_name new_name = same_stays g t who now n old new old_name new_name

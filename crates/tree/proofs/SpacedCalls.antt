@@ -104,7 +104,7 @@ module _ (g : Geometry) (sized : 0 < g.block_size) (t : Tree) (who : Who) (now :
 
   call_spaced : (call : Call) → IsSpaced g t (may_take call) (may_make call) (λ z. effect_in_session (with_zones z g) t who now call)
   call_spaced (Open path flags mode) =
-      open_each g t (user_of who) now who.session path.now flags.0 mode (IsSpaced g t true true) (spaced_closed g t true true)
+      open_each g t (user_of who) now who.session path flags.0 mode (IsSpaced g t true true) (spaced_closed g t true true)
       (spaced_full g t)
       (λ slot n node is. let cut = cut_less flags.0 n node is.at_inode in
       spaced_ok g t true true (λ _. descriptor slot.fd) (with_open (after_truncate_flag g t now flags.0 n node) slot n flags.0) cut.0 cut.1)
@@ -129,51 +129,51 @@ module _ (g : Geometry) (sized : 0 < g.block_size) (t : Tree) (who : Who) (now :
       seek_each t who.session (IsSpaced g t false false) (spaced_closed g t false false) fd whence offset (λ found node f at _ _ _.
       spaced_ok g t false false (λ _. position at) _ (no_less (zones_used g t)) (no_more_itself t))
   call_spaced (Stat path) =
-      stat_each t (user_of who) now (IsSpaced g t false false) (spaced_closed g t false false) path.now (λ n node _. same false false (node_is (attributes_of n node)))
+      stat_each t (user_of who) now (IsSpaced g t false false) (spaced_closed g t false false) path (λ n node _. same false false (node_is (attributes_of n node)))
   call_spaced (Fstat fd) =
       fstat_each t who.session (IsSpaced g t false false) (spaced_closed g t false false) fd (λ found node. same false false (node_is (attributes_of found.1.inode node)))
   call_spaced (Link old new) =
-      link_each g t (user_of who) now (IsSpaced g t true false) (spaced_closed g t true false) old.now new.now (λ n node place made.
+      link_each g t (user_of who) now (IsSpaced g t true false) (spaced_closed g t true false) old new (λ n node place made.
       spaced_fit g t false done (with_entry (with_node t n (Some (with_ctime now (more_links 1 node)))) now place n)
       (λ _. no_more_on t _ place.directory _ (no_more_at t n node _ made.there)))
   call_spaced (Unlink path) =
-      unlink_each t (user_of who) now (IsSpaced g t false false) (spaced_closed g t false false) path.now (λ n node place _.
+      unlink_each t (user_of who) now (IsSpaced g t false false) (spaced_closed g t false false) path (λ n node place _.
       spaced_ok g t false false (λ _. done) (with_name_lost (without_entry t now place) now n) (unlinked_less place n)
       (no_more_nameless t (on_node (without_entry t now place) n (with_link_lost now)) n (no_more_on t (without_entry t now place) n _ (no_more_on t t place.directory _ (no_more_itself t)))))
   call_spaced (Mkdir path mode) =
-      mkdir_each g t (user_of who) now (IsSpaced g t true true) (spaced_closed g t true true) path.now mode (spaced_full g t) (λ n place parent made.
+      mkdir_each g t (user_of who) now (IsSpaced g t true true) (spaced_closed g t true true) path mode (spaced_full g t) (λ n place parent made.
       spaced_fit g t true done
       (on_node (with_entry (with_node t n (Some (new_node now (user_of who) mode 2 (empty_directory place.directory)))) now place n) place.directory (more_links 1))
       (λ full. never_free n made.inode (full refl)))
   call_spaced (Rmdir path) =
-      rmdir_each g t (user_of who) now (IsSpaced g t false false) (spaced_closed g t false false) path.now (λ n node place _.
+      rmdir_each g t (user_of who) now (IsSpaced g t false false) (spaced_closed g t false false) path (λ n node place _.
       spaced_ok g t false false (λ _. done) (with_node (on_node (without_entry t now place) place.directory (fewer_links 1)) n None) (gone_less place n)
       (no_more_gone t (on_node (without_entry t now place) place.directory (fewer_links 1)) n (no_more_on t (without_entry t now place) place.directory _ (no_more_on t t place.directory _ (no_more_itself t)))))
   call_spaced (Rename old new) =
-      rename_each g t (user_of who) now old.now new.now (IsSpaced g t true false) (spaced_closed g t true false) (same true false done)
+      rename_each g t (user_of who) now old new (IsSpaced g t true false) (spaced_closed g t true false) (same true false done)
       (λ from to n node _. spaced_fit g t false done (with_moved (without_moved t now from node) now to n node) (λ _. moved_no_more from to n node))
       (λ from to n node q other _. spaced_fit g t false done (without_replaced (with_moved (without_moved t now from node) now to n node) now to q other)
       (λ _. replaced_no_more from to n node q other))
   call_spaced (Chmod path mode) =
-      chmod_each t (user_of who) now (IsSpaced g t false false) (spaced_closed g t false false) path.now mode (λ _ n node there. changed false false done n node _ there (no_less (zones_of g (Some node))))
+      chmod_each t (user_of who) now (IsSpaced g t false false) (spaced_closed g t false false) path mode (λ _ n node there. changed false false done n node _ there (no_less (zones_of g (Some node))))
   call_spaced (Chown path uid gid) =
-      chown_each t (user_of who) now (IsSpaced g t false false) (spaced_closed g t false false) path.now uid gid (λ n node there. changed false false done n node _ there (no_less (zones_of g (Some node))))
+      chown_each t (user_of who) now (IsSpaced g t false false) (spaced_closed g t false false) path uid gid (λ n node there. changed false false done n node _ there (no_less (zones_of g (Some node))))
   call_spaced (Utime path atime mtime) =
-      utime_each t (user_of who) now (IsSpaced g t false false) (spaced_closed g t false false) path.now atime mtime (λ n node there. changed false false done n node _ there (no_less (zones_of g (Some node))))
+      utime_each t (user_of who) now (IsSpaced g t false false) (spaced_closed g t false false) path atime mtime (λ n node there. changed false false done n node _ there (no_less (zones_of g (Some node))))
   call_spaced (Truncate path size) =
-      truncate_each t (user_of who) now (IsSpaced g t false false) (spaced_closed g t false false) g path.now size
+      truncate_each t (user_of who) now (IsSpaced g t false false) (spaced_closed g t false false) g path size
       (λ n node f _ there body _. changed false false done n node _ there (resized_less g now size node f body))
   call_spaced (Readdir fd) =
       readdir_each t who.session (IsSpaced g t false false) (spaced_closed g t false false) fd (λ found node d _ _ _. same false false (names_are d.names))
   call_spaced (Symlink target path) =
-      symlink_each g t (user_of who) now (IsSpaced g t true true) (spaced_closed g t true true) target.now path.now (spaced_full g t)
+      symlink_each g t (user_of who) now (IsSpaced g t true true) (spaced_closed g t true true) target.now path (spaced_full g t)
       (λ n place made.
       spaced_fit g t true done (with_new_link t (user_of who) now target.now place n) (λ full. never_free n made.inode (full refl)))
   call_spaced (Readlink path) =
-      readlink_each t (user_of who) now (IsSpaced g t false false) (spaced_closed g t false false) path.now
+      readlink_each t (user_of who) now (IsSpaced g t false false) (spaced_closed g t false false) path
       (λ target. same false false (some_bytes target))
   call_spaced (Lstat path) =
-      lstat_each t (user_of who) now (IsSpaced g t false false) (spaced_closed g t false false) path.now
+      lstat_each t (user_of who) now (IsSpaced g t false false) (spaced_closed g t false false) path
       (λ n node. same false false (node_is (attributes_of n node)))
   call_spaced Sync = same false false done
   call_spaced Statfs =

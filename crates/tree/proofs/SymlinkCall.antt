@@ -15,8 +15,8 @@ use Rattle.tree.proofs.Keeping.{Keeps, keeps_closed, in_session, taken_if_it_fit
 -- symlink
 pub symlink_keeps : SymlinkKeeps
 symlink_keeps g t who now target path is caller small are_bytes bytes tree = in_session g t who now (Symlink target path) tree (λ _.
-    symlink_each g t (user_of who) now (Keeps g t) (keeps_closed g t tree) target.now path.now (λ _. tree) (λ n place made.
-    let at = new_place t (user_of who) path.now made.asked.parts place bytes made.asked.read made.asked.walked made.asked.free in
+    symlink_each g t (user_of who) now (Keeps g t) (keeps_closed g t tree) target.now path (λ _. tree) (λ n place made.
+    let at = new_place t (user_of who) path made.asked.parts place bytes made.asked.read made.asked.walked made.asked.free in
     let free = made.inode in
     taken_if_it_fits g t done (with_new_link t (user_of who) now target.now place n) tree (λ fits.
     (linked g is t tree now small place at.at at.free at.is_named n free.from free.to (ap kind_of free.nothing)

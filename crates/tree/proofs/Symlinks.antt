@@ -5,11 +5,11 @@ use Rattle.std.specs.List.{list_any}
 use Rattle.std.proofs.lemmas.Bool.{ltb-false}
 use Rattle.layout.specs.declared.Geometry.{Geometry}
 use Rattle.errno.specs.declared.Errno.TheVariants.{ENOENT, EACCES, EEXIST, EINVAL, ENAMETOOLONG, ENOSPC}
+use Rattle.tree.specs.declared.PathFrom.{PathFrom}
 use Rattle.tree.specs.declared.User.{User}
-use Rattle.tree.specs.Names.{Name}
 use Rattle.tree.specs.Tree.{Node, Tree, with_node, most_target}
 use Rattle.tree.specs.Refusals.{◌>>=◌, refuse_if}
-use Rattle.tree.specs.Walk.{read_path, parent_walk, node_at, is_taken, Place, may_access, to_write}
+use Rattle.tree.specs.Walk.{read_path, parent_walk, node_at, is_taken, Place, may_access, to_write, Way}
 use Rattle.tree.specs.Changes.{new_link, free_inode}
 use Rattle.tree.specs.Answers.{done, if_it_fits}
 use Rattle.tree.specs.NameCalls.{with_entry, symlink}
@@ -23,22 +23,22 @@ with_new_link t user now target place n = with_entry (with_node t n (Some (new_l
 
 module _ (g : Geometry) (t : Tree) (user : User) (now : ℕ) (P : Effects → Type 0) (steps : IsClosed P) where
   -- What symlink has asked before it takes an inode.
-  pub record IsLinkAsked (target path : List ℕ) (place : Place) : Type 0 where
+  pub record IsLinkAsked (target : List ℕ) (path : PathFrom) (place : Place) : Type 0 where
     pub some : (length target == 0) ≡ false
     pub few : length target ≤ most_target
     pub clean : list_any (λ c. c == 0) target ≡ false
-    pub parts : List Name
+    pub parts : Way
     pub read : read_path path ≡ Ok parts
     pub walked : parent_walk t user parts ≡ Ok place
     pub free : is_taken place parts ≡ false
 
   -- A link that is made.
-  pub record IsSymlinkMade (target path : List ℕ) (n : ℕ) (place : Place) : Type 0 where
+  pub record IsSymlinkMade (target : List ℕ) (path : PathFrom) (n : ℕ) (place : Place) : Type 0 where
     pub asked : IsLinkAsked target path place
     pub inode : IsFree g t n
 
   -- Up to the inode, over any volumes: what holds of a link that asks for an inode holds of the call.
-  module _ (volumes : ℕ → Geometry) (target path : List ℕ) (asks : (place : Place) → IsLinkAsked target path place
+  module _ (volumes : ℕ → Geometry) (target : List ℕ) (path : PathFrom) (asks : (place : Place) → IsLinkAsked target path place
       → P (λ z. free_inode (volumes z) t >>= λ n. if_it_fits (volumes z) done (with_new_link t user now target place n))) where
     abbrev below_writable : Place → Effects
     below_writable place z = free_inode (volumes z) t >>= λ n. if_it_fits (volumes z) done (with_new_link t user now target place n)
@@ -49,10 +49,10 @@ module _ (g : Geometry) (t : Tree) (user : User) (now : ℕ) (P : Effects → Ty
     abbrev below_free : Place → Effects
     below_free place z = node_at t place.directory >>= λ parent. below_parent place parent z
 
-    abbrev below_place : List Name → Place → Effects
+    abbrev below_place : Way → Place → Effects
     below_place parts place z = refuse_if (is_taken place parts) EEXIST >>= λ _. below_free place z
 
-    abbrev below_parts : List Name → Effects
+    abbrev below_parts : Way → Effects
     below_parts parts z = parent_walk t user parts >>= λ place. below_place parts place z
 
     abbrev below_target : Effects
@@ -84,7 +84,7 @@ module _ (g : Geometry) (t : Tree) (user : User) (now : ℕ) (P : Effects → Ty
           free = passed _ _ v free;
         })))))))))
 
-  pub symlink_each : (target path : List ℕ) → (NoInodeFree g t → P (λ z. Err ENOSPC))
+  pub symlink_each : (target : List ℕ) (path : PathFrom) → (NoInodeFree g t → P (λ z. Err ENOSPC))
       → ((n : ℕ) (place : Place) → IsSymlinkMade target path n place → P
       (λ z. if_it_fits (with_zones z g) done (with_new_link t user now target place n)))
       → P (λ z. symlink (with_zones z g) t user now target path)

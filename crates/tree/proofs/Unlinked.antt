@@ -124,5 +124,5 @@ module _ (g : Geometry) (t : Tree) (tree : IsTree g t) (now : ℕ) (small : now 
 -- unlink
 pub unlink_keeps : UnlinkKeeps
 unlink_keeps g t who now path small tree = in_session g t who now (Unlink path) tree (λ _.
-    unlink_each t (user_of who) now (Keeps g t) (keeps_closed g t tree) path.now (λ n node place is.
+    unlink_each t (user_of who) now (Keeps g t) (keeps_closed g t tree) path (λ n node place is.
     unlinked_is_tree g t tree now small place (is_place t (user_of who) is.parts place is.walked) n is.found (ap is_some is.there) (ap kind_of is.there ∙ is.file)))

@@ -1,15 +1,17 @@
 -- Walks: without links they are steps, and with links they end at none.
-use Rattle.std.proofs.Common.{◌≡◌, ℕ, zero, suc, List, [], ◌∷◌, refl, ap, subst, ◌∙◌}
-use Rattle.std.specs.Prelude.{Bool, true, false, Option, None, Some, Result, Ok, Err, if◌then◌else◌, ◌++◌}
+use Rattle.std.proofs.Common.{◌≡◌, ℕ, zero, suc, List, [], ◌∷◌, refl, sym, ap, subst, ◌∙◌}
+use Rattle.std.specs.Prelude.{Bool, true, false, Option, None, Some, Result, Ok, Err, if◌then◌else◌, ◌++◌, not, is_some, IsTrue}
 use Rattle.errno.specs.declared.Errno.{Errno}
-use Rattle.errno.specs.declared.Errno.TheVariants.{ENAMETOOLONG, ELOOP}
+use Rattle.errno.specs.declared.Errno.TheVariants.{ENOENT, EACCES, ENAMETOOLONG, ELOOP}
+use Rattle.tree.specs.declared.Start.TheVariants.{Root, Inode}
 use Rattle.tree.specs.declared.User.{User}
 use Rattle.tree.specs.Names.{Name}
 use Rattle.tree.specs.Tree.{Node, Tree, target_of, is_link_at, all_bytes}
-use Rattle.tree.specs.Refusals.{◌>>=◌, refuse_if}
-use Rattle.tree.specs.Walk.{Follow, enter, next, walk_from, start_of, follow_links, walk_parts, most_followed, begins_with_slash, parts_of}
+use Rattle.tree.specs.Refusals.{◌>>=◌, or_refuse, refuse_if}
+use Rattle.tree.specs.Walk.{Way, first_node, node_at, Follow, enter, next, walk_from, start_of, follow_links, walk_parts, most_followed, begins_with_slash, parts_of}
 use Rattle.tree.specs.Walk.{has_long_part}
-use Rattle.tree.specs.Laws.{steps_from, WalkWithoutLinks, WalkEndsAtNoLink}
+use Rattle.tree.specs.Laws.{steps_from, WalkWithoutLinks, WalkEndsAtNoLink, StartsGoOn}
+use Rattle.std.proofs.lemmas.Bool.{eq-eqb}
 use Rattle.lemmas.proofs.Bools.{false_not_true}
 
 -- what is no link has no target
@@ -53,7 +55,9 @@ module _ (t : Tree) (user : User) where
 
 -- the first law
 pub walk_without_links : WalkWithoutLinks
-walk_without_links t user parts none = without t user none (follow_links t user most_followed) 1 parts
+walk_without_links t user way none =
+    goes_alike (first_node t user way.start) (λ here. walk_from t user (follow_links t user most_followed) here way.parts)
+    (λ here. steps_from t user here way.parts) (λ here. without t user none (follow_links t user most_followed) here way.parts)
 
 -- What is so of the ends of walks: of each refusal, and of a node that is reached where it was so of the node before or the step
 -- shows it. `At` is said of nodes, `Ends` of results.
@@ -114,13 +118,19 @@ module _ (t : Tree) (user : User) (At : ℕ → Type 0) (Ends : Result ℕ Errno
             (elim (begins_with_slash target) as (λ b. At (if b then 1 else here)) [ true ↦ kept.root | false ↦ at ])
       ]
 
-  -- so of each walk
-  pub walks_keep : (parts : List Name) → Ends (walk_parts t user parts)
-  walks_keep parts = from_here (follow_links t user most_followed) (following most_followed) 1 parts kept.root
+  -- so of each walk that begins where it is so
+  pub walks_keep : (way : Way) → ((n : ℕ) → first_node t user way.start ≡ Ok n → At n)
+      → ((e : Errno) → first_node t user way.start ≡ Err e → Ends (Err e)) → Ends (walk_parts t user way)
+  walks_keep way at unbegun = begun (first_node t user way.start) refl
+    where
+      begun : (r : Result ℕ Errno) → first_node t user way.start ≡ r
+          → Ends (r >>= λ here. walk_from t user (follow_links t user most_followed) here way.parts)
+      begun (Ok here) is = from_here (follow_links t user most_followed) (following most_followed) here way.parts (at here is)
+      begun (Err e) is = unbegun e is
 
 -- the second law
 pub walk_ends_at_no_link : WalkEndsAtNoLink
-walk_ends_at_no_link t user parts n root is =
+walk_ends_at_no_link t user way n root first is =
     walks_keep t user (λ m. is_link_at t.nodes m ≡ false) (λ r. r ≡ Ok n → is_link_at t.nodes n ≡ false) (record {
       root = root;
       steps = λ here there part at e none. no_link (t.nodes there) none;
@@ -128,4 +138,40 @@ walk_ends_at_no_link t user parts n root is =
       looping = λ is. absurd (false_not_true (ap (λ r. elim r [ Ok x ↦ true | Err e ↦ false ]) is));
       long = λ is. absurd (false_not_true (ap (λ r. elim r [ Ok x ↦ true | Err e ↦ false ]) is));
       reached = λ here at is. subst (λ m. is_link_at t.nodes m ≡ false) (ap (λ r. elim r [ Ok x ↦ x | Err e ↦ here ]) is) at;
-    }) parts is
+    }) way first (λ e h is. absurd (false_not_true (ap (λ r. elim r [ Ok x ↦ true | Err e ↦ false ]) is))) is
+
+-- a step after two is one after the second
+in_turn : {A B C : Type 0} (r : Result A Errno) (f : A → Result B Errno) (h : B → Result C Errno) → ((r >>= f) >>= h) ≡ (r >>= λ x. f x >>= h)
+in_turn (Ok x) f h = refl
+in_turn (Err e) f h = refl
+
+-- the steps of some parts and then of others
+steps_on : (t : Tree) (user : User) (here : ℕ) (first rest : List Name)
+    → steps_from t user here (first ++ rest) ≡ (steps_from t user here first >>= λ n. steps_from t user n rest)
+steps_on t user here [] rest = refl
+steps_on t user here (part ∷ parts) rest =
+    goes_alike (enter user (t.nodes here)) (λ dir. next here dir.0 dir.1 part >>= λ there. steps_from t user there (parts ++ rest))
+    (λ dir. (next here dir.0 dir.1 part >>= λ there. steps_from t user there parts) >>= λ n. steps_from t user n rest) (λ dir.
+    goes_alike (next here dir.0 dir.1 part) (λ there. steps_from t user there (parts ++ rest))
+    (λ there. steps_from t user there parts >>= λ n. steps_from t user n rest) (λ there. steps_on t user there parts rest)
+    ∙ sym (in_turn (next here dir.0 dir.1 part) (λ there. steps_from t user there parts) (λ n. steps_from t user n rest)))
+    ∙ sym (in_turn (enter user (t.nodes here)) (λ dir. next here dir.0 dir.1 part >>= λ there. steps_from t user there parts)
+    (λ n. steps_from t user n rest))
+
+-- user 0 starts at any node that is there
+starts_there : (t : Tree) (user : User) (n : ℕ) → user.uid ≡ 0 → IsTrue (is_some (t.nodes n)) → first_node t user (Inode n) ≡ Ok n
+starts_there t user n zeroth there =
+    ap (λ b. refuse_if (not b) EACCES >>= λ _. node_at t n >>= λ _. Ok n) (eq-eqb user.uid 0 zeroth) ∙ by_node (t.nodes n) there
+  where
+    by_node : (o : Option Node) → IsTrue (is_some o) → (or_refuse o ENOENT >>= λ _. Ok n) ≡ Ok n
+    by_node None h = absurd (false_not_true h)
+    by_node (Some x) h = refl
+
+-- the law of starts
+pub starts_go_on : StartsGoOn
+starts_go_on t user first rest n zeroth there none is =
+    walk_without_links t user (record { start = Inode n; parts = rest }) none
+    ∙ ap (λ r. r >>= λ here. steps_from t user here rest) (starts_there t user n zeroth there)
+    ∙ sym (walk_without_links t user (record { start = Root; parts = first ++ rest }) none
+    ∙ steps_on t user 1 first rest
+    ∙ ap (λ r. r >>= λ m. steps_from t user m rest) (sym (walk_without_links t user (record { start = Root; parts = first }) none) ∙ is))

@@ -20,29 +20,29 @@ user_of who = record { uid = who.uid; gid = who.gid }
 
 -- the effect of a call of a session that may be
 abbrev pub effect_in_session : Geometry → Tree → Who → ℕ → Call → Effect
-effect_in_session g t who now (Open path flags mode) = open_path g t (user_of who) now who.session path.now flags.0 mode
+effect_in_session g t who now (Open path flags mode) = open_path g t (user_of who) now who.session path flags.0 mode
 effect_in_session g t who now (Close fd) = close t who.session fd
 effect_in_session g t who now (Dup fd) = dup t who.session fd
 effect_in_session g t who now (Read fd count) = read t who.session fd count
 effect_in_session g t who now (Write fd bytes) = write g t now who.session fd bytes.now
 effect_in_session g t who now (Seek fd whence offset) = seek t who.session fd whence offset
-effect_in_session g t who now (Stat path) = stat t (user_of who) path.now
+effect_in_session g t who now (Stat path) = stat t (user_of who) path
 effect_in_session g t who now (Fstat fd) = fstat t who.session fd
-effect_in_session g t who now (Link old new) = link g t (user_of who) now old.now new.now
-effect_in_session g t who now (Unlink path) = unlink t (user_of who) now path.now
-effect_in_session g t who now (Mkdir path mode) = mkdir g t (user_of who) now path.now mode
-effect_in_session g t who now (Rmdir path) = rmdir t (user_of who) now path.now
-effect_in_session g t who now (Rename old new) = rename g t (user_of who) now old.now new.now
-effect_in_session g t who now (Chmod path mode) = chmod t (user_of who) now path.now mode
-effect_in_session g t who now (Chown path uid gid) = chown t (user_of who) now path.now uid gid
-effect_in_session g t who now (Utime path atime mtime) = utime t (user_of who) now path.now atime mtime
-effect_in_session g t who now (Truncate path size) = truncate g t (user_of who) now path.now size
+effect_in_session g t who now (Link old new) = link g t (user_of who) now old new
+effect_in_session g t who now (Unlink path) = unlink t (user_of who) now path
+effect_in_session g t who now (Mkdir path mode) = mkdir g t (user_of who) now path mode
+effect_in_session g t who now (Rmdir path) = rmdir t (user_of who) now path
+effect_in_session g t who now (Rename old new) = rename g t (user_of who) now old new
+effect_in_session g t who now (Chmod path mode) = chmod t (user_of who) now path mode
+effect_in_session g t who now (Chown path uid gid) = chown t (user_of who) now path uid gid
+effect_in_session g t who now (Utime path atime mtime) = utime t (user_of who) now path atime mtime
+effect_in_session g t who now (Truncate path size) = truncate g t (user_of who) now path size
 effect_in_session g t who now (Readdir fd) = readdir t who.session fd
 effect_in_session g t who now Sync = Ok (done, t)
 effect_in_session g t who now Statfs = statfs g t
-effect_in_session g t who now (Symlink target path) = symlink g t (user_of who) now target.now path.now
-effect_in_session g t who now (Readlink path) = readlink t (user_of who) path.now
-effect_in_session g t who now (Lstat path) = lstat t (user_of who) path.now
+effect_in_session g t who now (Symlink target path) = symlink g t (user_of who) now target.now path
+effect_in_session g t who now (Readlink path) = readlink t (user_of who) path
+effect_in_session g t who now (Lstat path) = lstat t (user_of who) path
 
 -- the effect of a call; sessions are numbered below 64
 abbrev pub effect_of : Geometry → Tree → Who → ℕ → Call → Effect

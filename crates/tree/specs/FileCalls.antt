@@ -2,7 +2,8 @@
 use Rattle.std.specs.Prelude.{ℕ, ℤ, pos, negsuc, ◌+◌, ◌-◌, List, length, not, ◌&&◌, ◌||◌, ◌==◌, nat_lt, Option, None, Some, Result, Ok, Err, if◌then◌else◌}
 use Rattle.layout.specs.declared.Geometry.{Geometry}
 use Rattle.errno.specs.declared.Errno.{Errno}
-use Rattle.errno.specs.declared.Errno.TheVariants.{ENOENT, EBADF, EACCES, EEXIST, ENOTDIR, EISDIR, EINVAL, ENFILE, EMFILE, EFBIG}
+use Rattle.errno.specs.declared.Errno.TheVariants.{ENOENT, EBADF, EACCES, EEXIST, ENOTDIR, EISDIR, EINVAL, ENFILE, EMFILE, EFBIG, ELOOP}
+use Rattle.tree.specs.declared.PathFrom.{PathFrom}
 use Rattle.tree.specs.declared.User.{User}
 use Rattle.tree.specs.declared.Whence.{Whence}
 use Rattle.tree.specs.declared.Whence.TheVariants.{Set, Cur, End}
@@ -38,11 +39,12 @@ after_truncate_flag g t now flags n node = elim node.body [
   | is_directory d ↦ t
 ]
 
--- the effect of open on a node that is there, and on a name that is missing
+-- The effect of open on a node that is there, and on a name that is missing. A link is met only where it is the start itself.
 abbrev pub open_found : Geometry → Tree → User → ℕ → Slot → ℕ → ℕ → Found → Effect
 open_found g t user now slot flags mode (is_there n) = do
   _ ← refuse_if (creates flags && is_exclusive flags) EEXIST
   node ← node_at t n
+  _ ← refuse_if node.symbolic ELOOP
   _ ← refuse_if (is_dir node && writes flags) EISDIR
   _ ← refuse_if ((reads flags && not (may_access user node to_read)) || (writes flags && not (may_access user node to_write))) EACCES
   Ok (descriptor slot.fd, with_open (after_truncate_flag g t now flags n node) slot n flags)
@@ -56,13 +58,13 @@ open_found g t user now slot flags mode (is_missing place) = do
 
 -- open: its flags and mode, the room for one more open file, the path, then what is found there. A link that stands last is
 -- followed, but for c with x.
-abbrev pub open_path : Geometry → Tree → User → ℕ → ℕ → List ℕ → ℕ → ℕ → Effect
+abbrev pub open_path : Geometry → Tree → User → ℕ → ℕ → PathFrom → ℕ → ℕ → Effect
 open_path g t user now session path flags mode = do
   _ ← refuse_if (bad_flags flags || nat_lt most_permissions mode) EINVAL
   fd ← free_place (t.descriptors session) most_descriptors EMFILE
   k ← free_place t.open_files most_open_files ENFILE
-  parts ← read_path path
-  found ← open_look_up t user (creates flags && is_exclusive flags) parts
+  way ← read_path path
+  found ← open_look_up t user (creates flags && is_exclusive flags) way
   open_found g t user now (record { session = session; fd = fd; number = k }) flags mode found
 
 -- close: the last close of a file without a name frees it

@@ -4,6 +4,7 @@ use Rattle.std.specs.Borrow.{Bor}
 use Rattle.std.specs.List.{All}
 use Rattle.layout.specs.declared.Geometry.{Geometry}
 use Rattle.layout.specs.Places.{IsGeometry}
+use Rattle.tree.specs.declared.PathFrom.{PathFrom}
 use Rattle.tree.specs.declared.Who.{Who}
 use Rattle.tree.specs.declared.Whence.{Whence}
 use Rattle.tree.specs.declared.OpenFlags.{OpenFlags}
@@ -18,17 +19,17 @@ use Rattle.tree.specs.Effects.{tree_after_call}
 -- The calls that set attributes keep a tree a tree.
 abbrev pub ChmodKeeps : Type 0
 ChmodKeeps =
-    (g : Geometry) (t : Tree) (who : Who) (now mode : ℕ) (path : Bor (List ℕ)) → now < 2 ^ 32
+    (g : Geometry) (t : Tree) (who : Who) (now mode : ℕ) (path : PathFrom) → now < 2 ^ 32
     → IsTree g t → IsTree g (tree_after_call g t who now (Chmod path mode))
 
 abbrev pub ChownKeeps : Type 0
 ChownKeeps =
-    (g : Geometry) (t : Tree) (who : Who) (now uid gid : ℕ) (path : Bor (List ℕ)) → now < 2 ^ 32 → uid < 2 ^ 16 → gid < 2 ^ 16
+    (g : Geometry) (t : Tree) (who : Who) (now uid gid : ℕ) (path : PathFrom) → now < 2 ^ 32 → uid < 2 ^ 16 → gid < 2 ^ 16
     → IsTree g t → IsTree g (tree_after_call g t who now (Chown path uid gid))
 
 abbrev pub UtimeKeeps : Type 0
 UtimeKeeps =
-    (g : Geometry) (t : Tree) (who : Who) (now atime mtime : ℕ) (path : Bor (List ℕ)) → now < 2 ^ 32 → atime < 2 ^ 32 → mtime < 2 ^ 32
+    (g : Geometry) (t : Tree) (who : Who) (now atime mtime : ℕ) (path : PathFrom) → now < 2 ^ 32 → atime < 2 ^ 32 → mtime < 2 ^ 32
     → IsTree g t → IsTree g (tree_after_call g t who now (Utime path atime mtime))
 
 -- The calls on open files.
@@ -54,45 +55,45 @@ WriteKeeps =
 
 abbrev pub TruncateKeeps : Type 0
 TruncateKeeps =
-    (g : Geometry) (t : Tree) (who : Who) (now size : ℕ) (path : Bor (List ℕ)) → now < 2 ^ 32
+    (g : Geometry) (t : Tree) (who : Who) (now size : ℕ) (path : PathFrom) → now < 2 ^ 32
     → IsTree g t → IsTree g (tree_after_call g t who now (Truncate path size))
 
 -- The calls on names.
 abbrev pub UnlinkKeeps : Type 0
 UnlinkKeeps =
-    (g : Geometry) (t : Tree) (who : Who) (now : ℕ) (path : Bor (List ℕ)) → now < 2 ^ 32
+    (g : Geometry) (t : Tree) (who : Who) (now : ℕ) (path : PathFrom) → now < 2 ^ 32
     → IsTree g t → IsTree g (tree_after_call g t who now (Unlink path))
 
 abbrev pub LinkKeeps : Type 0
 LinkKeeps =
-    (g : Geometry) (t : Tree) (who : Who) (now : ℕ) (old new : Bor (List ℕ)) → IsGeometry g → now < 2 ^ 32 → IsBytes new.now
+    (g : Geometry) (t : Tree) (who : Who) (now : ℕ) (old new : PathFrom) → IsGeometry g → now < 2 ^ 32 → IsBytes new.bytes.now
     → IsTree g t → IsTree g (tree_after_call g t who now (Link old new))
 
 abbrev pub MkdirKeeps : Type 0
 MkdirKeeps =
-    (g : Geometry) (t : Tree) (who : Who) (now : ℕ) (path : Bor (List ℕ)) (mode : ℕ) → IsGeometry g → IsCaller who → now < 2 ^ 32 → IsBytes path.now
+    (g : Geometry) (t : Tree) (who : Who) (now : ℕ) (path : PathFrom) (mode : ℕ) → IsGeometry g → IsCaller who → now < 2 ^ 32 → IsBytes path.bytes.now
     → IsTree g t → IsTree g (tree_after_call g t who now (Mkdir path mode))
 
 abbrev pub RmdirKeeps : Type 0
 RmdirKeeps =
-    (g : Geometry) (t : Tree) (who : Who) (now : ℕ) (path : Bor (List ℕ)) → now < 2 ^ 32
+    (g : Geometry) (t : Tree) (who : Who) (now : ℕ) (path : PathFrom) → now < 2 ^ 32
     → IsTree g t → IsTree g (tree_after_call g t who now (Rmdir path))
 
 -- Open keeps a tree a tree, of what is there and of what it makes.
 abbrev pub OpenKeeps : Type 0
 OpenKeeps =
-    (g : Geometry) (t : Tree) (who : Who) (now : ℕ) (path : Bor (List ℕ)) (flags : OpenFlags) (mode : ℕ) → IsGeometry g → IsCaller who → now < 2 ^ 32 → IsBytes path.now
+    (g : Geometry) (t : Tree) (who : Who) (now : ℕ) (path : PathFrom) (flags : OpenFlags) (mode : ℕ) → IsGeometry g → IsCaller who → now < 2 ^ 32 → IsBytes path.bytes.now
     → IsTree g t → IsTree g (tree_after_call g t who now (Open path flags mode))
 
 abbrev pub RenameKeeps : Type 0
 RenameKeeps =
-    (g : Geometry) (t : Tree) (who : Who) (now : ℕ) (old new : Bor (List ℕ)) → IsGeometry g → now < 2 ^ 32 → IsBytes new.now
+    (g : Geometry) (t : Tree) (who : Who) (now : ℕ) (old new : PathFrom) → IsGeometry g → now < 2 ^ 32 → IsBytes new.bytes.now
     → IsTree g t → IsTree g (tree_after_call g t who now (Rename old new))
 
 abbrev pub SymlinkKeeps : Type 0
 SymlinkKeeps =
-    (g : Geometry) (t : Tree) (who : Who) (now : ℕ) (target path : Bor (List ℕ)) → IsGeometry g → IsCaller who → now < 2 ^ 32
-    → IsBytes target.now → IsBytes path.now
+    (g : Geometry) (t : Tree) (who : Who) (now : ℕ) (target : Bor (List ℕ)) (path : PathFrom) → IsGeometry g → IsCaller who → now < 2 ^ 32
+    → IsBytes target.now → IsBytes path.bytes.now
     → IsTree g t → IsTree g (tree_after_call g t who now (Symlink target path))
 
 -- Every client call keeps a tree a tree.

@@ -1,10 +1,11 @@
 -- Laws of the tree.
-use Rattle.std.specs.Prelude.{[], ◌∷◌, List, Result, Ok, false, ◌≡◌, ◌≤◌, ◌<◌, ◌*◌, ◌/◌, ◌^◌, ℕ, Bool, true, false, None, Some, Err, IsTrue}
+use Rattle.std.specs.Prelude.{[], ◌∷◌, ◌++◌, is_some, List, Result, Ok, false, ◌≡◌, ◌≤◌, ◌<◌, ◌*◌, ◌/◌, ◌^◌, ℕ, Bool, true, false, None, Some, Err, IsTrue}
 use Rattle.layout.specs.declared.Geometry.{Geometry}
 use Rattle.layout.specs.Places.{is_block_size}
 use Rattle.errno.specs.declared.Errno.{Errno}
 use Rattle.tree.specs.declared.User.{User}
 use Rattle.tree.specs.declared.Who.{Who}
+use Rattle.tree.specs.declared.Start.TheVariants.{Root, Inode}
 use Rattle.tree.specs.declared.Call.{Call}
 use Rattle.tree.specs.declared.Call.TheVariants.{Stat, Fstat, Readdir, Sync, Statfs, Readlink, Lstat}
 use Rattle.tree.specs.Sums.{put}
@@ -14,7 +15,7 @@ use Rattle.tree.specs.Space.{numbers_in_zone, held_of}
 use Rattle.tree.specs.IsTree.{IsBody, IsTree}
 use Rattle.tree.specs.Names.{Name}
 use Rattle.tree.specs.Refusals.{◌>>=◌}
-use Rattle.tree.specs.Walk.{enter, next, walk_parts}
+use Rattle.tree.specs.Walk.{Way, enter, next, first_node, walk_parts}
 use Rattle.tree.specs.Changes.{new_node, empty_directory}
 use Rattle.tree.specs.Answers.{refused}
 use Rattle.tree.specs.Effects.{effect_of, reply_to, tree_after_call}
@@ -77,11 +78,19 @@ steps_from t user here (part ∷ parts) = do
 -- where no node is a link, a walk is that
 abbrev pub WalkWithoutLinks : Type 0
 WalkWithoutLinks =
-    (t : Tree) (user : User) (parts : List Name) → ((n : ℕ) → is_link_at t.nodes n ≡ false)
-    → walk_parts t user parts ≡ steps_from t user 1 parts
+    (t : Tree) (user : User) (way : Way) → ((n : ℕ) → is_link_at t.nodes n ≡ false)
+    → walk_parts t user way ≡ (first_node t user way.start >>= λ here. steps_from t user here way.parts)
 
--- a walk ends at no link, where the root is none
+-- a walk ends at no link, where neither the root nor the node where it begins is one
 abbrev pub WalkEndsAtNoLink : Type 0
 WalkEndsAtNoLink =
-    (t : Tree) (user : User) (parts : List Name) (n : ℕ) → is_link_at t.nodes 1 ≡ false → walk_parts t user parts ≡ Ok n
+    (t : Tree) (user : User) (way : Way) (n : ℕ) → is_link_at t.nodes 1 ≡ false
+    → ((m : ℕ) → first_node t user way.start ≡ Ok m → is_link_at t.nodes m ≡ false) → walk_parts t user way ≡ Ok n
     → is_link_at t.nodes n ≡ false
+
+-- In a tree without links, where a walk from the root ends another goes on as the first would have: from that node, by user 0.
+abbrev pub StartsGoOn : Type 0
+StartsGoOn =
+    (t : Tree) (user : User) (first rest : List Name) (n : ℕ) → user.uid ≡ 0 → IsTrue (is_some (t.nodes n))
+    → ((m : ℕ) → is_link_at t.nodes m ≡ false) → walk_parts t user (record { start = Root; parts = first }) ≡ Ok n
+    → walk_parts t user (record { start = Inode n; parts = rest }) ≡ walk_parts t user (record { start = Root; parts = first ++ rest })

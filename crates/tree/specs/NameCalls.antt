@@ -5,6 +5,7 @@ use Rattle.errno.specs.declared.Errno.{Errno}
 use Rattle.errno.specs.declared.Errno.TheVariants.{EPERM, ENOENT, EACCES, EBUSY, EEXIST, ENOTDIR, EISDIR, EINVAL, EMLINK, ENAMETOOLONG}
 use Rattle.errno.specs.declared.Errno.TheVariants.{ENOTEMPTY}
 use Rattle.std.specs.List.{list_any}
+use Rattle.tree.specs.declared.PathFrom.{PathFrom}
 use Rattle.tree.specs.declared.User.{User}
 use Rattle.tree.specs.Sums.{one_if, some_below}
 use Rattle.tree.specs.Names.{inode_of, with_name, without_name}
@@ -33,26 +34,26 @@ abbrev pub with_name_lost : Tree → ℕ → ℕ → Tree
 with_name_lost t now n = without_nameless (on_node t n (with_link_lost now)) n
 
 -- link: a file has one name more, or a symbolic link that stands last
-abbrev pub link : Geometry → Tree → User → ℕ → List ℕ → List ℕ → Effect
+abbrev pub link : Geometry → Tree → User → ℕ → PathFrom → PathFrom → Effect
 link g t user now old new = do
-  old_parts ← read_path old
-  new_parts ← read_path new
-  n ← walk_to_last t user old_parts
+  old_way ← read_path old
+  new_way ← read_path new
+  n ← walk_to_last t user old_way
   node ← node_at t n
   _ ← refuse_if (is_dir node) EPERM
   _ ← refuse_if (nat_le most_links node.links) EMLINK
-  place ← parent_walk t user new_parts
-  _ ← refuse_if (is_taken place new_parts) EEXIST
+  place ← parent_walk t user new_way
+  _ ← refuse_if (is_taken place new_way) EEXIST
   parent ← node_at t place.directory
   _ ← refuse_if (not (may_access user parent to_write)) EACCES
   if_it_fits g done (with_entry (with_node t n (Some (with_ctime now (more_links 1 node)))) now place n)
 
 -- unlink: a file has one name less; one that is open lives on without a name
-abbrev pub unlink : Tree → User → ℕ → List ℕ → Effect
+abbrev pub unlink : Tree → User → ℕ → PathFrom → Effect
 unlink t user now path = do
-  parts ← read_path path
-  _ ← refuse_if (not (has_last_name parts)) EINVAL
-  place ← parent_walk t user parts
+  way ← read_path path
+  _ ← refuse_if (not (has_last_name way)) EINVAL
+  place ← parent_walk t user way
   n ← or_refuse (inode_of place.names place.name) ENOENT
   parent ← node_at t place.directory
   _ ← refuse_if (not (may_access user parent to_write)) EACCES
@@ -61,12 +62,12 @@ unlink t user now path = do
   Ok (done, with_name_lost (without_entry t now place) now n)
 
 -- mkdir: a new directory, which is one link more of its parent
-abbrev pub mkdir : Geometry → Tree → User → ℕ → List ℕ → ℕ → Effect
+abbrev pub mkdir : Geometry → Tree → User → ℕ → PathFrom → ℕ → Effect
 mkdir g t user now path mode = do
   _ ← refuse_if (nat_lt most_permissions mode) EINVAL
-  parts ← read_path path
-  place ← parent_walk t user parts
-  _ ← refuse_if (is_taken place parts) EEXIST
+  way ← read_path path
+  place ← parent_walk t user way
+  _ ← refuse_if (is_taken place way) EEXIST
   parent ← node_at t place.directory
   _ ← refuse_if (not (may_access user parent to_write)) EACCES
   _ ← refuse_if (nat_le most_links parent.links) EMLINK
@@ -76,25 +77,25 @@ mkdir g t user now path mode = do
       place.directory (more_links 1))
 
 -- symlink: a new link with this target
-abbrev pub symlink : Geometry → Tree → User → ℕ → List ℕ → List ℕ → Effect
+abbrev pub symlink : Geometry → Tree → User → ℕ → List ℕ → PathFrom → Effect
 symlink g t user now target path = do
   _ ← refuse_if (length target == 0) ENOENT
   _ ← refuse_if (nat_lt most_target (length target)) ENAMETOOLONG
   _ ← refuse_if (list_any (λ c. c == 0) target) EINVAL
-  parts ← read_path path
-  place ← parent_walk t user parts
-  _ ← refuse_if (is_taken place parts) EEXIST
+  way ← read_path path
+  place ← parent_walk t user way
+  _ ← refuse_if (is_taken place way) EEXIST
   parent ← node_at t place.directory
   _ ← refuse_if (not (may_access user parent to_write)) EACCES
   n ← free_inode g t
   if_it_fits g done (with_entry (with_node t n (Some (new_link now user target))) now place n)
 
 -- rmdir: an empty directory that isn't open is gone
-abbrev pub rmdir : Tree → User → ℕ → List ℕ → Effect
+abbrev pub rmdir : Tree → User → ℕ → PathFrom → Effect
 rmdir t user now path = do
-  parts ← read_path path
-  _ ← refuse_if (not (has_last_name parts)) EINVAL
-  place ← parent_walk t user parts
+  way ← read_path path
+  _ ← refuse_if (not (has_last_name way)) EINVAL
+  place ← parent_walk t user way
   n ← or_refuse (inode_of place.names place.name) ENOENT
   parent ← node_at t place.directory
   _ ← refuse_if (not (may_access user parent to_write)) EACCES
@@ -155,14 +156,14 @@ is_same n None = false
 is_same n (Some m) = n == m
 
 -- rename: two names of one inode change nothing
-abbrev pub rename : Geometry → Tree → User → ℕ → List ℕ → List ℕ → Effect
+abbrev pub rename : Geometry → Tree → User → ℕ → PathFrom → PathFrom → Effect
 rename g t user now old_path new_path = do
-  old_parts ← read_path old_path
-  new_parts ← read_path new_path
-  _ ← refuse_if (not (has_last_name old_parts) || not (has_last_name new_parts)) EINVAL
-  old ← parent_walk t user old_parts
+  old_way ← read_path old_path
+  new_way ← read_path new_path
+  _ ← refuse_if (not (has_last_name old_way) || not (has_last_name new_way)) EINVAL
+  old ← parent_walk t user old_way
   n ← or_refuse (inode_of old.names old.name) ENOENT
-  new ← parent_walk t user new_parts
+  new ← parent_walk t user new_way
   old_parent ← node_at t old.directory
   _ ← refuse_if (not (may_access user old_parent to_write)) EACCES
   new_parent ← node_at t new.directory

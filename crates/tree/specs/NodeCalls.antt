@@ -1,8 +1,9 @@
 -- Calls on a node that is there. Each line of a do block is one refusal, in their order.
-use Rattle.std.specs.Prelude.{ℕ, List, not, ◌==◌, nat_lt, Some, Result, Ok, Err}
+use Rattle.std.specs.Prelude.{ℕ, not, ◌==◌, nat_lt, Some, Result, Ok, Err}
 use Rattle.layout.specs.declared.Geometry.{Geometry}
 use Rattle.errno.specs.declared.Errno.{Errno}
 use Rattle.errno.specs.declared.Errno.TheVariants.{EPERM, EACCES, EISDIR, EINVAL, EFBIG}
+use Rattle.tree.specs.declared.PathFrom.{PathFrom}
 use Rattle.tree.specs.declared.User.{User}
 use Rattle.tree.specs.declared.Attributes.{Attributes}
 use Rattle.tree.specs.Tree.{File, is_file, is_directory, Node, Tree, target_of, with_node, mode_of, size_of, most_size, most_permissions}
@@ -31,30 +32,30 @@ abbrev pub file_or : Node → Errno → Result File Errno
 file_or node e = elim node.body [ is_file f ↦ Ok f | is_directory d ↦ Err e ]
 
 -- stat
-abbrev pub stat : Tree → User → List ℕ → Effect
+abbrev pub stat : Tree → User → PathFrom → Effect
 stat t user path = do
   n ← walk t user path
   node ← node_at t n
   Ok (node_is (attributes_of n node), t)
 
 -- lstat: of a link that stands last, its own attributes
-abbrev pub lstat : Tree → User → List ℕ → Effect
+abbrev pub lstat : Tree → User → PathFrom → Effect
 lstat t user path = do
-  parts ← read_path path
-  n ← walk_to_last t user parts
+  way ← read_path path
+  n ← walk_to_last t user way
   node ← node_at t n
   Ok (node_is (attributes_of n node), t)
 
 -- readlink: the target of a link that stands last
-abbrev pub readlink : Tree → User → List ℕ → Effect
+abbrev pub readlink : Tree → User → PathFrom → Effect
 readlink t user path = do
-  parts ← read_path path
-  n ← walk_to_last t user parts
+  way ← read_path path
+  n ← walk_to_last t user way
   target ← or_refuse (target_of (t.nodes n)) EINVAL
   Ok (some_bytes target, t)
 
 -- chmod: the permissions; the type stays
-abbrev pub chmod : Tree → User → ℕ → List ℕ → ℕ → Effect
+abbrev pub chmod : Tree → User → ℕ → PathFrom → ℕ → Effect
 chmod t user now path mode = do
   _ ← refuse_if (nat_lt most_permissions mode) EINVAL
   n ← walk t user path
@@ -63,7 +64,7 @@ chmod t user now path mode = do
   Ok (done, with_node t n (Some (with_ctime now (record node { permissions = mode }))))
 
 -- chown: for user 0 alone
-abbrev pub chown : Tree → User → ℕ → List ℕ → ℕ → ℕ → Effect
+abbrev pub chown : Tree → User → ℕ → PathFrom → ℕ → ℕ → Effect
 chown t user now path uid gid = do
   n ← walk t user path
   node ← node_at t n
@@ -71,15 +72,15 @@ chown t user now path uid gid = do
   Ok (done, with_node t n (Some (with_ctime now (record node { uid = uid; gid = gid }))))
 
 -- utime: both times as given, and the change of attributes at `now`
-abbrev pub utime : Tree → User → ℕ → List ℕ → ℕ → ℕ → Effect
+abbrev pub utime : Tree → User → ℕ → PathFrom → ℕ → ℕ → Effect
 utime t user now path atime mtime = do
   n ← walk t user path
   node ← node_at t n
   _ ← refuse_if (not (is_owner user node)) EPERM
   Ok (done, with_node t n (Some (with_ctime now (record node { atime = atime; mtime = mtime }))))
 
--- Truncate: another size. The walk ends at no link, so the refusal of one isn't met.
-abbrev pub truncate : Geometry → Tree → User → ℕ → List ℕ → ℕ → Effect
+-- Truncate: another size. A link is met only where it is the start itself.
+abbrev pub truncate : Geometry → Tree → User → ℕ → PathFrom → ℕ → Effect
 truncate g t user now path size = do
   _ ← refuse_if (nat_lt most_size size) EFBIG
   n ← walk t user path

@@ -3,16 +3,17 @@ use Rattle.std.specs.Prelude.{◌≡◌, ◌≢◌, ℕ, ◌+◌, List, length, 
 use Rattle.std.specs.Borrow.{Bor}
 use Rattle.std.specs.FinMap.Entries.{is_sorted}
 use Rattle.layout.specs.declared.Geometry.{Geometry}
+use Rattle.tree.specs.declared.PathFrom.{PathFrom}
 use Rattle.tree.specs.declared.User.{User}
 use Rattle.tree.specs.declared.Who.{Who}
 use Rattle.tree.specs.declared.Whence.TheVariants.{Set}
 use Rattle.tree.specs.declared.Call.{Call}
 use Rattle.tree.specs.declared.Call.TheVariants.{Read, Write, Seek, Rename, Readdir}
-use Rattle.tree.specs.Names.{Name, name_cmp, inode_of}
+use Rattle.tree.specs.Names.{name_cmp, inode_of}
 use Rattle.tree.specs.Flags.{reads}
 use Rattle.tree.specs.Tree.{Directory, is_directory, Node, OpenFile, Tree}
 use Rattle.tree.specs.IsTree.{IsTree}
-use Rattle.tree.specs.Walk.{Place, read_path, parent_walk}
+use Rattle.tree.specs.Walk.{Place, read_path, parent_walk, Way}
 use Rattle.tree.specs.Changes.{open_file_of}
 use Rattle.tree.specs.Answers.{Answer, some_bytes, wrote, names_are}
 use Rattle.tree.specs.Effects.{user_of, effect_of, reply_to, tree_after_call}
@@ -24,8 +25,8 @@ OtherSessionsStay =
     → (tree_after_call g t who now call).descriptors session ≡ t.descriptors session
 
 -- the last name of the path stands in its directory, and leads to node n
-pub record IsNameOf (t : Tree) (user : User) (path : List ℕ) (n : ℕ) : Type 0 where
-  pub parts : List Name
+pub record IsNameOf (t : Tree) (user : User) (path : PathFrom) (n : ℕ) : Type 0 where
+  pub parts : Way
   pub place : Place
   pub read : read_path path ≡ Ok parts
   pub walked : parent_walk t user parts ≡ Ok place
@@ -34,7 +35,7 @@ pub record IsNameOf (t : Tree) (user : User) (path : List ℕ) (n : ℕ) : Type 
 -- A rename of one name of a node onto another of the same node changes nothing.
 abbrev pub RenameOfSameStays : Type 0
 RenameOfSameStays =
-    (g : Geometry) (t : Tree) (who : Who) (now n : ℕ) (old new : Bor (List ℕ)) → IsNameOf t (user_of who) old.now n → IsNameOf t (user_of who) new.now n
+    (g : Geometry) (t : Tree) (who : Who) (now n : ℕ) (old new : PathFrom) → IsNameOf t (user_of who) old n → IsNameOf t (user_of who) new n
     → tree_after_call g t who now (Rename old new) ≡ t
 
 -- The names of the directory that the descriptor leads to: each is less than all after it, so none stands twice.

@@ -1,8 +1,8 @@
 //! Laws of the definitions: functions without a body, each of which stands for its clause.
 
 ghost use Rattle.std.specs.Prelude.{◌≡◌};
-ghost use Rattle.tree.specs.IsCall.{IsBytes, IsCall, IsCaller};
-ghost use Rattle.tree.specs.Laws.{FreshIsTree, HeldPagesFit, LooksLeave, PagesFit, RefusedLeaves, WalkEndsAtNoLink, WalkWithoutLinks};
+ghost use Rattle.tree.specs.IsCall.{IsBytes, IsCall, IsCaller, IsPath};
+ghost use Rattle.tree.specs.Laws.{FreshIsTree, HeldPagesFit, LooksLeave, PagesFit, RefusedLeaves, StartsGoOn, WalkEndsAtNoLink, WalkWithoutLinks};
 ghost use Rattle.tree.specs.Names.{most_name};
 ghost use Rattle.tree.specs.Tree.{most_bytes, most_descriptors, most_links, most_open_files, most_permissions, most_sessions, most_size};
 ghost use Rattle.tree.specs.Tree.{most_target};
@@ -11,7 +11,7 @@ ghost use Rattle.tree.specs.ZonesNeededByPlace.{ZonesNeededIsByPlace};
 
 use super::{
     Call, MAX_DESCRIPTORS, MAX_LINKS, MAX_NAME, MAX_OPEN_FILES, MAX_PATH, MAX_PERMISSIONS,
-    MAX_SESSIONS, MAX_SIZE, MAX_TARGET, MAX_TRANSFER, Who,
+    MAX_SESSIONS, MAX_SIZE, MAX_TARGET, MAX_TRANSFER, PathFrom, Start, Who,
 };
 use bitflags::Flags;
 
@@ -21,7 +21,7 @@ pub fn is_call(call: &Call<'_>)
 {
     match *call {
         Call::Open { path, flags, mode } => {
-            are_bytes(path);
+            is_path(path);
             let _flags = flags.bits();
             let _mode = mode;
         }
@@ -30,35 +30,35 @@ pub fn is_call(call: &Call<'_>)
             let _number = fd;
         }
         Call::Mkdir { path, mode } | Call::Chmod { path, mode } => {
-            are_bytes(path);
+            is_path(path);
             let _number = mode;
         }
         Call::Chown { path, uid, gid } => {
-            are_bytes(path);
+            is_path(path);
             let _uid = uid;
             let _gid = gid;
         }
         Call::Utime { path, atime, mtime } => {
-            are_bytes(path);
+            is_path(path);
             let _atime = atime;
             let _mtime = mtime;
         }
         Call::Truncate { path, size } => {
-            are_bytes(path);
+            is_path(path);
             let _number = size;
         }
         Call::Stat { path }
         | Call::Unlink { path }
         | Call::Rmdir { path }
         | Call::Readlink { path }
-        | Call::Lstat { path } => are_bytes(path),
+        | Call::Lstat { path } => is_path(path),
         Call::Link { old, new } | Call::Rename { old, new } => {
-            are_bytes(old);
-            are_bytes(new);
+            is_path(old);
+            is_path(new);
         }
         Call::Symlink { target, path } => {
             are_bytes(target);
-            are_bytes(path);
+            is_path(path);
         }
         Call::Read { fd, count } => {
             let _fd = fd;
@@ -82,6 +82,16 @@ pub fn is_call(call: &Call<'_>)
 fn are_bytes(bytes: &[u8])
     ensures { IsBytes bytes.now }
 {}
+
+/// A path is bytes, and the number of its start fits.
+fn is_path(path: PathFrom<'_>)
+    ensures { IsPath path.entry }
+{
+    are_bytes(path.bytes);
+    if let Start::Inode(number) = path.start {
+        let _number = number;
+    }
+}
 
 /// Every caller meets what the laws ask of one, by its types.
 pub fn is_caller(who: Who)
@@ -123,6 +133,12 @@ pub fn pages_fit()
 pub fn walks_follow_links()
     ensures without { WalkWithoutLinks }
     ensures ends { WalkEndsAtNoLink }
+{}
+
+/// In a tree without links, a walk from the node where one from the root ended goes on as that would have.
+#[tactic(auto, using(crate::proofs::Walks::starts_go_on))]
+pub fn starts_go_on()
+    ensures { StartsGoOn }
 {}
 
 /// The constants of the code are the limits of the definitions.

@@ -157,15 +157,48 @@ pub enum Whence {
     End,
 }
 
-/// A client call. A path begins with `/` and is read from the root on; `.` and `..` mean what they do
-/// in POSIX, repeated slashes count as one, and those at the end are dropped. A mode is permission bits
+/// Where a path starts.
+#[derive(Clone, Copy, Debug, PartialEq, Eq)]
+pub enum Start {
+    /// At the root.
+    Root,
+    /// At the node of this number, as stat told it: for user 0, who needs no directory above it.
+    Inode(u16),
+}
+
+/// A path and where it starts, as the two first arguments of POSIX `openat`. From the root it begins with
+/// `/`. From a node it may have no bytes, and means the node itself then; one that begins with `/` is read
+/// from the root on all the same.
+#[derive(Clone, Copy, Debug, PartialEq, Eq)]
+pub struct PathFrom<'a> {
+    pub start: Start,
+    pub bytes: &'a [u8],
+}
+
+impl<'a> PathFrom<'a> {
+    ghost use Rattle.std.specs.Prelude.{◌≡◌};
+
+    /// A path from the root.
+    pub fn root(bytes: &'a [u8]) -> PathFrom<'a>
+        ensures start { result.start ≡ Start.Root }
+        ensures bytes { result.bytes.now ≡ bytes.now }
+    {
+        PathFrom {
+            start: Start::Root,
+            bytes,
+        }
+    }
+}
+
+/// A client call. `.` and `..` of a path mean what they do in POSIX, repeated slashes count as one, and
+/// those at the end are dropped. A mode is permission bits
 /// alone, at most octal 777. Each refusal leaves everything as it was.
 #[derive(Clone, Copy, Debug, PartialEq, Eq)]
 pub enum Call<'a> {
     /// Opens a file or a directory, at position 0, under the lowest free descriptor. With the create flag
     /// a missing file is made with the mode; with the truncate flag a file that is there is emptied.
     Open {
-        path: &'a [u8],
+        path: PathFrom<'a>,
         flags: OpenFlags,
         mode: u16,
     },
@@ -196,7 +229,7 @@ pub enum Call<'a> {
     },
     /// The attributes of what a path leads to.
     Stat {
-        path: &'a [u8],
+        path: PathFrom<'a>,
     },
     /// The attributes of what a descriptor has open.
     Fstat {
@@ -204,48 +237,48 @@ pub enum Call<'a> {
     },
     /// A further name for a file.
     Link {
-        old: &'a [u8],
-        new: &'a [u8],
+        old: PathFrom<'a>,
+        new: PathFrom<'a>,
     },
     /// Takes a name from a file. A file without a name is freed once it isn't open.
     Unlink {
-        path: &'a [u8],
+        path: PathFrom<'a>,
     },
     /// Makes an empty directory.
     Mkdir {
-        path: &'a [u8],
+        path: PathFrom<'a>,
         mode: u16,
     },
     /// Removes an empty directory that isn't open.
     Rmdir {
-        path: &'a [u8],
+        path: PathFrom<'a>,
     },
     /// Moves a file or a directory to another name. What stood there loses the name: a file if a file
     /// moves, an empty directory that isn't open if a directory does.
     Rename {
-        old: &'a [u8],
-        new: &'a [u8],
+        old: PathFrom<'a>,
+        new: PathFrom<'a>,
     },
     /// Sets the permissions, for the owner and user 0.
     Chmod {
-        path: &'a [u8],
+        path: PathFrom<'a>,
         mode: u16,
     },
     /// Sets the owner and the group, for user 0.
     Chown {
-        path: &'a [u8],
+        path: PathFrom<'a>,
         uid: u16,
         gid: u16,
     },
     /// Sets the times of access and of modification, in seconds since 1970, for the owner and user 0.
     Utime {
-        path: &'a [u8],
+        path: PathFrom<'a>,
         atime: u32,
         mtime: u32,
     },
     /// Sets the size of a file, at most [`MAX_SIZE`]; where it grows there is a hole, which reads as zeros.
     Truncate {
-        path: &'a [u8],
+        path: PathFrom<'a>,
         size: u32,
     },
     /// The names of a directory but `.` and `..`, with their inodes, in the order of their bytes.
@@ -259,15 +292,15 @@ pub enum Call<'a> {
     /// Makes a symbolic link with a target of 1 to [`MAX_TARGET`] bytes, none of them zero.
     Symlink {
         target: &'a [u8],
-        path: &'a [u8],
+        path: PathFrom<'a>,
     },
     /// The target of the symbolic link that a path names.
     Readlink {
-        path: &'a [u8],
+        path: PathFrom<'a>,
     },
     /// The attributes of what a path names: of a symbolic link that stands last, its own.
     Lstat {
-        path: &'a [u8],
+        path: PathFrom<'a>,
     },
 }
 
