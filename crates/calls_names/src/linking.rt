@@ -25,7 +25,7 @@ use inode::inode_table::load;
 use inode_operations::add_link;
 use layout::Geometry;
 use path::{NameCache, Path};
-use tree::{MAX_LINKS, MAX_SIZE, Reply, User};
+use tree::{MAX_LINKS, MAX_SIZE, PathFrom, Reply, User};
 
 /// A place for a name more.
 #[derive(Drop)]
@@ -123,13 +123,13 @@ pub fn link<B: Blocks>(
     geometry: &Geometry,
     user: User,
     now: u32,
-    old: &[u8],
-    new: &[u8],
+    old: PathFrom,
+    new: PathFrom,
     reply: &mut Reply,
 ) -> Result<(), Halt>
     requires on { IsOn B.world geometry.now blocks.old }
     ensures turns { Turns B.world blocks.old blocks.new (λ d e. (f : Files) →
-        Meets geometry.now (λ t. link geometry.now t user now old.now new.now) result reply.new (HasFiles f) (HasFiles f) d e) }
+        Meets geometry.now (λ t. link geometry.now t user now old.entry new.entry) result reply.new (HasFiles f) (HasFiles f) d e) }
     ensures halt { IfErr result (λ h. IsHalt B.world blocks.new h) }
     ensures proper { OnOk result (answer_of reply.new ≢ refused Errno.EIO) }
 {

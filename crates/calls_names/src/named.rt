@@ -13,7 +13,7 @@ use errno::Errno;
 use inode::inode_table::load;
 use layout::Geometry;
 use path::{NameCache, NamePlace, Path, Stop, Wish, find_place, may};
-use tree::User;
+use tree::{PathFrom, User};
 use volume::Inode;
 
 /// A name that leads to a node.
@@ -63,11 +63,11 @@ pub(crate) fn find_name<'a, B: Blocks>(
     names: &mut NameCache,
     geometry: &Geometry,
     user: User,
-    path: &'a [u8],
+    path: PathFrom<'a>,
 ) -> Result<Result<Named<'a>, Errno>, Halt>
     requires on { IsOn B.world geometry.now blocks.old }
     ensures reads { Reads B.world blocks.old blocks.new (λ d. Ends result
-        (λ r. FindsName geometry.now d user path.now r) (IsVolume geometry.now d)) }
+        (λ r. FindsName geometry.now d user path.entry r) (IsVolume geometry.now d)) }
     ensures named { IfOk result (λ r. IfOk r (λ x. 0 < length x.name.now)) }
     ensures proper { IfOk result (λ r. IfErr r (λ e. e ≢ Errno.EIO)) }
     ensures halt { IfErr result (λ h. IsHalt B.world blocks.new h) }

@@ -22,7 +22,7 @@ use errno::Errno;
 use inode_operations::new_link;
 use layout::Geometry;
 use path::{NameCache, NamePlace, Stop};
-use tree::{MAX_NAME, MAX_TARGET, Reply, User};
+use tree::{MAX_NAME, MAX_TARGET, PathFrom, Reply, User};
 
 /// Whether a byte of a target is zero.
 fn has_zero(target: &[u8]) -> bool
@@ -83,11 +83,11 @@ fn make<B: Blocks>(
     user: User,
     now: u32,
     target: &[u8],
-    path: &[u8],
+    path: PathFrom,
 ) -> Result<(), Stop>
     requires on { IsOn B.world geometry.now blocks.old }
     ensures turns { Turns B.world blocks.old blocks.new (λ d e. (f : Files) →
-        MeetsOrStops geometry.now (λ t. symlink geometry.now t user now target.now path.now) (λ x. done) result
+        MeetsOrStops geometry.now (λ t. symlink geometry.now t user now target.now path.entry) (λ x. done) result
         (HasFiles f) (HasFiles f) d e) }
     ensures stop { IfErr result (λ s. IsStop B.world blocks.new s) }
     ensures proper { IfErr result (λ s. IfRefused s (λ e. e ≢ Errno.EIO)) }
@@ -109,12 +109,12 @@ pub fn symlink<B: Blocks>(
     user: User,
     now: u32,
     target: &[u8],
-    path: &[u8],
+    path: PathFrom,
     reply: &mut Reply,
 ) -> Result<(), Halt>
     requires on { IsOn B.world geometry.now blocks.old }
     ensures turns { Turns B.world blocks.old blocks.new (λ d e. (f : Files) →
-        Meets geometry.now (λ t. symlink geometry.now t user now target.now path.now) result reply.new (HasFiles f) (HasFiles f) d e) }
+        Meets geometry.now (λ t. symlink geometry.now t user now target.now path.entry) result reply.new (HasFiles f) (HasFiles f) d e) }
     ensures halt { IfErr result (λ h. IsHalt B.world blocks.new h) }
     ensures proper { OnOk result (answer_of reply.new ≢ refused Errno.EIO) }
 {

@@ -15,7 +15,7 @@ use file::file_room::has_room_beside;
 use inode_operations::free_inode;
 use layout::Geometry;
 use path::{NameCache, NamePlace, Path, Stop, find_place};
-use tree::{MAX_SIZE, User};
+use tree::{MAX_SIZE, PathFrom, User};
 
 /// The place at which a path's last name is missing. The refusals of the path and of the walk come first, then EEXIST where the name is
 /// there or the path has none, then EACCES where the user may not change the directory's names.
@@ -24,11 +24,11 @@ pub(crate) fn vacant_place<'a, B: Blocks>(
     names: &mut NameCache,
     geometry: &Geometry,
     user: User,
-    path: &'a [u8],
+    path: PathFrom<'a>,
 ) -> Result<NamePlace<'a>, Stop>
     requires on { IsOn B.world geometry.now blocks.old }
     ensures reads { Reads B.world blocks.old blocks.new (λ d. (t : Tree) → HoldsVolume geometry.now d t
-        → Answers result (FindsNewPlace geometry.now d t user path.now)) }
+        → Answers result (FindsNewPlace geometry.now d t user path.entry)) }
     ensures stop { IfErr result (λ s. IsStop B.world blocks.new s) }
     ensures proper { IfErr result (λ s. IfRefused s (λ e. e ≢ Errno.EIO)) }
 {

@@ -16,7 +16,7 @@ use inode::inode_table::load;
 use inode_operations::Move;
 use layout::Geometry;
 use path::{NameCache, Path};
-use tree::User;
+use tree::{PathFrom, User};
 use volume::Inode;
 
 /// What a rename is asked to move, once both places are found.
@@ -95,12 +95,12 @@ pub fn find_asked<'a, B: Blocks>(
     geometry: &Geometry,
     user: User,
     now: u32,
-    old: &'a [u8],
-    new: &'a [u8],
+    old: PathFrom<'a>,
+    new: PathFrom<'a>,
 ) -> Result<Result<Asked<'a>, Errno>, Halt>
     requires on { IsOn B.world geometry.now blocks.old }
     ensures reads { Reads B.world blocks.old blocks.new (λ d. Ends result
-        (λ r. FindsAsked geometry.now d user old.now new.now r) (IsVolume geometry.now d)) }
+        (λ r. FindsAsked geometry.now d user old.entry new.entry r) (IsVolume geometry.now d)) }
     ensures named { IfOk result (λ r. IfOk r (λ x. IsNamed now x.what)) }
     ensures proper { IfOk result (λ r. IfErr r (λ e. e ≢ Errno.EIO)) }
     ensures halt { IfErr result (λ h. IsHalt B.world blocks.new h) }
