@@ -1,4 +1,4 @@
-use Rattle.std.proofs.Common.{true, subst}
+use Rattle.std.proofs.Common.{true, false, subst}
 use Rattle.descriptors.specs.Table.{files_of}
 use Rattle.block_store.proofs.Turns.{reads_as, reads_then}
 use Rattle.block_store.proofs.Ending.{ends_exit}
