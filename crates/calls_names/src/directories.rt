@@ -13,6 +13,7 @@ ghost use Rattle.path.specs.Stops.{IfRefused, IsStop};
 ghost use Rattle.calls_names.specs.Making.{MakesDirectoryAt, MayMakeDirectoryAt};
 ghost use Rattle.calls_names.specs.Stopping.{MeetsOrStops};
 
+use crate::named::are_bytes;
 use crate::vacant::{free_number, vacant_place};
 use block_store::{Blocks, Halt};
 use directory::insert;
@@ -63,6 +64,7 @@ fn make<B: Blocks>(
     ensures stop { IfErr result (λ s. IsStop B.world blocks.new s) }
     ensures proper { IfErr result (λ s. IfRefused s (λ e. e ≢ Errno.EIO)) }
 {
+    are_bytes(path.bytes);
     if mode > MAX_PERMISSIONS {
         return Err(Stop::Refused(Errno::EINVAL));
     }

@@ -14,7 +14,7 @@ ghost use Rattle.calls_attributes.specs.Does.{Meets};
 ghost use Rattle.calls_names.specs.Names.{IsVolume};
 ghost use Rattle.calls_names.specs.Linking.{FindsFile, FindsFree, IsLast, IsRoomFor};
 
-use crate::named::{may_write, place_of};
+use crate::named::{are_bytes, may_write, place_of};
 use block_store::{Blocks, Halt};
 use calls_attributes::found::is_directory;
 use calls_attributes::last::walk_to_last;
@@ -133,6 +133,7 @@ pub fn link<B: Blocks>(
     ensures halt { IfErr result (λ h. IsHalt B.world blocks.new h) }
     ensures proper { OnOk result (answer_of reply.new ≢ refused Errno.EIO) }
 {
+    are_bytes(new.bytes);
     let from = match Path::parse(old) {
         Ok(path) => path,
         Err(errno) => {

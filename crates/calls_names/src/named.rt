@@ -4,6 +4,7 @@ ghost use Rattle.std.specs.Prelude.{◌≡◌, ◌≢◌, ◌<◌, IfErr, IfOk, 
 ghost use Rattle.block_store.specs.World.{Reads};
 ghost use Rattle.block_store.specs.Volume.{IsOn};
 ghost use Rattle.block_store.specs.Halts.{IsHalt, Ends};
+ghost use Rattle.tree.specs.IsCall.{IsBytes};
 ghost use Rattle.tree.specs.Tree.{Node};
 ghost use Rattle.tree.specs.Walk.{may_access, to_write};
 ghost use Rattle.calls_names.specs.Names.{FindsName, IsOfInode, IsVolume, MeansPlace};
@@ -34,6 +35,11 @@ pub fn may_write(user: User, inode: &Inode) -> bool
 {
     may(user, inode.mode % 512, inode.uid, inode.gid, Wish::Write)
 }
+
+/// The bytes of a path are bytes: a proof hears it of a slice alone, and not of a struct's. Nothing is done.
+pub fn are_bytes(bytes: &[u8])
+    ensures { IsBytes bytes.now }
+{}
 
 /// The place that a path means, or the refusal of the walk there.
 pub fn place_of<'a, B: Blocks>(
@@ -72,6 +78,7 @@ pub(crate) fn find_name<'a, B: Blocks>(
     ensures proper { IfOk result (λ r. IfErr r (λ e. e ≢ Errno.EIO)) }
     ensures halt { IfErr result (λ h. IsHalt B.world blocks.new h) }
 {
+    are_bytes(path.bytes);
     let parts = match Path::parse(path) {
         Ok(parts) => parts,
         Err(errno) => return Ok(Err(errno)),

@@ -13,6 +13,7 @@ ghost use Rattle.calls_attributes.specs.Does.{Meets};
 ghost use Rattle.calls_names.specs.Opening.{IsPut};
 
 use crate::asking::may_begin;
+use crate::named::are_bytes;
 use crate::readying::ready;
 use block_store::{Blocks, Halt};
 use descriptors::Descriptors;
@@ -62,6 +63,7 @@ pub fn open<B: Blocks>(
     ensures halt { IfErr result (λ h. IsHalt B.world blocks.new h) }
     ensures proper { OnOk result (answer_of reply.new ≢ refused Errno.EIO) }
 {
+    are_bytes(path.bytes);
     if let Err(errno) = may_begin(opens, session, flags, mode) {
         *reply = Reply::Refused(errno);
         return Ok(());

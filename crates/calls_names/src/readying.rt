@@ -10,6 +10,7 @@ ghost use Rattle.calls_names.specs.Opening.{FindsToOpen, Readies, ReadiesThere, 
 
 use crate::asking::{is_emptied, only_makes, refusal};
 use crate::make_file;
+use crate::named::are_bytes;
 use block_store::Blocks;
 use calls_attributes::found::is_link;
 use errno::Errno;
@@ -97,6 +98,7 @@ pub(crate) fn ready<B: Blocks>(
     ensures stop { IfErr result (λ s. IsStop B.world blocks.new s) }
     ensures proper { IfErr result (λ s. IfRefused s (λ e. e ≢ Errno.EIO)) }
 {
+    are_bytes(path.bytes);
     let path = Path::parse(path)?;
     match find(blocks, names, geometry, user, &path, only_makes(flags))? {
         Found::There(number) => {

@@ -15,6 +15,7 @@ ghost use Rattle.calls_names.specs.Asking.{may_be_target};
 ghost use Rattle.calls_names.specs.Making.{MakesLinkAt, MayMakeAt};
 ghost use Rattle.calls_names.specs.Stopping.{MeetsOrStops};
 
+use crate::named::are_bytes;
 use crate::vacant::{free_number, vacant_place};
 use block_store::{Blocks, Halt};
 use directory::insert;
@@ -92,6 +93,7 @@ fn make<B: Blocks>(
     ensures stop { IfErr result (λ s. IsStop B.world blocks.new s) }
     ensures proper { IfErr result (λ s. IfRefused s (λ e. e ≢ Errno.EIO)) }
 {
+    are_bytes(path.bytes);
     may_be_target(target)?;
     let place = vacant_place(blocks, names, geometry, user, path)?;
     let number = free_number(blocks, geometry, &place, 1)?;

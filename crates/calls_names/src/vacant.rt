@@ -8,7 +8,7 @@ ghost use Rattle.block_store.specs.World.{Reads};
 ghost use Rattle.path.specs.Stops.{Answers, IfRefused, IsStop};
 ghost use Rattle.calls_names.specs.Vacant.{FindsNewPlace, FindsNumber, IsVacant};
 
-use crate::named::may_write;
+use crate::named::{are_bytes, may_write};
 use block_store::{Blocks, Halt};
 use errno::Errno;
 use file::file_room::has_room_beside;
@@ -32,6 +32,7 @@ pub(crate) fn vacant_place<'a, B: Blocks>(
     ensures stop { IfErr result (λ s. IsStop B.world blocks.new s) }
     ensures proper { IfErr result (λ s. IfRefused s (λ e. e ≢ Errno.EIO)) }
 {
+    are_bytes(path.bytes);
     let path = Path::parse(path)?;
     let place = find_place(blocks, names, geometry, user, &path)?;
     if !path.has_last_name() || place.there.is_some() {

@@ -10,7 +10,7 @@ ghost use Rattle.calls_rename.specs.Asked.{FindsAsked, FindsBoth, IsBetween, IsN
 
 use block_store::{Blocks, Halt};
 use calls_attributes::found::is_directory;
-use calls_names::named::{may_write, place_of};
+use calls_names::named::{are_bytes, may_write, place_of};
 use errno::Errno;
 use inode::inode_table::load;
 use inode_operations::Move;
@@ -105,6 +105,8 @@ pub fn find_asked<'a, B: Blocks>(
     ensures proper { IfOk result (λ r. IfErr r (λ e. e ≢ Errno.EIO)) }
     ensures halt { IfErr result (λ h. IsHalt B.world blocks.new h) }
 {
+    are_bytes(old.bytes);
+    are_bytes(new.bytes);
     let from = match Path::parse(old) {
         Ok(path) => path,
         Err(errno) => return Ok(Err(errno)),

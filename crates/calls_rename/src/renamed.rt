@@ -13,6 +13,7 @@ ghost use Rattle.calls_attributes.specs.Does.{Meets};
 use crate::carrying::{carry, fits};
 use crate::{Asked, find_asked, why_barred};
 use block_store::{Blocks, Halt};
+use calls_names::named::are_bytes;
 use descriptors::Descriptors;
 use errno::Errno;
 use layout::Geometry;
@@ -52,6 +53,7 @@ pub fn rename<B: Blocks>(
     ensures halt { IfErr result (λ h. IsHalt B.world blocks.new h) }
     ensures proper { OnOk result (answer_of reply.new ≢ refused Errno.EIO) }
 {
+    are_bytes(new.bytes);
     let asked = match find_asked(blocks, names, geometry, user, now, old, new)? {
         Ok(asked) => asked,
         Err(errno) => {

@@ -1,7 +1,6 @@
 use Rattle.std.proofs.Common.{◌<◌, ◌≤◌, ◌^◌, Err, sym, subst, arith, rules}
-use Rattle.std.proofs.lemmas.List.Elements.{All-from_get_or}
-use Rattle.std.specs.List.{All}
 use Rattle.errno.specs.declared.Errno.TheVariants.{EINVAL, EMLINK}
+use Rattle.tree.specs.IsCall.{IsBytes}
 use Rattle.tree.specs.Answers.{done}
 use Rattle.tree.specs.NameCalls.{mkdir}
 use Rattle.tree.specs.Tree.{Tree}
@@ -21,8 +20,8 @@ returns-then-mode-gt-MAX_PERMISSIONS-clause-turns g c =
     let v = a.geometry.now in
     let big : 511 < a.mode = search rules in
     turns_as _ _ _ _ _
-    (λ d e p f. meets_refused v (λ (t : Tree). mkdir v t a.user a.now a.path.entry a.mode) (HasFiles f) (HasFiles f) d e p (λ t h. h) EINVAL
-    (λ t holds. bad_mode v c.requires.on.geometry a.user a.now a.mode a.path.entry t big))
+    (λ d e p f. meets_refused v (λ (t : Tree). mkdir v t a.user a.now a.path a.mode) (HasFiles f) (HasFiles f) d e p (λ t h. h) EINVAL
+    (λ t holds. bad_mode v c.requires.on.geometry a.user a.now a.mode a.path t big))
     (turns_none _ g.met.B.Blocks.lawful _ c.requires.on.ready)
 
 pub returns-in_err-place-clause-turns : goal.returns-in_err-place-clause-turns
@@ -31,9 +30,9 @@ returns-in_err-place-clause-turns g c =
     let v = a.geometry.now in
     let few : a.mode ≤ 511 = search rules in
     turns_as _ _ _ _ _
-    (λ d e p f. meets_exit v (λ (t : Tree). mkdir v t a.user a.now a.path.entry a.mode) (λ x. done) (HasFiles f) (HasFiles f) d e p.0 (λ t h. h) _ _
-    (λ t. FindsNewPlace v d t a.user a.path.entry) c.from_residual.ensures.1 (λ t holds files. p.1 t holds)
-    (λ t x holds h. no_place v c.requires.on.geometry a.user a.now a.mode a.path.entry few t x h))
+    (λ d e p f. meets_exit v (λ (t : Tree). mkdir v t a.user a.now a.path a.mode) (λ x. done) (HasFiles f) (HasFiles f) d e p.0 (λ t h. h) _ _
+    (λ t. FindsNewPlace v d t a.user a.path) c.from_residual.ensures.1 (λ t holds files. p.1 t holds)
+    (λ t x holds h. no_place v c.requires.on.geometry a.user a.now a.mode a.path few t x h))
     c.in_err-place.ensures.reads
 
 pub returns-then-place-ge-MAX_LINKS-clause-turns : goal.returns-then-place-ge-MAX_LINKS-clause-turns
@@ -43,8 +42,8 @@ returns-then-place-ge-MAX_LINKS-clause-turns g c =
     let few : a.mode ≤ 511 = search rules in
     let many : 32767 ≤ c.in_ok-place.place.inode.links = search rules in
     turns_as _ _ _ _ _
-    (λ d e p f. meets_refused v (λ (t : Tree). mkdir v t a.user a.now a.path.entry a.mode) (HasFiles f) (HasFiles f) d e p.0 (λ t h. h) EMLINK
-    (λ t holds. many_links v c.requires.on.geometry a.user a.now a.mode a.path.entry few d t c.in_ok-place.place holds (p.1 t holds) many))
+    (λ d e p f. meets_refused v (λ (t : Tree). mkdir v t a.user a.now a.path a.mode) (HasFiles f) (HasFiles f) d e p.0 (λ t h. h) EMLINK
+    (λ t holds. many_links v c.requires.on.geometry a.user a.now a.mode a.path few d t c.in_ok-place.place holds (p.1 t holds) many))
     c.in_ok-place.ensures.reads
 
 pub returns-in_err-number-clause-turns : goal.returns-in_err-number-clause-turns
@@ -55,10 +54,10 @@ returns-in_err-number-clause-turns g c =
     let few : a.mode ≤ 511 = search rules in
     let low : q.inode.links < 32767 = search rules in
     turns_as _ _ _ _ _
-    (λ d e p f. meets_exit v (λ (t : Tree). mkdir v t a.user a.now a.path.entry a.mode) (λ x. done) (HasFiles f) (HasFiles f) d e p.0 (λ t h. h) _ _
-    (λ t r. (new : IsNewPlace v d t a.user a.path.entry q) × FindsNumber v t q.directory new.parent q.name.now 1 r) c.from_residual-in_err-number.ensures.1
-    (λ t holds files. let new = p.1.0 t holds in answers_as (Err c.in_err-number.field-0.0) (λ r. FindsNumber v t q.directory new.parent q.name.now 1 r) (λ r. (x : IsNewPlace v d t a.user a.path.entry q) × FindsNumber v t q.directory x.parent q.name.now 1 r) (λ r h. (new, h)) (p.1.1 t new.parent holds new.vacant))
-    (λ t x holds h. no_room v c.requires.on.geometry a.user a.now a.mode a.path.entry few d t q holds h.0 low x h.1))
+    (λ d e p f. meets_exit v (λ (t : Tree). mkdir v t a.user a.now a.path a.mode) (λ x. done) (HasFiles f) (HasFiles f) d e p.0 (λ t h. h) _ _
+    (λ t r. (new : IsNewPlace v d t a.user a.path q) × FindsNumber v t q.directory new.parent q.name.now 1 r) c.from_residual-in_err-number.ensures.1
+    (λ t holds files. let new = p.1.0 t holds in answers_as (Err c.in_err-number.field-0.0) (λ r. FindsNumber v t q.directory new.parent q.name.now 1 r) (λ r. (x : IsNewPlace v d t a.user a.path q) × FindsNumber v t q.directory x.parent q.name.now 1 r) (λ r h. (new, h)) (p.1.1 t new.parent holds new.vacant))
+    (λ t x holds h. no_room v c.requires.on.geometry a.user a.now a.mode a.path few d t q holds h.0 low x h.1))
     (reads_both _ g.met.B.Blocks.lawful _ _ _ _ _ c.in_ok-place.ensures.reads c.in_err-number.ensures.reads)
 
 pub returns-in_err-put_directory-clause-turns : goal.returns-in_err-put_directory-clause-turns
@@ -70,11 +69,11 @@ returns-in_err-put_directory-clause-turns g c =
     let few : a.mode ≤ 511 = search rules in
     let low : q.inode.links < 32767 = search rules in
     turns_then _ g.met.B.Blocks.lawful _ _ _ _ _ _
-    (λ d e h p r f. meets_halted v (λ (t : Tree). mkdir v t a.user a.now a.path.entry a.mode) (λ x. done) (HasFiles f) (HasFiles f) d h _ _ _ _
+    (λ d e h p r f. meets_halted v (λ (t : Tree). mkdir v t a.user a.now a.path a.mode) (λ x. done) (HasFiles f) (HasFiles f) d h _ _ _ _
     c.from_residual-in_err-put_directory.ensures.1 r
     (λ held. let new = p.1.0 held.tree held.holds in
     subst (λ (z : Disk). MayMakeDirectoryAt v z q n) (sym p.0)
-    (may_make v c.requires.on.geometry a.user a.now a.mode a.path.entry few d held.tree q held.holds new low n (p.1.1 held.tree new.parent held.holds new.vacant))))
+    (may_make v c.requires.on.geometry a.user a.now a.mode a.path few d held.tree q held.holds new low n (p.1.1 held.tree new.parent held.holds new.vacant))))
     (reads_both _ g.met.B.Blocks.lawful _ _ _ _ _ c.in_ok-place.ensures.reads c.in_ok-number.ensures.reads)
     c.in_err-put_directory.ensures.turns
 
@@ -89,9 +88,9 @@ returns-clause-turns g c =
     let small : a.now < 2 ^ 32 = (let k = c.ranges.now.fits in omega (arith, k)) in
     let uid : a.user.uid < 2 ^ 16 = search rules in
     let gid : a.user.gid < 2 ^ 16 = search rules in
-    let bytes : All (λ k. k < 256) a.path.entry.bytes.now = All-from_get_or (λ k. k < 256) a.path.entry.bytes.now 0 (λ i l. let k = c.type_inv.path i in omega (arith, k)) in
+    let bytes : IsBytes a.path.bytes.now = c.are_bytes.ensures in
     turns_then _ g.met.B.Blocks.lawful _ _ _ _ _ _
-    (λ d e h p r f. directory_done v c.requires.on.geometry a.user a.now a.mode a.path.entry few d h q n f small uid gid bytes low
+    (λ d e h p r f. directory_done v c.requires.on.geometry a.user a.now a.mode a.path few d h q n f small uid gid bytes low
     (λ t holds. let new = p.1.0 t holds in (new, p.1.1 t new.parent holds new.vacant))
     (subst (λ (z : Disk). MakesDirectoryAt v a.user a.now a.mode q n z h) p.0 r))
     (reads_both _ g.met.B.Blocks.lawful _ _ _ _ _ c.in_ok-place.ensures.reads c.in_ok-number.ensures.reads)
