@@ -25,34 +25,34 @@ abbrev pub from_root : List ℕ → PathFrom
 from_root bytes = record { start = Root; bytes = at bytes }
 
 -- the same path, wherever its bytes stand
-abbrev pub same_path : PathFrom → PathFrom
-same_path path = record { start = path.start; bytes = anywhere path.bytes }
+abbrev pub plain_path : PathFrom → PathFrom
+plain_path path = record { start = path.start; bytes = anywhere path.bytes }
 
 -- the same call, wherever its paths and bytes stand
 abbrev pub plain : Call → Call
-plain (Open path flags mode) = Open (same_path path) flags mode
+plain (Open path flags mode) = Open (plain_path path) flags mode
 plain (Close fd) = Close fd
 plain (Dup fd) = Dup fd
 plain (Read fd count) = Read fd count
 plain (Write fd bytes) = Write fd (anywhere bytes)
 plain (Seek fd whence offset) = Seek fd whence offset
-plain (Stat path) = Stat (same_path path)
+plain (Stat path) = Stat (plain_path path)
 plain (Fstat fd) = Fstat fd
-plain (Link old new) = Link (same_path old) (same_path new)
-plain (Unlink path) = Unlink (same_path path)
-plain (Mkdir path mode) = Mkdir (same_path path) mode
-plain (Rmdir path) = Rmdir (same_path path)
-plain (Rename old new) = Rename (same_path old) (same_path new)
-plain (Chmod path mode) = Chmod (same_path path) mode
-plain (Chown path uid gid) = Chown (same_path path) uid gid
-plain (Utime path atime mtime) = Utime (same_path path) atime mtime
-plain (Truncate path size) = Truncate (same_path path) size
+plain (Link old new) = Link (plain_path old) (plain_path new)
+plain (Unlink path) = Unlink (plain_path path)
+plain (Mkdir path mode) = Mkdir (plain_path path) mode
+plain (Rmdir path) = Rmdir (plain_path path)
+plain (Rename old new) = Rename (plain_path old) (plain_path new)
+plain (Chmod path mode) = Chmod (plain_path path) mode
+plain (Chown path uid gid) = Chown (plain_path path) uid gid
+plain (Utime path atime mtime) = Utime (plain_path path) atime mtime
+plain (Truncate path size) = Truncate (plain_path path) size
 plain (Readdir fd) = Readdir fd
 plain Sync = Sync
 plain Statfs = Statfs
-plain (Symlink target path) = Symlink (anywhere target) (same_path path)
-plain (Readlink path) = Readlink (same_path path)
-plain (Lstat path) = Lstat (same_path path)
+plain (Symlink target path) = Symlink (anywhere target) (plain_path path)
+plain (Readlink path) = Readlink (plain_path path)
+plain (Lstat path) = Lstat (plain_path path)
 
 -- the call that is written, with its bytes
 abbrev pub meant : WrittenCall → Call
