@@ -12,8 +12,8 @@ ghost use Rattle.volume.specs.Pieces.{pieces};
 ghost use Rattle.path.specs.Stops.{Answers, IsStop, IfRefused};
 ghost use Rattle.path.specs.Walking.{entries_in, Arrives, Enters, IsDirectoryAt, StepsTo, TellsTarget, Walks};
 
-use crate::stop::Stop;
 use crate::first::{ROOT, first_node};
+use crate::stop::Stop;
 use crate::{NameCache, Parts, Path, Wish, is_dot, is_dot_dot, may};
 use block_store::{Blocks, Cut};
 use directory::{find, parent, stands_at};
@@ -296,8 +296,9 @@ pub(crate) fn walk_parts<B: Blocks>(
     ensures stop { IfErr result (λ s. IsStop B.world blocks.new s) }
     ensures proper { IfErr result (λ s. IfRefused s (λ e. e ≢ Errno.EIO)) }
 {
+    let here = first_node(blocks, geometry, user, start)?;
     let first = Stand {
-        here: first_node(blocks, geometry, user, start)?,
+        here,
         links: MOST_LINKS,
     };
     let end = lead(blocks, names, geometry, user, first, parts)?;
