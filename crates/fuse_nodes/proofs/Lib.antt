@@ -1,4 +1,3 @@
 pub mod TableLaws
-pub mod PathLaws
 pub mod ChangeLaws
 pub mod SoundLaws

@@ -1,7 +1,6 @@
 pub mod Tables
 pub mod Known
 pub mod Names
-pub mod Paths
 pub mod Changes
 pub mod Handles
 pub mod Laws

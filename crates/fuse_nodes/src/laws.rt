@@ -2,8 +2,8 @@
 
 ghost use Rattle.fuse_nodes.specs.Laws.{StaysSound, NumbersStay, IsToldByItsNumber};
 
-/// From the root alone on, whatever is told, forgotten, opened, closed, renamed and lost: the root stays, and the number of an inode's node
-/// is that of a node with this inode.
+/// From the root alone on, whatever is told, forgotten, opened, closed and lost: the root stays, and each inode leads to the one node with
+/// this inode that isn't gone or is open.
 pub fn tables_stay_sound()
     ensures { StaysSound }
 {}
@@ -13,7 +13,7 @@ pub fn numbers_stay()
     ensures { NumbersStay }
 {}
 
-/// A node is told by a number of its own, and has the name by which it is told.
+/// A node is told by a number of its own, and isn't gone then.
 pub fn each_is_told_by_its_number()
     ensures { IsToldByItsNumber }
 {}
