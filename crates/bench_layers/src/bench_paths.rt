@@ -47,6 +47,7 @@ fn is_there<B: Blocks>(
     let user = User { uid: 0, gid: 0 };
     let path = PathFrom::root(path);
     let mut reply = Reply::Done;
+    let path = PathFrom::root(path);
     let ended = stat(blocks, names, geometry, user, path, &mut reply);
     ended.is_ok() && matches!(reply, Reply::Inode(_))
 }
