@@ -1,4 +1,4 @@
-use Rattle.std.proofs.Common.{◌≡◌, ◌∙◌, sym, ap, None}
+use Rattle.std.proofs.Common.{◌∙◌, sym, ap, None}
 use Rattle.std.proofs.lemmas.Bool.{cond-true}
 use Rattle.tree.specs.Names.{inode_of}
 use Rattle.tree.specs.Walk.{has_last_name, last_part}

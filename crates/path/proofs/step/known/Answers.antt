@@ -1,4 +1,4 @@
-use Rattle.std.proofs.Common.{◌≡◌, ◌∙◌, sym}
+use Rattle.std.proofs.Common.{◌∙◌, sym}
 use Rattle.block_store.proofs.Turns.{reads_as, reads_none}
 use Rattle.directory.proofs.Known.{known_leads}
 use Rattle.volume.specs.Pieces.{pieces}

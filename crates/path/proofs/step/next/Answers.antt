@@ -1,4 +1,4 @@
-use Rattle.std.proofs.Common.{◌≡◌, ◌∙◌, Option, ℕ, sym, ap}
+use Rattle.std.proofs.Common.{◌∙◌, Option, ℕ, sym, ap}
 use Rattle.std.specs.Prelude.{Ok}
 use Rattle.errno.specs.declared.Errno.TheVariants.{ENOENT}
 use Rattle.tree.specs.Refusals.{or_refuse}
