@@ -12,8 +12,8 @@ ghost use Rattle.volume.specs.Pieces.{pieces};
 ghost use Rattle.path.specs.Stops.{Answers, IsStop, IfRefused};
 ghost use Rattle.path.specs.Walking.{entries_in, Arrives, Enters, IsDirectoryAt, StepsTo, TellsTarget, Walks};
 
-use crate::stop::Stop;
 use crate::first::{ROOT, first_node};
+use crate::stop::Stop;
 use crate::{NameCache, Parts, Path, Wish, is_dot, is_dot_dot, may};
 use block_store::{Blocks, Cut};
 use directory::{find, parent, stands_at};
