@@ -45,6 +45,7 @@ fn is_there<B: Blocks>(
     ensures { IsOn B.world geometry.now blocks.new }
 {
     let user = User { uid: 0, gid: 0 };
+    let path = PathFrom::root(path);
     let mut reply = Reply::Done;
     let path = PathFrom::root(path);
     let ended = stat(blocks, names, geometry, user, path, &mut reply);

@@ -4,13 +4,14 @@ use Rattle.std.specs.Prelude.{List, ◌∷◌, Result, Ok, Err, IfOk, IsTrue, is
 use Rattle.std.proofs.lemmas.List.{append-nil}
 use Rattle.errno.specs.declared.Errno.{Errno}
 use Rattle.errno.specs.declared.Errno.TheVariants.{ENAMETOOLONG, ELOOP}
+use Rattle.tree.specs.declared.Start.{Start}
 use Rattle.tree.specs.declared.User.{User}
 use Rattle.tree.specs.Names.{Name}
 use Rattle.tree.specs.Tree.{Tree, target_of}
 use Rattle.tree.specs.Refusals.{◌>>=◌, refuse_if}
-use Rattle.tree.specs.Walk.{walk_from, start_of, follow_links, most_followed, walk_parts, has_long_part, parts_of}
+use Rattle.tree.specs.Walk.{walk_from, start_of, follow_links, most_followed, has_long_part, parts_of}
 use Rattle.path.specs.declared.step.Stand.{Stand}
-use Rattle.path.specs.Walking.{StepsTo, Walks, IsThere, from, Arrives}
+use Rattle.path.specs.Walking.{StepsTo, Begins, Walks, IsThere, from, Arrives}
 use Rattle.path.proofs.Going.{on, split}
 
 -- One part.
@@ -125,15 +126,24 @@ arrived t user first at parts left is way = record {
   there = way.there;
 }
 
--- A call from the root with eight links is the tree's walk.
-pub is_walk : (t : Tree) (user : User) (parts : List Name) (r : Result Stand Errno)
-    → Arrives t user (record { here = 1; links = most_followed }) parts r
-    → Walks t user parts (r >>= λ s. Ok s.here)
-is_walk t user parts r arrives = record {
-  answer = sym (ap (walk_parts t user) (sym (append-nil parts)) ∙ arrives.leads []);
+-- A call from where the walk begins, with eight links, is the tree's walk.
+pub is_walk : (t : Tree) (user : User) (start : Start) (here : ℕ) (parts : List Name) (r : Result Stand Errno) → Begins t user start (Ok here)
+    → Arrives t user (record { here = here; links = most_followed }) parts r
+    → Walks t user (record { start = start; parts = parts }) (r >>= λ s. Ok s.here)
+is_walk t user start here parts r begins arrives = record {
+  answer = sym (ap (λ (x : Result ℕ Errno). x >>= λ n. walk_from t user (follow_links t user most_followed) n parts) (sym begins.answer)
+      ∙ ap (walk_from t user (follow_links t user most_followed) here) (sym (append-nil parts)) ∙ arrives.leads []);
   there = by r arrives.there;
 }
   where
     by : (r : Result Stand Errno) → IfOk r (λ s. IsTrue (is_some (t.nodes s.here))) → IsThere t (r >>= λ s. Ok s.here)
     by (Ok s) h = h
     by (Err e) h = tt
+
+-- and none begins where that is refused
+pub not_begun : (t : Tree) (user : User) (start : Start) (parts : List Name) (e : Errno) → Begins t user start (Err e)
+    → Walks t user (record { start = start; parts = parts }) (Err e)
+not_begun t user start parts e begins = record {
+  answer = ap (λ (x : Result ℕ Errno). x >>= λ n. walk_from t user (follow_links t user most_followed) n parts) begins.answer;
+  there = tt;
+}

@@ -2,6 +2,7 @@ pub mod Dots
 pub mod Splits
 pub mod Joined
 pub mod Ending
+pub mod Beginning
 pub mod Entering
 pub mod Going
 pub mod Finding

@@ -296,8 +296,9 @@ pub(crate) fn walk_parts<B: Blocks>(
     ensures stop { IfErr result (λ s. IsStop B.world blocks.new s) }
     ensures proper { IfErr result (λ s. IfRefused s (λ e. e ≢ Errno.EIO)) }
 {
+    let here = first_node(blocks, geometry, user, start)?;
     let first = Stand {
-        here: first_node(blocks, geometry, user, start)?,
+        here,
         links: MOST_LINKS,
     };
     let end = lead(blocks, names, geometry, user, first, parts)?;

@@ -75,7 +75,7 @@ const TREE_PARTS: [Part<'static>; 28] = [
     (8192, &[4, 0, 0, 0, b'.']),
     (8256, &[2, 0, 0, 0, b'.', b'.']),
     (9216, &[5, 0, 0, 0, b'.']),
-    // the maps, which a walk doesn't read: what a check would see there
+    // the maps, of which a walk reads no more than its start's bit
     (2048, &[0x3f]),
     (3072, &[0x1f]),
     // behind the entries of /s

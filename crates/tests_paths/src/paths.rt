@@ -3,6 +3,7 @@
 use errno::Errno;
 use path::{Parts, Path};
 use std::test::Fail;
+use tree::{PathFrom, Start};
 
 /// Paths, and why they aren't read: the first reason that holds.
 static REFUSALS: [(&[u8], Option<Errno>); 11] = [
@@ -39,9 +40,29 @@ static LAST_NAMES: [(&[u8], bool); 6] = [
     (b"/.../", true),
 ];
 
+/// Paths from a node, and why they aren't read, or where their walk begins.
+static FROM_A_NODE: [(&[u8], Result<Start, Errno>); 7] = [
+    (b"", Ok(Start::Inode(5))),
+    (b"a/b", Ok(Start::Inode(5))),
+    (b"/", Ok(Start::Root)),
+    (b"//a", Ok(Start::Root)),
+    (&[b'a'; 1025], Err(Errno::ENAMETOOLONG)),
+    (b"a\0b", Err(Errno::EINVAL)),
+    (&[b'a'; 61], Err(Errno::ENAMETOOLONG)),
+];
+
+/// Where the walk of a path from node 5 begins, or why it isn't read.
+fn start_of(bytes: &[u8]) -> Result<Start, Errno> {
+    let path = PathFrom {
+        start: Start::Inode(5),
+        bytes,
+    };
+    Ok(Path::parse(path)?.start())
+}
+
 /// Why a path isn't read.
 fn refusal(bytes: &[u8]) -> Option<Errno> {
-    match Path::parse(bytes) {
+    match Path::parse(PathFrom::root(bytes)) {
         Ok(_) => None,
         Err(error) => Some(error),
     }
@@ -49,7 +70,7 @@ fn refusal(bytes: &[u8]) -> Option<Errno> {
 
 /// Whether a path that can be read has a last name.
 fn has_last_name(bytes: &[u8]) -> Option<bool> {
-    match Path::parse(bytes) {
+    match Path::parse(PathFrom::root(bytes)) {
         Ok(path) => Some(path.has_last_name()),
         Err(_) => None,
     }
@@ -73,6 +94,11 @@ fn paths_are_read() -> Result<(), Fail> {
             return Err(Fail::new(format_args!("path {number}")));
         }
     }
+    for (number, (bytes, wanted)) in FROM_A_NODE.iter().enumerate() {
+        if start_of(bytes) != *wanted {
+            return Err(Fail::new(format_args!("path {number} from a node")));
+        }
+    }
     for (number, (bytes, wanted)) in LAST_NAMES.iter().enumerate() {
         if has_last_name(bytes) != Some(*wanted) {
             return Err(Fail::new(format_args!("last name {number}")));
@@ -83,7 +109,7 @@ fn paths_are_read() -> Result<(), Fail> {
 
 #[test]
 fn slashes_in_a_row_are_one() -> Result<(), Fail> {
-    let path = Path::parse(b"//a///bc/")?;
+    let path = Path::parse(PathFrom::root(b"//a///bc/"))?;
     if !are_parts(path.parts(), &[b"a", b"bc"]) || !are_parts(path.parent(), &[b"a"]) {
         return Err(Fail::new("parts"));
     }

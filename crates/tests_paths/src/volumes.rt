@@ -11,10 +11,13 @@ use layout::Geometry;
 use path::{Found, NameCache, Path, Stop, find_place, look_up, walk};
 use std::alloc::{AllocError, Global};
 use std::test::Fail;
-use tree::User;
+use tree::{PathFrom, Start, User};
 
 /// The number of the root's inode.
 const ROOT: u32 = 1;
+
+/// User 0, who may do all.
+const USER: User = User { uid: 0, gid: 0 };
 
 /// A call on a volume. Names are the root's.
 #[derive(Clone, Copy)]
@@ -31,12 +34,18 @@ pub(crate) enum Call<'a> {
     SetParent(u32),
     /// Whether these bytes are at a place of the image.
     Bytes(usize, &'a [u8]),
-    /// The inode to which a user's path leads.
+    /// The inode to which a user's path from the root leads.
     Walk(User, &'a [u8]),
-    /// What a user's path finds.
+    /// The inode to which a user's path leads from a node.
+    WalkFrom(User, u16, &'a [u8]),
+    /// What a user's path from the root finds.
     LookUp(User, &'a [u8]),
-    /// The place that a path of user 0 means.
+    /// What a path of user 0 finds from a node.
+    LookUpFrom(u16, &'a [u8]),
+    /// The place that a path of user 0 from the root means.
     Place(&'a [u8]),
+    /// The place that a path of user 0 from a node means.
+    PlaceFrom(u16, &'a [u8]),
     /// How many names the cache of names keeps.
     Kept,
 }
@@ -73,6 +82,14 @@ fn is_wanted(got: Result<Seen, Stop>, wanted: Result<Seen, Stop>) -> bool {
         (Ok(got), Ok(wanted)) => got == wanted,
         (Err(got), Err(wanted)) => got == wanted,
         _ => false,
+    }
+}
+
+/// A path from the node of a number.
+fn from_node(number: u16, bytes: &[u8]) -> PathFrom<'_> {
+    PathFrom {
+        start: Start::Inode(number),
+        bytes,
     }
 }
 
@@ -141,9 +158,12 @@ impl Volume {
             Call::Find(name) => self.find(name),
             Call::SetParent(number) => self.set_parent(*number),
             Call::Bytes(from, bytes) => self.has_bytes(*from, bytes),
-            Call::Walk(user, path) => self.walk(*user, path),
-            Call::LookUp(user, path) => self.look_up(*user, path),
-            Call::Place(path) => self.place(path),
+            Call::Walk(user, path) => self.walk(*user, PathFrom::root(path)),
+            Call::WalkFrom(user, number, path) => self.walk(*user, from_node(*number, path)),
+            Call::LookUp(user, path) => self.look_up(*user, PathFrom::root(path)),
+            Call::LookUpFrom(number, path) => self.look_up(USER, from_node(*number, path)),
+            Call::Place(path) => self.place(PathFrom::root(path)),
+            Call::PlaceFrom(number, path) => self.place(from_node(*number, path)),
             Call::Kept => Ok(Seen::Kept(self.names.len())),
         }
     }
@@ -195,20 +215,20 @@ impl Volume {
     }
 
     /// The inode to which a path leads.
-    fn walk(&mut self, user: User, path: &[u8]) -> Result<Seen, Stop> {
+    fn walk(&mut self, user: User, path: PathFrom) -> Result<Seen, Stop> {
         let path = Path::parse(path)?;
         let number = walk(
             &mut self.blocks,
             &mut self.names,
             &self.geometry,
             user,
-            path.parts(),
+            &path,
         )?;
         Ok(Seen::There(number))
     }
 
     /// What a path finds.
-    fn look_up(&mut self, user: User, path: &[u8]) -> Result<Seen, Stop> {
+    fn look_up(&mut self, user: User, path: PathFrom) -> Result<Seen, Stop> {
         let path = Path::parse(path)?;
         match look_up(
             &mut self.blocks,
@@ -223,14 +243,13 @@ impl Volume {
     }
 
     /// The place that a path means.
-    fn place(&mut self, path: &[u8]) -> Result<Seen, Stop> {
+    fn place(&mut self, path: PathFrom) -> Result<Seen, Stop> {
         let path = Path::parse(path)?;
-        let user = User { uid: 0, gid: 0 };
         let place = find_place(
             &mut self.blocks,
             &mut self.names,
             &self.geometry,
-            user,
+            USER,
             &path,
         )?;
         Ok(Seen::At(place.directory, place.name.len(), place.there))

@@ -55,6 +55,34 @@ static WALKS: [Step; 27] = [
     (Call::Walk(ROOT, b"/s/f"), MISSING),
 ];
 
+/// Where paths lead from a node.
+static STARTS: [Step; 20] = [
+    // the node itself, and what is below and above it
+    (Call::WalkFrom(ROOT, 2, b""), Ok(Seen::There(2))),
+    (Call::WalkFrom(ROOT, 3, b""), Ok(Seen::There(3))),
+    (Call::WalkFrom(ROOT, 2, b"."), Ok(Seen::There(2))),
+    (Call::WalkFrom(ROOT, 2, b"e"), Ok(Seen::There(4))),
+    (Call::WalkFrom(ROOT, 4, b".."), Ok(Seen::There(2))),
+    (Call::WalkFrom(ROOT, 4, b"../../f"), Ok(Seen::There(3))),
+    (Call::WalkFrom(ROOT, 3, b"."), NO_DIRECTORY),
+    (Call::WalkFrom(ROOT, 2, b"f"), MISSING),
+    // what begins with a slash is read from the root on, whatever the start
+    (Call::WalkFrom(ROOT, 4, b"/f"), Ok(Seen::There(3))),
+    (Call::WalkFrom(OWNER, 0, b"/d/e"), Ok(Seen::There(4))),
+    // numbers without a node: 6 is free, 33 is past the last
+    (Call::WalkFrom(ROOT, 0, b""), MISSING),
+    (Call::WalkFrom(ROOT, 6, b""), MISSING),
+    (Call::WalkFrom(ROOT, 33, b"."), MISSING),
+    (Call::WalkFrom(ROOT, 65535, b""), MISSING),
+    // another user names none
+    (Call::WalkFrom(OWNER, 2, b"e"), CLOSED),
+    (Call::WalkFrom(OWNER, 6, b""), CLOSED),
+    (Call::LookUpFrom(2, b""), Ok(Seen::There(2))),
+    (Call::LookUpFrom(2, b"x"), Ok(Seen::MissingIn(2))),
+    (Call::PlaceFrom(2, b"e"), Ok(Seen::At(2, 1, Some(4)))),
+    (Call::PlaceFrom(6, b"e"), MISSING),
+];
+
 /// What paths find, and where names belong.
 static PLACES: [Step; 18] = [
     (Call::LookUp(ROOT, b"/"), Ok(Seen::There(1))),
@@ -133,6 +161,7 @@ fn seen_by(user: User, may: bool) -> [Step<'static>; 3] {
 fn paths_lead_somewhere(rt: HostRuntime) -> Result<(), Fail> {
     let mut tree = volume(rt.alloc(), &TREE, &[])?;
     tree.gives("walks", &WALKS)?;
+    tree.gives("starts", &STARTS)?;
     tree.gives("places", &PLACES)?;
     volume(rt.alloc(), &CUT_TREE, &[])?.gives("a cut", &CUT)
 }

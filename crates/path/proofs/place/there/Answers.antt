@@ -14,5 +14,5 @@ returns-clause-reads g c =
     reads_as _ _ _ _ _
     (λ d p directory. let names = (directory_of a.geometry.now (pieces a.geometry.now d) a.inode.now).names in
     if_ok c.named.result _ _ (λ x is. is ∙ ap (inode_of names) c.last.ensures
-    ∙ sym (cond-true (has_last_name a.path.now) (inode_of names (last_part a.path.now)) None some)) (p directory))
+    ∙ sym (cond-true (has_last_name a.path.now) (inode_of names (last_part a.path.now.parts)) None some)) (p directory))
     c.named.ensures.reads
