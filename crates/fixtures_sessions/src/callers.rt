@@ -60,7 +60,9 @@ fn told_marks<C: Caller>(one: &C, two: &C, lines: &mut String) {
 /// Two sessions ask for the root three times each in turn, meet, and ask for the device: a line for each answer, how many marks each had
 /// seen before they met and after, and the device, as each saw it at last.
 pub(crate) fn in_turn<C: Caller>(one: &mut C, two: &mut C, lines: &mut String) {
-    let stat = Call::Stat { path: PathFrom::root(b"/") };
+    let stat = Call::Stat {
+        path: PathFrom::root(b"/"),
+    };
     for now in [100, 101, 102] {
         told(one, now, &stat, lines);
         told(two, now, &stat, lines);

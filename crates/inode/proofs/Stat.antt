@@ -222,7 +222,7 @@ module _ (g : Geometry) (image : ℕ → ℕ) (t : Tree) (holds : HoldsVolume g 
         let early = lt-leb most_sessions who.session session in
         ap (λ b. answer_after (refuse_if b EINVAL >>= λ _. stat t (user_of who) path)) early
         ∙ ap (λ way. answer_after (way >>= walk_parts t (user_of who) >>= λ n. node_at t n >>= λ node. Ok (node_is (attributes_of n node), t)))
-            (ap (reading path.start) is ∙ read_slash path.start)
+        (ap (reading path.start) is ∙ read_slash path.start)
         ∙ ap (λ o. answer_after (or_refuse o ENOENT >>= λ node. Ok (node_is (attributes_of 1 node), t))) found.1
         ∙ ap node_is (held_attributes g d t 1 found.0 holds.nodes found.1 ∙ ap (attributes_in 1) root_inode)
 

@@ -44,7 +44,13 @@ const CALLS: u32 = 40000;
 fn ask<N: ServiceParameters, R: Threads + Wait + Copy, L: Recorder<N>, S: FileServer<L>>(
     mut session: Session<N, Shared<N, R, L, S>>,
 ) -> u32 {
-    let done = repeat(&mut session, CALLS, &[Call::Stat { path: PathFrom::root(b"/") }]);
+    let done = repeat(
+        &mut session,
+        CALLS,
+        &[Call::Stat {
+            path: PathFrom::root(b"/"),
+        }],
+    );
     session.end();
     done
 }

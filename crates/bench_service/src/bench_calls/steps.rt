@@ -48,12 +48,19 @@ fn opened_to_read(path: &[u8]) -> Call<'_> {
 /// The call of a step, which writes from these bytes.
 fn call_of<'a>(step: Step, bytes: &'a [u8]) -> Call<'a> {
     match step {
-        Step::Stat(path) => Call::Stat { path: PathFrom::root(path) },
+        Step::Stat(path) => Call::Stat {
+            path: PathFrom::root(path),
+        },
         Step::Open(path) => opened(path),
         Step::OpenToRead(path) => opened_to_read(path),
         Step::Close => Call::Close { fd: 0 },
-        Step::Unlink(path) => Call::Unlink { path: PathFrom::root(path) },
-        Step::Mkdir(path) => Call::Mkdir { path: PathFrom::root(path), mode: 0o755 },
+        Step::Unlink(path) => Call::Unlink {
+            path: PathFrom::root(path),
+        },
+        Step::Mkdir(path) => Call::Mkdir {
+            path: PathFrom::root(path),
+            mode: 0o755,
+        },
         Step::Write(count) => Call::Write {
             fd: 0,
             bytes: bytes.get(..count).unwrap_or(&[]),
