@@ -1,6 +1,6 @@
 -- close, made on a volume.
 use Rattle.std.proofs.Common.{◌≡◌, ◌<◌, ℕ, refl, sym, ap, subst, ◌∙◌, Option, Some, None, Ok, Err, Bool, true, false}
-use Rattle.std.specs.Prelude.{Result, is_some, not, ◌&&◌, ◌==◌, if◌then◌else◌}
+use Rattle.std.specs.Prelude.{Result, IsTrue, is_some, not, ◌&&◌, ◌==◌, if◌then◌else◌}
 use Rattle.std.proofs.lemmas.Bool.{eq-eqb}
 use Rattle.errno.specs.declared.Errno.{Errno}
 use Rattle.layout.specs.declared.Geometry.{Geometry}
@@ -16,7 +16,7 @@ use Rattle.tree.specs.Answers.{Effect, done, refused}
 use Rattle.tree.proofs.Search.{found_below}
 use Rattle.tree.proofs.Closed.{close_keeps}
 use Rattle.volume.specs.Reading.{Disk}
-use Rattle.volume.specs.Pieces.{pieces}
+use Rattle.volume.specs.Pieces.{Pieces, pieces}
 use Rattle.volume.specs.Nodes.{node_of}
 use Rattle.volume.specs.Holds.{HoldsVolume}
 use Rattle.descriptors.specs.Files.{Files, HasFiles, files_in, tree_with, with_files, let_go, close_file}

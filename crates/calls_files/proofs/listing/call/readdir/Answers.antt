@@ -2,6 +2,7 @@ use Rattle.std.proofs.Common.{sym, ap, subst, ◌∙◌}
 use Rattle.volume.specs.Reading.{Disk}
 use Rattle.volume.specs.Pieces.{pieces}
 use Rattle.volume.specs.Nodes.{directory_of, entry_count_of, file_byte}
+use Rattle.tree.specs.Answers.{answer_of}
 use Rattle.descriptors.specs.Table.{files_of}
 use Rattle.block_store.proofs.Turns.{turns_as, turns_then}
 use Rattle.block_store.proofs.Ending.{ends_exit}
