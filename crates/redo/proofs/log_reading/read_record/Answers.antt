@@ -2,7 +2,7 @@ use Rattle.std.proofs.Common.{◌≡◌, ◌+◌, ◌-◌, ◌++◌, ◌∙◌, 
 use Rattle.stable.specs.Disk.{Changes as Puts}
 use Rattle.redo.specs.declared.recovering.Asked.TheVariants.{Changes}
 use Rattle.redo.specs.Asked.{asks_of}
-use Rattle.redo.specs.Record.{changes_in, from, record_standing, said_from, says_of}
+use Rattle.redo.specs.Record.{changes_in, from, record_standing, record_units, said_from, says_of}
 use Rattle.redo.proofs.Left.{happens-append}
 use Rattle.redo.proofs.Reading.{shows_same}
 use Rattle.redo.proofs.Asking.{standing_asked, said_changes, said_shut}
@@ -31,7 +31,7 @@ returns-in_ok-read_changes-in-Changes-clause-changes g c log shows =
     let old : Puts = c.args.changes.now.items in
     let said : said_from c.args.left name log at ≡ changes_in l count ++ rest =
     said_changes name at log count c.args.left asked c.requires.some
-    ∙ ap (λ (w : Puts). w ++ said_from (c.args.left - 1) name log _) says
+    ∙ ap (λ (w : Puts). w ++ said_from (c.args.left - 1) name log (at + record_units count)) says
     ∙ ap (λ (k : ℕ). changes_in l count ++ said_from (c.args.left - 1) name log (at + k)) (sym c.record_units.ensures) in
     ap (λ (w : Puts). w ++ rest) (c.in_ok-read_changes-in-Changes.ensures.changes log (shows_same log (known c.args.storage.now) (known c.asks_at.new.storage) c.in_ok-count.ensures.same shows))
     ∙ append_assoc old (changes_in l count) rest
