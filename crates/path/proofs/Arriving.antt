@@ -127,8 +127,8 @@ arrived t user first at parts left is way = record {
 }
 
 -- A call from where the walk begins, with eight links, is the tree's walk.
-pub is_walk : (t : Tree) (user : User) (start : Start) (here : ℕ) (parts : List Name) (r : Result Stand Errno) → Begins t user start (Ok here)
-    → Arrives t user (record { here = here; links = most_followed }) parts r
+pub is_walk : (t : Tree) (user : User) (start : Start) (here : ℕ) (parts : List Name) (r : Result Stand Errno)
+    → Begins t user start (Ok here) → Arrives t user (record { here = here; links = most_followed }) parts r
     → Walks t user (record { start = start; parts = parts }) (r >>= λ s. Ok s.here)
 is_walk t user start here parts r begins arrives = record {
   answer = sym (ap (λ (x : Result ℕ Errno). x >>= λ n. walk_from t user (follow_links t user most_followed) n parts) (sym begins.answer)

@@ -10,7 +10,8 @@ pub returns-in_err-directory-clause-reads : goal.returns-in_err-directory-clause
 returns-in_err-directory-clause-reads g c =
     reads_as _ _ _ _ _
     (λ d p t holds. answers_exit _ _ _ _ c.from_residual.ensures.1
-    (λ e is. not_walked t c.args.user c.args.path.now e (walks_of t c.args.user _ _ (parent_way c.args.path.now) _ c.start.ensures c.parent.ensures is)) (p t holds))
+    (λ e is. not_walked t c.args.user c.args.path.now e
+    (walks_of t c.args.user _ _ (parent_way c.args.path.now) _ c.start.ensures c.parent.ensures is)) (p t holds))
     c.in_err-directory.ensures.reads
 
 pub returns-in_err-inode-clause-reads : goal.returns-in_err-inode-clause-reads
