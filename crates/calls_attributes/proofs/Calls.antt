@@ -1,5 +1,6 @@
 -- Stat, lstat, chmod, chown and utime.
-use Rattle.std.proofs.Common.{◌≡◌, ◌<◌, ◌≤◌, ◌+◌, ◌-◌, ◌*◌, ◌/◌, ◌%◌, ◌^◌, ℕ, Bool, true, false, refl, sym, ap, subst, ◌∙◌, arith, Some, Ok, Err}
+use Rattle.std.proofs.Common.{◌≡◌, ◌<◌, ◌≤◌, ◌+◌, ◌-◌, ◌*◌, ◌/◌, ◌%◌, ◌^◌, ℕ, Bool, true, false, refl, sym, ap, subst, ◌∙◌, arith, Some}
+use Rattle.std.proofs.Common.{Ok, Err}
 use Rattle.std.specs.Prelude.{IsTrue, Result, not, ◌==◌, ◌||◌, nat_le, nat_lt}
 use Rattle.std.proofs.lemmas.Bool.{cond-true, and_parts, and_from, le-ltb, lt-ltb, leb-true}
 use Rattle.errno.specs.declared.Errno.TheVariants.{EINVAL, ENOENT}
@@ -32,10 +33,12 @@ use Rattle.calls_attributes.specs.Named.{Finds, FindsBy, last_walk}
 use Rattle.calls_attributes.proofs.Effects.{changing, node_changed, same_body}
 
 -- the found one, by what was answered
-pub found_ok : (g : Geometry) (d : Disk) (user : User) (path : PathFrom) (r : Result (ℕ × Inode) Errno) (n : ℕ) (i : Inode) → r ≡ Ok (n, i) → Finds g d user path r → Finds g d user path (Ok (n, i))
+pub found_ok : (g : Geometry) (d : Disk) (user : User) (path : PathFrom) (r : Result (ℕ × Inode) Errno) (n : ℕ) (i : Inode)
+    → r ≡ Ok (n, i) → Finds g d user path r → Finds g d user path (Ok (n, i))
 found_ok g d user path r n i is h = subst (λ (x : Result (ℕ × Inode) Errno). Finds g d user path x) is h
 
-pub found_err : (g : Geometry) (d : Disk) (user : User) (path : PathFrom) (r : Result (ℕ × Inode) Errno) (e : Errno) → r ≡ Err e → Finds g d user path r → Finds g d user path (Err e)
+pub found_err : (g : Geometry) (d : Disk) (user : User) (path : PathFrom) (r : Result (ℕ × Inode) Errno) (e : Errno) → r ≡ Err e
+    → Finds g d user path r → Finds g d user path (Err e)
 found_err g d user path r e is h = subst (λ (x : Result (ℕ × Inode) Errno). Finds g d user path x) is h
 
 -- stat and lstat
@@ -155,7 +158,8 @@ with_owner now uid gid node = with_ctime now (record node { uid = uid; gid = gid
 abbrev edit_owner : ℕ → ℕ → ℕ → Inode → Inode
 edit_owner now uid gid i = record i { uid = uid; gid = gid; ctime = now }
 
-pub chown_done : (g : Geometry) (user : User) (path : PathFrom) (now uid gid : ℕ) (d x e : Disk) (n : ℕ) (i : Inode) (f : Files) → now < 2 ^ 32 → uid < 2 ^ 16 → gid < 2 ^ 16
+pub chown_done : (g : Geometry) (user : User) (path : PathFrom) (now uid gid : ℕ) (d x e : Disk) (n : ℕ) (i : Inode) (f : Files)
+    → now < 2 ^ 32 → uid < 2 ^ 16 → gid < 2 ^ 16
     → IsGeometry g → Finds g d user path (Ok (n, i)) → x ≡ d → (user.uid == 0) ≡ true → Alters g (with_inode (pieces g x) n (edit_owner now uid gid i)) x e
     → Does g (λ t. chown t user now path uid gid) done (HasFiles f) (HasFiles f) d e
 chown_done g user path now uid gid d x e n i f small u v ok finds same root a =
@@ -175,7 +179,8 @@ with_times now atime mtime node = with_ctime now (record node { atime = atime; m
 abbrev edit_times : ℕ → ℕ → ℕ → Inode → Inode
 edit_times now atime mtime i = record i { atime = atime; mtime = mtime; ctime = now }
 
-pub utime_done : (g : Geometry) (user : User) (path : PathFrom) (now atime mtime : ℕ) (d x e : Disk) (n : ℕ) (i : Inode) (f : Files) → now < 2 ^ 32 → atime < 2 ^ 32 → mtime < 2 ^ 32
+pub utime_done : (g : Geometry) (user : User) (path : PathFrom) (now atime mtime : ℕ) (d x e : Disk) (n : ℕ) (i : Inode) (f : Files)
+    → now < 2 ^ 32 → atime < 2 ^ 32 → mtime < 2 ^ 32
     → IsGeometry g → Finds g d user path (Ok (n, i)) → x ≡ d → ((node : Node) → node.uid ≡ i.uid → true ≡ is_owner user node)
     → Alters g (with_inode (pieces g x) n (edit_times now atime mtime i)) x e
     → Does g (λ t. utime t user now path atime mtime) done (HasFiles f) (HasFiles f) d e

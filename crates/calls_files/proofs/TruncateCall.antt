@@ -32,8 +32,8 @@ use Rattle.calls_attributes.proofs.Volumes.{may_change, volume_changed, no_direc
 use Rattle.inode_operations.specs.Sizes.{SetsSizeAt}
 
 -- a directory's or a link's, whose size can't be set
-abbrev pub is_other : Inode → Bool
-is_other i = is_directory_mode i.mode || is_link_mode i.mode
+abbrev pub is_no_file : Inode → Bool
+is_no_file i = is_directory_mode i.mode || is_link_mode i.mode
 
 module _ (g : Geometry) (user : User) (path : PathFrom) (now size : ℕ) where
   -- the node with another size
@@ -44,9 +44,9 @@ module _ (g : Geometry) (user : User) (path : PathFrom) (now size : ℕ) where
   abbrev of_file : Tree → ℕ → Node → File → Bool → Effect
   of_file t n node f may = refuse_if (not may) EACCES >>= λ _. Ok (done, with_node t n (Some (new_node f node)))
 
-  -- of a node with bytes, which may be another thing than a file
+  -- of a node with bytes, which may be no file
   abbrev of_type : Tree → ℕ → Node → File → Bool → Effect
-  of_type t n node f other = refuse_if other EISDIR >>= λ _. of_file t n node f (may_access user node to_write)
+  of_type t n node f no_file = refuse_if no_file EISDIR >>= λ _. of_file t n node f (may_access user node to_write)
 
   -- of a node
   abbrev of_node : Tree → ℕ → Node → Effect
@@ -54,7 +54,8 @@ module _ (g : Geometry) (user : User) (path : PathFrom) (now size : ℕ) where
 
   -- a directory and a link are refused alike
   by_type : (t : Tree) (n : ℕ) (node : Node) (h : File) (c : Directory) (is symbolic : Bool)
-      → (elim (if is then is_directory c else is_file h) [ is_file f ↦ Ok f | is_directory d ↦ Err EISDIR ] >>= λ f. of_type t n node f symbolic)
+      → (elim (if is then is_directory c else is_file h) [ is_file f ↦ Ok f | is_directory d ↦ Err EISDIR ] >>= λ f. of_type t n node f
+      symbolic)
       ≡ of_type t n node h (is || symbolic)
   by_type t n node h c true symbolic = refl
   by_type t n node h c false symbolic = refl
@@ -92,22 +93,23 @@ module _ (g : Geometry) (user : User) (path : PathFrom) (now size : ℕ) where
       h = file_at g v n
 
       -- the effect on what is found
-      reached : (t : Tree) (other : Bool) → HoldsVolume g d t → is_other i ≡ other
-          → truncate g t user now path size ≡ of_type t n node h other
-      reached t other holds kind =
+      reached : (t : Tree) (no_file : Bool) → HoldsVolume g d t → is_no_file i ≡ no_file
+          → truncate g t user now path size ≡ of_type t n node h no_file
+      reached t no_file holds kind =
           let y = finds t holds in
           within t ∙ ap (of_walk t) y.walked ∙ ap (λ o. or_refuse o ENOENT >>= λ x. of_node t n x) y.node
           ∙ by_type t n node h (directory_of g v (v.inodes n)) (is_directory_mode (v.inodes n).mode) node.symbolic
-          ∙ ap (of_type t n node h) (ap is_other (sym y.loaded) ∙ kind)
+          ∙ ap (of_type t n node h) (ap is_no_file (sym y.loaded) ∙ kind)
 
-      pub truncate_other : (e : Disk) (f : Files) → e ≡ d → is_other i ≡ true
+      pub truncate_no_file : (e : Disk) (f : Files) → e ≡ d → is_no_file i ≡ true
           → Does g (λ t. truncate g t user now path size) (refused EISDIR) (HasFiles f) (HasFiles f) d e
-      truncate_other e f same kind = record {
+      truncate_no_file e f same kind = record {
         each = λ t holds files. refused_made g t (truncate g t user now path size) EISDIR (HasFiles f) d e (reached t true holds kind) same holds files;
       }
 
       -- whether the user may write it
-      module _ (plain : is_other i ≡ false) (may : Bool) (right : (x : Node) → IsWhose x (permissions_in i.mode) i.uid i.gid → may ≡ may_access user x to_write) where
+      module _ (plain : is_no_file i ≡ false) (may : Bool)
+          (right : (x : Node) → IsWhose x (permissions_in i.mode) i.uid i.gid → may ≡ may_access user x to_write) where
         allowed : (t : Tree) → HoldsVolume g d t → truncate g t user now path size ≡ of_file t n node h may
         allowed t holds =
             let y = finds t holds in
@@ -130,7 +132,8 @@ module _ (g : Geometry) (user : User) (path : PathFrom) (now size : ℕ) where
               let y = finds t holds in
               let s = subst (λ (z : Disk). SetsSizeAt g n size now z e) same sets in
               let became = s.becomes (may_change g ok d t holds n y.marked) in
-              let parts = or_parts (is_directory_mode (v.inodes n).mode) (is_link_mode (v.inodes n).mode) (ap is_other (sym y.loaded) ∙ plain) in
+              let parts = or_parts (is_directory_mode (v.inodes n).mode) (is_link_mode (v.inodes n).mode)
+              (ap is_no_file (sym y.loaded) ∙ plain) in
               let kind = parts.0 in
               let body : node.body ≡ is_file h = cond-false (is_directory_mode (v.inodes n).mode) (is_directory (directory_of g v (v.inodes n))) (is_file h) kind in
               let new = file_after_resize g h size in

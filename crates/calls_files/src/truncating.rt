@@ -1,8 +1,9 @@
 //! Sizes of files, set by their paths.
 
-ghost use Rattle.std.specs.Prelude.{◌≡◌, ◌≢◌, IfErr, OnOk};
+ghost use Rattle.std.specs.Prelude.{◌≡◌, ◌≢◌, ◌||◌, IfErr, OnOk};
 ghost use Rattle.tree.specs.NodeCalls.{truncate};
 ghost use Rattle.tree.specs.Answers.{answer_of, refused};
+ghost use Rattle.volume.specs.Nodes.{is_directory_mode, is_link_mode};
 ghost use Rattle.descriptors.specs.Files.{Files, HasFiles};
 ghost use Rattle.block_store.specs.World.{Turns};
 ghost use Rattle.block_store.specs.Volume.{IsOn};
@@ -17,6 +18,14 @@ use inode_operations::set_size_at;
 use layout::Geometry;
 use path::{NameCache, Wish, may};
 use tree::{MAX_SIZE, PathFrom, Reply, User};
+use volume::Inode;
+
+/// Whether an inode is a directory's or a symbolic link's. A link is met only where the path starts at it and has no bytes.
+fn is_no_file(inode: &Inode) -> bool
+    ensures { result ≡ is_directory_mode inode.now.mode || is_link_mode inode.now.mode }
+{
+    is_directory(inode) || is_link(inode)
+}
 
 /// truncate: the size of a file; what lies past it is gone, and what is new reads as zeros. EFBIG of more than 2147483647 bytes, else the
 /// refusals of the path, else EISDIR of a directory and of a link, else EACCES where the user may not write the file.
@@ -42,7 +51,7 @@ pub fn truncate<B: Blocks>(
     }
     match find_node(blocks, names, geometry, user, path)? {
         Ok((number, inode)) => {
-            if is_directory(&inode) || is_link(&inode) {
+            if is_no_file(&inode) {
                 *reply = Reply::Refused(Errno::EISDIR);
                 return Ok(());
             }

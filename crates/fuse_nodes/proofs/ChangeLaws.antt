@@ -1,14 +1,14 @@
 -- What becomes of nodes, as the tables have it.
-use Rattle.std.proofs.Common.{◌≡◌, ◌≢◌, ◌∙◌, ap, sym, subst, ℕ, Bool, true, false, if◌then◌else◌, List, [], ◌∷◌, Option, Some, None, inl, inr, ◌⊎◌, cond}
+use Rattle.std.proofs.Common.{◌≡◌, ◌≢◌, ◌∙◌, ap, sym, subst, ℕ, Bool, true, false, List, [], ◌∷◌, Option, Some, None, inl, inr, ◌⊎◌, cond}
 use Rattle.std.proofs.lemmas.Bool.Decides.{eqb_tells}
 use Rattle.std.specs.BTreeMap.{BTreeMap, get, is_at}
 use Rattle.std.specs.Map.{lookup}
 use Rattle.std.specs.Option.{option_map}
 use Rattle.std.specs.Ordering.{nat_cmp}
 use Rattle.std.specs.Prelude.{⊤, ◌==◌, IfSome, IsSomeAnd}
-use Rattle.fuse_nodes.specs.Tables.{put, changed}
-use Rattle.fuse_nodes.specs.Known.{Facts, Known, facts_of}
-use Rattle.fuse_nodes.specs.Changes.{is_used, dropped, let_go, lost, lost_as, loses, spare_of}
+use Rattle.fuse_nodes.specs.Tables.{put}
+use Rattle.fuse_nodes.specs.Known.{Facts, Known, facts_of, is_stale}
+use Rattle.fuse_nodes.specs.Changes.{is_used, dropped, let_go, lost, settled, goes, with_change, spare_of}
 use Rattle.fuse_nodes.specs.declared.node.Descriptor.{Descriptor}
 use Rattle.fuse_nodes.specs.declared.node.Node.{Node}
 use Rattle.fuse_nodes.proofs.TableLaws.{at_eq}
@@ -25,14 +25,15 @@ dropped_is k m id facts there other unused nodes numbers next = elim (eqb_tells 
       (same_known m (record k { nodes = put k.nodes id None; numbers = let_go k.numbers facts.inode id }) nodes numbers next)
 ]
 
+-- a node that may be another file's is its inode's no more
+pub settled_is : (k m : Known) (id : ℕ) (facts : Facts) → k.nodes id ≡ Some facts → is_stale facts ≡ true → m.nodes ≡ k.nodes
+    → m.numbers ≡ let_go k.numbers facts.inode id → m.next ≡ k.next → m ≡ settled k id
+settled_is k m id facts there stale nodes numbers next =
+    rw (there, stale) (same_known m (record k { numbers = let_go k.numbers facts.inode id }) nodes numbers next)
+
 -- the last name of an inode was taken
-pub lost_last : (k m : Known) (inode id directory : ℕ) (name : List ℕ) (last : Bool) → k.numbers inode ≡ Some id → last ≡ true
-    → m.nodes ≡ changed (loses directory name last) k.nodes id → m.numbers ≡ put k.numbers inode None → m.next ≡ k.next
-    → m ≡ lost k inode directory name last
-lost_last k m inode id directory name last there is nodes numbers next =
-    let all : put k.numbers inode None ≡ (if last then put k.numbers inode None else k.numbers) =
-    ap (λ (b : Bool). if b then put k.numbers inode None else k.numbers) (sym is) in
-    rw there (same_known m (lost_as k inode directory name last (Some id)) nodes (numbers ∙ all) next)
+pub lost_is : (k l m : Known) (inode id : ℕ) → k.numbers inode ≡ Some id → l ≡ with_change goes k id → m ≡ settled l id → m ≡ lost k inode
+lost_is k l m inode id there gone is = rw there (is ∙ ap (λ (x : Known). settled x id) gone)
 
 -- no node of a list can be spared
 abbrev pub NoneSpare : ℕ → List (ℕ × Node) → Type 0

@@ -1,4 +1,6 @@
 pub mod TableLaws
-pub mod PathLaws
 pub mod ChangeLaws
 pub mod SoundLaws
+pub mod FileKinds
+pub mod Removals
+pub mod Staying

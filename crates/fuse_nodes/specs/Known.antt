@@ -1,5 +1,5 @@
 -- What a mount knows of nodes.
-use Rattle.std.specs.Prelude.{ℕ, List, Option, Some, None, Result, Ok, Err}
+use Rattle.std.specs.Prelude.{ℕ, Bool, false, not, ◌&&◌, nat_lt, Option, Some, None, Result, Ok, Err, if◌then◌else◌}
 use Rattle.std.specs.Borrow.{Bor}
 use Rattle.std.specs.BTreeMap.{get}
 use Rattle.std.specs.Option.{option_map, ok_or}
@@ -11,34 +11,30 @@ use Rattle.fuse_nodes.specs.Tables.{put}
 use Rattle.fuse_nodes.specs.declared.node.Descriptor.{Descriptor}
 use Rattle.fuse_nodes.specs.declared.node.NodeKind.{NodeKind}
 use Rattle.fuse_nodes.specs.declared.node.NodeKind.TheVariants.{Directory}
-use Rattle.fuse_nodes.specs.declared.node.Place.{Place}
 use Rattle.fuse_nodes.specs.declared.node.Node.{Node}
 use Rattle.fuse_nodes.specs.declared.nodes.Nodes.{Nodes}
 
--- What is known of a node: its inode and kind, the directory's number and the name where it was told last, how often it was told and not
--- forgotten, how many handles it has, and its descriptor, if it has one.
+-- What is known of a node: its inode and kind, whether its last name was taken from it, how often it was told and not forgotten, how many
+-- handles it has, and its descriptor, if it has one.
 pub record Facts : Type 0 where
   pub inode : ℕ
   pub kind : NodeKind
-  pub place : Option (ℕ × List ℕ)
+  pub gone : Bool
   pub lookups : ℕ
   pub opens : ℕ
   pub descriptor : Option Descriptor
 
--- what is known under each number, the number of the node of each inode that has a name, and the number of the next node
+-- what is known under each number, the number of the node of each inode that isn't gone or is open, and the number of the next node
 pub record Known : Type 0 where
   pub nodes : ℕ → Option Facts
   pub numbers : ℕ → Option ℕ
   pub next : ℕ
 
-abbrev pub place_of : Place → ℕ × List ℕ
-place_of place = (place.directory, place.name.items)
-
 abbrev pub facts_of : Node → Facts
 facts_of node = record {
   inode = node.inode;
   kind = node.kind;
-  place = option_map place_of node.place;
+  gone = node.gone;
   lookups = node.lookups;
   opens = node.opens;
   descriptor = node.descriptor;
@@ -53,7 +49,7 @@ known_of nodes = record {
 
 -- the root, as it is known at first
 abbrev pub root : Facts
-root = record { inode = 1; kind = Directory; place = None; lookups = 1; opens = 0; descriptor = None }
+root = record { inode = 1; kind = Directory; gone = false; lookups = 1; opens = 0; descriptor = None }
 
 abbrev pub at_first : Known
 at_first = record { nodes = put (λ id. None) 1 (Some root); numbers = put (λ inode. None) 1 (Some 1); next = 2 }
@@ -62,15 +58,18 @@ at_first = record { nodes = put (λ id. None) 1 (Some root); numbers = put (λ i
 abbrev pub found : (ℕ → Option Facts) → ℕ → Result Facts Refused
 found nodes id = ok_or (nodes id) Stale
 
--- where its name is
-abbrev pub placed : (ℕ → Option Facts) → ℕ → Result (ℕ × List ℕ) Refused
-placed nodes id = then_of (found nodes id) (λ facts. ok_or facts.place Stale)
+-- Its inode may be another file's now: its last name was taken from it, and it isn't open.
+abbrev pub is_stale : Facts → Bool
+is_stale facts = facts.gone && not (nat_lt 0 facts.opens)
+
+-- the inode of a node, if it can't be another file's
+abbrev pub inode_of : Facts → Result ℕ Refused
+inode_of facts = if is_stale facts then Err Stale else Ok facts.inode
+
+abbrev pub inode_at : (ℕ → Option Facts) → ℕ → Result ℕ Refused
+inode_at nodes id = then_of (found nodes id) inode_of
 
 -- what was found, as it is seen
 abbrev pub seen : Result (Bor Node) Refused → Result Facts Refused
 seen (Ok node) = Ok (facts_of node.now)
 seen (Err refused) = Err refused
-
-abbrev pub seen_place : Result (Bor Place) Refused → Result (ℕ × List ℕ) Refused
-seen_place (Ok place) = Ok (place_of place.now)
-seen_place (Err refused) = Err refused

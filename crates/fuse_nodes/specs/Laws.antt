@@ -1,26 +1,28 @@
 -- What all that is known keeps, whatever becomes of it.
-use Rattle.std.specs.Prelude.{⊤, ◌≡◌, ◌<◌, ℕ, Bool, List, Option, Some, None, IsSome, IsSomeAnd}
-use Rattle.fuse_nodes.specs.Known.{Facts, Known, at_first}
-use Rattle.fuse_nodes.specs.Changes.{told, number_in, forgotten, opened, closed, without_descriptor, with_descriptor, renamed, lost}
+use Rattle.std.specs.Prelude.{⊤, ◌≡◌, ◌<◌, ℕ, false, Option, Some, None, IsSome, IsSomeAnd}
+use Rattle.fuse_nodes.specs.Known.{Facts, Known, at_first, is_stale}
+use Rattle.fuse_nodes.specs.Changes.{told, number_in, forgotten, opened, closed, without_descriptor, with_descriptor, lost}
 use Rattle.fuse_nodes.specs.declared.node.Descriptor.{Descriptor}
 use Rattle.fuse_nodes.specs.declared.node.NodeKind.{NodeKind}
 
--- the root is there; numbers that are used lie below the next one; the number of an inode's node is that of a node with this inode
+-- the root is there; numbers that are used lie below the next one; the number of an inode's node is that of a node with this inode, which
+-- can't be another file's; and each such node is its inode's
 pub record IsSound (k : Known) : Type 0 where
   pub root : IsSomeAnd (k.nodes 1) (λ facts. facts.inode ≡ 1)
   pub below : (id : ℕ) → IsSome (k.nodes id) → id < k.next
-  pub numbered : (inode id : ℕ) → k.numbers inode ≡ Some id → IsSomeAnd (k.nodes id) (λ facts. facts.inode ≡ inode)
+  pub numbered : (inode id : ℕ) → k.numbers inode ≡ Some id
+      → IsSomeAnd (k.nodes id) (λ facts. (facts.inode ≡ inode) × (is_stale facts ≡ false))
+  pub leads : (id : ℕ) (facts : Facts) → k.nodes id ≡ Some facts → is_stale facts ≡ false → k.numbers facts.inode ≡ Some id
 
 -- what a call makes of what is known
 pub data Step (k : Known) : Known → Type 0 where
-  Told : (inode : ℕ) (kind : NodeKind) (place : ℕ × List ℕ) → Step k (told k inode kind place)
+  Told : (inode : ℕ) (kind : NodeKind) → Step k (told k inode kind)
   Forgotten : (id count : ℕ) → Step k (forgotten k id count)
   Opened : (id : ℕ) (descriptor : Option Descriptor) → Step k (opened k id descriptor)
   Closed : (id : ℕ) → Step k (closed k id)
   Given : (id : ℕ) → Step k (without_descriptor k id)
   Got : (id : ℕ) (descriptor : Descriptor) → Step k (with_descriptor k id descriptor)
-  Renamed : (inode : ℕ) (place : ℕ × List ℕ) → Step k (renamed k inode place)
-  Lost : (inode directory : ℕ) (name : List ℕ) (last : Bool) → Step k (lost k inode directory name last)
+  Lost : (inode : ℕ) → Step k (lost k inode)
 
 -- what many make of it, one behind the other
 pub data Steps (k : Known) : Known → Type 0 where
@@ -41,7 +43,7 @@ StaysSound = (k : Known) → Steps at_first k → IsSound k
 abbrev pub NumbersStay : Type 0
 NumbersStay = (k l : Known) → IsSound k → Steps k l → (id : ℕ) → id < k.next → IsSameFile (k.nodes id) (l.nodes id)
 
--- The number by which a node is told is that of a node with this inode and this name.
+-- The number by which a node is told is that of a node with this inode, which isn't gone.
 abbrev pub IsToldByItsNumber : Type 0
-IsToldByItsNumber = (k : Known) → IsSound k → (inode : ℕ) (kind : NodeKind) (place : ℕ × List ℕ)
-    → IsSomeAnd ((told k inode kind place).nodes (number_in k inode)) (λ facts. (facts.inode ≡ inode) × (facts.place ≡ Some place))
+IsToldByItsNumber = (k : Known) → IsSound k → (inode : ℕ) (kind : NodeKind)
+    → IsSomeAnd ((told k inode kind).nodes (number_in k inode)) (λ facts. (facts.inode ≡ inode) × (facts.gone ≡ false))

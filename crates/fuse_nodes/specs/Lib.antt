@@ -1,7 +1,7 @@
 pub mod Tables
 pub mod Known
 pub mod Names
-pub mod Paths
 pub mod Changes
 pub mod Handles
 pub mod Laws
+pub mod Files

@@ -1,9 +1,6 @@
 //! What a node is.
 
-ghost use Rattle.std.specs.Prelude.{◌≡◌, ◌==◌, ◌&&◌, IfOk};
-ghost use Rattle.std.specs.Str.{bytes_eq};
-
-use std::alloc::{AllocError, Global};
+ghost use Rattle.std.specs.Prelude.{◌≡◌};
 
 /// The root's number, the protocol's.
 pub const ROOT: u64 = 1;
@@ -23,42 +20,13 @@ pub enum NodeKind {
     Symlink,
 }
 
-/// A name in the directory of a node.
-#[derive(Drop)]
-pub struct Place {
-    /// The number of the directory's node.
-    pub directory: u64,
-    pub name: Vec<u8>,
-}
-
-impl Place {
-    ghost use Rattle.fuse_nodes.specs.Known.{place_of};
-
-    /// This name there; an error where no memory is found for it.
-    pub fn new(alloc: Global, directory: u64, name: &[u8]) -> Result<Place, AllocError>
-        ensures { IfOk result (λ place. place_of place ≡ (directory, name.now)) }
-    {
-        Ok(Place {
-            directory,
-            name: name.to_vec(alloc)?,
-        })
-    }
-
-    /// Whether it is this name there.
-    pub fn is(&self, directory: u64, name: &[u8]) -> bool
-        ensures { result ≡ (self.now.directory == directory) && bytes_eq self.now.name.items name.now }
-    {
-        self.directory == directory && self.name.as_slice() == name
-    }
-}
-
 /// A node that the kernel knows, or that has handles.
 #[derive(Drop)]
 pub struct Node {
     pub inode: u16,
     pub kind: NodeKind,
-    /// The name by which the kernel was told of it last: none for the root, and where this name was taken from it.
-    pub place: Option<Place>,
+    /// Whether its last name was taken from it.
+    pub gone: bool,
     /// How often the kernel was told of it and hasn't forgotten it; past 2^64 - 1 it isn't counted further.
     pub lookups: u64,
     /// How many handles it has; past 2^32 - 1 they aren't counted further.
@@ -69,7 +37,15 @@ pub struct Node {
 
 impl Node {
     ghost use Rattle.fuse_nodes.specs.Known.{facts_of};
+    ghost use Rattle.fuse_nodes.specs.Known.{is_stale};
     ghost use Rattle.fuse_nodes.specs.Changes.{is_used};
+
+    /// Whether its inode may be another file's now: its last name was taken from it, and it isn't open.
+    pub fn is_stale(&self) -> bool
+        ensures { result ≡ is_stale (facts_of self.now) }
+    {
+        self.gone && self.opens == 0
+    }
 
     /// Whether it stays known: the kernel knows it, or it has handles or a descriptor.
     pub fn is_used(&self) -> bool

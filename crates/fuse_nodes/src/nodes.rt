@@ -1,18 +1,13 @@
 //! Nodes, by the numbers by which the kernel names them.
 
-ghost use Rattle.std.specs.Prelude.{◌≡◌, ◌<◌, ◌||◌, ◌∷◌, ◌++◌, ℕ, length, Some, None, OnOk, OnErr, IfOk};
-ghost use Rattle.std.specs.Option.{option_map};
-ghost use Rattle.fuse_nodes.specs.Paths.{IsMade, IsWrittenBehind, path_in, path_at, path_of, path_below};
-ghost use Rattle.fuse_nodes.specs.Changes.{is_at, spare_of};
-ghost use Rattle.fuse_nodes.specs.Known.{place_of, facts_of};
+ghost use Rattle.std.specs.Prelude.{◌≡◌, None, OnOk, OnErr, IfOk};
+ghost use Rattle.fuse_nodes.specs.Changes.{spare_of};
+ghost use Rattle.fuse_nodes.specs.Known.{facts_of};
 
-use crate::names::check_name;
-use crate::node::{Descriptor, Node, NodeKind, Place, ROOT};
-use errno::Errno;
+use crate::node::{Descriptor, Node, NodeKind, ROOT};
 use std::alloc::{AllocError, Global};
 use std::collections::BTreeMap;
 use talks::refused::Refused;
-use tree::MAX_PATH;
 
 /// The inode of the root.
 const ROOT_INODE: u16 = 1;
@@ -20,18 +15,17 @@ const ROOT_INODE: u16 = 1;
 /// The nodes that the kernel knows, or that have handles. Their numbers count up from 2, and none is used for two nodes.
 #[derive(Drop)]
 pub struct Nodes {
-    alloc: Global,
     nodes: BTreeMap<u64, Node>,
-    // The number of the node of an inode that has a name, if it is known.
+    // The number of the node of an inode that isn't gone or is open, if it is known.
     numbers: BTreeMap<u16, u64>,
     // The number of the next node.
     next: u64,
 }
 
 impl Nodes {
-    ghost use Rattle.fuse_nodes.specs.Known.{known_of, place_of, at_first, found, placed, seen, seen_place};
-    ghost use Rattle.fuse_nodes.specs.Changes.{closed, descriptor_of, dropped, forgotten, let_go, loses, lost, number_in, opened};
-    ghost use Rattle.fuse_nodes.specs.Changes.{closes_one, forgets, renamed, told, told_again, told_as, with_change, with_descriptor};
+    ghost use Rattle.fuse_nodes.specs.Known.{known_of, at_first, found, inode_at, seen};
+    ghost use Rattle.fuse_nodes.specs.Changes.{closed, descriptor_of, dropped, forgotten, goes, let_go, lost, number_in, opened, settled};
+    ghost use Rattle.fuse_nodes.specs.Changes.{closes_one, forgets, told, told_again, told_as, with_change, with_descriptor};
     ghost use Rattle.fuse_nodes.specs.Changes.{out_with_last, without_descriptor, IsSpare};
 
     /// The root alone; an error where no memory is found for it.
@@ -41,7 +35,7 @@ impl Nodes {
         let root = Node {
             inode: ROOT_INODE,
             kind: NodeKind::Directory,
-            place: None,
+            gone: false,
             lookups: 1,
             opens: 0,
             descriptor: None,
@@ -51,7 +45,6 @@ impl Nodes {
         let mut numbers = BTreeMap::new(alloc);
         numbers.insert(ROOT_INODE, ROOT)?;
         Ok(Nodes {
-            alloc,
             nodes,
             numbers,
             next: ROOT + 1,
@@ -68,121 +61,60 @@ impl Nodes {
         }
     }
 
-    /// Where a node's name is; ESTALE where it has none, or there is no such node.
-    fn place(&self, id: u64) -> Result<&Place, Refused>
-        ensures { seen_place result ≡ placed (known_of self.now).nodes id }
+    /// The inode of a node. ESTALE where there is no such node, and where its inode may be another file's now.
+    pub fn inode(&self, id: u64) -> Result<u16, Refused>
+        ensures { result ≡ inode_at (known_of self.now).nodes id }
     {
         let node = self.get(id)?;
-        match &node.place {
-            Some(place) => Ok(place),
-            None => Err(Refused::Stale),
+        if node.is_stale() {
+            return Err(Refused::Stale);
         }
+        Ok(node.inode)
     }
 
-    /// Writes the path of a name in a directory, which has so many bytes at most, behind what stands in `path`.
-    fn write_path(
-        &self,
-        directory: u64,
-        name: &[u8],
-        room: usize,
-        path: &mut Vec<u8>,
-    ) -> Result<(), Refused>
-        ensures { (n : ℕ) → room < n → IsWrittenBehind path.old.items result path.new.items
-            (path_in n room (known_of self.now).nodes directory name.now) }
-    {
-        if room <= name.len() {
-            return Err(Refused::By(Errno::ENAMETOOLONG));
-        }
-        if directory == ROOT {
-            put_name(path, name)?;
-            return Ok(());
-        }
-        let place = self.place(directory)?;
-        self.write_path(place.directory, &place.name, room - name.len() - 1, path)?;
-        put_name(path, name)?;
-        Ok(())
-    }
-
-    /// The path of a name in a directory: ESTALE where a node or a name lacks on the way up, ENAMETOOLONG where it has more bytes than a
-    /// call's path may have.
-    fn path_at(&self, directory: u64, name: &[u8]) -> Result<Vec<u8>, Refused>
-        ensures { IsMade result (path_at (known_of self.now).nodes directory name.now) }
-    {
-        let mut path = Vec::new(self.alloc);
-        self.write_path(directory, name, MAX_PATH, &mut path)?;
-        Ok(path)
-    }
-
-    /// The path of a node, by the names by which it and the directories above it were told last; the root's is a slash. ESTALE where a
-    /// node or a name lacks, ENAMETOOLONG where it has more bytes than a call's path may have.
-    pub fn path(&self, id: u64) -> Result<Vec<u8>, Refused>
-        ensures { IsMade result (path_of (known_of self.now).nodes id) }
-    {
-        if id == ROOT {
-            return Ok(b"/".to_vec(self.alloc)?);
-        }
-        let place = self.place(id)?;
-        self.path_at(place.directory, &place.name)
-    }
-
-    /// The path of a name in a directory: EINVAL where no entry may have this name, and the refusals of `path`.
-    pub fn below(&self, directory: u64, name: &[u8]) -> Result<Vec<u8>, Refused>
-        ensures { IsMade result (path_below (known_of self.now).nodes directory name.now) }
-    {
-        check_name(name)?;
-        self.path_at(directory, name)
-    }
-
-    /// The number of the node of an inode that has a name, if it is known.
+    /// The number of the node of an inode that isn't gone or is open, if it is known.
     pub fn of(&self, inode: u16) -> Option<u64>
         ensures { result ≡ (known_of self.now).numbers inode }
     {
         self.numbers.get(&inode).copied()
     }
 
-    /// The kernel is told of the node of an inode by this name: its lookups are one more, and the name is its place. Where the inode has
-    /// no node, it gets one with a new number.
+    /// The kernel is told of the node of an inode by a name: its lookups are one more, and it isn't gone. Where the inode has no node, it
+    /// gets one with a new number.
     ///
     /// An error: no memory was found, or all numbers are used, and all stays.
-    pub fn told(
-        &mut self,
-        inode: u16,
-        kind: NodeKind,
-        directory: u64,
-        name: &[u8],
-    ) -> Result<u64, AllocError>
+    pub fn told(&mut self, inode: u16, kind: NodeKind) -> Result<u64, AllocError>
         ensures number { IfOk result (λ id. id ≡ number_in (known_of self.old) inode) }
-        ensures ok { OnOk result (known_of self.new ≡ told (known_of self.old) inode kind (directory, name.now)) }
+        ensures ok { OnOk result (known_of self.new ≡ told (known_of self.old) inode kind) }
         ensures err { OnErr result (known_of self.new ≡ known_of self.old) }
     {
-        let place = Place::new(self.alloc, directory, name)?;
         match self.of(inode) {
             Some(id) => {
-                self.tell_again(id, place);
+                self.tell_again(id);
                 Ok(id)
             }
-            None => self.tell_new(inode, kind, place),
+            None => self.tell_new(inode, kind),
         }
     }
 
-    /// A node that is known is told once more, by this name.
-    fn tell_again(&mut self, id: u64, place: Place)
-        ensures { known_of self.new ≡ with_change (told_again (place_of place)) (known_of self.old) id }
+    /// A node that is known is told once more.
+    fn tell_again(&mut self, id: u64)
+        ensures { known_of self.new ≡ with_change told_again (known_of self.old) id }
     {
         match self.nodes.get_mut(&id) {
             Some(node) => {
-                node.place = Some(place);
+                node.gone = false;
                 node.lookups = node.lookups.saturating_add(1);
             }
             None => {}
         }
     }
 
-    /// A node that isn't known is told by this name.
-    fn tell_new(&mut self, inode: u16, kind: NodeKind, place: Place) -> Result<u64, AllocError>
+    /// A node that isn't known is told.
+    fn tell_new(&mut self, inode: u16, kind: NodeKind) -> Result<u64, AllocError>
         requires { (known_of self.old).numbers inode ≡ None }
         ensures number { IfOk result (λ id. id ≡ self.old.next) }
-        ensures ok { OnOk result (known_of self.new ≡ told_as (known_of self.old) inode kind (place_of place) None) }
+        ensures ok { OnOk result (known_of self.new ≡ told_as (known_of self.old) inode kind None) }
         ensures err { OnErr result (known_of self.new ≡ known_of self.old) }
     {
         let id = self.next;
@@ -192,7 +124,7 @@ impl Nodes {
         let node = Node {
             inode,
             kind,
-            place: Some(place),
+            gone: false,
             lookups: 1,
             opens: 0,
             descriptor: None,
@@ -258,18 +190,18 @@ impl Nodes {
         let _ = self.nodes.remove(&id);
     }
 
-    /// A node has a handle more, and this descriptor, where one was opened for it.
+    /// A node has a handle more, and this descriptor, where one was opened for it; nothing where its inode may be another file's.
     pub fn opened(&mut self, id: u64, descriptor: Option<Descriptor>)
         ensures { known_of self.new ≡ opened (known_of self.old) id descriptor }
     {
         match self.nodes.get_mut(&id) {
-            Some(node) => {
+            Some(node) if !node.is_stale() => {
                 node.opens = node.opens.saturating_add(1);
                 if descriptor.is_some() {
                     node.descriptor = descriptor;
                 }
             }
-            None => {}
+            _ => {}
         }
     }
 
@@ -280,6 +212,7 @@ impl Nodes {
         ensures out { result ≡ out_with_last ((known_of self.old).nodes id) }
     {
         let descriptor = self.close_one(id);
+        self.settle(id);
         self.drop_unused(id);
         descriptor
     }
@@ -324,55 +257,42 @@ impl Nodes {
         }
     }
 
-    /// The node of this inode, if it is known, has this name now. (`Place::new` finds the memory, before a name is changed.)
-    pub fn renamed(&mut self, inode: u16, place: Place)
-        ensures { known_of self.new ≡ renamed (known_of self.old) inode (place_of place) }
-    {
-        match self.of(inode) {
-            Some(id) => self.set_place(id, place),
-            None => {}
-        }
-    }
-
-    /// A node has another place.
-    fn set_place(&mut self, id: u64, place: Place)
-        ensures { known_of self.new ≡ with_change (λ facts. record facts { place = Some (place_of place) }) (known_of self.old) id }
-    {
-        match self.nodes.get_mut(&id) {
-            Some(node) => node.place = Some(place),
-            None => {}
-        }
-    }
-
-    /// This name was taken from an inode. The node of the inode has no place any more, if it was this one. Where it was the inode's last
-    /// name, the node has no place, and the inode has no node: the next one that is told of it is another file.
-    pub fn lost(&mut self, inode: u16, directory: u64, name: &[u8], last: bool)
-        ensures { known_of self.new ≡ lost (known_of self.old) inode directory name.now last }
+    /// The last name of an inode was taken from it. Its node is gone; where it isn't open, the inode has no node: the next one that is told
+    /// of it is another file.
+    pub fn lost(&mut self, inode: u16)
+        ensures { known_of self.new ≡ lost (known_of self.old) inode }
     {
         let Some(id) = self.of(inode) else {
             return;
         };
-        self.unplace(id, directory, name, last);
-        if last {
-            let _ = self.numbers.remove(&inode);
-        }
+        self.set_gone(id);
+        self.settle(id);
     }
 
-    /// A node has no place any more, if it was this name, or this was its last.
-    fn unplace(&mut self, id: u64, directory: u64, name: &[u8], last: bool)
-        ensures { known_of self.new ≡ with_change (loses directory name.now last) (known_of self.old) id }
+    /// A node is gone.
+    fn set_gone(&mut self, id: u64)
+        ensures { known_of self.new ≡ with_change goes (known_of self.old) id }
     {
         match self.nodes.get_mut(&id) {
-            Some(node) => {
-                if is_lost(&node.place, directory, name, last) {
-                    node.place = None;
-                }
-            }
+            Some(node) => node.gone = true,
             None => {}
         }
     }
 
-    /// The first node but this one that has a descriptor, and a name by which it can be opened again.
+    /// A node whose inode may be another file's isn't its inode's node any more.
+    fn settle(&mut self, id: u64)
+        ensures { known_of self.new ≡ settled (known_of self.old) id }
+    {
+        let Some(node) = self.nodes.get(&id) else {
+            return;
+        };
+        if node.is_stale() {
+            let inode = node.inode;
+            self.let_go(inode, id);
+        }
+    }
+
+    /// The first node but this one that has a descriptor, and isn't gone: it can be opened again.
     pub fn spare(&self, but: u64) -> Option<(u64, Descriptor)>
         ensures { IsSpare (known_of self.now).nodes but result }
     {
@@ -385,38 +305,12 @@ impl Nodes {
     }
 }
 
-/// The descriptor of a node that can be opened again by its name, if it isn't this one.
+/// The descriptor of a node that can be opened again, if it isn't this one.
 fn spared(id: u64, node: &Node, but: u64) -> Option<Descriptor>
     ensures { result ≡ spare_of but id (facts_of node.now) }
 {
-    if id == but || node.place.is_none() {
+    if id == but || node.gone {
         return None;
     }
     node.descriptor
-}
-
-/// A slash and a name more.
-fn put_name(path: &mut Vec<u8>, name: &[u8]) -> Result<(), AllocError>
-    ensures { OnOk result (path.new.items ≡ path.old.items ++ 47 ∷ name.now) }
-{
-    path.push(b'/')?;
-    path.extend_from_slice(name)?;
-    Ok(())
-}
-
-/// Whether a node has no place any more, where this name was taken from it, which was its last maybe.
-fn is_lost(place: &Option<Place>, directory: u64, name: &[u8], last: bool) -> bool
-    ensures { result ≡ last || is_at (option_map place_of place.now) directory name.now }
-{
-    last || is_at(place, directory, name)
-}
-
-/// Whether a node's place is this name there.
-fn is_at(place: &Option<Place>, directory: u64, name: &[u8]) -> bool
-    ensures { result ≡ is_at (option_map place_of place.now) directory name.now }
-{
-    match place {
-        Some(place) => place.is(directory, name),
-        None => false,
-    }
 }

@@ -23,23 +23,23 @@ put_there : (table : ℕ → Option ℕ) (key : ℕ) (x : Option ℕ) → put ta
 put_there table key x = elim (eqb_tells key key) [ inl same ↦ rw same.0 refl | inr apart ↦ absurd (apart.1 refl) ]
 
 -- the kernel is told the number of an inode's node
-told_number : (k : Known) (inode : ℕ) (kind : NodeKind) (place : ℕ × List ℕ) (own : Option ℕ) → k.numbers inode ≡ own
-    → (told_as k inode kind place own).numbers inode ≡ Some (unwrap_or own k.next)
-told_number k inode kind place (Some id) e = e
-told_number k inode kind place None e = put_there k.numbers inode (Some k.next)
+told_number : (k : Known) (inode : ℕ) (kind : NodeKind) (own : Option ℕ) → k.numbers inode ≡ own
+    → (told_as k inode kind own).numbers inode ≡ Some (unwrap_or own k.next)
+told_number k inode kind (Some id) e = e
+told_number k inode kind None e = put_there k.numbers inode (Some k.next)
 
 -- an entry that tells it
-pub known_entry : (k l : Known) (inode : ℕ) (kind : NodeKind) (place : ℕ × List ℕ) (id : ℕ) (e : Entry) → l ≡ told k inode kind place
+pub known_entry : (k l : Known) (inode : ℕ) (kind : NodeKind) (id : ℕ) (e : Entry) → l ≡ told k inode kind
     → id ≡ number_in k inode → e.node ≡ id → e.attributes.inode ≡ inode → IsKnown l e
 known_entry k l inode kind place id e same number node at =
     let P : Known → Type 0 = λ m. m.numbers inode ≡ Some (number_in k inode) in
-    let there : l.numbers inode ≡ Some (number_in k inode) = subst P (sym same) (told_number k inode kind place (k.numbers inode) refl) in
+    let there : l.numbers inode ≡ Some (number_in k inode) = subst P (sym same) (told_number k inode kind (k.numbers inode) refl) in
     let A : ℕ → Type 0 = λ i. l.numbers i ≡ Some (number_in k inode) in
     subst A (sym at) there ∙ ap Some (sym number ∙ sym node)
 
 -- and the node gets a handle
-pub opened_entry : (k l m : Known) (inode : ℕ) (kind : NodeKind) (place : ℕ × List ℕ) (id : ℕ) (d : Option Descriptor) (e : Entry)
-    → l ≡ told k inode kind place → m ≡ opened l id d → id ≡ number_in k inode → e.node ≡ id → e.attributes.inode ≡ inode → IsKnown m e
+pub opened_entry : (k l m : Known) (inode : ℕ) (kind : NodeKind) (id : ℕ) (d : Option Descriptor) (e : Entry)
+    → l ≡ told k inode kind → m ≡ opened l id d → id ≡ number_in k inode → e.node ≡ id → e.attributes.inode ≡ inode → IsKnown m e
 opened_entry k l m inode kind place id d e same then number node at =
     let P : Known → Type 0 = λ x. IsKnown x e in
     let Q : Known → Type 0 = λ x. IsKnown (opened x id d) e in
@@ -49,10 +49,10 @@ opened_entry k l m inode kind place id d e same then number node at =
 pub keeps : (k l : Known) → l ≡ k → KeepsNumbers k l
 keeps k l same = let P : Known → Type 0 = λ m. KeepsNumbers k m in subst P (sym same) (record { numbers = λ inode id h. h })
 
-told_as_keeps : (k : Known) (inode : ℕ) (kind : NodeKind) (place : ℕ × List ℕ) (own : Option ℕ) → k.numbers inode ≡ own
-    → (other id : ℕ) → k.numbers other ≡ Some id → (told_as k inode kind place own).numbers other ≡ Some id
-told_as_keeps k inode kind place (Some own) e other id h = h
-told_as_keeps k inode kind place None e other id h = elim (eqb_tells inode other) [
+told_as_keeps : (k : Known) (inode : ℕ) (kind : NodeKind) (own : Option ℕ) → k.numbers inode ≡ own
+    → (other id : ℕ) → k.numbers other ≡ Some id → (told_as k inode kind own).numbers other ≡ Some id
+told_as_keeps k inode kind (Some own) e other id h = h
+told_as_keeps k inode kind None e other id h = elim (eqb_tells inode other) [
   | inl same ↦ absurd (let P : ℕ → Type 0 = λ i. k.numbers i ≡ None in never (sym (subst P same.1 e) ∙ h))
   | inr apart ↦ rw apart.0 h
 ] where
@@ -60,10 +60,10 @@ told_as_keeps k inode kind place None e other id h = elim (eqb_tells inode other
   never x = cc
 
 -- and where a node is told
-pub told_keeps : (k l : Known) (inode : ℕ) (kind : NodeKind) (place : ℕ × List ℕ) → l ≡ told k inode kind place → KeepsNumbers k l
+pub told_keeps : (k l : Known) (inode : ℕ) (kind : NodeKind) → l ≡ told k inode kind → KeepsNumbers k l
 told_keeps k l inode kind place is =
     let P : Known → Type 0 = λ m. KeepsNumbers k m in
-    subst P (sym is) (record { numbers = told_as_keeps k inode kind place (k.numbers inode) refl })
+    subst P (sym is) (record { numbers = told_as_keeps k inode kind (k.numbers inode) refl })
 
 stays_known : (k l : Known) → KeepsNumbers k l → (e : Entry) → MaybeKnown k e → MaybeKnown l e
 stays_known k l kept e (inl none) = inl none

@@ -1,5 +1,5 @@
 pub mod Asking
-pub mod Syncs
+pub mod Telling
 pub mod Replies
 pub mod KindLaws
 pub mod Answering

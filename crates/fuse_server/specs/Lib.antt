@@ -1,5 +1,7 @@
 pub mod Messages
+pub mod Reach
 pub mod Asking
 pub mod Entries
 pub mod Kinds
+pub mod Telling
 pub mod Answering

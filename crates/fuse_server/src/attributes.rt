@@ -1,22 +1,29 @@
 //! Attributes: what is told of a node, and what is changed.
 #![tactic(auto, using(crate::proofs::Asking::goes_on, crate::proofs::Asking::stays))]
 
-ghost use Rattle.std.specs.Prelude.{IfOk, IsTrue};
-ghost use Rattle.fuse_server.specs.Asking.{Talked};
+ghost use Rattle.std.specs.Prelude.{◌≡◌, Some, IfOk, IsTrue};
+ghost use Rattle.tree.specs.declared.Call.TheVariants as call;
+ghost use Rattle.tree.specs.declared.Reply.TheVariants as reply;
+ghost use Rattle.fuse_server.specs.Asking.{Talked, TalkedFor};
 ghost use Rattle.fuse_server.specs.Kinds.{is_attributes, is_bytes, is_room};
+ghost use Rattle.fuse_server.specs.Reach.{CalledFrom, IsNamed};
+ghost use Rattle.fuse_server.specs.declared.said.FuseAnswer.TheVariants as answer;
+ghost use Rattle.fuse_server.specs.Telling.{ToldBehind, told_of};
+ghost use Rattle.fuse_server.specs.Telling.Telling.{Node, Target, Room};
 
 use crate::mount::Mount;
 use crate::said::FuseAnswer;
 use crate::talk::{Seats, calling};
 use crate::told::{kind_of, room_of, told};
+use crate::work::Work;
 use errno::Errno;
-use fuse_nodes::node::NodeKind;
+use fuse_nodes::node::{Descriptor, NodeKind};
 use talks::changes::{Changes, Wanted};
 use talks::flags::has;
 use talks::refused::Refused;
 use talks::sessions::Sessions;
 use talks::target::bytes_of;
-use tree::{Attributes, Call, Statfs};
+use tree::{Attributes, Call, LinkTarget, PathFrom, Statfs};
 
 /// The bits of a change that mean something here: its mode, owner, group, size and times.
 const CHANGES: u32 = 0x3f;
@@ -51,30 +58,23 @@ pub(crate) fn bits_of(valid: u32) -> u32 {
     (valid & CHANGES) | given(valid, ATIME, ATIME_NOW) | given(valid, MTIME, MTIME_NOW)
 }
 
-/// An owner that is wanted of a symbolic link: the one that it has, or EPERM.
-fn check_owner(valid: u32, bit: u32, wanted: u32, was: u16) -> Result<(), Refused> {
-    if has(valid, bit) && wanted != u32::from(was) {
-        return Err(Refused::By(Errno::EPERM));
-    }
-    Ok(())
-}
-
-/// What of a symbolic link can be changed: nothing, since calls go to what it leads to. EINVAL for a size, EOPNOTSUPP for a mode, EPERM for
-/// owners that it hasn't.
+/// Refuses what of a symbolic link can't be changed: EINVAL for a size, EOPNOTSUPP for a mode.
 fn check_link(wanted: &Wanted, was: &Attributes) -> Result<(), Refused> {
+    if kind_of(was.mode) != NodeKind::Symlink {
+        return Ok(());
+    }
     if has(wanted.valid, SIZE) {
         return Err(Refused::By(Errno::EINVAL));
     }
     if has(wanted.valid, MODE) {
         return Err(Refused::Unsupported);
     }
-    check_owner(wanted.valid, 0x2, wanted.uid, was.uid)?;
-    check_owner(wanted.valid, 0x4, wanted.gid, was.gid)
+    Ok(())
 }
 
 /// The attributes, as an answer.
 fn answer_of(attributes: &Attributes) -> FuseAnswer
-    ensures { IsTrue (is_attributes result) }
+    ensures { result ≡ answer.Attributes (told_of attributes.now) }
 {
     FuseAnswer::Attributes(told(attributes))
 }
@@ -84,130 +84,140 @@ impl Seats {
     fn change<S: Sessions>(
         &mut self,
         sessions: &mut S,
-        now: u32,
-        path: &[u8],
+        work: Work,
+        path: PathFrom<'_>,
         changes: Changes,
     ) -> Result<(), Refused>
-        ensures { Talked S.called S.entered S.left now sessions.old sessions.new }
+        requires { IsNamed work.reach path }
+        ensures { Talked (CalledFrom work.reach S.called) S.entered S.left work.now sessions.old sessions.new }
     {
         let mut left = changes;
         'changes: for _made in 0..MOST_CHANGES {
             let Some((change, more)) = left.split_first() else {
                 return Ok(());
             };
-            self.ask_done(sessions, now, change.call(path))?;
+            self.ask_done(sessions, work, change.call(path))?;
             left = more;
         }
         Ok(())
     }
 
     /// The room of the volume.
-    fn space<S: Sessions>(&mut self, sessions: &mut S, now: u32) -> Result<Statfs, Refused>
-        ensures { Talked S.called S.entered S.left now sessions.old sessions.new }
+    fn space<S: Sessions>(&mut self, sessions: &mut S, work: Work) -> Result<Statfs, Refused>
+        ensures asked { Talked (CalledFrom work.reach S.called) S.entered S.left work.now sessions.old sessions.new }
+        ensures seen { IfOk result (λ room. TalkedFor (CalledFrom work.reach S.called) S.entered S.left work.now sessions.old call.Statfs (reply.Space room) sessions.new) }
     {
-        self.ask(sessions, now, Call::Statfs)?.space()
+        self.ask(sessions, work, Call::Statfs)?.space()
+    }
+
+    /// The target of the link at a path.
+    fn target<S: Sessions>(
+        &mut self,
+        sessions: &mut S,
+        work: Work,
+        path: PathFrom<'_>,
+    ) -> Result<LinkTarget, Refused>
+        requires { IsNamed work.reach path }
+        ensures asked { Talked (CalledFrom work.reach S.called) S.entered S.left work.now sessions.old sessions.new }
+        ensures seen { IfOk result (λ target. TalkedFor (CalledFrom work.reach S.called) S.entered S.left work.now sessions.old (call.Readlink path.entry) (reply.Target target) sessions.new) }
+    {
+        self.ask(sessions, work, Call::Readlink { path })?.target()
+    }
+}
+
+/// The attributes of what a descriptor has open.
+fn attributes_open<S: Sessions>(
+    sessions: &mut S,
+    work: Work,
+    descriptor: Descriptor,
+) -> Result<Attributes, Refused>
+    ensures asked { Talked (CalledFrom work.reach S.called) S.entered S.left work.now sessions.old sessions.new }
+    ensures behind { IfOk result (λ was. work.reach.descriptor ≡ Some descriptor
+        → ToldBehind (CalledFrom work.reach S.called) S.entered S.left work.now work.reach Node sessions.old (answer.Attributes (told_of was)) sessions.new) }
+{
+    let call = Call::Fstat { fd: descriptor.fd };
+    calling(sessions, work, descriptor.session, call).attributes()
+}
+
+impl Seats {
+    /// The attributes of the message's node, by its descriptor, if it has one. ESTALE where its inode may be another file's.
+    fn attributes<S: Sessions>(
+        &mut self,
+        sessions: &mut S,
+        work: Work,
+    ) -> Result<Attributes, Refused>
+        ensures asked { Talked (CalledFrom work.reach S.called) S.entered S.left work.now sessions.old sessions.new }
+        ensures behind { IfOk result (λ was. ToldBehind (CalledFrom work.reach S.called) S.entered S.left work.now work.reach Node sessions.old (answer.Attributes (told_of was)) sessions.new) }
+    {
+        if let Some(descriptor) = work.reach.descriptor {
+            return attributes_open(sessions, work, descriptor);
+        }
+        let path = work.reach.node()?;
+        self.look(sessions, work, path)
     }
 }
 
 impl Mount {
-    /// The attributes of a node, by its descriptor, if it has one, or its path. ESTALE where the path leads to another inode.
-    pub(crate) fn attributes<S: Sessions>(
-        &mut self,
-        sessions: &mut S,
-        now: u32,
-        node: u64,
-    ) -> Result<Attributes, Refused>
-        ensures { Talked S.called S.entered S.left now sessions.old sessions.new }
-    {
-        let known = self.nodes.get(node)?;
-        let inode = known.inode;
-        if let Some(descriptor) = known.descriptor {
-            let call = Call::Fstat { fd: descriptor.fd };
-            return calling(sessions, now, descriptor.session, call).attributes();
-        }
-        let path = self.nodes.path(node)?;
-        let attributes = self.seats.look(sessions, now, &path)?;
-        if attributes.inode != inode {
-            return Err(Refused::Stale);
-        }
-        Ok(attributes)
-    }
-
     /// GETATTR.
     pub(crate) fn getattr<S: Sessions>(
         &mut self,
         sessions: &mut S,
-        now: u32,
-        node: u64,
+        work: Work,
     ) -> Result<FuseAnswer, Refused>
-        ensures asked { Talked S.called S.entered S.left now sessions.old sessions.new }
+        ensures asked { Talked (CalledFrom work.reach S.called) S.entered S.left work.now sessions.old sessions.new }
         ensures told { IfOk result (λ a. IsTrue (is_attributes a)) }
+        ensures behind { IfOk result (λ a. ToldBehind (CalledFrom work.reach S.called) S.entered S.left work.now work.reach Node sessions.old a sessions.new) }
     {
-        let attributes = self.attributes(sessions, now, node)?;
+        let attributes = self.seats.attributes(sessions, work)?;
         Ok(answer_of(&attributes))
     }
 
-    /// SETATTR of a symbolic link. ENOSYS for its times: programs then go on without.
-    fn set_link(&self, wanted: &Wanted, was: &Attributes) -> Result<FuseAnswer, Refused>
-        ensures { IfOk result (λ a. IsTrue (is_attributes a)) }
-    {
-        check_link(wanted, was)?;
-        if has(wanted.valid, ATIME | MTIME) {
-            return Ok(FuseAnswer::Unknown);
-        }
-        Ok(answer_of(was))
-    }
-
-    /// SETATTR of a file or a directory: by its path, so ESTALE where it has none.
+    /// Changes of the message's node are made: its attributes then.
     fn set_node<S: Sessions>(
         &mut self,
         sessions: &mut S,
-        now: u32,
-        node: u64,
+        work: Work,
         changes: Changes,
     ) -> Result<FuseAnswer, Refused>
-        ensures asked { Talked S.called S.entered S.left now sessions.old sessions.new }
+        ensures asked { Talked (CalledFrom work.reach S.called) S.entered S.left work.now sessions.old sessions.new }
         ensures told { IfOk result (λ a. IsTrue (is_attributes a)) }
+        ensures behind { IfOk result (λ a. ToldBehind (CalledFrom work.reach S.called) S.entered S.left work.now work.reach Node sessions.old a sessions.new) }
     {
-        let path = self.nodes.path(node)?;
-        self.seats.change(sessions, now, &path, changes)?;
-        self.getattr(sessions, now, node)
+        let path = work.reach.node()?;
+        self.seats.change(sessions, work, path, changes)?;
+        let attributes = self.seats.attributes(sessions, work)?;
+        Ok(answer_of(&attributes))
     }
 
-    /// SETATTR.
+    /// SETATTR: of a symbolic link, its own; of a removed file too, while it is open.
     pub(crate) fn setattr<S: Sessions>(
         &mut self,
         sessions: &mut S,
-        now: u32,
-        node: u64,
+        work: Work,
         wanted: &Wanted,
     ) -> Result<FuseAnswer, Refused>
-        ensures asked { Talked S.called S.entered S.left now sessions.old sessions.new }
+        ensures asked { Talked (CalledFrom work.reach S.called) S.entered S.left work.now sessions.old sessions.new }
         ensures told { IfOk result (λ a. IsTrue (is_attributes a)) }
+        ensures behind { IfOk result (λ a. ToldBehind (CalledFrom work.reach S.called) S.entered S.left work.now work.reach Node sessions.old a sessions.new) }
     {
-        let was = self.attributes(sessions, now, node)?;
-        if kind_of(was.mode) == NodeKind::Symlink {
-            return self.set_link(wanted, &was);
-        }
+        let was = self.seats.attributes(sessions, work)?;
+        check_link(wanted, &was)?;
         let changes = wanted.changes(&was)?;
-        self.set_node(sessions, now, node, changes)
+        self.set_node(sessions, work, changes)
     }
 
     /// READLINK.
     pub(crate) fn readlink<S: Sessions>(
         &mut self,
         sessions: &mut S,
-        now: u32,
-        node: u64,
+        work: Work,
     ) -> Result<FuseAnswer, Refused>
-        ensures asked { Talked S.called S.entered S.left now sessions.old sessions.new }
+        ensures asked { Talked (CalledFrom work.reach S.called) S.entered S.left work.now sessions.old sessions.new }
         ensures told { IfOk result (λ a. IsTrue (is_bytes a)) }
+        ensures behind { IfOk result (λ a. ToldBehind (CalledFrom work.reach S.called) S.entered S.left work.now work.reach Target sessions.old a sessions.new) }
     {
-        let path = self.nodes.path(node)?;
-        let target = self
-            .seats
-            .ask(sessions, now, Call::Readlink { path: &path })?
-            .target()?;
+        let path = work.reach.node()?;
+        let target = self.seats.target(sessions, work, path)?;
         Ok(FuseAnswer::Bytes(bytes_of(&target).to_vec(self.alloc)?))
     }
 
@@ -215,12 +225,13 @@ impl Mount {
     pub(crate) fn statfs<S: Sessions>(
         &mut self,
         sessions: &mut S,
-        now: u32,
+        work: Work,
     ) -> Result<FuseAnswer, Refused>
-        ensures asked { Talked S.called S.entered S.left now sessions.old sessions.new }
+        ensures asked { Talked (CalledFrom work.reach S.called) S.entered S.left work.now sessions.old sessions.new }
         ensures told { IfOk result (λ a. IsTrue (is_room a)) }
+        ensures behind { IfOk result (λ a. ToldBehind (CalledFrom work.reach S.called) S.entered S.left work.now work.reach Room sessions.old a sessions.new) }
     {
-        let room = self.seats.space(sessions, now)?;
+        let room = self.seats.space(sessions, work)?;
         Ok(FuseAnswer::Statfs(room_of(&room)))
     }
 }

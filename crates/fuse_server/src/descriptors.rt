@@ -1,17 +1,19 @@
-//! Descriptors: one for a file, which all its handles share. Where the server has no more, one is closed whose file has a name, by which it
-//! is opened again when it is used.
+//! Descriptors: one for a file, which all its handles share. Where the server has no more, one is closed whose file isn't gone: it is opened
+//! again when it is used.
 #![tactic(auto, using(crate::proofs::Asking::goes_on, crate::proofs::Asking::stays))]
 
 ghost use Rattle.fuse_server.specs.Asking.{Talked};
+ghost use Rattle.fuse_server.specs.Reach.{CalledFrom, IsNamed};
 
 use crate::mount::Mount;
 use crate::talk::{Seats, calling};
+use crate::work::Work;
 use bitflags::Flags;
 use errno::Errno;
 use fuse_nodes::node::Descriptor;
 use talks::refused::Refused;
 use talks::sessions::Sessions;
-use tree::{Call, OpenFlags};
+use tree::{Call, OpenFlags, PathFrom};
 
 /// The most sessions of user 0: together they have as many descriptors as the server has.
 const MOST_SEATS: usize = 4;
@@ -27,35 +29,36 @@ pub(crate) const NEW: u8 = 27;
 /// How a path is opened.
 #[derive(Clone, Copy)]
 pub(crate) struct Opening<'a> {
-    pub path: &'a [u8],
+    pub path: PathFrom<'a>,
     pub flags: u8,
     /// The permissions of a file that is made.
     pub mode: u16,
 }
 
 /// Closes a descriptor.
-pub(crate) fn close<S: Sessions>(sessions: &mut S, now: u32, descriptor: Descriptor)
-    ensures { Talked S.called S.entered S.left now sessions.old sessions.new }
+pub(crate) fn close<S: Sessions>(sessions: &mut S, work: Work, descriptor: Descriptor)
+    ensures { Talked (CalledFrom work.reach S.called) S.entered S.left work.now sessions.old sessions.new }
 {
     let call = Call::Close { fd: descriptor.fd };
-    let _ = calling(sessions, now, descriptor.session, call);
+    let _ = calling(sessions, work, descriptor.session, call);
 }
 
 /// Opens a path by a session.
 fn open_by<S: Sessions>(
     sessions: &mut S,
-    now: u32,
+    work: Work,
     session: u8,
     opening: Opening<'_>,
 ) -> Result<Descriptor, Refused>
-    ensures { Talked S.called S.entered S.left now sessions.old sessions.new }
+    requires { IsNamed work.reach opening.path }
+    ensures { Talked (CalledFrom work.reach S.called) S.entered S.left work.now sessions.old sessions.new }
 {
     let call = Call::Open {
         path: opening.path,
         flags: OpenFlags::from_bits_retain(opening.flags),
         mode: opening.mode,
     };
-    let fd = calling(sessions, now, session, call).descriptor()?;
+    let fd = calling(sessions, work, session, call).descriptor()?;
     Ok(Descriptor { session, fd })
 }
 
@@ -74,14 +77,15 @@ impl Seats {
     fn open_somewhere<S: Sessions>(
         &mut self,
         sessions: &mut S,
-        now: u32,
+        work: Work,
         opening: Opening<'_>,
     ) -> Result<Descriptor, Refused>
-        ensures { Talked S.called S.entered S.left now sessions.old sessions.new }
+        requires { IsNamed work.reach opening.path }
+        ensures { Talked (CalledFrom work.reach S.called) S.entered S.left work.now sessions.old sessions.new }
     {
         'seats: for at in 0..MOST_SEATS {
-            let session = self.session(sessions, now, at)?;
-            let opened = open_by(sessions, now, session, opening);
+            let session = self.session(sessions, work, at)?;
+            let opened = open_by(sessions, work, session, opening);
             if !is_full(&opened) {
                 return opened;
             }
@@ -91,20 +95,20 @@ impl Seats {
 }
 
 impl Mount {
-    /// Closes the descriptor of a file, but not of this node, that has a name, by which it is opened again; ENFILE where there is none.
+    /// Closes the descriptor of a file, but not of this node, that isn't gone, so that it can be opened again; ENFILE where there is none.
     fn make_room<S: Sessions>(
         &mut self,
         sessions: &mut S,
-        now: u32,
+        work: Work,
         but: u64,
     ) -> Result<(), Refused>
-        ensures { Talked S.called S.entered S.left now sessions.old sessions.new }
+        ensures { Talked (CalledFrom work.reach S.called) S.entered S.left work.now sessions.old sessions.new }
     {
         let Some((node, descriptor)) = self.nodes.spare(but) else {
             return Err(Refused::By(Errno::ENFILE));
         };
         let _ = self.nodes.take_descriptor(node);
-        close(sessions, now, descriptor);
+        close(sessions, work, descriptor);
         Ok(())
     }
 
@@ -112,103 +116,84 @@ impl Mount {
     pub(crate) fn open_path<S: Sessions>(
         &mut self,
         sessions: &mut S,
-        now: u32,
+        work: Work,
         opening: Opening<'_>,
         but: u64,
     ) -> Result<Descriptor, Refused>
-        ensures { Talked S.called S.entered S.left now sessions.old sessions.new }
+        requires { IsNamed work.reach opening.path }
+        ensures { Talked (CalledFrom work.reach S.called) S.entered S.left work.now sessions.old sessions.new }
     {
-        let opened = self.seats.open_somewhere(sessions, now, opening);
+        let opened = self.seats.open_somewhere(sessions, work, opening);
         if !are_full(&opened) {
             return opened;
         }
-        self.make_room(sessions, now, but)?;
-        self.seats.open_somewhere(sessions, now, opening)
+        self.make_room(sessions, work, but)?;
+        self.seats.open_somewhere(sessions, work, opening)
     }
 
-    /// Whether a descriptor has this inode open; ESTALE where it has another one, and then it is closed.
-    fn check_opened<S: Sessions>(
-        &mut self,
-        sessions: &mut S,
-        now: u32,
-        inode: u16,
-        descriptor: Descriptor,
-    ) -> Result<(), Refused>
-        ensures { Talked S.called S.entered S.left now sessions.old sessions.new }
-    {
-        let call = Call::Fstat { fd: descriptor.fd };
-        let found = calling(sessions, now, descriptor.session, call).attributes();
-        if let Ok(attributes) = &found {
-            if attributes.inode == inode {
-                return Ok(());
-            }
-        }
-        close(sessions, now, descriptor);
-        Err(Refused::Stale)
-    }
-
-    /// Opens a node by its path.
-    fn open_node<S: Sessions>(
-        &mut self,
-        sessions: &mut S,
-        now: u32,
-        node: u64,
-    ) -> Result<Descriptor, Refused>
-        ensures { Talked S.called S.entered S.left now sessions.old sessions.new }
-    {
-        let inode = self.nodes.get(node)?.inode;
-        let path = self.nodes.path(node)?;
-        let opening = Opening {
-            path: &path,
-            flags: READ_WRITE,
-            mode: 0,
-        };
-        let descriptor = self.open_path(sessions, now, opening, node)?;
-        self.check_opened(sessions, now, inode, descriptor)?;
-        Ok(descriptor)
-    }
-
-    /// The descriptor of a node, which is opened where it has none.
+    /// The descriptor of the message's node, which is opened where it has none.
     pub(crate) fn descriptor<S: Sessions>(
         &mut self,
         sessions: &mut S,
-        now: u32,
-        node: u64,
+        work: Work,
     ) -> Result<Descriptor, Refused>
-        ensures { Talked S.called S.entered S.left now sessions.old sessions.new }
+        ensures { Talked (CalledFrom work.reach S.called) S.entered S.left work.now sessions.old sessions.new }
     {
-        if let Some(descriptor) = self.nodes.get(node)?.descriptor {
+        if let Some(descriptor) = work.reach.descriptor {
             return Ok(descriptor);
         }
-        let descriptor = self.open_node(sessions, now, node)?;
+        let path = work.reach.node()?;
+        self.open_node(sessions, work, path, work.node)
+    }
+
+    /// Opens a node at a path: its descriptor.
+    fn open_node<S: Sessions>(
+        &mut self,
+        sessions: &mut S,
+        work: Work,
+        path: PathFrom<'_>,
+        node: u64,
+    ) -> Result<Descriptor, Refused>
+        requires { IsNamed work.reach path }
+        ensures { Talked (CalledFrom work.reach S.called) S.entered S.left work.now sessions.old sessions.new }
+    {
+        let opening = Opening {
+            path,
+            flags: READ_WRITE,
+            mode: 0,
+        };
+        let descriptor = self.open_path(sessions, work, opening, node)?;
         self.nodes.set_descriptor(node, descriptor);
         Ok(descriptor)
     }
 
-    /// What is open of an inode has a descriptor, before a name is taken from it: without a name it can't be opened again.
+    /// What is open of an inode has a descriptor, before the name at a path is taken from it: a file that is gone can't be opened again.
     pub(crate) fn hold<S: Sessions>(
         &mut self,
         sessions: &mut S,
-        now: u32,
+        work: Work,
+        path: PathFrom<'_>,
         inode: u16,
     ) -> Result<(), Refused>
-        ensures { Talked S.called S.entered S.left now sessions.old sessions.new }
+        requires { IsNamed work.reach path }
+        ensures { Talked (CalledFrom work.reach S.called) S.entered S.left work.now sessions.old sessions.new }
     {
-        let Some(node) = self.nodes.of(inode) else {
+        let Some(id) = self.nodes.of(inode) else {
             return Ok(());
         };
-        if self.nodes.get(node)?.opens > 0 {
-            self.descriptor(sessions, now, node)?;
+        let node = self.nodes.get(id)?;
+        if node.opens > 0 && node.descriptor.is_none() {
+            self.open_node(sessions, work, path, id)?;
         }
         Ok(())
     }
 
     /// A node has a handle less; behind the last one its descriptor is closed.
-    pub(crate) fn let_go<S: Sessions>(&mut self, sessions: &mut S, now: u32, node: u64)
-        ensures { Talked S.called S.entered S.left now sessions.old sessions.new }
+    pub(crate) fn let_go<S: Sessions>(&mut self, sessions: &mut S, work: Work, node: u64)
+        ensures { Talked (CalledFrom work.reach S.called) S.entered S.left work.now sessions.old sessions.new }
     {
         if let Some(descriptor) = self.nodes.closed(node) {
-            close(sessions, now, descriptor);
+            close(sessions, work, descriptor);
         }
     }
 }

@@ -3,7 +3,10 @@
 
 ghost use Rattle.std.specs.Prelude.{◌≡◌, ◌≤◌, ℕ, IfOk, IsTrue, length};
 ghost use Rattle.talks.specs.Talks.{MayHear};
-ghost use Rattle.fuse_server.specs.Asking.{Talked, AskedFor};
+ghost use Rattle.fuse_server.specs.Asking.{Talked};
+ghost use Rattle.fuse_server.specs.Reach.{CalledFrom};
+ghost use Rattle.fuse_server.specs.Telling.{AskedFor};
+ghost use Rattle.fuse_server.specs.Telling.Telling.{Other};
 ghost use Rattle.fuse_server.specs.Kinds.{is_open, is_done, IsWithin, IsCount, IsOfSync};
 
 use crate::bounds::{most_of, within};
@@ -11,6 +14,7 @@ use crate::mount::Mount;
 use crate::said::{FuseAnswer, Said};
 use crate::talk::calling;
 use crate::told::opened_file;
+use crate::work::Work;
 use errno::Errno;
 use fuse::request::Span;
 use fuse_nodes::handles::Handle;
@@ -48,55 +52,55 @@ fn written(count: u32, bytes: &[u8]) -> u32
 /// Sets the position of a descriptor.
 fn seek<S: Sessions>(
     sessions: &mut S,
-    now: u32,
+    work: Work,
     descriptor: Descriptor,
     offset: i64,
 ) -> Result<(), Refused>
-    ensures { Talked S.called S.entered S.left now sessions.old sessions.new }
+    ensures { Talked (CalledFrom work.reach S.called) S.entered S.left work.now sessions.old sessions.new }
 {
     let call = Call::Seek {
         fd: descriptor.fd,
         whence: Whence::Set,
         offset,
     };
-    calling(sessions, now, descriptor.session, call).at()?;
+    calling(sessions, work, descriptor.session, call).at()?;
     Ok(())
 }
 
 /// Reads at a position.
 fn read_at<S: Sessions>(
     sessions: &mut S,
-    now: u32,
+    work: Work,
     descriptor: Descriptor,
     offset: i64,
     count: u32,
 ) -> Result<Vec<u8>, Refused>
-    ensures { Talked S.called S.entered S.left now sessions.old sessions.new }
+    ensures { Talked (CalledFrom work.reach S.called) S.entered S.left work.now sessions.old sessions.new }
 {
-    seek(sessions, now, descriptor, offset)?;
+    seek(sessions, work, descriptor, offset)?;
     let call = Call::Read {
         fd: descriptor.fd,
         count,
     };
-    calling(sessions, now, descriptor.session, call).bytes()
+    calling(sessions, work, descriptor.session, call).bytes()
 }
 
 /// Writes at a position: how many bytes were written.
 fn write_at<S: Sessions>(
     sessions: &mut S,
-    now: u32,
+    work: Work,
     descriptor: Descriptor,
     offset: i64,
     bytes: &[u8],
 ) -> Result<u32, Refused>
-    ensures { Talked S.called S.entered S.left now sessions.old sessions.new }
+    ensures { Talked (CalledFrom work.reach S.called) S.entered S.left work.now sessions.old sessions.new }
 {
-    seek(sessions, now, descriptor, offset)?;
+    seek(sessions, work, descriptor, offset)?;
     let call = Call::Write {
         fd: descriptor.fd,
         bytes,
     };
-    calling(sessions, now, descriptor.session, call).wrote()
+    calling(sessions, work, descriptor.session, call).wrote()
 }
 
 impl Mount {
@@ -104,40 +108,48 @@ impl Mount {
     pub(crate) fn open_file<S: Sessions>(
         &mut self,
         sessions: &mut S,
-        now: u32,
-        node: u64,
+        work: Work,
     ) -> Result<FuseAnswer, Refused>
-        ensures asked { Talked S.called S.entered S.left now sessions.old sessions.new }
+        ensures asked { Talked (CalledFrom work.reach S.called) S.entered S.left work.now sessions.old sessions.new }
         ensures told { IfOk result (λ a. IsTrue (is_open a)) }
     {
-        self.descriptor(sessions, now, node)?;
+        let node = work.node;
+        self.descriptor(sessions, work)?;
         self.nodes.opened(node, None);
         match self.handles.open_file(node) {
             Ok(handle) => Ok(FuseAnswer::Open(opened_file(handle))),
             Err(error) => {
-                self.let_go(sessions, now, node);
+                self.let_go(sessions, work, node);
                 Err(Refused::from(error))
             }
         }
+    }
+
+    /// The node of an open file is the message's; EBADF where it is another one, or no file is open under the number.
+    fn check_file(&self, work: Work, handle: u64) -> Result<(), Refused> {
+        if self.handles.file(handle)? != work.node {
+            return Err(Refused::By(Errno::EBADF));
+        }
+        Ok(())
     }
 
     /// READ: at most so many bytes from the offset on, and at most what a call gives.
     pub(crate) fn read<S: Sessions>(
         &mut self,
         sessions: &mut S,
-        now: u32,
+        work: Work,
         span: Span,
     ) -> Result<FuseAnswer, Refused>
-        ensures asked { Talked S.called S.entered S.left now sessions.old sessions.new }
+        ensures asked { Talked (CalledFrom work.reach S.called) S.entered S.left work.now sessions.old sessions.new }
         ensures told { IfOk result (IsWithin span.count) }
     {
-        let node = self.handles.file(span.handle)?;
+        self.check_file(work, span.handle)?;
         let Some(offset) = position(span.offset) else {
             return Ok(no_bytes(self.alloc));
         };
-        let descriptor = self.descriptor(sessions, now, node)?;
+        let descriptor = self.descriptor(sessions, work)?;
         let count = most_of(span.count);
-        let mut bytes = read_at(sessions, now, descriptor, offset, count)?;
+        let mut bytes = read_at(sessions, work, descriptor, offset, count)?;
         bytes.truncate(count as usize);
         Ok(FuseAnswer::Bytes(bytes))
     }
@@ -146,22 +158,22 @@ impl Mount {
     pub(crate) fn write<S: Sessions>(
         &mut self,
         sessions: &mut S,
-        now: u32,
+        work: Work,
         handle: u64,
         offset: u64,
         bytes: &[u8],
     ) -> Result<FuseAnswer, Refused>
-        ensures asked { Talked S.called S.entered S.left now sessions.old sessions.new }
+        ensures asked { Talked (CalledFrom work.reach S.called) S.entered S.left work.now sessions.old sessions.new }
         ensures told { IfOk result (IsCount (length bytes.now)) }
     {
-        let node = self.handles.file(handle)?;
+        self.check_file(work, handle)?;
         let Some(offset) = position(offset) else {
             return Err(Refused::By(Errno::EFBIG));
         };
-        let descriptor = self.descriptor(sessions, now, node)?;
+        let descriptor = self.descriptor(sessions, work)?;
         let count = write_at(
             sessions,
-            now,
+            work,
             descriptor,
             offset,
             within(bytes, MAX_TRANSFER),
@@ -173,25 +185,25 @@ impl Mount {
     pub(crate) fn release<S: Sessions>(
         &mut self,
         sessions: &mut S,
-        now: u32,
+        work: Work,
         handle: u64,
     ) -> Result<FuseAnswer, Refused>
-        ensures asked { Talked S.called S.entered S.left now sessions.old sessions.new }
+        ensures asked { Talked (CalledFrom work.reach S.called) S.entered S.left work.now sessions.old sessions.new }
         ensures told { IfOk result (λ a. IsTrue (is_done a)) }
     {
         let Handle::File { node } = self.handles.close(handle)? else {
             return Ok(FuseAnswer::Done);
         };
-        self.let_go(sessions, now, node);
+        self.let_go(sessions, work, node);
         Ok(FuseAnswer::Done)
     }
 
     /// FSYNC and FSYNCDIR: all that was written reaches the disk.
-    pub(crate) fn sync<S: Sessions>(&mut self, sessions: &mut S, now: u32) -> Said
-        ensures asked { AskedFor (MayHear S.called S.entered S.left now) sessions.old result sessions.new }
+    pub(crate) fn sync<S: Sessions>(&mut self, sessions: &mut S, work: Work) -> Said
+        ensures asked { AskedFor (MayHear (CalledFrom work.reach S.called) S.entered S.left work.now) work.reach Other sessions.old result sessions.new }
         ensures sync { IsOfSync result }
     {
-        let heard = match self.seats.ask(sessions, now, Call::Sync) {
+        let heard = match self.seats.ask(sessions, work, Call::Sync) {
             Ok(heard) => heard,
             Err(refused) => return Said::Plain(FuseAnswer::Refused(refused)),
         };

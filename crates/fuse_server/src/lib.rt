@@ -16,3 +16,4 @@ mod send;
 mod serving;
 mod talk;
 mod told;
+mod work;

@@ -4,6 +4,7 @@
 ghost use Rattle.std.specs.Prelude.{◌≤◌, ◌<◌, ◌+◌, ◌^◌, IfOk, IfSome, IsTrue, length};
 ghost use Rattle.fuse_server.specs.Asking.{Talked};
 ghost use Rattle.fuse_server.specs.Kinds.{is_open, IsWithin};
+ghost use Rattle.fuse_server.specs.Reach.{CalledFrom, IsNamed};
 
 use crate::bounds::{most_of, within};
 use crate::descriptors::{Opening, READ, close};
@@ -11,6 +12,7 @@ use crate::mount::Mount;
 use crate::said::FuseAnswer;
 use crate::talk::calling;
 use crate::told::opened_directory;
+use crate::work::Work;
 use errno::Errno;
 use fuse::entries::{ReaddirEntry, push_entry};
 use fuse::request::Span;
@@ -19,7 +21,7 @@ use fuse_nodes::node::NodeKind;
 use std::alloc::Global;
 use talks::refused::Refused;
 use talks::sessions::Sessions;
-use tree::{Call, Entry, MAX_NAME};
+use tree::{Call, Entry, MAX_NAME, PathFrom};
 
 /// The type of an entry that is a directory.
 const DIRECTORY: u32 = 4;
@@ -101,50 +103,46 @@ impl Mount {
     fn names_at<S: Sessions>(
         &mut self,
         sessions: &mut S,
-        now: u32,
-        path: &[u8],
+        work: Work,
+        path: PathFrom<'_>,
     ) -> Result<Vec<Entry>, Refused>
-        ensures { Talked S.called S.entered S.left now sessions.old sessions.new }
+        requires { IsNamed work.reach path }
+        ensures { Talked (CalledFrom work.reach S.called) S.entered S.left work.now sessions.old sessions.new }
     {
         let opening = Opening {
             path,
             flags: READ,
             mode: 0,
         };
-        let descriptor = self.open_path(sessions, now, opening, 0)?;
+        let descriptor = self.open_path(sessions, work, opening, 0)?;
         let call = Call::Readdir { fd: descriptor.fd };
-        let names = calling(sessions, now, descriptor.session, call).names();
-        close(sessions, now, descriptor);
+        let names = calling(sessions, work, descriptor.session, call).names();
+        close(sessions, work, descriptor);
         names
     }
 
-    /// The inode of the directory above a node: the root's is its own.
-    fn inode_above(&self, node: u64) -> Result<u16, Refused> {
-        let known = self.nodes.get(node)?;
-        match &known.place {
-            Some(place) => Ok(self.nodes.get(place.directory)?.inode),
-            None => Ok(known.inode),
-        }
-    }
-
-    /// The names of a node, and the inodes of itself and the directory above.
-    fn names_of<S: Sessions>(
-        &mut self,
-        sessions: &mut S,
-        now: u32,
-        node: u64,
-    ) -> Result<Names, Refused>
-        ensures { Talked S.called S.entered S.left now sessions.old sessions.new }
+    /// The names of the message's node, and the inodes of itself and the directory above.
+    fn names_of<S: Sessions>(&mut self, sessions: &mut S, work: Work) -> Result<Names, Refused>
+        ensures { Talked (CalledFrom work.reach S.called) S.entered S.left work.now sessions.old sessions.new }
     {
-        let own = self.nodes.get(node)?.inode;
-        let above = self.inode_above(node)?;
-        let path = self.nodes.path(node)?;
-        let entries = self.names_at(sessions, now, &path)?;
+        let path = work.reach.node()?;
+        let own = self.nodes.inode(work.node)?;
+        let above = work.reach.above()?;
+        let above = self.seats.look(sessions, work, above)?.inode;
+        let entries = self.names_at(sessions, work, path)?;
         Ok(Names {
             own,
             above,
             entries,
         })
+    }
+
+    /// The node of an open directory is the message's; EBADF where it is another one, or no directory is open under the number.
+    pub(crate) fn check_directory(&self, work: Work, handle: u64) -> Result<(), Refused> {
+        if self.handles.directory(handle)? != work.node {
+            return Err(Refused::By(Errno::EBADF));
+        }
+        Ok(())
     }
 
     /// Whether the entries of an open directory are asked for anew: from the start on, or where none are kept.
@@ -157,16 +155,16 @@ impl Mount {
     pub(crate) fn keep_names<S: Sessions>(
         &mut self,
         sessions: &mut S,
-        now: u32,
+        work: Work,
         span: Span,
     ) -> Result<(), Refused>
-        ensures { Talked S.called S.entered S.left now sessions.old sessions.new }
+        ensures { Talked (CalledFrom work.reach S.called) S.entered S.left work.now sessions.old sessions.new }
     {
+        self.check_directory(work, span.handle)?;
         if !self.is_fresh(span) {
             return Ok(());
         }
-        let node = self.handles.directory(span.handle)?;
-        let names = self.names_of(sessions, now, node)?;
+        let names = self.names_of(sessions, work)?;
         self.handles.keep(span.handle, names);
         Ok(())
     }
@@ -185,13 +183,13 @@ impl Mount {
     pub(crate) fn readdir<S: Sessions>(
         &mut self,
         sessions: &mut S,
-        now: u32,
+        work: Work,
         span: Span,
     ) -> Result<FuseAnswer, Refused>
-        ensures asked { Talked S.called S.entered S.left now sessions.old sessions.new }
+        ensures asked { Talked (CalledFrom work.reach S.called) S.entered S.left work.now sessions.old sessions.new }
         ensures told { IfOk result (IsWithin span.count) }
     {
-        self.keep_names(sessions, now, span)?;
+        self.keep_names(sessions, work, span)?;
         self.kept(span)
     }
 }

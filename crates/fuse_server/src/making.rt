@@ -1,18 +1,21 @@
 //! Files, directories and symbolic links that are made.
 #![tactic(auto, using(crate::proofs::Asking::goes_on, crate::proofs::Asking::stays))]
 
-ghost use Rattle.std.specs.Prelude.{IfOk, IsTrue};
-ghost use Rattle.fuse_server.specs.Asking.{Talked};
+ghost use Rattle.std.specs.Prelude.{◌≡◌, Some, IfOk};
+ghost use Rattle.fuse_server.specs.Asking.{Talked, LookedAt};
 ghost use Rattle.fuse_nodes.specs.Known.{known_of};
 ghost use Rattle.fuse_server.specs.Entries.{IsKnown};
 ghost use Rattle.fuse_server.specs.Kinds.{IsEntry, IsCreate};
+ghost use Rattle.fuse_server.specs.Reach.{CalledFrom, IsNamed};
+ghost use Rattle.fuse_server.specs.Telling.{ShownAt, ToldBehind, told_of};
+ghost use Rattle.fuse_server.specs.Telling.Telling.{Name};
 
 use crate::descriptors::{NEW, Opening, close};
 use crate::mount::Mount;
-use crate::naming::NameIn;
 use crate::said::FuseAnswer;
 use crate::talk::Seats;
 use crate::told::{entry_of, kind_of, opened_file};
+use crate::work::Work;
 use errno::Errno;
 use fuse::reply::{Entry, Opened};
 use fuse::request::Message;
@@ -20,7 +23,7 @@ use fuse_nodes::node::Descriptor;
 use talks::flags::mode_of;
 use talks::refused::Refused;
 use talks::sessions::Sessions;
-use tree::{Attributes, Call};
+use tree::{Attributes, Call, PathFrom};
 
 /// The type of a file in a mode, above the twelve lowest bits; 0 means it, too.
 const FILE: u32 = 0o10;
@@ -59,28 +62,31 @@ impl Seats {
     fn give<S: Sessions>(
         &mut self,
         sessions: &mut S,
-        now: u32,
-        path: &[u8],
+        work: Work,
+        path: PathFrom<'_>,
         owner: Owner,
     ) -> Result<(), Refused>
-        ensures { Talked S.called S.entered S.left now sessions.old sessions.new }
+        requires { IsNamed work.reach path }
+        ensures { Talked (CalledFrom work.reach S.called) S.entered S.left work.now sessions.old sessions.new }
     {
         let Owner { uid, gid } = owner;
-        self.ask_done(sessions, now, Call::Chown { path, uid, gid })
+        self.ask_done(sessions, work, Call::Chown { path, uid, gid })
     }
 
     /// A file that was made becomes the asker's: its attributes.
     fn look_at_made<S: Sessions>(
         &mut self,
         sessions: &mut S,
-        now: u32,
-        path: &[u8],
+        work: Work,
+        path: PathFrom<'_>,
         owner: Owner,
     ) -> Result<Attributes, Refused>
-        ensures { Talked S.called S.entered S.left now sessions.old sessions.new }
+        requires { IsNamed work.reach path }
+        ensures asked { Talked (CalledFrom work.reach S.called) S.entered S.left work.now sessions.old sessions.new }
+        ensures seen { IfOk result (λ was. LookedAt (CalledFrom work.reach S.called) S.entered S.left work.now sessions.old path.entry (Some was) sessions.new) }
     {
-        self.give(sessions, now, path, owner)?;
-        self.look(sessions, now, path)
+        self.give(sessions, work, path, owner)?;
+        self.look(sessions, work, path)
     }
 }
 
@@ -89,113 +95,115 @@ impl Mount {
     fn tell_made<S: Sessions>(
         &mut self,
         sessions: &mut S,
-        now: u32,
-        name: NameIn<'_>,
-        path: &[u8],
+        work: Work,
+        path: PathFrom<'_>,
         owner: Owner,
-    ) -> Result<FuseAnswer, Refused>
-        ensures asked { Talked S.called S.entered S.left now sessions.old sessions.new }
-        ensures told { IfOk result (IsEntry (known_of self.new.nodes)) }
+    ) -> Result<Entry, Refused>
+        requires { IsNamed work.reach path }
+        ensures asked { Talked (CalledFrom work.reach S.called) S.entered S.left work.now sessions.old sessions.new }
+        ensures told { IfOk result (IsKnown (known_of self.new.nodes)) }
+        ensures shown { IfOk result (λ entry. ShownAt (CalledFrom work.reach S.called) S.entered S.left work.now sessions.old path.entry entry.attributes sessions.new) }
     {
-        self.seats.give(sessions, now, path, owner)?;
-        Ok(FuseAnswer::Entry(self.tell(sessions, now, name, path)?))
+        self.seats.give(sessions, work, path, owner)?;
+        self.tell(sessions, work, path)
     }
 
     /// Makes a file.
     fn make_file<S: Sessions>(
         &mut self,
         sessions: &mut S,
-        now: u32,
-        path: &[u8],
+        work: Work,
+        path: PathFrom<'_>,
         mode: u16,
     ) -> Result<Descriptor, Refused>
-        ensures { Talked S.called S.entered S.left now sessions.old sessions.new }
+        requires { IsNamed work.reach path }
+        ensures { Talked (CalledFrom work.reach S.called) S.entered S.left work.now sessions.old sessions.new }
     {
         let opening = Opening {
             path,
             flags: NEW,
             mode,
         };
-        self.open_path(sessions, now, opening, 0)
+        self.open_path(sessions, work, opening, 0)
     }
 
     /// MKNOD: a file is made. EPERM: a pipe, a socket or a device, of which a volume has none.
     pub(crate) fn mknod<S: Sessions>(
         &mut self,
         sessions: &mut S,
-        now: u32,
+        work: Work,
         message: &Message<'_>,
-        name: NameIn<'_>,
+        name: &[u8],
         mode: u32,
     ) -> Result<FuseAnswer, Refused>
-        ensures asked { Talked S.called S.entered S.left now sessions.old sessions.new }
+        ensures asked { Talked (CalledFrom work.reach S.called) S.entered S.left work.now sessions.old sessions.new }
         ensures told { IfOk result (IsEntry (known_of self.new.nodes)) }
+        ensures behind { IfOk result (λ a. ToldBehind (CalledFrom work.reach S.called) S.entered S.left work.now work.reach (Name name.now) sessions.old a sessions.new) }
     {
         if !is_file(mode) {
             return Err(Refused::By(Errno::EPERM));
         }
         let owner = owner_of(message)?;
-        let path = self.path_of(name)?;
-        let made = self.make_file(sessions, now, &path, mode_of(mode))?;
-        close(sessions, now, made);
-        self.tell_made(sessions, now, name, &path, owner)
+        let path = work.reach.below(name)?;
+        let made = self.make_file(sessions, work, path, mode_of(mode))?;
+        close(sessions, work, made);
+        Ok(FuseAnswer::Entry(
+            self.tell_made(sessions, work, path, owner)?,
+        ))
     }
 
     /// MKDIR: a directory is made.
     pub(crate) fn mkdir<S: Sessions>(
         &mut self,
         sessions: &mut S,
-        now: u32,
+        work: Work,
         message: &Message<'_>,
-        name: NameIn<'_>,
+        name: &[u8],
         mode: u32,
     ) -> Result<FuseAnswer, Refused>
-        ensures asked { Talked S.called S.entered S.left now sessions.old sessions.new }
+        ensures asked { Talked (CalledFrom work.reach S.called) S.entered S.left work.now sessions.old sessions.new }
         ensures told { IfOk result (IsEntry (known_of self.new.nodes)) }
+        ensures behind { IfOk result (λ a. ToldBehind (CalledFrom work.reach S.called) S.entered S.left work.now work.reach (Name name.now) sessions.old a sessions.new) }
     {
         let owner = owner_of(message)?;
-        let path = self.path_of(name)?;
-        let call = Call::Mkdir {
-            path: &path,
-            mode: mode_of(mode),
-        };
-        self.seats.ask_done(sessions, now, call)?;
-        self.tell_made(sessions, now, name, &path, owner)
+        let path = work.reach.below(name)?;
+        let mode = mode_of(mode);
+        self.seats
+            .ask_done(sessions, work, Call::Mkdir { path, mode })?;
+        Ok(FuseAnswer::Entry(
+            self.tell_made(sessions, work, path, owner)?,
+        ))
     }
 
-    /// SYMLINK: a symbolic link is made. It stays user 0's, since a change of owners goes to what it leads to.
+    /// SYMLINK: a symbolic link is made. It stays user 0's, since a change of owners by its name goes to what it leads to.
     pub(crate) fn symlink<S: Sessions>(
         &mut self,
         sessions: &mut S,
-        now: u32,
-        name: NameIn<'_>,
+        work: Work,
+        name: &[u8],
         target: &[u8],
     ) -> Result<FuseAnswer, Refused>
-        ensures asked { Talked S.called S.entered S.left now sessions.old sessions.new }
+        ensures asked { Talked (CalledFrom work.reach S.called) S.entered S.left work.now sessions.old sessions.new }
         ensures told { IfOk result (IsEntry (known_of self.new.nodes)) }
+        ensures behind { IfOk result (λ a. ToldBehind (CalledFrom work.reach S.called) S.entered S.left work.now work.reach (Name name.now) sessions.old a sessions.new) }
     {
-        let path = self.path_of(name)?;
-        let call = Call::Symlink {
-            target,
-            path: &path,
-        };
-        self.seats.ask_done(sessions, now, call)?;
-        Ok(FuseAnswer::Entry(self.tell(sessions, now, name, &path)?))
+        let path = work.reach.below(name)?;
+        self.seats
+            .ask_done(sessions, work, Call::Symlink { target, path })?;
+        Ok(FuseAnswer::Entry(self.tell(sessions, work, path)?))
     }
 
     /// The kernel is told of a file that was made, and has it open by this descriptor.
     fn tell_opened(
         &mut self,
-        name: NameIn<'_>,
         attributes: &Attributes,
         descriptor: Descriptor,
     ) -> Result<(Entry, Opened), Refused>
-        ensures { IfOk result (λ x. IsKnown (known_of self.new.nodes) x.0) }
+        ensures told { IfOk result (λ x. IsKnown (known_of self.new.nodes) x.0) }
+        ensures attributes { IfOk result (λ x. x.0.attributes ≡ told_of attributes.now) }
     {
         let kind = kind_of(attributes.mode);
-        let node = self
-            .nodes
-            .told(attributes.inode, kind, name.directory, name.name)?;
+        let node = self.nodes.told(attributes.inode, kind)?;
         match self.handles.open_file(node) {
             Ok(handle) => {
                 self.nodes.opened(node, Some(descriptor));
@@ -208,43 +216,44 @@ impl Mount {
         }
     }
 
-    /// What becomes of a file that was made and is open; an error leaves it open.
+    /// What becomes of a file that was made at a path and is open; an error leaves it open.
     fn finish<S: Sessions>(
         &mut self,
         sessions: &mut S,
-        now: u32,
-        name: NameIn<'_>,
-        path: &[u8],
+        work: Work,
+        path: PathFrom<'_>,
         owner: Owner,
         descriptor: Descriptor,
-    ) -> Result<FuseAnswer, Refused>
-        ensures asked { Talked S.called S.entered S.left now sessions.old sessions.new }
-        ensures told { IfOk result (IsCreate (known_of self.new.nodes)) }
+    ) -> Result<(Entry, Opened), Refused>
+        requires { IsNamed work.reach path }
+        ensures asked { Talked (CalledFrom work.reach S.called) S.entered S.left work.now sessions.old sessions.new }
+        ensures told { IfOk result (λ x. IsKnown (known_of self.new.nodes) x.0) }
+        ensures shown { IfOk result (λ x. ShownAt (CalledFrom work.reach S.called) S.entered S.left work.now sessions.old path.entry x.0.attributes sessions.new) }
     {
-        let attributes = self.seats.look_at_made(sessions, now, path, owner)?;
-        let (entry, opened) = self.tell_opened(name, &attributes, descriptor)?;
-        Ok(FuseAnswer::Create(entry, opened))
+        let attributes = self.seats.look_at_made(sessions, work, path, owner)?;
+        self.tell_opened(&attributes, descriptor)
     }
 
     /// CREATE: a file is made, and opened. The kernel asks for it only where nothing stands at the name: EEXIST where something does.
     pub(crate) fn create<S: Sessions>(
         &mut self,
         sessions: &mut S,
-        now: u32,
+        work: Work,
         message: &Message<'_>,
-        name: NameIn<'_>,
+        name: &[u8],
         mode: u32,
     ) -> Result<FuseAnswer, Refused>
-        ensures asked { Talked S.called S.entered S.left now sessions.old sessions.new }
+        ensures asked { Talked (CalledFrom work.reach S.called) S.entered S.left work.now sessions.old sessions.new }
         ensures told { IfOk result (IsCreate (known_of self.new.nodes)) }
+        ensures behind { IfOk result (λ a. ToldBehind (CalledFrom work.reach S.called) S.entered S.left work.now work.reach (Name name.now) sessions.old a sessions.new) }
     {
         let owner = owner_of(message)?;
-        let path = self.path_of(name)?;
-        let descriptor = self.make_file(sessions, now, &path, mode_of(mode))?;
-        match self.finish(sessions, now, name, &path, owner, descriptor) {
-            Ok(answer) => Ok(answer),
+        let path = work.reach.below(name)?;
+        let descriptor = self.make_file(sessions, work, path, mode_of(mode))?;
+        match self.finish(sessions, work, path, owner, descriptor) {
+            Ok((entry, opened)) => Ok(FuseAnswer::Create(entry, opened)),
             Err(refused) => {
-                close(sessions, now, descriptor);
+                close(sessions, work, descriptor);
                 Err(refused)
             }
         }

@@ -2,9 +2,8 @@
 
 ghost use Rattle.std.specs.Prelude.{◌≡◌, ◌<◌, ◌+◌, ◌↔◌, IsTrue, Err, IfOk, IfErr, OnOk, OnErr, length, vec_len, vec_capacity};
 ghost use Rattle.fuse_nodes.specs.Known.{known_of, at_first};
-ghost use Rattle.talks.specs.Talks.{MayHear};
 ghost use Rattle.fuse_server.specs.Messages.{opcode_in, is_silent};
-ghost use Rattle.fuse_server.specs.Answering.{IsAnswered, IsAnsweredBy, IsTold};
+ghost use Rattle.fuse_server.specs.Answering.{IsAnswered, IsAnsweredBy, IsTold, MayHearFrom};
 
 use crate::heads::{HEAD, Head, head_of, is_silent};
 use crate::send::{MAX_ANSWER, refuse, send};
@@ -50,8 +49,8 @@ impl Mount {
         bytes: &[u8],
         out: &mut Vec<u8>,
     ) -> Result<(), End>
-        ensures told { OnOk result (IsTold (MayHear S.called S.entered S.left now) (known_of self.new.nodes) bytes.now head.unique
-            (vec_capacity out.old) sessions.old out.old.items sessions.new out.new.items) }
+        ensures told { OnOk result (IsTold (MayHearFrom S.called S.entered S.left now) (known_of self.old.nodes) (known_of self.new.nodes)
+            bytes.now head.unique (vec_capacity out.old) sessions.old out.old.items sessions.new out.new.items) }
         ensures err { IfErr result (λ e. e ≡ End.OutOfMemory) }
         ensures full { OnErr result (vec_capacity out.old < vec_len out.old + 65552) }
         ensures none { OnErr result ((sessions.new ≡ sessions.old) × (self.new ≡ self.old) × (out.new.items ≡ out.old.items)) }
@@ -78,8 +77,8 @@ impl Mount {
         bytes: &[u8],
         out: &mut Vec<u8>,
     ) -> Result<(), End>
-        ensures answered { OnOk result (IsAnswered (MayHear S.called S.entered S.left now) (known_of self.new.nodes) bytes.now
-            (vec_capacity out.old) sessions.old out.old.items sessions.new out.new.items) }
+        ensures answered { OnOk result (IsAnswered (MayHearFrom S.called S.entered S.left now) (known_of self.old.nodes)
+            (known_of self.new.nodes) bytes.now (vec_capacity out.old) sessions.old out.old.items sessions.new out.new.items) }
         ensures silent { OnOk result ((out.new.items ≡ out.old.items) ↔ IsTrue (is_silent (opcode_in bytes.now))) }
         ensures short { (result ≡ Err End.NoMessage) ↔ (length bytes.now < 40) }
         ensures full { result ≡ Err End.OutOfMemory → vec_capacity out.old < vec_len out.old + 65552 }
@@ -95,7 +94,8 @@ impl Mount {
 }
 
 impl Answers for Mount {
-    ghost answers = { λ S called entered left bytes answer s m t n. IsAnsweredBy called entered left (known_of n.nodes) bytes answer s t };
+    ghost answers = { λ S called entered left bytes answer s m t n. IsAnsweredBy called entered left (known_of m.nodes) (known_of n.nodes) bytes answer
+        s t };
 
     ghost fewest = { 40 };
 

@@ -1,34 +1,33 @@
 //! Names: where they lead, further ones, changed ones, and ones that are taken away.
 #![tactic(auto, using(crate::proofs::Asking::goes_on, crate::proofs::Asking::stays))]
 
-ghost use Rattle.std.specs.Prelude.{IfOk, IfSome, IsTrue};
+ghost use Rattle.std.specs.Prelude.{◌≡◌, ℕ, List, IfOk, OnOk, IfSome, IsTrue};
+ghost use Rattle.tree.specs.declared.Call.TheVariants as call;
+ghost use Rattle.tree.specs.declared.Reply.TheVariants as reply;
 ghost use Rattle.talks.specs.Talks.{MayHear};
-ghost use Rattle.fuse_server.specs.Asking.{Talked, MaybeMissing, AskedFor};
+ghost use Rattle.fuse_server.specs.Asking.{Talked, TalkedFor};
 ghost use Rattle.fuse_nodes.specs.Known.{known_of};
 ghost use Rattle.fuse_server.specs.Entries.{IsKnown, KeepsNumbers};
 ghost use Rattle.fuse_server.specs.Kinds.{is_done, IsEntry, IsOfLookup};
+ghost use Rattle.fuse_server.specs.Reach.{CalledFrom, IsAt, IsNamed};
+ghost use Rattle.fuse_server.specs.Telling.{AskedFor, FoundAt, ToldBehind, ShownAt, told_of};
+ghost use Rattle.fuse_server.specs.Telling.Telling.{Name, Unlinked, Removed, Renamed};
 
 use crate::mount::Mount;
 use crate::said::{FuseAnswer, Said};
 use crate::talk::Seats;
 use crate::told::{entry_of, kind_of};
+use crate::work::Work;
 use errno::Errno;
 use fuse::reply::Entry;
-use fuse_nodes::node::{NodeKind, Place};
+use fuse_nodes::node::NodeKind;
 use fuse_nodes::nodes::Nodes;
 use talks::refused::Refused;
 use talks::sessions::Sessions;
-use tree::{Attributes, Call};
+use tree::{Attributes, Call, PathFrom};
 
 /// With this flag of a rename nothing is to stand at the new name.
 const NO_REPLACE: u32 = 1;
-
-/// A name in the directory of a node.
-#[derive(Clone, Copy)]
-pub(crate) struct NameIn<'a> {
-    pub directory: u64,
-    pub name: &'a [u8],
-}
 
 /// Whether the name that is taken away is the last one of what has these attributes.
 fn is_last(attributes: &Attributes) -> bool {
@@ -40,99 +39,106 @@ impl Seats {
     fn rename_path<S: Sessions>(
         &mut self,
         sessions: &mut S,
-        now: u32,
-        old: &[u8],
-        new: &[u8],
+        work: Work,
+        old: PathFrom<'_>,
+        new: PathFrom<'_>,
     ) -> Result<u16, Refused>
-        ensures { Talked S.called S.entered S.left now sessions.old sessions.new }
+        requires old { IsNamed work.reach old }
+        requires new { IsNamed work.reach new }
+        ensures asked { Talked (CalledFrom work.reach S.called) S.entered S.left work.now sessions.old sessions.new }
+        ensures done { OnOk result (TalkedFor (CalledFrom work.reach S.called) S.entered S.left work.now sessions.old (call.Rename old.entry new.entry) reply.Done sessions.new) }
     {
-        let inode = self.look(sessions, now, old)?.inode;
-        self.ask_done(sessions, now, Call::Rename { old, new })?;
+        let inode = self.look(sessions, work, old)?.inode;
+        self.ask_done(sessions, work, Call::Rename { old, new })?;
         Ok(inode)
     }
 }
 
 /// The kernel is told of what has these attributes by a name.
 #[tactic(auto, using(crate::proofs::Entries::keeps))]
-fn tell_node(nodes: &mut Nodes, attributes: &Attributes, name: NameIn<'_>) -> Result<Entry, Refused>
+fn tell_node(nodes: &mut Nodes, attributes: &Attributes) -> Result<Entry, Refused>
     ensures told { IfOk result (IsKnown (known_of nodes.new)) }
+    ensures attributes { IfOk result (λ entry. entry.attributes ≡ told_of attributes.now) }
     ensures kept { KeepsNumbers (known_of nodes.old) (known_of nodes.new) }
 {
-    let kind = kind_of(attributes.mode);
-    let node = nodes.told(attributes.inode, kind, name.directory, name.name)?;
+    let node = nodes.told(attributes.inode, kind_of(attributes.mode))?;
     Ok(entry_of(node, attributes))
 }
 
-/// Looks at a name, and tells the kernel its node.
+/// Looks at a path, and tells the kernel its node.
 #[tactic(auto, using(crate::proofs::Asking::goes_on, crate::proofs::Entries::keeps))]
 pub(crate) fn tell<S: Sessions>(
     seats: &mut Seats,
     nodes: &mut Nodes,
     sessions: &mut S,
-    now: u32,
-    name: NameIn<'_>,
-    path: &[u8],
+    work: Work,
+    path: PathFrom<'_>,
 ) -> Result<Entry, Refused>
-    ensures asked { Talked S.called S.entered S.left now sessions.old sessions.new }
+    requires { IsNamed work.reach path }
+    ensures asked { Talked (CalledFrom work.reach S.called) S.entered S.left work.now sessions.old sessions.new }
     ensures told { IfOk result (IsKnown (known_of nodes.new)) }
+    ensures shown { IfOk result (λ entry. ShownAt (CalledFrom work.reach S.called) S.entered S.left work.now sessions.old path.entry entry.attributes sessions.new) }
     ensures kept { KeepsNumbers (known_of nodes.old) (known_of nodes.new) }
 {
-    let attributes = seats.look(sessions, now, path)?;
-    tell_node(nodes, &attributes, name)
+    let attributes = seats.look(sessions, work, path)?;
+    tell_node(nodes, &attributes)
 }
 
 impl Mount {
-    /// The path of a name: this and `Nodes::path` are where a node becomes a path. EINVAL where no entry may have the name, ESTALE where
-    /// the directory has lost its own, ENAMETOOLONG where the path is longer than a call's may be.
-    pub(crate) fn path_of(&self, name: NameIn<'_>) -> Result<Vec<u8>, Refused> {
-        self.nodes.below(name.directory, name.name)
-    }
-
-    /// Looks at a name, and tells the kernel its node.
+    /// Looks at a path, and tells the kernel its node.
     pub(crate) fn tell<S: Sessions>(
         &mut self,
         sessions: &mut S,
-        now: u32,
-        name: NameIn<'_>,
-        path: &[u8],
+        work: Work,
+        path: PathFrom<'_>,
     ) -> Result<Entry, Refused>
-        ensures asked { Talked S.called S.entered S.left now sessions.old sessions.new }
+        requires { IsNamed work.reach path }
+        ensures asked { Talked (CalledFrom work.reach S.called) S.entered S.left work.now sessions.old sessions.new }
         ensures told { IfOk result (IsKnown (known_of self.new.nodes)) }
+        ensures shown { IfOk result (λ entry. ShownAt (CalledFrom work.reach S.called) S.entered S.left work.now sessions.old path.entry entry.attributes sessions.new) }
     {
-        tell(&mut self.seats, &mut self.nodes, sessions, now, name, path)
+        tell(&mut self.seats, &mut self.nodes, sessions, work, path)
     }
 
-    /// What a name leads to, of which the kernel is told; nothing where it leads to nothing.
+    /// What a path leads to, of which the kernel is told; nothing where it leads to nothing.
     fn find<S: Sessions>(
         &mut self,
         sessions: &mut S,
-        now: u32,
-        name: NameIn<'_>,
+        work: Work,
+        path: PathFrom<'_>,
     ) -> Result<Option<Entry>, Refused>
-        ensures asked { Talked S.called S.entered S.left now sessions.old sessions.new }
+        requires { IsNamed work.reach path }
+        ensures asked { Talked (CalledFrom work.reach S.called) S.entered S.left work.now sessions.old sessions.new }
         ensures told { IfOk result (λ found. IfSome found (IsKnown (known_of self.new.nodes))) }
-        ensures missing { IfOk result (λ found. MaybeMissing S.called S.entered S.left now sessions.old found sessions.new) }
+        ensures shown { IfOk result (λ found. FoundAt (CalledFrom work.reach S.called) S.entered S.left work.now sessions.old path.entry found sessions.new) }
     {
-        let path = self.path_of(name)?;
-        match self.seats.look_for(sessions, now, &path)? {
-            Some(attributes) => Ok(Some(tell_node(&mut self.nodes, &attributes, name)?)),
+        match self.seats.look_for(sessions, work, path)? {
+            Some(attributes) => Ok(Some(tell_node(&mut self.nodes, &attributes)?)),
             None => Ok(None),
         }
     }
 
-    /// LOOKUP.
-    pub(crate) fn lookup<S: Sessions>(
-        &mut self,
-        sessions: &mut S,
-        now: u32,
-        name: NameIn<'_>,
-    ) -> Said
-        ensures asked { AskedFor (MayHear S.called S.entered S.left now) sessions.old result sessions.new }
+    /// What a LOOKUP of a path is answered.
+    fn lookup_at<S: Sessions>(&mut self, sessions: &mut S, work: Work, path: PathFrom<'_>) -> Said
+        requires { IsNamed work.reach path }
+        ensures asked { (name : List ℕ) → IsAt work.reach.own name path.entry
+            → AskedFor (MayHear (CalledFrom work.reach S.called) S.entered S.left work.now) work.reach (Name name) sessions.old result sessions.new }
         ensures told { IsOfLookup (known_of self.new.nodes) result }
     {
-        match self.find(sessions, now, name) {
+        match self.find(sessions, work, path) {
             Ok(Some(entry)) => Said::Plain(FuseAnswer::Entry(entry)),
             Ok(None) => Said::Missing,
+            Err(refused) => Said::Plain(FuseAnswer::Refused(refused)),
+        }
+    }
+
+    /// LOOKUP.
+    pub(crate) fn lookup<S: Sessions>(&mut self, sessions: &mut S, work: Work, name: &[u8]) -> Said
+        ensures asked { AskedFor (MayHear (CalledFrom work.reach S.called) S.entered S.left work.now) work.reach (Name name.now) sessions.old result sessions.new }
+        ensures told { IsOfLookup (known_of self.new.nodes) result }
+    {
+        match work.reach.below(name) {
+            Ok(path) => self.lookup_at(sessions, work, path),
             Err(refused) => Said::Plain(FuseAnswer::Refused(refused)),
         }
     }
@@ -141,58 +147,62 @@ impl Mount {
     pub(crate) fn link<S: Sessions>(
         &mut self,
         sessions: &mut S,
-        now: u32,
-        file: u64,
-        name: NameIn<'_>,
+        work: Work,
+        name: &[u8],
     ) -> Result<FuseAnswer, Refused>
-        ensures asked { Talked S.called S.entered S.left now sessions.old sessions.new }
+        ensures asked { Talked (CalledFrom work.reach S.called) S.entered S.left work.now sessions.old sessions.new }
         ensures told { IfOk result (IsEntry (known_of self.new.nodes)) }
+        ensures behind { IfOk result (λ a. ToldBehind (CalledFrom work.reach S.called) S.entered S.left work.now work.reach (Name name.now) sessions.old a sessions.new) }
     {
-        let old = self.nodes.path(file)?;
-        let new = self.path_of(name)?;
-        let call = Call::Link {
-            old: &old,
-            new: &new,
-        };
-        self.seats.ask_done(sessions, now, call)?;
-        Ok(FuseAnswer::Entry(self.tell(sessions, now, name, &new)?))
+        let old = work.reach.other()?;
+        let new = work.reach.below(name)?;
+        self.seats
+            .ask_done(sessions, work, Call::Link { old, new })?;
+        Ok(FuseAnswer::Entry(self.tell(sessions, work, new)?))
     }
 
     /// UNLINK: a file's name is taken away.
     pub(crate) fn unlink<S: Sessions>(
         &mut self,
         sessions: &mut S,
-        now: u32,
-        name: NameIn<'_>,
+        work: Work,
+        name: &[u8],
     ) -> Result<FuseAnswer, Refused>
-        ensures asked { Talked S.called S.entered S.left now sessions.old sessions.new }
+        ensures asked { Talked (CalledFrom work.reach S.called) S.entered S.left work.now sessions.old sessions.new }
         ensures told { IfOk result (λ a. IsTrue (is_done a)) }
+        ensures behind { IfOk result (λ a. ToldBehind (CalledFrom work.reach S.called) S.entered S.left work.now work.reach (Unlinked name.now) sessions.old a sessions.new) }
     {
-        let path = self.path_of(name)?;
-        let was = self.seats.look(sessions, now, &path)?;
-        self.hold(sessions, now, was.inode)?;
+        let path = work.reach.below(name)?;
+        let was = self.seats.look(sessions, work, path)?;
+        self.hold(sessions, work, path, was.inode)?;
         self.seats
-            .ask_done(sessions, now, Call::Unlink { path: &path })?;
-        self.nodes
-            .lost(was.inode, name.directory, name.name, is_last(&was));
+            .ask_done(sessions, work, Call::Unlink { path })?;
+        self.lose(&was);
         Ok(FuseAnswer::Done)
+    }
+
+    /// A name was taken from what has these attributes.
+    fn lose(&mut self, was: &Attributes) {
+        if is_last(was) {
+            self.nodes.lost(was.inode);
+        }
     }
 
     /// RMDIR: an empty directory's name is taken away.
     pub(crate) fn rmdir<S: Sessions>(
         &mut self,
         sessions: &mut S,
-        now: u32,
-        name: NameIn<'_>,
+        work: Work,
+        name: &[u8],
     ) -> Result<FuseAnswer, Refused>
-        ensures asked { Talked S.called S.entered S.left now sessions.old sessions.new }
+        ensures asked { Talked (CalledFrom work.reach S.called) S.entered S.left work.now sessions.old sessions.new }
         ensures told { IfOk result (λ a. IsTrue (is_done a)) }
+        ensures behind { IfOk result (λ a. ToldBehind (CalledFrom work.reach S.called) S.entered S.left work.now work.reach (Removed name.now) sessions.old a sessions.new) }
     {
-        let path = self.path_of(name)?;
-        let was = self.seats.look(sessions, now, &path)?;
-        self.seats
-            .ask_done(sessions, now, Call::Rmdir { path: &path })?;
-        self.nodes.lost(was.inode, name.directory, name.name, true);
+        let path = work.reach.below(name)?;
+        let was = self.seats.look(sessions, work, path)?;
+        self.seats.ask_done(sessions, work, Call::Rmdir { path })?;
+        self.nodes.lost(was.inode);
         Ok(FuseAnswer::Done)
     }
 
@@ -200,56 +210,53 @@ impl Mount {
     fn replaced<S: Sessions>(
         &mut self,
         sessions: &mut S,
-        now: u32,
-        path: &[u8],
+        work: Work,
+        path: PathFrom<'_>,
         flags: u32,
     ) -> Result<Option<Attributes>, Refused>
-        ensures { Talked S.called S.entered S.left now sessions.old sessions.new }
+        requires { IsNamed work.reach path }
+        ensures { Talked (CalledFrom work.reach S.called) S.entered S.left work.now sessions.old sessions.new }
     {
-        let Some(attributes) = self.seats.look_for(sessions, now, path)? else {
+        let Some(attributes) = self.seats.look_for(sessions, work, path)? else {
             return Ok(None);
         };
         if flags == NO_REPLACE {
             return Err(Refused::By(Errno::EEXIST));
         }
-        self.hold(sessions, now, attributes.inode)?;
+        self.hold(sessions, work, path, attributes.inode)?;
         Ok(Some(attributes))
     }
 
-    /// A name became another one. Where both were names of one file, nothing was changed.
-    fn moved(&mut self, inode: u16, replaced: Option<Attributes>, to: NameIn<'_>, place: Place) {
+    /// A name became another one of this inode. What it replaced lost it, unless both were names of one file: then nothing was changed.
+    fn moved(&mut self, inode: u16, replaced: Option<Attributes>) {
         if let Some(attributes) = replaced {
-            if attributes.inode == inode {
-                return;
+            if attributes.inode != inode {
+                self.lose(&attributes);
             }
-            let last = is_last(&attributes);
-            self.nodes
-                .lost(attributes.inode, to.directory, to.name, last);
         }
-        self.nodes.renamed(inode, place);
     }
 
     /// RENAME and RENAME2. EINVAL: a flag isn't known here.
     pub(crate) fn rename<S: Sessions>(
         &mut self,
         sessions: &mut S,
-        now: u32,
-        from: NameIn<'_>,
-        to: NameIn<'_>,
+        work: Work,
+        from: &[u8],
+        to: &[u8],
         flags: u32,
     ) -> Result<FuseAnswer, Refused>
-        ensures asked { Talked S.called S.entered S.left now sessions.old sessions.new }
+        ensures asked { Talked (CalledFrom work.reach S.called) S.entered S.left work.now sessions.old sessions.new }
         ensures told { IfOk result (λ a. IsTrue (is_done a)) }
+        ensures behind { IfOk result (λ a. ToldBehind (CalledFrom work.reach S.called) S.entered S.left work.now work.reach (Renamed from.now to.now) sessions.old a sessions.new) }
     {
         if flags > NO_REPLACE {
             return Err(Refused::By(Errno::EINVAL));
         }
-        let old = self.path_of(from)?;
-        let new = self.path_of(to)?;
-        let place = Place::new(self.alloc, to.directory, to.name)?;
-        let replaced = self.replaced(sessions, now, &new, flags)?;
-        let inode = self.seats.rename_path(sessions, now, &old, &new)?;
-        self.moved(inode, replaced, to, place);
+        let old = work.reach.below(from)?;
+        let new = work.reach.below_other(to)?;
+        let replaced = self.replaced(sessions, work, new, flags)?;
+        let inode = self.seats.rename_path(sessions, work, old, new)?;
+        self.moved(inode, replaced);
         Ok(FuseAnswer::Done)
     }
 }

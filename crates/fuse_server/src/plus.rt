@@ -6,14 +6,16 @@ ghost use Rattle.fuse_nodes.specs.Known.{known_of};
 ghost use Rattle.fuse_server.specs.Asking.{Talked};
 ghost use Rattle.fuse_server.specs.Entries.{MaybeKnown, KeepsNumbers, IsListed};
 ghost use Rattle.fuse_server.specs.Kinds.{IsPlus};
+ghost use Rattle.fuse_server.specs.Reach.{CalledFrom};
 
 use crate::bounds::most_of;
 use crate::listing::{entry_at, place_of};
 use crate::mount::Mount;
-use crate::naming::{NameIn, tell};
+use crate::naming::tell;
 use crate::said::FuseAnswer;
 use crate::talk::Seats;
 use crate::told::nothing;
+use crate::work::Work;
 use fuse::entries::{ReaddirEntry, push_entry_plus};
 use fuse::reply::Entry;
 use fuse::request::Span;
@@ -29,7 +31,6 @@ const FOUND: usize = 128;
 /// The entries of an open directory from a place on, as many as have room.
 #[derive(Clone, Copy)]
 struct Listing<'a> {
-    directory: u64,
     names: &'a Names,
     from: usize,
     room: usize,
@@ -42,17 +43,17 @@ fn found<S: Sessions>(
     seats: &mut Seats,
     nodes: &mut Nodes,
     sessions: &mut S,
-    now: u32,
-    name: NameIn<'_>,
+    work: Work,
+    name: &[u8],
 ) -> Entry
-    ensures asked { Talked S.called S.entered S.left now sessions.old sessions.new }
+    ensures asked { Talked (CalledFrom work.reach S.called) S.entered S.left work.now sessions.old sessions.new }
     ensures told { MaybeKnown (known_of nodes.new) result }
     ensures kept { KeepsNumbers (known_of nodes.old) (known_of nodes.new) }
 {
-    let Ok(path) = nodes.below(name.directory, name.name) else {
+    let Ok(path) = work.reach.below(name) else {
         return nothing();
     };
-    match tell(seats, nodes, sessions, now, name, &path) {
+    match tell(seats, nodes, sessions, work, path) {
         Ok(entry) => entry,
         Err(_) => nothing(),
     }
@@ -93,23 +94,19 @@ fn push_found<S: Sessions>(
     seats: &mut Seats,
     nodes: &mut Nodes,
     sessions: &mut S,
-    now: u32,
+    work: Work,
     listing: Listing<'_>,
     entry: ReaddirEntry<'_>,
     bytes: &mut Vec<u8>,
 ) -> bool
     requires name { length entry.name.now ≤ 60 }
     requires room { length bytes.old.items ≤ listing.room }
-    ensures asked { Talked S.called S.entered S.left now sessions.old sessions.new }
+    ensures asked { Talked (CalledFrom work.reach S.called) S.entered S.left work.now sessions.old sessions.new }
     ensures room { length bytes.new.items ≤ listing.entry.room }
     ensures listed { IsListed (known_of nodes.old) bytes.old.items → IsListed (known_of nodes.new) bytes.new.items }
 {
     if has_room(bytes, listing.room, entry.len()) {
-        let name = NameIn {
-            directory: listing.directory,
-            name: entry.name,
-        };
-        let told = found(seats, nodes, sessions, now, name);
+        let told = found(seats, nodes, sessions, work, entry.name);
         let written = as_found(entry, &told);
         match push_entry_plus(bytes, &told, &written) {
             Ok(()) => return true,
@@ -124,11 +121,11 @@ fn told_entries<S: Sessions>(
     seats: &mut Seats,
     nodes: &mut Nodes,
     sessions: &mut S,
-    now: u32,
+    work: Work,
     alloc: Global,
     listing: Listing<'_>,
 ) -> Result<Vec<u8>, Refused>
-    ensures asked { Talked S.called S.entered S.left now sessions.old sessions.new }
+    ensures asked { Talked (CalledFrom work.reach S.called) S.entered S.left work.now sessions.old sessions.new }
     ensures room { IfOk result (λ bytes. length bytes.items ≤ listing.entry.room) }
     ensures listed { IfOk result (λ bytes. IsListed (known_of nodes.new) bytes.items) }
 {
@@ -137,7 +134,7 @@ fn told_entries<S: Sessions>(
         let Some(entry) = entry_at(listing.names, at) else {
             return Ok(bytes);
         };
-        if !push_found(seats, nodes, sessions, now, listing, entry, &mut bytes) {
+        if !push_found(seats, nodes, sessions, work, listing, entry, &mut bytes) {
             return Ok(bytes);
         }
     }
@@ -149,14 +146,13 @@ impl Mount {
     fn kept_plus<S: Sessions>(
         &mut self,
         sessions: &mut S,
-        now: u32,
+        work: Work,
         span: Span,
     ) -> Result<FuseAnswer, Refused>
-        ensures asked { Talked S.called S.entered S.left now sessions.old sessions.new }
+        ensures asked { Talked (CalledFrom work.reach S.called) S.entered S.left work.now sessions.old sessions.new }
         ensures told { IfOk result (IsPlus (known_of self.new.nodes) span.count) }
     {
         let listing = Listing {
-            directory: self.handles.directory(span.handle)?,
             names: self.handles.names(span.handle)?,
             from: place_of(span.offset),
             room: most_of(span.count) as usize,
@@ -165,7 +161,7 @@ impl Mount {
             &mut self.seats,
             &mut self.nodes,
             sessions,
-            now,
+            work,
             self.alloc,
             listing,
         )?;
@@ -177,13 +173,13 @@ impl Mount {
     pub(crate) fn readdirplus<S: Sessions>(
         &mut self,
         sessions: &mut S,
-        now: u32,
+        work: Work,
         span: Span,
     ) -> Result<FuseAnswer, Refused>
-        ensures asked { Talked S.called S.entered S.left now sessions.old sessions.new }
+        ensures asked { Talked (CalledFrom work.reach S.called) S.entered S.left work.now sessions.old sessions.new }
         ensures told { IfOk result (IsPlus (known_of self.new.nodes) span.count) }
     {
-        self.keep_names(sessions, now, span)?;
-        self.kept_plus(sessions, now, span)
+        self.keep_names(sessions, work, span)?;
+        self.kept_plus(sessions, work, span)
     }
 }

@@ -4,15 +4,17 @@
 ghost use Rattle.std.specs.Prelude.{◌≡◌, IfOk, IsTrue};
 ghost use Rattle.fuse_nodes.specs.Known.{known_of};
 ghost use Rattle.talks.specs.Talks.{MayHear};
-ghost use Rattle.fuse_server.specs.Asking.{Talked, AskedFor};
+ghost use Rattle.fuse_server.specs.Asking.{Talked};
 ghost use Rattle.fuse_server.specs.Kinds.{is_init, is_sync, IsFor, IsSaidTo};
-ghost use Rattle.fuse_server.specs.Answering.{IsSaidToBytes};
+ghost use Rattle.fuse_server.specs.Reach.{CalledFrom, reach_of};
+ghost use Rattle.fuse_server.specs.Telling.{AskedFor, ToldBehind, telling, tells};
+ghost use Rattle.fuse_server.specs.Answering.{IsSaidToBytes, MayHearFrom};
 
 use crate::attributes::bits_of;
 use crate::bounds::most_of;
 use crate::mount::Mount;
-use crate::naming::NameIn;
 use crate::said::{FuseAnswer, Said};
+use crate::work::{Work, reach_of};
 use errno::Errno;
 use fuse::forgets::Forgets;
 use fuse::reading::read;
@@ -68,72 +70,54 @@ fn asks_sync(request: &Request<'_>) -> bool
     matches!(request, Request::Fsync { .. } | Request::Fsyncdir { .. })
 }
 
+/// Whether the answer to a request, but LOOKUP, tells what the last exchange before it told.
+fn tells(request: &Request<'_>) -> bool
+    ensures { result ≡ tells request.now }
+{
+    matches!(
+        request,
+        Request::Getattr { .. }
+            | Request::Setattr { .. }
+            | Request::Readlink
+            | Request::Symlink { .. }
+            | Request::Mknod { .. }
+            | Request::Mkdir { .. }
+            | Request::Unlink { .. }
+            | Request::Rmdir { .. }
+            | Request::Rename { .. }
+            | Request::Rename2 { .. }
+            | Request::Link { .. }
+            | Request::Create { .. }
+            | Request::Statfs
+    )
+}
+
 impl Mount {
     /// Requests about names that are there.
     fn on_names<S: Sessions>(
         &mut self,
         sessions: &mut S,
-        now: u32,
+        work: Work,
         message: &Message<'_>,
     ) -> Result<FuseAnswer, Refused>
-        ensures asked { Talked S.called S.entered S.left now sessions.old sessions.new }
+        ensures asked { Talked (CalledFrom work.reach S.called) S.entered S.left work.now sessions.old sessions.new }
         ensures told { IfOk result (IsFor (known_of self.new.nodes) message.now.request) }
+        ensures behind { IfOk result (λ a. ToldBehind (CalledFrom work.reach S.called) S.entered S.left work.now work.reach (telling message.now.request) sessions.old a sessions.new) }
     {
-        let directory = message.node;
         match message.request {
-            Request::Unlink { name } => self.unlink(sessions, now, NameIn { directory, name }),
-            Request::Rmdir { name } => self.rmdir(sessions, now, NameIn { directory, name }),
-            Request::Link { file, name } => {
-                self.link(sessions, now, file, NameIn { directory, name })
-            }
-            _ => Ok(FuseAnswer::Unknown),
-        }
-    }
-
-    /// Requests that change names.
-    fn on_renames<S: Sessions>(
-        &mut self,
-        sessions: &mut S,
-        now: u32,
-        message: &Message<'_>,
-    ) -> Result<FuseAnswer, Refused>
-        ensures asked { Talked S.called S.entered S.left now sessions.old sessions.new }
-        ensures told { IfOk result (IsFor (known_of self.new.nodes) message.now.request) }
-    {
-        let directory = message.node;
-        match message.request {
+            Request::Unlink { name } => self.unlink(sessions, work, name),
+            Request::Rmdir { name } => self.rmdir(sessions, work, name),
+            Request::Link { name, .. } => self.link(sessions, work, name),
             Request::Rename {
-                new_directory,
-                old_name,
-                new_name,
-            } => {
-                let from = NameIn {
-                    directory,
-                    name: old_name,
-                };
-                let to = NameIn {
-                    directory: new_directory,
-                    name: new_name,
-                };
-                self.rename(sessions, now, from, to, 0)
-            }
+                old_name, new_name, ..
+            } => self.rename(sessions, work, old_name, new_name, 0),
             Request::Rename2 {
-                new_directory,
                 flags,
                 old_name,
                 new_name,
-            } => {
-                let from = NameIn {
-                    directory,
-                    name: old_name,
-                };
-                let to = NameIn {
-                    directory: new_directory,
-                    name: new_name,
-                };
-                self.rename(sessions, now, from, to, flags)
-            }
-            _ => self.on_names(sessions, now, message),
+                ..
+            } => self.rename(sessions, work, old_name, new_name, flags),
+            _ => Ok(FuseAnswer::Unknown),
         }
     }
 
@@ -141,69 +125,35 @@ impl Mount {
     fn on_making<S: Sessions>(
         &mut self,
         sessions: &mut S,
-        now: u32,
+        work: Work,
         message: &Message<'_>,
     ) -> Result<FuseAnswer, Refused>
-        ensures asked { Talked S.called S.entered S.left now sessions.old sessions.new }
+        ensures asked { Talked (CalledFrom work.reach S.called) S.entered S.left work.now sessions.old sessions.new }
         ensures told { IfOk result (IsFor (known_of self.new.nodes) message.now.request) }
+        ensures behind { IfOk result (λ a. ToldBehind (CalledFrom work.reach S.called) S.entered S.left work.now work.reach (telling message.now.request) sessions.old a sessions.new) }
     {
-        let directory = message.node;
         match message.request {
-            Request::Mknod { mode, name, .. } => {
-                self.mknod(sessions, now, message, NameIn { directory, name }, mode)
-            }
-            Request::Mkdir { mode, name, .. } => {
-                self.mkdir(sessions, now, message, NameIn { directory, name }, mode)
-            }
-            Request::Create { mode, name, .. } => {
-                self.create(sessions, now, message, NameIn { directory, name }, mode)
-            }
-            Request::Symlink { name, target } => {
-                self.symlink(sessions, now, NameIn { directory, name }, target)
-            }
-            _ => self.on_renames(sessions, now, message),
+            Request::Mknod { mode, name, .. } => self.mknod(sessions, work, message, name, mode),
+            Request::Mkdir { mode, name, .. } => self.mkdir(sessions, work, message, name, mode),
+            Request::Create { mode, name, .. } => self.create(sessions, work, message, name, mode),
+            Request::Symlink { name, target } => self.symlink(sessions, work, name, target),
+            _ => self.on_names(sessions, work, message),
         }
     }
 
-    /// Requests about what is open.
-    fn on_handles<S: Sessions>(
+    /// Requests about a node, and about the room.
+    fn on_nodes<S: Sessions>(
         &mut self,
         sessions: &mut S,
-        now: u32,
+        work: Work,
         message: &Message<'_>,
     ) -> Result<FuseAnswer, Refused>
-        ensures asked { Talked S.called S.entered S.left now sessions.old sessions.new }
+        ensures asked { Talked (CalledFrom work.reach S.called) S.entered S.left work.now sessions.old sessions.new }
         ensures told { IfOk result (IsFor (known_of self.new.nodes) message.now.request) }
+        ensures behind { IfOk result (λ a. ToldBehind (CalledFrom work.reach S.called) S.entered S.left work.now work.reach (telling message.now.request) sessions.old a sessions.new) }
     {
         match message.request {
-            Request::Open { .. } => self.open_file(sessions, now, message.node),
-            Request::Read { span } => self.read(sessions, now, span),
-            Request::Write {
-                handle,
-                offset,
-                bytes,
-                ..
-            } => self.write(sessions, now, handle, offset, bytes),
-            Request::Release { handle, .. } => self.release(sessions, now, handle),
-            Request::Opendir { .. } => self.open_directory(message.node),
-            Request::Readdir { span } => self.readdir(sessions, now, span),
-            Request::Readdirplus { span } => self.readdirplus(sessions, now, span),
-            Request::Releasedir { handle, .. } => self.release(sessions, now, handle),
-            _ => self.on_making(sessions, now, message),
-        }
-    }
-
-    /// Requests that change attributes.
-    fn on_settings<S: Sessions>(
-        &mut self,
-        sessions: &mut S,
-        now: u32,
-        message: &Message<'_>,
-    ) -> Result<FuseAnswer, Refused>
-        ensures asked { Talked S.called S.entered S.left now sessions.old sessions.new }
-        ensures told { IfOk result (IsFor (known_of self.new.nodes) message.now.request) }
-    {
-        match message.request {
+            Request::Getattr { .. } => self.getattr(sessions, work),
             Request::Setattr {
                 valid,
                 size,
@@ -222,22 +172,24 @@ impl Mount {
                     size,
                     atime: atime.0,
                     mtime: mtime.0,
-                    now,
+                    now: work.now,
                 };
-                self.setattr(sessions, now, message.node, &wanted)
+                self.setattr(sessions, work, &wanted)
             }
-            _ => self.on_handles(sessions, now, message),
+            Request::Readlink => self.readlink(sessions, work),
+            Request::Statfs => self.statfs(sessions, work),
+            _ => self.on_making(sessions, work, message),
         }
     }
 
-    /// Requests about nodes, and those about the mount.
-    fn plain<S: Sessions>(
+    /// Requests about what is open, and those about the mount.
+    fn on_handles<S: Sessions>(
         &mut self,
         sessions: &mut S,
-        now: u32,
+        work: Work,
         message: &Message<'_>,
     ) -> Result<FuseAnswer, Refused>
-        ensures asked { Talked S.called S.entered S.left now sessions.old sessions.new }
+        ensures asked { Talked (CalledFrom work.reach S.called) S.entered S.left work.now sessions.old sessions.new }
         ensures told { IfOk result (IsFor (known_of self.new.nodes) message.now.request) }
     {
         match message.request {
@@ -248,50 +200,96 @@ impl Mount {
                 ..
             } => Ok(init(major, readahead, flags)),
             Request::Destroy => Ok(FuseAnswer::Done),
-            Request::Getattr { .. } => self.getattr(sessions, now, message.node),
-            Request::Readlink => self.readlink(sessions, now, message.node),
-            Request::Statfs => self.statfs(sessions, now),
-            _ => self.on_settings(sessions, now, message),
+            Request::Open { .. } => self.open_file(sessions, work),
+            Request::Read { span } => self.read(sessions, work, span),
+            Request::Write {
+                handle,
+                offset,
+                bytes,
+                ..
+            } => self.write(sessions, work, handle, offset, bytes),
+            Request::Release { handle, .. } => self.release(sessions, work, handle),
+            Request::Opendir { .. } => self.open_directory(work.node),
+            Request::Readdir { span } => self.readdir(sessions, work, span),
+            Request::Readdirplus { span } => self.readdirplus(sessions, work, span),
+            Request::Releasedir { handle, .. } => self.release(sessions, work, handle),
+            _ => Ok(FuseAnswer::Unknown),
         }
     }
 
-    /// What is said to a message that is neither a sync nor a LOOKUP.
+    /// What is said to a message whose answer tells what the last exchange told, but to a LOOKUP.
+    #[tactic(auto, using(crate::proofs::Asking::goes_on, crate::proofs::KindLaws::refusal_for))]
+    fn said_telling<S: Sessions>(
+        &mut self,
+        sessions: &mut S,
+        work: Work,
+        message: &Message<'_>,
+    ) -> FuseAnswer
+        ensures behind { ToldBehind (CalledFrom work.reach S.called) S.entered S.left work.now work.reach (telling message.now.request) sessions.old result sessions.new }
+        ensures told { IsFor (known_of self.new.nodes) message.now.request result }
+    {
+        match self.on_nodes(sessions, work, message) {
+            Ok(answer) => answer,
+            Err(refused) => FuseAnswer::Refused(refused),
+        }
+    }
+
+    /// What is said to a message about what is open, or about the mount.
     #[tactic(auto, using(crate::proofs::Asking::goes_on, crate::proofs::KindLaws::refusal_for))]
     fn said_plainly<S: Sessions>(
         &mut self,
         sessions: &mut S,
-        now: u32,
+        work: Work,
         message: &Message<'_>,
     ) -> FuseAnswer
-        ensures asked { Talked S.called S.entered S.left now sessions.old sessions.new }
+        ensures asked { Talked (CalledFrom work.reach S.called) S.entered S.left work.now sessions.old sessions.new }
         ensures told { IsFor (known_of self.new.nodes) message.now.request result }
     {
-        match self.plain(sessions, now, message) {
+        match self.on_handles(sessions, work, message) {
             Ok(answer) => answer,
             Err(refused) => FuseAnswer::Refused(refused),
         }
     }
 
     /// What is said to a message that is no sync.
-    fn said_of<S: Sessions>(&mut self, sessions: &mut S, now: u32, message: &Message<'_>) -> Said
-        ensures asked { AskedFor (MayHear S.called S.entered S.left now) sessions.old result sessions.new }
+    fn said_of<S: Sessions>(&mut self, sessions: &mut S, work: Work, message: &Message<'_>) -> Said
+        ensures asked { AskedFor (MayHear (CalledFrom work.reach S.called) S.entered S.left work.now) work.reach (telling message.now.request) sessions.old result sessions.new }
         ensures told { IsSaidTo (known_of self.new.nodes) message.now.request result }
     {
-        let directory = message.node;
         match message.request {
-            Request::Lookup { name } => self.lookup(sessions, now, NameIn { directory, name }),
-            _ => Said::Plain(self.said_plainly(sessions, now, message)),
+            Request::Lookup { name } => self.lookup(sessions, work, name),
+            _ if tells(&message.request) => {
+                Said::Plain(self.said_telling(sessions, work, message))
+            }
+            _ => Said::Plain(self.said_plainly(sessions, work, message)),
         }
+    }
+
+    /// What is said to a message.
+    fn said_by<S: Sessions>(&mut self, sessions: &mut S, work: Work, message: &Message<'_>) -> Said
+        ensures asked { AskedFor (MayHear (CalledFrom work.reach S.called) S.entered S.left work.now) work.reach (telling message.now.request) sessions.old result sessions.new }
+        ensures told { IsSaidTo (known_of self.new.nodes) message.now.request result }
+    {
+        if asks_sync(&message.request) {
+            return self.sync(sessions, work);
+        }
+        self.said_of(sessions, work, message)
     }
 
     /// What is said to the bytes of a message: EINVAL where they can't be read.
     pub(crate) fn said_to<S: Sessions>(&mut self, sessions: &mut S, now: u32, bytes: &[u8]) -> Said
-        ensures asked { AskedFor (MayHear S.called S.entered S.left now) sessions.old result sessions.new }
-        ensures told { IsSaidToBytes (known_of self.new.nodes) bytes.now result }
+        ensures { IsSaidToBytes (MayHearFrom S.called S.entered S.left now) (known_of self.old.nodes) (known_of self.new.nodes) bytes.now
+            sessions.old result sessions.new }
     {
         match read(bytes) {
-            Ok(message) if asks_sync(&message.request) => self.sync(sessions, now),
-            Ok(message) => self.said_of(sessions, now, &message),
+            Ok(message) => {
+                let work = Work {
+                    now,
+                    node: message.node,
+                    reach: reach_of(&self.nodes, &message),
+                };
+                self.said_by(sessions, work, &message)
+            }
             Err(_) => Said::Plain(FuseAnswer::Refused(Refused::By(Errno::EINVAL))),
         }
     }

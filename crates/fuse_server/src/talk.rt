@@ -1,32 +1,42 @@
 //! Calls by the sessions of user 0, by whom all calls are made: the kernel has looked at who may do what.
 #![tactic(auto, using(crate::proofs::Asking::goes_on, crate::proofs::Asking::stays))]
 
-ghost use Rattle.std.specs.Prelude.{IfOk};
+ghost use Rattle.std.specs.Prelude.{Some, IfOk, OnOk};
+ghost use Rattle.tree.specs.declared.Reply.TheVariants as reply;
 ghost use Rattle.talks.specs.Talks.{MayHear};
 ghost use Rattle.talks.specs.declared.ask.Ask.TheVariants as ask;
-ghost use Rattle.fuse_server.specs.Asking.{Talked, TalkedTo, MaybeMissing};
+ghost use Rattle.fuse_server.specs.Asking.{Talked, TalkedTo, TalkedFor, LookedAt};
+ghost use Rattle.fuse_server.specs.Reach.{AsksFrom, CalledFrom, IsNamed};
 
+use crate::work::Work;
 use errno::Errno;
 use std::alloc::Global;
 use talks::ask::Ask;
 use talks::heard::Heard;
 use talks::refused::Refused;
 use talks::sessions::{Sessions, heard};
-use tree::{Attributes, Call};
+use tree::{Attributes, Call, PathFrom};
 
 /// A call of a session.
-pub(crate) fn calling<S: Sessions>(sessions: &mut S, now: u32, session: u8, call: Call<'_>) -> Heard
-    ensures asked { Talked S.called S.entered S.left now sessions.old sessions.new }
-    ensures heard { MayHear S.called S.entered S.left now sessions.old (ask.Call session call.entry) result sessions.new }
+pub(crate) fn calling<S: Sessions>(
+    sessions: &mut S,
+    work: Work,
+    session: u8,
+    call: Call<'_>,
+) -> Heard
+    requires { AsksFrom work.reach call }
+    ensures asked { Talked (CalledFrom work.reach S.called) S.entered S.left work.now sessions.old sessions.new }
+    ensures heard { MayHear (CalledFrom work.reach S.called) S.entered S.left work.now sessions.old (ask.Call session call.entry) result
+        sessions.new }
 {
-    heard(sessions, now, &Ask::Call { session, call })
+    heard(sessions, work.now, &Ask::Call { session, call })
 }
 
 /// A new session of user 0.
-fn entering<S: Sessions>(sessions: &mut S, now: u32) -> Result<u8, Refused>
-    ensures { Talked S.called S.entered S.left now sessions.old sessions.new }
+fn entering<S: Sessions>(sessions: &mut S, work: Work) -> Result<u8, Refused>
+    ensures { Talked (CalledFrom work.reach S.called) S.entered S.left work.now sessions.old sessions.new }
 {
-    heard(sessions, now, &Ask::Enter { uid: 0, gid: 0 }).session()
+    heard(sessions, work.now, &Ask::Enter { uid: 0, gid: 0 }).session()
 }
 
 /// The sessions of user 0 that have begun.
@@ -47,16 +57,16 @@ impl Seats {
     pub(crate) fn session<S: Sessions>(
         &mut self,
         sessions: &mut S,
-        now: u32,
+        work: Work,
         at: usize,
     ) -> Result<u8, Refused>
-        ensures { Talked S.called S.entered S.left now sessions.old sessions.new }
+        ensures { Talked (CalledFrom work.reach S.called) S.entered S.left work.now sessions.old sessions.new }
     {
         if let Some(session) = self.begun.get(at) {
             return Ok(*session);
         }
         self.begun.reserve(1)?;
-        let session = entering(sessions, now)?;
+        let session = entering(sessions, work)?;
         match self.begun.push(session) {
             Ok(()) => Ok(session),
             Err(_) => Err(Refused::By(Errno::ENOMEM)),
@@ -67,51 +77,61 @@ impl Seats {
     pub(crate) fn ask<S: Sessions>(
         &mut self,
         sessions: &mut S,
-        now: u32,
+        work: Work,
         call: Call<'_>,
     ) -> Result<Heard, Refused>
-        ensures asked { Talked S.called S.entered S.left now sessions.old sessions.new }
-        ensures heard { IfOk result (λ h. TalkedTo S.called S.entered S.left now sessions.old call.entry h sessions.new) }
+        requires { AsksFrom work.reach call }
+        ensures asked { Talked (CalledFrom work.reach S.called) S.entered S.left work.now sessions.old sessions.new }
+        ensures heard { IfOk result (λ h. TalkedTo (CalledFrom work.reach S.called) S.entered S.left work.now sessions.old call.entry h
+            sessions.new) }
     {
-        let session = self.session(sessions, now, 0)?;
-        Ok(calling(sessions, now, session, call))
+        let session = self.session(sessions, work, 0)?;
+        Ok(calling(sessions, work, session, call))
     }
 
     /// A call that has nothing to tell.
     pub(crate) fn ask_done<S: Sessions>(
         &mut self,
         sessions: &mut S,
-        now: u32,
+        work: Work,
         call: Call<'_>,
     ) -> Result<(), Refused>
-        ensures { Talked S.called S.entered S.left now sessions.old sessions.new }
+        requires { AsksFrom work.reach call }
+        ensures asked { Talked (CalledFrom work.reach S.called) S.entered S.left work.now sessions.old sessions.new }
+        ensures done { OnOk result (TalkedFor (CalledFrom work.reach S.called) S.entered S.left work.now sessions.old call.entry reply.Done
+            sessions.new) }
     {
-        self.ask(sessions, now, call)?.done()
+        self.ask(sessions, work, call)?.done()
     }
 
     /// The attributes of what a path names.
     pub(crate) fn look<S: Sessions>(
         &mut self,
         sessions: &mut S,
-        now: u32,
-        path: &[u8],
+        work: Work,
+        path: PathFrom<'_>,
     ) -> Result<Attributes, Refused>
-        ensures { Talked S.called S.entered S.left now sessions.old sessions.new }
+        requires { IsNamed work.reach path }
+        ensures asked { Talked (CalledFrom work.reach S.called) S.entered S.left work.now sessions.old sessions.new }
+        ensures seen { IfOk result (λ was. LookedAt (CalledFrom work.reach S.called) S.entered S.left work.now sessions.old path.entry
+            (Some was) sessions.new) }
     {
-        self.ask(sessions, now, Call::Lstat { path })?.attributes()
+        self.ask(sessions, work, Call::Lstat { path })?.attributes()
     }
 
     /// The attributes of what a path names, if it names anything.
     pub(crate) fn look_for<S: Sessions>(
         &mut self,
         sessions: &mut S,
-        now: u32,
-        path: &[u8],
+        work: Work,
+        path: PathFrom<'_>,
     ) -> Result<Option<Attributes>, Refused>
-        ensures asked { Talked S.called S.entered S.left now sessions.old sessions.new }
-        ensures missing { IfOk result (λ found. MaybeMissing S.called S.entered S.left now sessions.old found sessions.new) }
+        requires { IsNamed work.reach path }
+        ensures asked { Talked (CalledFrom work.reach S.called) S.entered S.left work.now sessions.old sessions.new }
+        ensures seen { IfOk result (λ found. LookedAt (CalledFrom work.reach S.called) S.entered S.left work.now sessions.old path.entry
+            found sessions.new) }
     {
-        let heard = self.ask(sessions, now, Call::Lstat { path })?;
+        let heard = self.ask(sessions, work, Call::Lstat { path })?;
         match heard.attributes() {
             Ok(attributes) => Ok(Some(attributes)),
             Err(Refused::By(Errno::ENOENT)) => Ok(None),

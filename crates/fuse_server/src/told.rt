@@ -2,6 +2,7 @@
 
 ghost use Rattle.std.specs.Prelude.{◌≡◌};
 ghost use Rattle.fuse_server.specs.Entries.{nothing};
+ghost use Rattle.fuse_server.specs.Telling.{told_of, room_of};
 
 use fuse::reply::{self, Entry, Opened, StatfsReply};
 use fuse_nodes::node::NodeKind;
@@ -33,7 +34,7 @@ pub(crate) fn kind_of(mode: u16) -> NodeKind {
 
 /// The attributes of a node. Its blocks are counted by its size.
 pub(crate) fn told(attributes: &Attributes) -> reply::Attributes
-    ensures { result.inode ≡ attributes.now.inode }
+    ensures { result ≡ told_of attributes.now }
 {
     let size = u64::from(attributes.size);
     reply::Attributes {
@@ -56,7 +57,7 @@ pub(crate) fn told(attributes: &Attributes) -> reply::Attributes
 /// What a name leads to: a node with these attributes. No number is used for two nodes, so there is one generation.
 pub(crate) fn entry_of(node: u64, attributes: &Attributes) -> Entry
     ensures node { result.node ≡ node }
-    ensures inode { result.attributes.inode ≡ attributes.now.inode }
+    ensures attributes { result.attributes ≡ told_of attributes.now }
 {
     Entry {
         node,
@@ -108,7 +109,9 @@ pub(crate) fn opened_directory(handle: u64) -> Opened {
 }
 
 /// The room of the volume.
-pub(crate) fn room_of(room: &Statfs) -> StatfsReply {
+pub(crate) fn room_of(room: &Statfs) -> StatfsReply
+    ensures { result ≡ room_of room.now }
+{
     StatfsReply {
         blocks: u64::from(room.zones),
         free: u64::from(room.free_zones),

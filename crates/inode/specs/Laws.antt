@@ -1,5 +1,5 @@
 -- Laws of inodes: what a volume's inodes tell is what stat answers of the tree that it holds.
-use Rattle.std.specs.Prelude.{◌≡◌, ◌≤◌, ◌<◌, ℕ, ◌+◌, ◌*◌, ◌%◌, List, Some, false, codes}
+use Rattle.std.specs.Prelude.{◌≡◌, ◌≤◌, ◌<◌, ℕ, ◌+◌, ◌*◌, ◌%◌, Some, false, codes}
 use Rattle.layout.specs.declared.Geometry.{Geometry}
 use Rattle.layout.specs.Places.{IsGeometry}
 use Rattle.errno.specs.declared.Errno.TheVariants.{EINVAL}

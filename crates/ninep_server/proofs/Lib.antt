@@ -1,4 +1,5 @@
 pub mod Turns
 pub mod Following
 pub mod Bounds
+pub mod ChangeCalls
 pub mod Exchanged

@@ -95,6 +95,7 @@ impl Setattr {
     }
 
     /// The call of its stage.
+    #[tactic(auto, using(crate::proofs::ChangeCalls::called_alike))]
     fn call(&self) -> Call<'_>
         ensures { AsksNext (left_of_setattr self.now) (Ask.Call self.now.user.session result) }
     {

@@ -190,16 +190,16 @@ module _ (g : Geometry) (ok : IsGeometry g) (n p k : ℕ) (d e f : Disk) (so : G
     }
 
   -- one page more is let go
-  pub going_on : k < p → IsLastAt g u (u.inodes n) 0 k → Releases g n 0 k e f → Going g n k d f
-  going_on l last r = record { head = λ b low. r.head b low ∙ so.head b low; let_go = λ may. one_less may l last (r.detached (may_release may last)) }
+  pub going_on : k < p → (MayDetach g v n → IsLastAt g u (u.inodes n) 0 k) → Releases g n 0 k e f → Going g n k d f
+  going_on l last r = record { head = λ b low. r.head b low ∙ so.head b low; let_go = λ may. one_less may l (last may) (r.detached (may_release may (last may))) }
 
   -- all are
-  pub gone_all : k ≤ p → ((q : ℕ) → k ≤ q → page_zone g u (u.inodes n) q ≡ 0) → DetachesFrom g n k d e
+  pub gone_all : k ≤ p → (MayDetach g v n → (q : ℕ) → k ≤ q → page_zone g u (u.inodes n) q ≡ 0) → DetachesFrom g n k d e
   gone_all l none = record {
     head = so.head;
-    let_go = λ may. done may l none;
+    let_go = λ may. done may l (none may);
     nodes = λ may.
-        let a = done may l none in
+        let a = done may l (none may) in
         nodes_change_at g v u n a.inodes may.marked a.files ∙ ap (λ (y : File). put (Rattle.volume.specs.Nodes.nodes_of g v) n (Some (Rattle.zone.specs.ZoneSteps.node_from (v.inodes n) y))) a.file;
   }
 

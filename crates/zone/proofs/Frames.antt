@@ -6,13 +6,13 @@ use Rattle.layout.specs.declared.Geometry.{Geometry}
 use Rattle.layout.specs.Places.{IsGeometry}
 use Rattle.tree.specs.Sums.{put}
 use Rattle.volume.specs.Reading.{Disk, is_data_zone, u32_in}
-use Rattle.volume.specs.Pieces.{pieces}
+use Rattle.volume.specs.Pieces.{Pieces, pieces}
 use Rattle.volume.specs.Nodes.{number}
 use Rattle.layout.specs.Bytes.{u32_at}
 use Rattle.tree.specs.Space.{numbers_in_zone}
 use Rattle.block_store.specs.Rows.{with_bytes, written, cleared}
 use Rattle.block_store.specs.Volume.{Alters}
-use Rattle.zone.specs.PlaceParts.{IsLastNumber}
+use Rattle.zone.specs.PlaceParts.{IsLastNumber, IsSomeNumber}
 use Rattle.zone.specs.Words.{IsLastWord}
 use Rattle.block_store.specs.Regions.{with_zone}
 use Rattle.block_store.proofs.Alone.{in_zone}
@@ -57,21 +57,22 @@ zone_cleared g ok d e z is new =
     subst (λ (f : Disk). Alters g (with_zone (pieces g d) z (λ o. 0)) d f) (sym new) (in_zone g ok d z (λ o. 0) is)
 
 -- the last number of a block is the last of its bytes
-pub last_number_is : (g : Geometry) → IsGeometry g → (d : Disk) (z : ℕ) (bytes : List ℕ) (x : Option ℕ) → IsTrue (is_data_zone g z) → length bytes ≡ g.block_size
-    → d z ≡ slice_index bytes → IsLastWord bytes x → IsLastNumber g (pieces g d) z x
-last_number_is g ok d z bytes x is many shown h = by x h
+pub last_number_is : (g : Geometry) → IsGeometry g → (d : Disk) (z before : ℕ) (bytes : List ℕ) (x : Option ℕ) → IsTrue (is_data_zone g z)
+    → d z ≡ slice_index bytes → IsLastWord bytes before x → IsLastNumber (pieces g d) z before x
+last_number_is g ok d z before bytes x is shown h = by x h
   where
-    wide : length bytes / 4 ≡ numbers_in_zone g
-    wide = ap (λ n. n / 4) many
-
     at : (j : ℕ) → number (pieces g d) z j ≡ u32_at bytes (4 * j)
     at j = number_inside g ok d z j is ∙ ap (λ (f : ℕ → ℕ). u32_in f (4 * j)) shown
 
-    by : (x : Option ℕ) → IsLastWord bytes x → IsLastNumber g (pieces g d) z x
-    by None h = λ j l. at j ∙ h j (let w = wide in omega arith)
-    by (Some k) h =
-        (let w = wide in let l = h.0 in omega arith, λ e. h.1 (sym (at k) ∙ e), λ i l m. at i ∙ h.2 i l (let w = wide in omega arith))
+    by : (x : Option ℕ) → IsLastWord bytes before x → IsLastNumber (pieces g d) z before x
+    by None h = λ j l. at j ∙ h j l
+    by (Some k) h = (h.0, λ e. h.1 (sym (at k) ∙ e), λ i l m. at i ∙ h.2 i l m)
+
+-- the last of all is one that isn't 0
+pub last_is_some : (g : Geometry) (v : Pieces) (z w : ℕ) (x : Option ℕ) → w ≡ numbers_in_zone g → IsLastNumber v z w x → IsSomeNumber g v z x
+last_is_some g v z w None wide h = λ j l. h j (omega (arith, wide, l))
+last_is_some g v z w (Some j) wide h = (let l = h.0 in omega (arith, wide, l), h.1)
 
 -- outside the data zones there is none
-pub no_last_number : (g : Geometry) (d : Disk) (z : ℕ) → is_data_zone g z ≡ false → IsLastNumber g (pieces g d) z None
-no_last_number g d z h j l = sym (number_outside g d z j h)
+pub no_last_number : (g : Geometry) (d : Disk) (z before : ℕ) → is_data_zone g z ≡ false → IsLastNumber (pieces g d) z before None
+no_last_number g d z before h j l = sym (number_outside g d z j h)

@@ -14,7 +14,7 @@ use Rattle.volume.specs.Places.{zone_at}
 use Rattle.zone.specs.ZoneSteps.{first_places, slot_of, IsBare, Links, Unlinks}
 use Rattle.zone.specs.Composite.{Attached, Detached}
 use Rattle.zone.proofs.ZoneInodes.{inode_is}
-use Rattle.zone.specs.PlaceParts.{IsLastNumber}
+use Rattle.zone.specs.PlaceParts.{IsSomeNumber}
 use Rattle.zone.specs.Steps.{HoldsSlot, MayHoldSlot, HoldsNumber, MayHoldNumber, DropsSlot, MayDropSlot, DropsNumber, MayDropNumber}
 use Rattle.zone.specs.Pages.{MayHold, HoldsPlace, MayRelease, Releases}
 use Rattle.zone.proofs.Levels.{zone_inner, found_outer}
@@ -175,18 +175,18 @@ module _ (g : Geometry) (d i e : Disk) (n l k f w b : ℕ) (low : l < 4) (apart 
           (not_from_false (word (pieces g e) b j == 0) (ne_eqb (word (pieces g e) b j) 0 (λ o. some (cond-false (b == 0) 0 (word (pieces g e) b j) (ne_eqb b 0 there) ∙ o)))))
 
   -- a place of a block that is let go, where the block has another number
-  pub word_released : (x : Option ℕ) (j : ℕ) → x ≡ Some j → DropsNumber g b nth i e × IsLastNumber g (pieces g e) b x → Releases g n l k d e
+  pub word_released : (x : Option ℕ) (j : ℕ) → x ≡ Some j → DropsNumber g b nth i e × IsSomeNumber g (pieces g e) b x → Releases g n l k d e
   word_released x j is h =
-      let last = subst (λ (y : Option ℕ). IsLastNumber g (pieces g e) b y) is h.1 in
+      let last = subst (λ (y : Option ℕ). IsSomeNumber g (pieces g e) b y) is h.1 in
       record { head = λ c under. h.0.head c under ∙ ap (λ (y : Disk). y c) same; detached = λ may. released_here may h.0 j last.0 last.1 }
 
   -- and where it has none
-  pub word_released_on : (z : Disk) (x : Option ℕ) → x ≡ None → DropsNumber g b nth i e × IsLastNumber g (pieces g e) b x
+  pub word_released_on : (z : Disk) (x : Option ℕ) → x ≡ None → DropsNumber g b nth i e × IsSomeNumber g (pieces g e) b x
       → Releases g n (l + 1) ((k - f) / w) e z → Releases g n l k d z
   word_released_on z x is h r =
-      let none = subst (λ (y : Option ℕ). IsLastNumber g (pieces g e) b y) is h.1 in
+      let none = subst (λ (y : Option ℕ). IsSomeNumber g (pieces g e) b y) is h.1 in
       record { head = λ c under. r.head c under ∙ h.0.head c under ∙ ap (λ (y : Disk). y c) same; detached = λ may. released_up may h.0 z r none }
 
-  pub may_go_on : (x : Option ℕ) → x ≡ None → DropsNumber g b nth i e × IsLastNumber g (pieces g e) b x → MayRelease g start n l k
+  pub may_go_on : (x : Option ℕ) → x ≡ None → DropsNumber g b nth i e × IsSomeNumber g (pieces g e) b x → MayRelease g start n l k
       → MayRelease g (pieces g e) n (l + 1) ((k - f) / w)
-  may_go_on x is h may = may_release_up may h.0 (subst (λ (y : Option ℕ). IsLastNumber g (pieces g e) b y) is h.1)
+  may_go_on x is h may = may_release_up may h.0 (subst (λ (y : Option ℕ). IsSomeNumber g (pieces g e) b y) is h.1)

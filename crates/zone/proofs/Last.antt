@@ -1,7 +1,7 @@
 -- The last page that has a zone.
 use Rattle.std.proofs.Common.{◌≡◌, ◌≢◌, ◌<◌, ◌≤◌, ◌+◌, ◌*◌, ◌-◌, ◌/◌, ◌%◌, ℕ, zero, suc, refl, sym, ap, subst, ◌∙◌, arith}
 use mathlib.Core.Logic.{inl, inr}
-use Rattle.std.specs.Prelude.{◌==◌, not, Option, None, Some}
+use Rattle.std.specs.Prelude.{◌==◌, not, Option, None, Some, IfSome}
 use Rattle.std.proofs.lemmas.Bool.{cases_eq, cases_lt, cond-false, ne_eqb, eq-eqb, not-true}
 use Rattle.std.proofs.lemmas.Nat.{div-add-mod', div-mul-add, mod-mul-add, mul-add-lt}
 use Rattle.std.proofs.Math.Nat.{mul_comm}
@@ -19,7 +19,7 @@ use Rattle.zone.specs.ZoneSteps.{first_places, slot_of, above, beside}
 use Rattle.zone.specs.PlaceParts.{IsLastNumber}
 use Rattle.zone.specs.Pages.{child_at, place_count}
 use Rattle.zone.specs.Slots.{IsLastSlot}
-use Rattle.zone.specs.CutFiles.{IsLastAt, IsFull, IsLastHeld}
+use Rattle.zone.specs.CutFiles.{IsLastAt, IsFull, IsLastHeld, IsLastBefore, HasNoneFrom}
 use Rattle.zone.proofs.Levels.{zone_inner, zone_outer, zone_top}
 
 -- a child of a level's place is a place of the next level
@@ -71,7 +71,7 @@ module _ (g : Geometry) (sized : 0 < numbers_in_zone g) (v : Pieces) (i : Inode)
       zone_outer g v i l (child_at g l k j) sized low (child_first l k j) ∙ (λ t. number v (zone_at g v i (suc l) (up.0 t)) (up.1 t))
 
   -- below the last place of a level stands the last place of the next
-  pub last_child : (l k j : ℕ) → l < 3 → IsLastAt g v i (suc l) k → IsLastNumber g v (zone_at g v i (suc l) k) (Some j) → IsLastAt g v i l (child_at g l k j)
+  pub last_child : (l k j : ℕ) → l < 3 → IsLastAt g v i (suc l) k → IsLastNumber v (zone_at g v i (suc l) k) (numbers_in_zone g) (Some j) → IsLastAt g v i l (child_at g l k j)
   last_child l k j low at last = record {
     held = λ none. last.1 (sym (child_zone l k j low last.0) ∙ none);
     last = λ m far.
@@ -95,7 +95,7 @@ module _ (g : Geometry) (sized : 0 < numbers_in_zone g) (v : Pieces) (i : Inode)
   }
 
   -- a full volume has no bare block
-  pub not_bare : (l k : ℕ) → IsFull g v i → IsLastAt g v i (suc l) k → IsLastNumber g v (zone_at g v i (suc l) k) None → ⊥
+  pub not_bare : (l k : ℕ) → IsFull g v i → IsLastAt g v i (suc l) k → IsLastNumber v (zone_at g v i (suc l) k) (numbers_in_zone g) None → ⊥
   not_bare l k full at none =
       let z : ℕ = zone_at g v i (suc l) k in
       let x = some_witness (λ j. not (word v z j == 0)) (numbers_in_zone g) (full l k at.held) in
@@ -174,20 +174,20 @@ module _ (g : Geometry) (sized : 0 < numbers_in_zone g) (v : Pieces) (i : Inode)
   slot_block (suc (suc (suc (suc a)))) some low last = absurd (omega arith)
 
 -- one level down, as the code goes
-pub last_down : (g : Geometry) (v : Pieces) (i : Inode) (l k b j c : ℕ) (x : Option ℕ) → 0 < numbers_in_zone g → l < 4 → l ≢ 0 → b ≡ zone_at g v i l k → x ≡ Some j → IsLastNumber g v b x
+pub last_down : (g : Geometry) (v : Pieces) (i : Inode) (l k b j c w : ℕ) (x : Option ℕ) → 0 < numbers_in_zone g → l < 4 → l ≢ 0 → b ≡ zone_at g v i l k → w ≡ numbers_in_zone g → x ≡ Some j → IsLastNumber v b w x
     → c ≡ child_at g (l - 1) k j → IsLastAt g v i l k → IsLastAt g v i (l - 1) c
-last_down g v i zero k b j c x sized low some at is last down h = absurd (some refl)
-last_down g v i (suc l) k b j c x sized low some at is last down h =
+last_down g v i zero k b j c w x sized low some at wide is last down h = absurd (some refl)
+last_down g v i (suc l) k b j c w x sized low some at wide is last down h =
     let less : suc l - 1 ≡ l = omega arith in
-    let n = subst (λ (y : ℕ × Option ℕ). IsLastNumber g v y.0 y.1) (λ t. (at t, is t)) last in
+    let n = subst (λ (y : ℕ × ℕ × Option ℕ). IsLastNumber v y.0 y.1 y.2) (λ t. (at t, wide t, is t)) last in
     subst (λ (y : ℕ × ℕ). IsLastAt g v i y.0 y.1) (λ t. (sym less t, (let e : child_at g l k j ≡ c = ap (λ z. child_at g z k j) (sym less) ∙ sym down in e) t))
     (last_child g sized v i l k j (omega arith) h n)
 
-pub bare_down : (g : Geometry) (v : Pieces) (i : Inode) (l k b : ℕ) (x : Option ℕ) → 0 < numbers_in_zone g → l ≢ 0 → b ≡ zone_at g v i l k → x ≡ None → IsLastNumber g v b x
+pub bare_down : (g : Geometry) (v : Pieces) (i : Inode) (l k b w : ℕ) (x : Option ℕ) → 0 < numbers_in_zone g → l ≢ 0 → b ≡ zone_at g v i l k → w ≡ numbers_in_zone g → x ≡ None → IsLastNumber v b w x
     → IsLastAt g v i l k × IsFull g v i → ⊥
-bare_down g v i zero k b x sized some at is last h = absurd (some refl)
-bare_down g v i (suc l) k b x sized some at is last h =
-    not_bare g sized v i l k h.1 h.0 (subst (λ (y : ℕ × Option ℕ). IsLastNumber g v y.0 y.1) (λ t. (at t, is t)) last)
+bare_down g v i zero k b w x sized some at wide is last h = absurd (some refl)
+bare_down g v i (suc l) k b w x sized some at wide is last h =
+    not_bare g sized v i l k h.1 h.0 (subst (λ (y : ℕ × ℕ × Option ℕ). IsLastNumber v y.0 y.1 y.2) (λ t. (at t, wide t, is t)) last)
 
 -- where a slot stands
 pub slot_stands : (g : Geometry) (v : Pieces) (i : Inode) (s l k : ℕ) → 0 < numbers_in_zone g → (s < 7 → (l ≡ 0) × (k ≡ s)) → (7 ≤ s → (l ≡ s - 6) × (k ≡ 0)) → IsLastSlot i (Some s) → IsLastAt g v i l k
@@ -206,3 +206,49 @@ held_last g v i j p is at = subst (λ (x : Inode). IsLastAt g v x 0 p) is at
 
 pub none_held : (g : Geometry) (v : Pieces) (i j : Inode) (x : Option ℕ) → 0 < numbers_in_zone g → i ≡ j → IsLastSlot i x → x ≡ None → IsLastHeld g v j None
 none_held g v i j x sized is last none = subst (λ (y : Inode). IsLastHeld g v y None) is (no_page g sized v i (subst (λ (y : Option ℕ). IsLastSlot i y) none last))
+
+-- the last page before an end, as the block tells it that names the page before the end
+pub beside_last : (g : Geometry) (v : Pieces) (i : Inode) (end first w past row b j : ℕ) (x : Option ℕ) → 0 < numbers_in_zone g → first ≡ 7 → first < end → w ≡ numbers_in_zone g
+    → past ≡ end - 1 - first → row ≡ past / w → b ≡ zone_at g v i 1 row → x ≡ Some j → IsLastNumber v b (past % w + 1) x
+    → IsLastBefore g v i end (first + row * w + j)
+beside_last g v i end first w past row b j x sized seven more wide less nth at is last = (
+  omega (arith, seven, whole, less, h.0, more),
+  λ none. h.1 (sym (stands j (omega (arith, h.0, under, wide))) ∙ ap (zone_at g v i 0) (sym place) ∙ none),
+  λ q low high.
+      let m : ℕ = q - (first + row * w) in
+      let t : (j < m) × (m < past % w + 1) × (m < numbers_in_zone g) = (omega (arith, whole, less, low, high), omega (arith, whole, less, low, high), omega (arith, whole, less, low, high, wide, under)) in
+      let e : q ≡ child_at g 0 row m = omega (arith, low, seven, span) in
+      ap (zone_at g v i 0) e ∙ stands m t.2 ∙ h.2 m t.0 t.1,
+)
+  where
+    h : IsLastNumber v b (past % w + 1) (Some j)
+    h = subst (λ (y : Option ℕ). IsLastNumber v b (past % w + 1) y) is last
+
+    whole : past ≡ row * w + past % w
+    whole = sym (ap (λ n. n * w + past % w) nth ∙ div-add-mod' past w)
+
+    under : past % w < w
+    under = let s : 0 < w = omega (arith, sized, wide) in omega (arith, s)
+
+    span : row * w ≡ row * numbers_in_zone g
+    span = ap (λ n. row * n) wide
+
+    stands : (m : ℕ) → m < numbers_in_zone g → zone_at g v i 0 (child_at g 0 row m) ≡ number v b m
+    stands m low = child_zone g sized v i 0 row m (omega arith) low ∙ ap (λ z. number v z m) (sym at)
+
+    place : first + row * w + j ≡ child_at g 0 row j
+    place = omega (arith, seven, span)
+
+-- it is the last one, where no page from the end on has a zone
+pub before_held : (g : Geometry) (v : Pieces) (i j : Inode) (end p : ℕ) (x : Option ℕ) → i ≡ j → x ≡ Some p → IfSome x (λ q. IsLastBefore g v i end q)
+    → HasNoneFrom g v j end → IsLastHeld g v j (Some p)
+before_held g v i j end p x is told some none = record {
+  held = λ o. h.1 (ap (λ (x : Inode). zone_at g v x 0 p) is ∙ o);
+  last = λ q low. elim (cases_lt q end) [
+    | inl near ↦ ap (λ (x : Inode). zone_at g v x 0 q) (sym is) ∙ h.2 q low near
+    | inr far ↦ none q far
+  ];
+}
+  where
+    h : IsLastBefore g v i end p
+    h = subst (λ (y : Option ℕ). IfSome y (λ q. IsLastBefore g v i end q)) told some

@@ -13,7 +13,7 @@ use Rattle.inode.specs.Table.{with_inode}
 use Rattle.block_store.specs.Volume.{Alters}
 use Rattle.zone.specs.ZoneSteps.{bit_of}
 use Rattle.block_store.specs.Regions.{with_zone}
-use Rattle.zone.specs.PlaceParts.{IsLastNumber, with_number}
+use Rattle.zone.specs.PlaceParts.{IsSomeNumber, with_number}
 use Rattle.zone.specs.Parts.{with_mark, with_fresh, with_slot}
 use Rattle.zone.specs.Steps.{MarksZone, TakesZone, HasRoom, HoldsSlot, HoldsNumber, DropsSlot, DropsNumber}
 use Rattle.block_store.proofs.Ending.{alters_over, alters_read}
@@ -109,6 +109,6 @@ number_dropped g d e f h b j z same at a r =
     (alters_over g (λ v. with_mark g v z false) _ d f h (alters_read g (λ v. with_number v b j 0) d e f same a) r)
 
 -- and what its block has left
-pub dropped_and_last : (g : Geometry) (d e f : Disk) (b j : ℕ) (x : Option ℕ) → DropsNumber g b j d e → (f ≡ e) × IsLastNumber g (pieces g e) b x
-    → DropsNumber g b j d f × IsLastNumber g (pieces g f) b x
-dropped_and_last g d e f b j x p q = subst (λ (y : Disk). DropsNumber g b j d y × IsLastNumber g (pieces g y) b x) (sym q.0) (p, q.1)
+pub dropped_and_some : (g : Geometry) (d e f : Disk) (b j : ℕ) (x : Option ℕ) → DropsNumber g b j d e → (f ≡ e) × IsSomeNumber g (pieces g e) b x
+    → DropsNumber g b j d f × IsSomeNumber g (pieces g f) b x
+dropped_and_some g d e f b j x p q = subst (λ (y : Disk). DropsNumber g b j d y × IsSomeNumber g (pieces g y) b x) (sym q.0) (p, q.1)

@@ -26,7 +26,15 @@ abbrev pub IsLastHeld : Geometry → Pieces → Inode → Option ℕ → Type 0
 IsLastHeld g v i None = (p : ℕ) → zone_at g v i 0 p ≡ 0
 IsLastHeld g v i (Some p) = IsLastAt g v i 0 p
 
--- the same of the pages from one on
+-- no page from an end on has a zone
+abbrev pub HasNoneFrom : Geometry → Pieces → Inode → ℕ → Type 0
+HasNoneFrom g v i end = (p : ℕ) → end ≤ p → zone_at g v i 0 p ≡ 0
+
+-- the last page before an end that has a zone
+abbrev pub IsLastBefore : Geometry → Pieces → Inode → ℕ → ℕ → Type 0
+IsLastBefore g v i end p = (p < end) × (zone_at g v i 0 p ≢ 0) × ((q : ℕ) → p < q → q < end → zone_at g v i 0 q ≡ 0)
+
+-- the last page that has a zone, or there is none, of the pages from one on
 abbrev pub IsLastFrom : Geometry → Pieces → Inode → ℕ → Option ℕ → Type 0
 IsLastFrom g v i from None = (p : ℕ) → from ≤ p → zone_at g v i 0 p ≡ 0
 IsLastFrom g v i from (Some p) = (from ≤ p) × IsLastAt g v i 0 p

@@ -14,11 +14,16 @@ use Rattle.zone.specs.ZoneSteps.{IsBare}
 abbrev pub with_number : Pieces → ℕ → ℕ → ℕ → Pieces
 with_number v block j x = with_zone v block (with_bytes (4 * j) (to_le_bytes w32 x) (v.zones block))
 
--- the last number of a block that isn't 0, or there is none
-abbrev pub IsLastNumber : Geometry → Pieces → ℕ → Option ℕ → Type 0
-IsLastNumber g v block None = IsBare g v block
-IsLastNumber g v block (Some j) =
-    (j < numbers_in_zone g) × (number v block j ≢ 0) × ((i : ℕ) → j < i → i < numbers_in_zone g → number v block i ≡ 0)
+-- the last number of a block, before one of them, that isn't 0, or there is none
+abbrev pub IsLastNumber : Pieces → ℕ → ℕ → Option ℕ → Type 0
+IsLastNumber v block before None = (i : ℕ) → i < before → number v block i ≡ 0
+IsLastNumber v block before (Some j) =
+    (j < before) × (number v block j ≢ 0) × ((i : ℕ) → j < i → i < before → number v block i ≡ 0)
+
+-- a number of a block that isn't 0, or there is none
+abbrev pub IsSomeNumber : Geometry → Pieces → ℕ → Option ℕ → Type 0
+IsSomeNumber g v block None = IsBare g v block
+IsSomeNumber g v block (Some j) = (j < numbers_in_zone g) × (number v block j ≢ 0)
 
 -- these are the numbers of a block that stand side by side, from one of them on
 abbrev pub HasNumbers : Pieces → ℕ → ℕ → List ℕ → Type 0

@@ -11,7 +11,7 @@ ghost use Rattle.block_store.specs.Rows.{with_bytes};
 ghost use Rattle.block_store.specs.Halts.{Ends, IsHalt};
 ghost use Rattle.block_store.specs.Volume.{IsOn, Alters};
 ghost use Rattle.block_store.specs.Regions.{with_zone};
-ghost use Rattle.zone.specs.PlaceParts.{with_number, HasNumbers, IsLastNumber};
+ghost use Rattle.zone.specs.PlaceParts.{with_number, HasNumbers, IsLastNumber, IsSomeNumber};
 ghost use Rattle.zone.specs.Words.{HasWords, IsLastWord};
 
 use block_store::words::{clear, read_u32, write_bytes, write_u32};
@@ -85,12 +85,13 @@ pub fn numbers<B: Blocks>(
     Ok(())
 }
 
-/// The last number but 0 in a block's bytes.
-fn last_word(bytes: &[u8]) -> Option<u32>
-    requires { length bytes.now ≤ 4096 }
-    ensures { IsLastWord bytes.now result }
+/// The last number but 0 in a block's bytes, of those before one of them. No number is looked at below it.
+fn last_word(bytes: &[u8], before: usize) -> Option<u32>
+    requires most { length bytes.now ≤ 4096 }
+    requires within { 4 * before ≤ length bytes.now }
+    ensures { IsLastWord bytes.now before result }
 {
-    for index in (0..bytes.len() / 4).rev() {
+    for index in (0..before).rev() {
         if u32_at(bytes, 4 * index) != 0 {
             return Some(index as u32);
         }
@@ -98,22 +99,43 @@ fn last_word(bytes: &[u8]) -> Option<u32>
     None
 }
 
-/// The last number but 0 of an indirect zone, if there is one; none stands in a hole, or outside the data zones.
+/// The last number but 0 of an indirect zone, of those before one of them, if there is one; none stands in a hole, or outside the data
+/// zones. From that bound down each number is looked at, to the one that is told.
 pub fn last_number<B: Blocks>(
     blocks: &mut B,
     geometry: &Geometry,
     zone: u32,
+    before: u32,
 ) -> Result<Option<u32>, Cut>
     requires on { IsOn B.world geometry.now blocks.old }
-    ensures reads { Reads B.world blocks.old blocks.new (λ d. IfOk result (λ x. IsLastNumber geometry.now (pieces geometry.now d) zone x)) }
-    ensures within { IfOk result (λ x. IfSome x (λ j. j < numbers_in_zone geometry.now)) }
+    requires before { before ≤ numbers_in_zone geometry.now }
+    ensures reads { Reads B.world blocks.old blocks.new (λ d. IfOk result (λ x. IsLastNumber (pieces geometry.now d) zone before x)) }
+    ensures within { IfOk result (λ x. IfSome x (λ j. j < before)) }
     ensures cut { IfErr result (λ c. B.world.over blocks.new c) }
 {
     if !is_data_zone(geometry, zone) {
         return Ok(None);
     }
     let frame = blocks.fetch(zone)?;
-    Ok(last_word(blocks.bytes(frame)))
+    Ok(last_word(blocks.bytes(frame), before as usize))
+}
+
+/// A number but 0 of an indirect zone, if there is one: the last before one of them, or the last of all where none stands there.
+pub fn some_number<B: Blocks>(
+    blocks: &mut B,
+    geometry: &Geometry,
+    zone: u32,
+    near: u32,
+) -> Result<Option<u32>, Cut>
+    requires on { IsOn B.world geometry.now blocks.old }
+    requires near { near ≤ numbers_in_zone geometry.now }
+    ensures reads { Reads B.world blocks.old blocks.new (λ d. IfOk result (λ x. IsSomeNumber geometry.now (pieces geometry.now d) zone x)) }
+    ensures cut { IfErr result (λ c. B.world.over blocks.new c) }
+{
+    if let Some(before) = last_number(blocks, geometry, zone, near)? {
+        return Ok(Some(before));
+    }
+    last_number(blocks, geometry, zone, numbers_in_zone(geometry))
 }
 
 /// Writes these bytes into a data zone, from a place on; of another zone the answer is Unsound, and nothing is changed.

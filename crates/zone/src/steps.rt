@@ -10,11 +10,11 @@ ghost use Rattle.volume.specs.Reading.{is_data_zone};
 ghost use Rattle.block_store.specs.World.{Turns};
 ghost use Rattle.block_store.specs.Halts.{Ends, IsHalt};
 ghost use Rattle.block_store.specs.Volume.{IsOn, Alters};
-ghost use Rattle.zone.specs.PlaceParts.{IsLastNumber};
+ghost use Rattle.zone.specs.PlaceParts.{IsSomeNumber};
 ghost use Rattle.zone.specs.Parts.{with_mark};
 ghost use Rattle.zone.specs.Steps.{MarksZone, TakesZone, HasRoom, HoldsSlot, MayHoldSlot, HoldsNumber, MayHoldNumber, DropsSlot, MayDropSlot, DropsNumber, MayDropNumber};
 
-use crate::numbers::{clear_zone, is_data_zone, last_number, number, set_number};
+use crate::numbers::{clear_zone, is_data_zone, number, set_number, some_number};
 use bitmap::{Map, clear, lowest_free, set};
 use block_store::{Blocks, Halt};
 use inode::inode_table::{load, store};
@@ -149,7 +149,8 @@ pub fn drop_number<B: Blocks>(
     give(blocks, geometry, zone)
 }
 
-/// Lets go the zone that a number of a block names, and tells the last number but 0 that the block has left.
+/// Lets go the zone that a number of a block names, and tells a number but 0 that the block has left, if there is one. The numbers
+/// before it are looked at first.
 pub fn drop_in_block<B: Blocks>(
     blocks: &mut B,
     geometry: &Geometry,
@@ -159,10 +160,10 @@ pub fn drop_in_block<B: Blocks>(
     requires on { IsOn B.world geometry.now blocks.old }
     requires index { index < numbers_in_zone geometry.now }
     ensures turns { Turns B.world blocks.old blocks.new (λ d e. Ends result
-        (λ x. DropsNumber geometry.now block index d e × IsLastNumber geometry.now (pieces geometry.now e) block x)
+        (λ x. DropsNumber geometry.now block index d e × IsSomeNumber geometry.now (pieces geometry.now e) block x)
         (MayDropNumber geometry.now (pieces geometry.now d) block index)) }
     ensures halt { IfErr result (λ h. IsHalt B.world blocks.new h) }
 {
     drop_number(blocks, geometry, block, index)?;
-    Ok(last_number(blocks, geometry, block)?)
+    Ok(some_number(blocks, geometry, block, index)?)
 }

@@ -1,4 +1,4 @@
-use Rattle.std.proofs.Common.{sym, ap, ◌∙◌, Ok, Err}
+use Rattle.std.proofs.Common.{sym, ap, ◌∙◌, Err}
 use Rattle.block_store.proofs.Turns.{turns_as}
 use Rattle.calls_attributes.proofs.Naming.{walked_to, walk_refused_for, walk_halted}
 use Rattle.calls_attributes.proofs.named.named.Goals as goal
@@ -7,7 +7,11 @@ pub returns-in-Ok-walk-clause-reads : goal.returns-in-Ok-walk-clause-reads
 returns-in-Ok-walk-clause-reads g c =
     let a = c.args in
     turns_as _ _ _ _ _
-    (λ d e p. (p.0, walked_to a.geometry.now d a.user a.path c.in-Ok.path (sym c.in-Ok.ensures.parsed) c.walk.result p.1 c.in-Ok-walk.number c.in-Ok-walk.is))
+    (λ d e p. (
+      p.0,
+      walked_to a.geometry.now d a.user a.path c.in-Ok.path (sym c.in-Ok.ensures.parsed) c.walk.result p.1
+          c.in-Ok-walk.number c.in-Ok-walk.is,
+    ))
     c.walk.ensures.reads
 
 pub returns-in-Err-Refused-clause-reads : goal.returns-in-Err-Refused-clause-reads

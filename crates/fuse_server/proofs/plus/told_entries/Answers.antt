@@ -1,12 +1,13 @@
 use Rattle.std.proofs.Common.{ap, length, arith}
 use Rattle.fuse_nodes.specs.Known.{known_of}
+use Rattle.fuse_server.specs.Reach.{CalledFrom}
 use Rattle.fuse_server.proofs.Asking.{stays, goes_on}
 use Rattle.fuse_server.proofs.Entries.{none_listed}
 use Rattle.fuse_server.proofs.plus.told_entries.Goals as goal
 
 pub entries-init : goal.entries-init
 entries-init g c = record {
-  asked = stays g.S.Sessions.called g.S.Sessions.entered g.S.Sessions.left c.args.now c.args.sessions.now;
+  asked = stays (CalledFrom c.args.work.reach g.S.Sessions.called) g.S.Sessions.entered g.S.Sessions.left c.args.work.now c.args.sessions.now;
   room = omega (arith, ap length c.in_ok-bytes.ensures.items);
   listed = none_listed (known_of c.args.nodes.now) c.in_ok-bytes.bytes.items c.in_ok-bytes.ensures.items;
 }

@@ -1,11 +1,13 @@
 use Rattle.talks.specs.declared.ask.Ask.TheVariants as ask
-use Rattle.fuse_server.proofs.Asking.{asks}
+use Rattle.fuse_server.specs.Reach.{CalledFrom}
+use Rattle.fuse_server.proofs.Asking.{asks, from_named}
 use Rattle.fuse_server.proofs.talk.calling.Goals as goal
 
 pub returns-clause-asked : goal.returns-clause-asked
 returns-clause-asked g c =
-    asks g.S.Sessions.called g.S.Sessions.entered g.S.Sessions.left c.args.now c.args.sessions.now (ask.Call c.args.session c.args.call)
-    c.heard.result c.heard.new.sessions c.heard.ensures
+    asks (CalledFrom c.args.work.reach g.S.Sessions.called) g.S.Sessions.entered g.S.Sessions.left c.args.work.now c.args.sessions.now
+    (ask.Call c.args.session c.args.call) c.heard.result c.heard.new.sessions
+    (from_named c.args.work.reach c.args.session c.args.call c.heard.result c.requires c.heard.ensures)
 
 pub returns-clause-heard : goal.returns-clause-heard
-returns-clause-heard g c = c.heard.ensures
+returns-clause-heard g c = from_named c.args.work.reach c.args.session c.args.call c.heard.result c.requires c.heard.ensures

@@ -9,5 +9,5 @@ pub returns-clause-reads : goal.returns-clause-reads
 returns-clause-reads g c =
     let is : IsTrue (is_data_zone c.args.geometry.now c.args.zone) = search rules in
     turns_as _ _ _ _ _
-    (λ d e x. (x.0, last_number_is c.args.geometry.now c.requires.on.geometry d c.args.zone _ _ is (search rules) x.1 c.last_word.ensures))
+    (λ d e x. (x.0, last_number_is c.args.geometry.now c.requires.on.geometry d c.args.zone c.args.before _ _ is x.1 c.last_word.ensures))
     (turns_seen _ g.met.B.Blocks.lawful _ _ c.args.zone c.bytes.result.now (c.bytes.ensures.bytes c.args.zone c.in_ok-frame.ensures.frame) c.fetch.ensures.turns)

@@ -2,7 +2,7 @@ use Rattle.fuse_server.proofs.Asking.{goes_on}
 use Rattle.fuse_server.proofs.mount.Mount.rmdir.Goals as goal
 
 pub returns-in_err-ask_done-clause-asked : goal.returns-in_err-ask_done-clause-asked
-returns-in_err-ask_done-clause-asked g c = goes_on c.look.ensures c.ask_done.ensures
+returns-in_err-ask_done-clause-asked g c = goes_on c.look.ensures.asked c.ask_done.ensures.asked
 
 pub returns-clause-asked : goal.returns-clause-asked
-returns-clause-asked g c = goes_on c.look.ensures c.ask_done.ensures
+returns-clause-asked g c = goes_on c.look.ensures.asked c.ask_done.ensures.asked

@@ -1,10 +1,12 @@
-use Rattle.std.proofs.Common.{Some}
+use Rattle.std.proofs.Common.{Some, ap}
+use Rattle.fuse.specs.declared.reply.Attributes.{Attributes}
 use Rattle.fuse_nodes.specs.Known.{known_of}
 use Rattle.fuse_server.proofs.Entries.{opened_entry}
 use Rattle.fuse_server.proofs.mount.Mount.tell_opened.Goals as goal
 
-pub returns-in-Ok : goal.returns-in-Ok
-returns-in-Ok c =
+pub returns-in-Ok-clause-told : goal.returns-in-Ok-clause-told
+returns-in-Ok-clause-told c =
     opened_entry (known_of c.args.self.now.nodes) (known_of c.told.new.self) (known_of c.opened.new.self) c.args.attributes.now.inode
-    c.kind_of-kind.result (c.args.name.directory, c.args.name.name.now) c.in_ok-node.node (Some c.args.descriptor) c.entry_of.result
-    c.in_ok-node.ensures.ok c.opened.ensures c.in_ok-node.ensures.number c.entry_of.ensures.node c.entry_of.ensures.inode
+    c.kind_of-kind.result c.in_ok-node.node (Some c.args.descriptor) c.entry_of.result
+    c.in_ok-node.ensures.ok c.opened.ensures c.in_ok-node.ensures.number c.entry_of.ensures.node
+    (ap (λ (a : Attributes). a.inode) c.entry_of.ensures.attributes)

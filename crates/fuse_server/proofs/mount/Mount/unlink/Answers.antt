@@ -2,10 +2,10 @@ use Rattle.fuse_server.proofs.Asking.{goes_on}
 use Rattle.fuse_server.proofs.mount.Mount.unlink.Goals as goal
 
 pub returns-in_err-hold-clause-asked : goal.returns-in_err-hold-clause-asked
-returns-in_err-hold-clause-asked g c = goes_on c.look.ensures c.hold.ensures
+returns-in_err-hold-clause-asked g c = goes_on c.look.ensures.asked c.hold.ensures
 
 pub returns-in_err-ask_done-clause-asked : goal.returns-in_err-ask_done-clause-asked
-returns-in_err-ask_done-clause-asked g c = goes_on (goes_on c.look.ensures c.hold.ensures) c.ask_done.ensures
+returns-in_err-ask_done-clause-asked g c = goes_on (goes_on c.look.ensures.asked c.hold.ensures) c.ask_done.ensures.asked
 
 pub returns-clause-asked : goal.returns-clause-asked
-returns-clause-asked g c = goes_on (goes_on c.look.ensures c.hold.ensures) c.ask_done.ensures
+returns-clause-asked g c = goes_on (goes_on c.look.ensures.asked c.hold.ensures) c.ask_done.ensures.asked

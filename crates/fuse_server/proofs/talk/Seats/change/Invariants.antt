@@ -1,5 +1,7 @@
 use Rattle.fuse_server.specs.Asking.{Talked}
+use Rattle.fuse_server.specs.Reach.{CalledFrom}
 use Rattle.fuse_server.proofs.talk.Seats.change.Given as goal
 
 abbrev pub invariant-changes : goal.invariant-changes
-invariant-changes g l = Talked g.S.Sessions.called g.S.Sessions.entered g.S.Sessions.left l.now l.initial.sessions l.sessions
+invariant-changes g l =
+    Talked (CalledFrom l.work.reach g.S.Sessions.called) g.S.Sessions.entered g.S.Sessions.left l.work.now l.initial.sessions l.sessions

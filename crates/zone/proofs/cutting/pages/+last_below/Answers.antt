@@ -15,11 +15,11 @@ returns-in-Some-clause-reads g t c =
     reads_three _ g.met.B.Blocks.lawful _ _ _ _ _ _ _ _
     (λ d p q r.
     ends_as c.last_below.result _ _ _ _
-    (λ x h at. h (last_down a.geometry.now (pieces a.geometry.now d) a.inode.now a.level a.place _ c.in-Some.index _ _ (numbers_sized a.geometry.now c.requires.on.geometry)
-    c.requires.level c.if-level-eq0.false p c.in-Some.is q c.child_of-child.ensures.child at))
+    (λ x h at. h (last_down a.geometry.now (pieces a.geometry.now d) a.inode.now a.level a.place _ c.in-Some.index _ _ _ (numbers_sized a.geometry.now c.requires.on.geometry)
+    c.requires.level c.if-level-eq0.false p c.numbers_in_zone.ensures c.in-Some.is q c.child_of-child.ensures.child at))
     (λ s. (
-      last_down a.geometry.now (pieces a.geometry.now d) a.inode.now a.level a.place _ c.in-Some.index _ _ (numbers_sized a.geometry.now c.requires.on.geometry)
-          c.requires.level c.if-level-eq0.false p c.in-Some.is q c.child_of-child.ensures.child s.0,
+      last_down a.geometry.now (pieces a.geometry.now d) a.inode.now a.level a.place _ c.in-Some.index _ _ _ (numbers_sized a.geometry.now c.requires.on.geometry)
+          c.requires.level c.if-level-eq0.false p c.numbers_in_zone.ensures c.in-Some.is q c.child_of-child.ensures.child s.0,
       s.1,
     )) r)
     c.in_ok-block.ensures.reads c.in_ok-index.ensures.reads c.last_below.ensures.reads
@@ -28,5 +28,5 @@ pub returns-in-None-clause-reads : goal.returns-in-None-clause-reads
 returns-in-None-clause-reads g t c =
     let a = c.args in
     reads_then _ g.met.B.Blocks.lawful _ _ _ _ _ _
-    (λ d p q. λ s. bare_down a.geometry.now (pieces a.geometry.now d) a.inode.now a.level a.place _ _ (numbers_sized a.geometry.now c.requires.on.geometry) c.if-level-eq0.false p c.in-None.is q s)
+    (λ d p q. λ s. bare_down a.geometry.now (pieces a.geometry.now d) a.inode.now a.level a.place _ _ _ (numbers_sized a.geometry.now c.requires.on.geometry) c.if-level-eq0.false p c.numbers_in_zone.ensures c.in-None.is q s)
     c.in_ok-block.ensures.reads c.in_ok-index.ensures.reads

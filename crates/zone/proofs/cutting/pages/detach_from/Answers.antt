@@ -3,7 +3,7 @@ use Rattle.volume.specs.Pieces.{pieces}
 use Rattle.block_store.proofs.Turns.{turns_none, turns_as, turns_then}
 use Rattle.zone.specs.CutFiles.{IsLastFrom}
 use Rattle.block_store.proofs.Ending.{ends_exit, turns_three}
-use Rattle.zone.proofs.CuttingLaws.{going_none, still_full, may_release, going_on, gone_all, end_past, found_from, none_from, none_left}
+use Rattle.zone.proofs.CuttingLaws.{going_none, still_full, past_none, may_release, going_on, gone_all, end_past, found_from, none_from, none_left}
 use Rattle.zone.proofs.cutting.pages.detach_from.Goals as goal
 
 pub loop-held-init : goal.loop-held-init
@@ -24,7 +24,7 @@ pub returns-then-held-end-clause-turns : goal.returns-then-held-end-clause-turns
 returns-then-held-end-clause-turns g c =
     let a = c.args in
     turns_then _ g.met.B.Blocks.lawful _ _ _ _ _ _
-    (λ d e f p q. λ may. end_past a.geometry.now c.requires.on.geometry a.inode c.loop-held.end c.in-Some.held d e p (found_from a.geometry.now e a.inode a.page _ _ c.in-Some.is q.1) c.if-held-end.true may)
+    (λ d e f p q. λ may. end_past a.geometry.now c.requires.on.geometry a.inode c.loop-held.end c.in-Some.held d e p (found_from a.geometry.now e a.inode a.page _ _ c.in-Some.is (q.1 (past_none a.geometry.now c.requires.on.geometry a.inode c.loop-held.end 0 d e e p may))) c.if-held-end.true may)
     c.loop-held.invariant.1 c.in_ok-held.ensures.reads
 
 pub returns-in_err-release-clause-turns : goal.returns-in_err-release-clause-turns
@@ -33,7 +33,7 @@ returns-in_err-release-clause-turns g c =
     turns_three _ g.met.B.Blocks.lawful _ _ _ _ _ _ _ _
     (λ d e x f p q r. ends_exit _ _ _ _ _ _ c.from_residual-in_err-release.ensures.1
     (λ may. subst (λ y. Rattle.zone.specs.Pages.MayRelease a.geometry.now (pieces a.geometry.now y) a.inode 0 c.in-Some.held) (Rattle.std.proofs.Common.sym q.0)
-    (may_release a.geometry.now c.requires.on.geometry a.inode c.loop-held.end c.in-Some.held d e e p may (found_from a.geometry.now e a.inode a.page _ _ c.in-Some.is q.1))) r)
+    (may_release a.geometry.now c.requires.on.geometry a.inode c.loop-held.end c.in-Some.held d e e p may (found_from a.geometry.now e a.inode a.page _ _ c.in-Some.is (q.1 (past_none a.geometry.now c.requires.on.geometry a.inode c.loop-held.end 0 d e e p may))))) r)
     c.loop-held.invariant.1 c.in_ok-held.ensures.reads c.in_err-release.ensures.turns
 
 pub loop-held-preserved : goal.loop-held-preserved
@@ -42,7 +42,7 @@ loop-held-preserved g c =
       search rules,
       turns_three _ g.met.B.Blocks.lawful _ _ _ _ _ _ _ _
           (λ d e x f p q r. going_on a.geometry.now c.requires.on.geometry a.inode c.loop-held.end c.in-Some.held d e f p c.if-held-end.false
-          (found_from a.geometry.now e a.inode a.page _ _ c.in-Some.is q.1)
+          (λ may. found_from a.geometry.now e a.inode a.page _ _ c.in-Some.is (q.1 (past_none a.geometry.now c.requires.on.geometry a.inode c.loop-held.end 0 d e e p may)))
           (subst (λ y. Rattle.zone.specs.Pages.Releases a.geometry.now a.inode 0 c.in-Some.held y f) q.0 r))
           c.loop-held.invariant.1 c.in_ok-held.ensures.reads c.in_ok-release.ensures.turns,
     )
@@ -52,5 +52,5 @@ returns-clause-turns g c =
     let a = c.args in
     turns_then _ g.met.B.Blocks.lawful _ _ _ _ _ _
     (λ d e f p q. subst (λ y. Rattle.zone.specs.CutFiles.DetachesFrom a.geometry.now a.inode a.page d y) (Rattle.std.proofs.Common.sym q.0)
-    (gone_all a.geometry.now c.requires.on.geometry a.inode c.loop-held.end a.page d e e p c.loop-held.invariant.0 (none_from a.geometry.now e a.inode a.page _ (none_left _ c.in_default.not-Some) q.1)))
+    (gone_all a.geometry.now c.requires.on.geometry a.inode c.loop-held.end a.page d e e p c.loop-held.invariant.0 (λ may. none_from a.geometry.now e a.inode a.page _ (none_left _ c.in_default.not-Some) (q.1 (past_none a.geometry.now c.requires.on.geometry a.inode c.loop-held.end 0 d e e p may)))))
     c.loop-held.invariant.1 c.in_ok-held.ensures.reads

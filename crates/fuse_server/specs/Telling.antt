@@ -1,0 +1,206 @@
+-- What the last exchange before an answer has to do with it.
+use Rattle.std.specs.Prelude.{⊤, ◌≡◌, ◌⊎◌, ◌+◌, ◌/◌, ◌%◌, min, ℕ, Bool, true, false, List, [], Option, Some, None, Result}
+use Rattle.errno.specs.declared.Errno.TheVariants.{ENOENT}
+use Rattle.fuse.specs.declared.reply.Attributes.{Attributes as Told}
+use Rattle.fuse.specs.declared.reply.Entry.{Entry}
+use Rattle.fuse.specs.declared.reply.StatfsReply.{StatfsReply}
+use Rattle.fuse.specs.declared.request.Request.{Request}
+use Rattle.fuse.specs.declared.request.Request.TheVariants as request
+use Rattle.fuse_nodes.specs.declared.node.Descriptor.{Descriptor}
+use Rattle.tree.specs.declared.Attributes.{Attributes}
+use Rattle.tree.specs.declared.Call.{Call}
+use Rattle.tree.specs.declared.Call.TheVariants as call
+use Rattle.tree.specs.declared.LinkTarget.{LinkTarget}
+use Rattle.tree.specs.declared.Outcome.{Outcome}
+use Rattle.tree.specs.declared.PathFrom.{PathFrom}
+use Rattle.tree.specs.declared.Reply.TheVariants as reply
+use Rattle.tree.specs.declared.Statfs.{Statfs}
+use Rattle.talks.specs.Hearing.{target_of}
+use Rattle.talks.specs.Talks.{Exchange, Leads, EndsInSync, MayHear}
+use Rattle.talks.specs.declared.ask.Ask.{Ask}
+use Rattle.talks.specs.declared.heard.Heard.{Heard}
+use Rattle.talks.specs.declared.sessions.EnterRefusal.{EnterRefusal}
+use Rattle.fuse_server.specs.Asking.{EndsWith, LookedAt}
+use Rattle.fuse_server.specs.Reach.{IsAt}
+use Rattle.fuse_server.specs.declared.said.FuseAnswer.{FuseAnswer}
+use Rattle.fuse_server.specs.declared.said.FuseAnswer.TheVariants as answer_of
+use Rattle.fuse_server.specs.declared.said.Said.{Said}
+use Rattle.fuse_server.specs.declared.said.Said.TheVariants as said
+use Rattle.fuse_server.specs.declared.work.Reach.{Reach}
+
+-- attributes, as answers have them
+abbrev pub told_of : Attributes → Told
+told_of was = record {
+  inode = was.inode;
+  size = was.size;
+  blocks = was.size / 512 + min 1 (was.size % 512);
+  atime = (was.atime, 0);
+  mtime = (was.mtime, 0);
+  ctime = (was.ctime, 0);
+  mode = was.mode;
+  links = was.links;
+  uid = was.uid;
+  gid = was.gid;
+  device = 0;
+  block_size = 4096;
+  flags = 0;
+}
+
+-- the room of a volume, as answers have it
+abbrev pub room_of : Statfs → StatfsReply
+room_of room = record {
+  blocks = room.zones;
+  free = room.free_zones;
+  available = room.free_zones;
+  files = room.inodes;
+  free_files = room.free_inodes;
+  block_size = room.block_size;
+  name_length = 60;
+  fragment_size = room.block_size;
+}
+
+-- what an answer tells of: a name in the message's node, the node, its target, a name that was taken away from a file or a directory or
+-- became another one in the second node, the room, or nothing that is said here
+pub data Telling : Type 0 where
+  Name : List ℕ → Telling
+  Node : Telling
+  Target : Telling
+  Unlinked : List ℕ → Telling
+  Removed : List ℕ → Telling
+  Renamed : List ℕ → List ℕ → Telling
+  Room : Telling
+  Other : Telling
+
+abbrev pub telling : Request → Telling
+telling (request.Lookup name) = Name name.now
+telling (request.Getattr flags handle) = Node
+telling (request.Setattr valid handle size lock_owner atime mtime ctime mode uid gid) = Node
+telling request.Readlink = Target
+telling (request.Symlink name target) = Name name.now
+telling (request.Mknod mode device umask name) = Name name.now
+telling (request.Mkdir mode umask name) = Name name.now
+telling (request.Unlink name) = Unlinked name.now
+telling (request.Rmdir name) = Removed name.now
+telling (request.Rename new_directory old_name new_name) = Renamed old_name.now new_name.now
+telling (request.Rename2 new_directory flags old_name new_name) = Renamed old_name.now new_name.now
+telling (request.Link file name) = Name name.now
+telling (request.Create flags mode umask open_flags name) = Name name.now
+telling request.Statfs = Room
+telling r = Other
+
+-- one of those, but for LOOKUP
+abbrev pub tells : Request → Bool
+tells (request.Getattr flags handle) = true
+tells (request.Setattr valid handle size lock_owner atime mtime ctime mode uid gid) = true
+tells request.Readlink = true
+tells (request.Symlink name target) = true
+tells (request.Mknod mode device umask name) = true
+tells (request.Mkdir mode umask name) = true
+tells (request.Unlink name) = true
+tells (request.Rmdir name) = true
+tells (request.Rename new_directory old_name new_name) = true
+tells (request.Rename2 new_directory flags old_name new_name) = true
+tells (request.Link file name) = true
+tells (request.Create flags mode umask open_flags name) = true
+tells request.Statfs = true
+tells r = false
+
+-- The exchanges end in a look at a name in the message's node, by which these attributes are told.
+pub record IsSeenAt (x : Reach) (name : List ℕ) (told : Told) (log : List Exchange) : Type 0 where
+  pub session : ℕ
+  pub path : PathFrom
+  pub was : Attributes
+  pub at : IsAt x.own name path
+  pub ends : EndsWith session (call.Lstat path) (reply.Inode was) log
+  pub is : told ≡ told_of was
+
+-- or in a look at what its node's descriptor has open
+pub record IsSeenOpen (x : Reach) (told : Told) (log : List Exchange) : Type 0 where
+  pub descriptor : Descriptor
+  pub was : Attributes
+  pub has : x.descriptor ≡ Some descriptor
+  pub ends : EndsWith descriptor.session (call.Fstat descriptor.fd) (reply.Inode was) log
+  pub is : told ≡ told_of was
+
+-- in a look at the target of the message's node
+pub record IsTarget (x : Reach) (bytes : List ℕ) (log : List Exchange) : Type 0 where
+  pub session : ℕ
+  pub path : PathFrom
+  pub target : LinkTarget
+  pub at : IsAt x.own [] path
+  pub ends : EndsWith session (call.Readlink path) (reply.Target target) log
+  pub is : bytes ≡ target_of target
+
+-- in a call that was done with a name in the message's node
+pub record IsDoneAt (x : Reach) (name : List ℕ) (asked : PathFrom → Call) (log : List Exchange) : Type 0 where
+  pub session : ℕ
+  pub path : PathFrom
+  pub at : IsAt x.own name path
+  pub ends : EndsWith session (asked path) reply.Done log
+
+pub record IsRenamed (x : Reach) (old new : List ℕ) (log : List Exchange) : Type 0 where
+  pub session : ℕ
+  pub from : PathFrom
+  pub to : PathFrom
+  pub at : IsAt x.own old from
+  pub into : IsAt x.other new to
+  pub ends : EndsWith session (call.Rename from to) reply.Done log
+
+pub record IsRoom (told : StatfsReply) (log : List Exchange) : Type 0 where
+  pub session : ℕ
+  pub room : Statfs
+  pub ends : EndsWith session call.Statfs (reply.Space room) log
+  pub is : told ≡ room_of room
+
+-- in a look at a name in the message's node that leads to nothing
+pub record IsMissing (x : Reach) (name : List ℕ) (log : List Exchange) : Type 0 where
+  pub session : ℕ
+  pub path : PathFrom
+  pub at : IsAt x.own name path
+  pub ends : EndsWith session (call.Lstat path) (reply.Refused ENOENT) log
+
+-- A path was looked at, and these attributes are told.
+pub record ShownAt {S : Type 0} (called : S → ℕ → ℕ → Call → Outcome → S → Type 0) (entered : S → ℕ → ℕ → Result ℕ EnterRefusal → S → Type 0)
+    (left : S → S → Type 0) (now : ℕ) (s : S) (path : PathFrom) (told : Told) (t : S) : Type 0 where
+  pub was : Attributes
+  pub looked : LookedAt called entered left now s path (Some was) t
+  pub is : told ≡ told_of was
+
+-- or nothing was found
+abbrev pub FoundAt : {S : Type 0} → (S → ℕ → ℕ → Call → Outcome → S → Type 0) → (S → ℕ → ℕ → Result ℕ EnterRefusal → S → Type 0)
+    → (S → S → Type 0) → ℕ → S → PathFrom → Option Entry → S → Type 0
+FoundAt called entered left now s path (Some entry) t = ShownAt called entered left now s path entry.attributes t
+FoundAt called entered left now s path None t = LookedAt called entered left now s path None t
+
+-- What the exchanges end in where this is answered.
+abbrev pub IsToldAs : Reach → Telling → FuseAnswer → List Exchange → Type 0
+IsToldAs x (Name name) (answer_of.Entry entry) log = IsSeenAt x name entry.attributes log
+IsToldAs x (Name name) (answer_of.Create entry opened) log = IsSeenAt x name entry.attributes log
+IsToldAs x Node (answer_of.Attributes told) log = IsSeenAt x [] told log ⊎ IsSeenOpen x told log
+IsToldAs x Target (answer_of.Bytes bytes) log = IsTarget x bytes.items log
+IsToldAs x (Unlinked name) answer_of.Done log = IsDoneAt x name (λ path. call.Unlink path) log
+IsToldAs x (Removed name) answer_of.Done log = IsDoneAt x name (λ path. call.Rmdir path) log
+IsToldAs x (Renamed old new) answer_of.Done log = IsRenamed x old new log
+IsToldAs x Room (answer_of.Statfs room) log = IsRoom room log
+IsToldAs x about a log = ⊤
+
+abbrev pub IsMissingAs : Reach → Telling → List Exchange → Type 0
+IsMissingAs x (Name name) log = IsMissing x name log
+IsMissingAs x about log = ⊥
+
+-- Where it is said that a sync was done, they end in such a sync, and where it is said that a name leads to nothing, in a look that found
+-- nothing.
+abbrev pub IsBehind : Reach → Telling → Said → List Exchange → Type 0
+IsBehind x about (said.Plain a) log = IsToldAs x about a log
+IsBehind x about said.Synced log = EndsInSync log
+IsBehind x about said.Missing log = IsMissingAs x about log
+
+-- By exchanges and nothing else sessions come from one state to another, and this is answered behind them.
+pub record ToldBehind {S : Type 0} (called : S → ℕ → ℕ → Call → Outcome → S → Type 0) (entered : S → ℕ → ℕ → Result ℕ EnterRefusal → S → Type 0)
+    (left : S → S → Type 0) (now : ℕ) (x : Reach) (about : Telling) (s : S) (a : FuseAnswer) (t : S) : Type 0 where
+  pub log : List Exchange
+  pub leads : Leads (MayHear called entered left now) s log t
+  pub told : IsToldAs x about a log
+
+abbrev pub AskedFor : {S : Type 0} → (S → Ask → Heard → S → Type 0) → Reach → Telling → S → Said → S → Type 0
+AskedFor may x about s it t = (log : List Exchange) × Leads may s log t × IsBehind x about it log
