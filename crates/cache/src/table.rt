@@ -2,7 +2,7 @@
 
 ghost use Rattle.std.specs.Prelude.{◌≡◌, ◌⊎◌, ◌<◌, ◌≤◌, ◌+◌, ◌*◌, ◌^◌, ℕ, true, IfOk, Some, None, slice_get, slice_index, length};
 ghost use Rattle.std.specs.Bool.{OnTrue, OnFalse};
-ghost use Rattle.std.specs.Vec.{vec_capacity};
+ghost use Rattle.std.specs.VecDeque.{deque_capacity};
 ghost use Rattle.cache.specs.Slots.{held, is_dirty_held, lower_of, IsDistinct, NoneDirtyBelow, AreOpenWithin};
 ghost use Rattle.cache.specs.Index.{IsIndexOf};
 ghost use Rattle.cache.specs.Uses.{IsUsedLast};
@@ -38,7 +38,7 @@ pub struct Slots {
     pub ghost some: { 0 < length items.items },
     pub ghost few: { length items.items ≤ 4096 },
     pub ghost indexed: { IsIndexOf index.entries.items items.items },
-    pub ghost room: { vec_capacity index.entries ≡ length items.items },
+    pub ghost room: { length items.items ≤ deque_capacity index.entries },
     pub ghost paired: { length uses.numbers.items ≡ length items.items },
     pub ghost ranked: { IsRanked items.items uses.numbers.items winners.keys.items },
     pub ghost skipped: { NoneDirtyBelow items.items search_from },
@@ -371,7 +371,7 @@ impl Slots {
         ensures count { length self.new.items.items ≡ length self.old.items.items }
     {
         self.vacate(at);
-        self.index.insert(block, at);
+        self.index.insert(block, at as u32);
         let slot = &mut self.items[at];
         slot.hold(block, &mut self.spare, state);
         self.search_from = lowered(self.search_from, slot.dirty_block());
