@@ -37,21 +37,26 @@ def long_names(at, trial):
 
 @limit("long-paths")
 def long_paths(at, trial):
-    """1024 bytes a path from the volume's root, also where a program came there by its current folder."""
+    """A path may be longer than 1024 bytes: 60 folders of 50 bytes one in the other, a file in the last, all by the current folder."""
     here = os.getcwd()
     try:
         os.chdir(at)
-        depth = 0
-        while depth < 30:
+        for depth in range(60):
             os.mkdir("d" * 50)
             os.chdir("d" * 50)
-            depth += 1
-        raise Wrong(f"{depth} folders of 50 bytes")
-    except OSError as error:
-        same("the error", errno.errorcode[error.errno], "ENAMETOOLONG")
-        same("the folders", 17 <= depth <= 20, True)
+        with open("file", "w") as file:
+            file.write("deep")
+        forget()
+        same("its bytes", open("file").read(), "deep")
+        os.rename("file", "moved")
+        same("the names", os.listdir("."), ["moved"])
+        os.unlink("moved")
+        for depth in range(60):
+            os.chdir("..")
+            os.rmdir("d" * 50)
     finally:
         os.chdir(here)
+    same("what is left", os.listdir(at), [])
 
 
 @limit("large-files")
@@ -103,27 +108,48 @@ def outcome_of_list(file):
 
 @limit("links-own")
 def links_own(at, trial):
-    """Owners and times of a symbolic link stay, since calls follow it; an owner that it has already is taken."""
+    """A symbolic link has an owner and times of its own; what it leads to keeps its own."""
     need_root("gives files away")
     made(at / "file")
+    before = os.stat(at / "file")
     os.symlink("file", at / "link")
-    os.lchown(at / "link", 0, 0)
-    refused("EPERM", os.lchown, at / "link", 5, 5)
-    refused("ENOSYS", os.utime, at / "link", (1, 1), follow_symlinks=False)
-    same("whose the file is", os.stat(at / "file").st_uid, 0)
+    os.lchown(at / "link", 5, 6)
+    os.utime(at / "link", (1, 2), follow_symlinks=False)
+    forget()
+    link = os.lstat(at / "link")
+    same("the link's", (link.st_uid, link.st_gid, link.st_atime, link.st_mtime), (5, 6, 1, 2))
+    after = os.stat(at / "file")
+    same("the file's", (after.st_uid, after.st_gid, after.st_mtime), (before.st_uid, before.st_gid, before.st_mtime))
+    same("where it leads", os.readlink(at / "link"), "file")
 
 
 @limit("removed-open-changes")
 def removed_open_changes(at, trial):
-    """Size, mode, owner and times of a removed file that is open stay."""
+    """A removed file that is open has its size, mode and times changed by its descriptor."""
     with open(at / "file", "w+") as file:
         file.write("text")
         file.flush()
         os.unlink(at / "file")
-        for change in ((os.ftruncate, 1), (os.fchmod, 0o600), (os.utime, (1, 1))):
-            refused("ESTALE", change[0], file.fileno(), change[1])
+        os.ftruncate(file.fileno(), 2)
+        os.fchmod(file.fileno(), 0o600)
+        os.utime(file.fileno(), (1, 2))
+        told = os.fstat(file.fileno())
+        same("what it has", (told.st_size, told.st_mode & 0o777, told.st_mtime, told.st_nlink), (2, 0o600, 2, 0))
         file.seek(0)
-        same("its bytes", file.read(), "text")
+        same("its bytes", file.read(), "te")
+
+
+@limit("other-name-lost")
+def other_name_lost(at, trial):
+    """A file that lost the name by which it was looked up last is changed by its descriptor, and by its other name."""
+    file = made(at / "one", b"text")
+    os.link(file, at / "two")
+    with open(at / "two", "r+") as opened:
+        os.unlink(at / "two")
+        os.ftruncate(opened.fileno(), 3)
+        same("its bytes by the other name", file.read_bytes(), b"tex")
+        os.chmod(file, 0o600)
+        same("its mode", os.fstat(opened.fileno()).st_mode & 0o777, 0o600)
 
 
 @limit("many-removed-open")

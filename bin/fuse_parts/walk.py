@@ -1,9 +1,6 @@
 """Drawn calls on a mounted volume beside a folder of the host, in which each has to come to the same.
 
-usage: python3 -m fuse_parts.walk MOUNTED HOST CALLS SEED
-
-The file server has no calls that change a file by its descriptor, so a file that lost a name while it was open may answer ESTALE to a
-change of its size, mode or times by the descriptor; then the host isn't asked either, and the last line counts it."""
+usage: python3 -m fuse_parts.walk MOUNTED HOST CALLS SEED"""
 import errno, mmap, os, pathlib, random, stat, sys
 
 from .files import forget
@@ -43,7 +40,7 @@ class Open:
 class Walk:
     def __init__(self, roots, seed):
         self.roots, self.draw = roots, random.Random(seed)
-        self.open, self.known, self.lost, self.notes, self.stale = [], [], set(), [], 0
+        self.open, self.known, self.notes = [], [], []
         self.bytes = bytes(self.draw.randrange(256) for _ in range(8192)) * 20
 
     # ---- what is drawn
@@ -85,23 +82,13 @@ class Walk:
             raise Differ(f"{what}: {short(one)} on the volume, {short(two)} on the host")
         return one
 
-    def by_file(self, name, function, *more, changes=False):
+    def by_file(self, name, function, *more):
         """The same by a descriptor."""
         if not self.open:
             return None
         it = self.draw.choice(self.open)
         one = outcome(function, it.files[0], *more)
-        if changes and one == "ESTALE" and os.fstat(it.files[1]).st_ino in self.lost:
-            self.stale += 1
-            return None
         return self.compare((name, *more), one, outcome(function, it.files[1], *more))
-
-    def lose(self, path):
-        """Notes that the file of this path may lose a name."""
-        try:
-            self.lost.add(os.lstat(os.path.join(self.roots[1], path)).st_ino)
-        except OSError:
-            pass
 
     # ---- the calls
 
@@ -134,13 +121,13 @@ class Walk:
         self.by_file(f"read {size} at {at}", lambda file: os.pread(file, size, at))
 
     def resize(self):
-        self.by_file("ftruncate", os.ftruncate, self.draw.randrange(LARGEST), changes=True)
+        self.by_file("ftruncate", os.ftruncate, self.draw.randrange(LARGEST))
 
     def stat_file(self):
         self.by_file("fstat", lambda file: told(os.fstat(file)))
 
     def chmod_file(self):
-        self.by_file("fchmod", os.fchmod, self.draw.choice([0o600, 0o640, 0o755]), changes=True)
+        self.by_file("fchmod", os.fchmod, self.draw.choice([0o600, 0o640, 0o755]))
 
     def sync(self):
         self.by_file("fsync", os.fsync)
@@ -167,12 +154,10 @@ class Walk:
 
     def unlink(self):
         path = self.path()
-        self.lose(path)
         self.both("unlink", os.unlink, path)
 
     def rename(self):
         old, new = self.path(), self.path() if self.draw.random() < 0.4 else self.place()
-        self.lose(new)
         self.both("rename", os.rename, old, new)
 
     def others(self):
@@ -274,7 +259,7 @@ def main():
         walk.close()
     walk.trees()
     refused = sum(isinstance(it, str) and it.isupper() and it.startswith("E") for _, it in walk.notes)
-    print(f"{calls} calls, {refused} of them refused, {walk.stale} with ESTALE; {len(walk.known)} paths in the end")
+    print(f"{calls} calls, {refused} of them refused; {len(walk.known)} paths in the end")
     return 0
 
 

@@ -62,7 +62,7 @@ class Works:
         tar(at, self.source)
 
     def copy(self, at):
-        ran("cp", "-dR", "--preserve=mode,ownership,links", self.source, at / "tree")
+        ran("cp", "-a", self.source, at / "tree")
         ran("diff", "-r", "--no-dereference", self.source, at / "tree")
         same_trees(self.source, at / "tree", with_times=False)
 

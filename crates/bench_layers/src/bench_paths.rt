@@ -15,7 +15,7 @@ use path::NameCache;
 use std::alloc::{AllocError, Global};
 use std::io;
 use std::time::Instant;
-use tree::{Reply, User};
+use tree::{PathFrom, Reply, User};
 use trees::{DIRECTORIES, ROOM, Tree};
 
 /// How often a stat is made; the least time is told.
@@ -46,6 +46,7 @@ fn is_there<B: Blocks>(
 {
     let user = User { uid: 0, gid: 0 };
     let mut reply = Reply::Done;
+    let path = PathFrom::root(path);
     let ended = stat(blocks, names, geometry, user, path, &mut reply);
     ended.is_ok() && matches!(reply, Reply::Inode(_))
 }

@@ -14,7 +14,7 @@ ghost use Rattle.block_store.specs.Volume.{IsOn, Alters};
 ghost use Rattle.bitmap.specs.Numbers.{IsLowestFree, count_free_in};
 ghost use Rattle.bitmap.specs.Maps.{numbers_in, with_number, last_number, first_block};
 
-use crate::row::with_bit;
+use crate::row::{has_bit, with_bit};
 use block_store::words::{read_byte, write_bytes};
 use block_store::{Blocks, Cut};
 use layout::Geometry;
@@ -122,6 +122,23 @@ pub fn clear<B: Blocks>(
     ensures cut { IfErr result (λ c. B.world.over blocks.new c) }
 {
     put(blocks, geometry, map, number, false)
+}
+
+/// Whether a number, 0 to the last, is in a map.
+pub fn is_set<B: Blocks>(
+    blocks: &mut B,
+    geometry: &Geometry,
+    map: Map,
+    number: u32,
+) -> Result<bool, Cut>
+    requires on { IsOn B.world geometry.now blocks.old }
+    requires number { number ≤ last_number map geometry.now }
+    ensures reads { Reads B.world blocks.old blocks.new (λ d. IfOk result (λ x. x ≡ numbers_in map (pieces geometry.now d) number)) }
+    ensures cut { IfErr result (λ c. B.world.over blocks.new c) }
+{
+    let place = place_of(geometry, map, number);
+    let byte = read_byte(blocks, place.block, place.byte)?;
+    Ok(has_bit(byte, place.bit))
 }
 
 /// The lowest free number of a map, from 1 to its last: the least that isn't in it. None where each is in it.

@@ -21,6 +21,14 @@ pub(crate) fn with_bit(byte: u8, bit: u32, on: bool) -> u8
     }
 }
 
+/// Whether one bit of a byte is set.
+pub(crate) fn has_bit(byte: u8, bit: u32) -> bool
+    requires { bit < 8 }
+    ensures { result ≡ (byte / 2 ^ bit % 2 == 1) }
+{
+    byte >> bit & 1 == 1
+}
+
 /// The word of 64 bits at a place of a row, counted in words: one step.
 fn word_at(bytes: &[u8], place: u32, steps: &mut Steps) -> u64
     requires within { 8 * place + 8 ≤ length bytes.now }

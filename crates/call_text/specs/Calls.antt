@@ -8,7 +8,7 @@ use Rattle.tree.specs.declared.Whence.{Whence}
 use Rattle.tree.specs.declared.Whence.TheVariants.{Set, Cur, End}
 use Rattle.call_text.specs.Words.{number_of, mode_of, offset_of, path_of}
 use Rattle.call_text.specs.Bytes.{byte_of, flags_of}
-use Rattle.call_text.specs.WrittenCalls.{at, call_of_none, call_of_one, call_of_two, count, word}
+use Rattle.call_text.specs.WrittenCalls.{at, from_root, call_of_none, call_of_one, call_of_two, count, word}
 
 -- a user or a group
 abbrev pub id : List ℕ → Option ℕ
@@ -28,11 +28,11 @@ all make a b c = option_map (λ p. make p.0 p.1.0 p.1.1) (option_zip a (option_z
 -- a call of three words
 abbrev pub call_of_three : List ℕ → List ℕ → List ℕ → List ℕ → Option Call
 call_of_three name a b c =
-    if bytes_eq name (codes "open") then all (λ p flags mode. Open (at p) flags mode) (path_of a) (flags_of b) (mode_of c)
+    if bytes_eq name (codes "open") then all (λ p flags mode. Open (from_root p) flags mode) (path_of a) (flags_of b) (mode_of c)
     else if bytes_eq name (codes "fill") then all (λ fd n byte. Write fd (at (replicate n byte))) (word a) (count b) (byte_of c)
     else if bytes_eq name (codes "seek") then all Seek (word a) (whence_of b) (offset_of c)
-    else if bytes_eq name (codes "chown") then all (λ p uid gid. Chown (at p) uid gid) (path_of a) (id b) (id c)
-    else if bytes_eq name (codes "utime") then all (λ p atime mtime. Utime (at p) atime mtime) (path_of a) (word b) (word c) else None
+    else if bytes_eq name (codes "chown") then all (λ p uid gid. Chown (from_root p) uid gid) (path_of a) (id b) (id c)
+    else if bytes_eq name (codes "utime") then all (λ p atime mtime. Utime (from_root p) atime mtime) (path_of a) (word b) (word c) else None
 
 -- the call that words name
 abbrev pub call_of : List (List ℕ) → Option Call

@@ -1,10 +1,11 @@
 //! Lines, words and numbers.
 
-ghost use Rattle.std.specs.Prelude.{◌≡◌, ◌∷◌, [], ◌<◌, ◌≤◌, MatchOption, length};
-ghost use Rattle.std.specs.Option.{option_copied};
+ghost use Rattle.std.specs.Prelude.{◌≡◌, ◌∷◌, [], ◌<◌, ◌≤◌, IfSome, MatchOption, length};
+ghost use Rattle.std.specs.Option.{option_copied, option_map};
 ghost use Rattle.call_text.specs.Words.{parts_of, number_in, number_of, mode_of, offset_of, path_of};
 
 use memchr::memchr;
+use tree::{PathFrom, Start};
 
 /// What stands before the first separator of a text, and what stands after it; none where the text has no separator.
 pub fn cut(text: &[u8], separator: u8) -> Option<(&[u8], &[u8])>
@@ -76,9 +77,17 @@ pub fn offset(word: &[u8]) -> Option<i64>
     }
 }
 
-/// A path, or the target of a symbolic link: any bytes of a word, one at least.
-pub fn path(word: &[u8]) -> Option<&[u8]>
+/// The target of a symbolic link: any bytes of a word, one at least.
+pub fn target(word: &[u8]) -> Option<&[u8]>
     ensures { option_copied result ≡ path_of word.now }
 {
     if word.is_empty() { None } else { Some(word) }
+}
+
+/// A path from the root: any bytes of a word, one at least.
+pub fn path(word: &[u8]) -> Option<PathFrom<'_>>
+    ensures bytes { option_map (λ path. path.bytes.now) result ≡ path_of word.now }
+    ensures root { IfSome result (λ path. path.start ≡ Start.Root) }
+{
+    Some(PathFrom::root(target(word)?))
 }

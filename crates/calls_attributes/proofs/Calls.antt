@@ -1,11 +1,12 @@
 -- Stat, lstat, chmod, chown and utime.
-use Rattle.std.proofs.Common.{◌≡◌, ◌<◌, ◌≤◌, ◌+◌, ◌-◌, ◌*◌, ◌/◌, ◌%◌, ◌^◌, ℕ, List, Bool, true, false, refl, sym, ap, subst, ◌∙◌, arith, Some, Ok, Err}
+use Rattle.std.proofs.Common.{◌≡◌, ◌<◌, ◌≤◌, ◌+◌, ◌-◌, ◌*◌, ◌/◌, ◌%◌, ◌^◌, ℕ, Bool, true, false, refl, sym, ap, subst, ◌∙◌, arith, Some, Ok, Err}
 use Rattle.std.specs.Prelude.{IsTrue, Result, not, ◌==◌, ◌||◌, nat_le, nat_lt}
 use Rattle.std.proofs.lemmas.Bool.{cond-true, and_parts, and_from, le-ltb, lt-ltb, leb-true}
 use Rattle.errno.specs.declared.Errno.TheVariants.{EINVAL, ENOENT}
 use Rattle.errno.specs.declared.Errno.{Errno}
 use Rattle.layout.specs.declared.Geometry.{Geometry}
 use Rattle.layout.specs.Places.{IsGeometry}
+use Rattle.tree.specs.declared.PathFrom.{PathFrom}
 use Rattle.tree.specs.declared.User.{User}
 use Rattle.tree.specs.declared.Attributes.{Attributes}
 use Rattle.tree.specs.Tree.{Tree, Node, is_file, is_directory}
@@ -31,10 +32,10 @@ use Rattle.calls_attributes.specs.Named.{Finds, FindsBy, last_walk}
 use Rattle.calls_attributes.proofs.Effects.{changing, node_changed, same_body}
 
 -- the found one, by what was answered
-pub found_ok : (g : Geometry) (d : Disk) (user : User) (path : List ℕ) (r : Result (ℕ × Inode) Errno) (n : ℕ) (i : Inode) → r ≡ Ok (n, i) → Finds g d user path r → Finds g d user path (Ok (n, i))
+pub found_ok : (g : Geometry) (d : Disk) (user : User) (path : PathFrom) (r : Result (ℕ × Inode) Errno) (n : ℕ) (i : Inode) → r ≡ Ok (n, i) → Finds g d user path r → Finds g d user path (Ok (n, i))
 found_ok g d user path r n i is h = subst (λ (x : Result (ℕ × Inode) Errno). Finds g d user path x) is h
 
-pub found_err : (g : Geometry) (d : Disk) (user : User) (path : List ℕ) (r : Result (ℕ × Inode) Errno) (e : Errno) → r ≡ Err e → Finds g d user path r → Finds g d user path (Err e)
+pub found_err : (g : Geometry) (d : Disk) (user : User) (path : PathFrom) (r : Result (ℕ × Inode) Errno) (e : Errno) → r ≡ Err e → Finds g d user path r → Finds g d user path (Err e)
 found_err g d user path r e is h = subst (λ (x : Result (ℕ × Inode) Errno). Finds g d user path x) is h
 
 -- stat and lstat
@@ -46,7 +47,7 @@ abbrev pub told_by : (Tree → Result ℕ Errno) → Tree → Effect
 told_by walk t = walk t >>= λ n. node_at t n >>= told t n
 
 -- lstat, whose walk reads the path first
-pub lstat_is : (user : User) (path : List ℕ) → told_by (λ t. last_walk t user path) ≡ (λ t. lstat t user path)
+pub lstat_is : (user : User) (path : PathFrom) → told_by (λ t. last_walk t user path) ≡ (λ t. lstat t user path)
 lstat_is user path = λ k t. after_read (read_path path) (walk_to_last t user) (λ n. node_at t n >>= told t n) k
 
 module _ (g : Geometry) (walk : Tree → Result ℕ Errno) where
@@ -111,7 +112,7 @@ module _ (mode : ℕ) (few : mode ≤ 511) (m : ℕ) where
       let parts = and_parts ((type_in m == 4) || (type_in m == 8) || (type_in m == 10)) (nat_lt (m % 8 ^ 4) (8 ^ 3)) is in
       and_from _ _ (ap (λ x. (x == 4) || (x == 8) || (x == 10)) its_type ∙ parts.0) (ap (λ x. nat_lt x (8 ^ 3)) its_bits ∙ lt-ltb mode (8 ^ 3) (omega (arith, few)))
 
-module _ (g : Geometry) (user : User) (path : List ℕ) (now mode : ℕ) where
+module _ (g : Geometry) (user : User) (path : PathFrom) (now mode : ℕ) where
   pub chmod_mode_refused : (d e : Disk) (f : Files) → e ≡ d → 511 < mode → Does g (λ t. chmod t user now path mode) (refused EINVAL) (HasFiles f) (HasFiles f) d e
   chmod_mode_refused d e f same big = record {
     each = λ t holds files. refused_made g t (chmod t user now path mode) EINVAL (HasFiles f) d e
@@ -154,7 +155,7 @@ with_owner now uid gid node = with_ctime now (record node { uid = uid; gid = gid
 abbrev edit_owner : ℕ → ℕ → ℕ → Inode → Inode
 edit_owner now uid gid i = record i { uid = uid; gid = gid; ctime = now }
 
-pub chown_done : (g : Geometry) (user : User) (path : List ℕ) (now uid gid : ℕ) (d x e : Disk) (n : ℕ) (i : Inode) (f : Files) → now < 2 ^ 32 → uid < 2 ^ 16 → gid < 2 ^ 16
+pub chown_done : (g : Geometry) (user : User) (path : PathFrom) (now uid gid : ℕ) (d x e : Disk) (n : ℕ) (i : Inode) (f : Files) → now < 2 ^ 32 → uid < 2 ^ 16 → gid < 2 ^ 16
     → IsGeometry g → Finds g d user path (Ok (n, i)) → x ≡ d → (user.uid == 0) ≡ true → Alters g (with_inode (pieces g x) n (edit_owner now uid gid i)) x e
     → Does g (λ t. chown t user now path uid gid) done (HasFiles f) (HasFiles f) d e
 chown_done g user path now uid gid d x e n i f small u v ok finds same root a =
@@ -174,7 +175,7 @@ with_times now atime mtime node = with_ctime now (record node { atime = atime; m
 abbrev edit_times : ℕ → ℕ → ℕ → Inode → Inode
 edit_times now atime mtime i = record i { atime = atime; mtime = mtime; ctime = now }
 
-pub utime_done : (g : Geometry) (user : User) (path : List ℕ) (now atime mtime : ℕ) (d x e : Disk) (n : ℕ) (i : Inode) (f : Files) → now < 2 ^ 32 → atime < 2 ^ 32 → mtime < 2 ^ 32
+pub utime_done : (g : Geometry) (user : User) (path : PathFrom) (now atime mtime : ℕ) (d x e : Disk) (n : ℕ) (i : Inode) (f : Files) → now < 2 ^ 32 → atime < 2 ^ 32 → mtime < 2 ^ 32
     → IsGeometry g → Finds g d user path (Ok (n, i)) → x ≡ d → ((node : Node) → node.uid ≡ i.uid → true ≡ is_owner user node)
     → Alters g (with_inode (pieces g x) n (edit_times now atime mtime i)) x e
     → Does g (λ t. utime t user now path atime mtime) done (HasFiles f) (HasFiles f) d e

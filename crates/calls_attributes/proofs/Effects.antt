@@ -1,10 +1,11 @@
 -- What the calls on the attributes of a node do.
-use Rattle.std.proofs.Common.{◌≡◌, ℕ, List, Bool, true, false, sym, ap, subst, ◌∙◌, Some, Ok, Err}
+use Rattle.std.proofs.Common.{◌≡◌, ℕ, Bool, true, false, sym, ap, subst, ◌∙◌, Some, Ok, Err}
 use Rattle.std.specs.Prelude.{IsTrue, Result}
 use Rattle.errno.specs.declared.Errno.{Errno}
 use Rattle.errno.specs.declared.Errno.TheVariants.{EPERM, ENOENT}
 use Rattle.layout.specs.declared.Geometry.{Geometry}
 use Rattle.layout.specs.Places.{IsGeometry}
+use Rattle.tree.specs.declared.PathFrom.{PathFrom}
 use Rattle.tree.specs.declared.User.{User}
 use Rattle.tree.specs.Tree.{Body, is_file, is_directory, Node, Tree, is_dir, names_of, parent_of, with_node}
 use Rattle.tree.specs.IsTree.{IsNode, IsTree}
@@ -45,10 +46,10 @@ pub files_stay : (f : Files) (t : Tree) (n : ℕ) (node : Node) → HasFiles f t
 files_stay f t n node h = record { opened = h.opened; descriptors = h.descriptors }
 
 -- a call that a node's owner may make, and changes the node
-abbrev pub changing : User → List ℕ → (Node → Bool) → (Node → Node) → Tree → Effect
+abbrev pub changing : User → PathFrom → (Node → Bool) → (Node → Node) → Tree → Effect
 changing user path barred change t = walk t user path >>= λ n. node_at t n >>= λ node. refuse_if (barred node) EPERM >>= λ _. Ok (done, with_node t n (Some (change node)))
 
-module _ (g : Geometry) (user : User) (path : List ℕ) (barred : Node → Bool) (change : Node → Node) where
+module _ (g : Geometry) (user : User) (path : PathFrom) (barred : Node → Bool) (change : Node → Node) where
   abbrev step : Tree → ℕ → Node → Effect
   step t n node = refuse_if (barred node) EPERM >>= λ _. Ok (done, with_node t n (Some (change node)))
 

@@ -1,14 +1,14 @@
 -- The node that a path leads to.
-use Rattle.std.proofs.Common.{◌≡◌, ℕ, List, refl, sym, ap, subst, ◌∙◌, Ok, Err}
+use Rattle.std.proofs.Common.{◌≡◌, ℕ, refl, sym, ap, subst, ◌∙◌, Ok, Err}
 use Rattle.std.specs.Prelude.{IsTrue, Result}
 use Rattle.errno.specs.declared.Errno.{Errno}
 use Rattle.errno.specs.declared.Errno.TheVariants.{ENOENT}
 use Rattle.layout.specs.declared.Geometry.{Geometry}
+use Rattle.tree.specs.declared.PathFrom.{PathFrom}
 use Rattle.tree.specs.declared.User.{User}
-use Rattle.tree.specs.Names.{Name}
 use Rattle.tree.specs.Tree.{Tree}
 use Rattle.tree.specs.Refusals.{◌>>=◌}
-use Rattle.tree.specs.Walk.{walk, walk_parts, walk_to_last, read_path, look_up, found_or, is_there, is_missing}
+use Rattle.tree.specs.Walk.{Way, walk, walk_parts, walk_to_last, read_path, look_up, found_or, is_there, is_missing}
 use Rattle.tree.specs.Walk as tree
 use Rattle.volume.specs.declared.Inode.{Inode}
 use Rattle.volume.specs.Reading.{Disk, is_inode}
@@ -37,8 +37,8 @@ after_read (Ok x) walk step = refl
 after_read (Err e) walk step = refl
 
 -- the path can't be read
-pub not_read : (g : Geometry) (d : Disk) (user : User) (path : List ℕ) (e : Errno) → read_path path ≡ Err e → Names g d user path (Err e)
-not_read g d user path e is t holds = record { answer = ap (λ (r : Result (List Name) Errno). r >>= walk_parts t user) is; there = tt }
+pub not_read : (g : Geometry) (d : Disk) (user : User) (path : PathFrom) (e : Errno) → read_path path ≡ Err e → Names g d user path (Err e)
+not_read g d user path e is t holds = record { answer = ap (λ (r : Result Way Errno). r >>= walk_parts t user) is; there = tt }
 
 -- a walk that was halted tells nothing, or the volume holds no tree
 halted : {X Y : Type 0} (g : Geometry) (d : Disk) (Q : Tree → Result Y Errno → Type 0) (P : X → Type 0) (h : Halt)
@@ -46,61 +46,61 @@ halted : {X Y : Type 0} (g : Geometry) (d : Disk) (Q : Tree → Result Y Errno �
 halted g d Q P (halt.Cut c) a = tt
 halted g d Q P halt.Unsound a = λ x. a x.tree x.holds
 
-module _ (g : Geometry) (d : Disk) (user : User) (path : List ℕ) (parts : List Name) (read : read_path path ≡ Ok parts)
-    (s : Result ℕ Stop) (walks : (t : Tree) → Holds g d t → Answers s (Walks t user parts)) where
-  named : (r : Result ℕ Errno) → ((t : Tree) → Walks t user parts r → IsNamed t (walk t user path) r)
-  named r t w = record { answer = ap (λ (x : Result (List Name) Errno). x >>= walk_parts t user) read ∙ sym w.answer; there = w.there }
+module _ (g : Geometry) (d : Disk) (user : User) (path : PathFrom) (way : Way) (read : read_path path ≡ Ok way)
+    (s : Result ℕ Stop) (walks : (t : Tree) → Holds g d t → Answers s (Walks t user way)) where
+  named : (r : Result ℕ Errno) → ((t : Tree) → Walks t user way r → IsNamed t (walk t user path) r)
+  named r t w = record { answer = ap (λ (x : Result Way Errno). x >>= walk_parts t user) read ∙ sym w.answer; there = w.there }
 
   pub walked_to : (n : ℕ) → s ≡ Ok n → Names g d user path (Ok n)
-  walked_to n is t holds = named (Ok n) t (subst (λ (x : Result ℕ Stop). Answers x (Walks t user parts)) is (walks t holds.nodes))
+  walked_to n is t holds = named (Ok n) t (subst (λ (x : Result ℕ Stop). Answers x (Walks t user way)) is (walks t holds.nodes))
 
   pub walk_refused_for : (e : Errno) → s ≡ Err (stop.Refused e) → Names g d user path (Err e)
-  walk_refused_for e is t holds = named (Err e) t (subst (λ (x : Result ℕ Stop). Answers x (Walks t user parts)) is (walks t holds.nodes))
+  walk_refused_for e is t holds = named (Err e) t (subst (λ (x : Result ℕ Stop). Answers x (Walks t user way)) is (walks t holds.nodes))
 
   pub walk_halted : {X : Type 0} (h : Halt) (P : X → Type 0) → s ≡ Err (stop.Halted h) → Ends (Err h) P (IsVolume g d)
-  walk_halted h P is = halted g d (λ t r. Walks t user parts r) P h
-      (λ t holds. subst (λ (x : Result ℕ Stop). Answers x (Walks t user parts)) is (walks t holds.nodes))
+  walk_halted h P is = halted g d (λ t r. Walks t user way r) P h
+      (λ t holds. subst (λ (x : Result ℕ Stop). Answers x (Walks t user way)) is (walks t holds.nodes))
 
 -- what a look-up found leads to the node, as it stands there
-module _ (g : Geometry) (d : Disk) (user : User) (parts : List Name)
-    (s : Result Found Stop) (looks : (t : Tree) → Holds g d t → Answers s (place.Finds g d t user parts)) where
-  looked : (r : Result Found Stop) → s ≡ r → (t : Tree) → HoldsVolume g d t → Answers r (place.Finds g d t user parts)
-  looked r is t holds = subst (λ (x : Result Found Stop). Answers x (place.Finds g d t user parts)) is (looks t holds.nodes)
+module _ (g : Geometry) (d : Disk) (user : User) (way : Way)
+    (s : Result Found Stop) (looks : (t : Tree) → Holds g d t → Answers s (place.Finds g d t user way)) where
+  looked : (r : Result Found Stop) → s ≡ r → (t : Tree) → HoldsVolume g d t → Answers r (place.Finds g d t user way)
+  looked r is t holds = subst (λ (x : Result Found Stop). Answers x (place.Finds g d t user way)) is (looks t holds.nodes)
 
-  at_last : (t : Tree) (r : Result tree.Found Errno) → look_up t user parts ≡ r
-      → walk_to_last t user parts ≡ (r >>= λ found. found_or found ENOENT)
+  at_last : (t : Tree) (r : Result tree.Found Errno) → look_up t user way ≡ r
+      → walk_to_last t user way ≡ (r >>= λ found. found_or found ENOENT)
   at_last t r is = ap (λ (x : Result tree.Found Errno). x >>= λ found. found_or found ENOENT) is
 
-  pub last_there : (n : ℕ) → s ≡ Ok (found.There n) → LeadsTo g d user parts (Ok n)
+  pub last_there : (n : ℕ) → s ≡ Ok (found.There n) → LeadsTo g d user way (Ok n)
   last_there n is t holds =
       let x = looked (Ok (found.There n)) is t holds in
       record { answer = at_last t (Ok (is_there n)) x.0; there = x.1 }
 
-  pub last_missing : (p : NamePlace) → s ≡ Ok (found.Missing p) → LeadsTo g d user parts (Err ENOENT)
+  pub last_missing : (p : NamePlace) → s ≡ Ok (found.Missing p) → LeadsTo g d user way (Err ENOENT)
   last_missing p is t holds = record {
     answer = at_last t (Ok (is_missing (place_of g d p))) (looked (Ok (found.Missing p)) is t holds).0;
     there = tt;
   }
 
-  pub last_refused : (e : Errno) → s ≡ Err (stop.Refused e) → LeadsTo g d user parts (Err e)
+  pub last_refused : (e : Errno) → s ≡ Err (stop.Refused e) → LeadsTo g d user way (Err e)
   last_refused e is t holds = record { answer = at_last t (Err e) (looked (Err (stop.Refused e)) is t holds); there = tt }
 
   pub last_halted : {X : Type 0} (h : Halt) (P : X → Type 0) → s ≡ Err (stop.Halted h) → Ends (Err h) P (IsVolume g d)
-  last_halted h P is = halted g d (λ t r. place.Finds g d t user parts r) P h (looked (Err (stop.Halted h)) is)
+  last_halted h P is = halted g d (λ t r. place.Finds g d t user way r) P h (looked (Err (stop.Halted h)) is)
 
 -- and so of the path
-pub last_not_read : (g : Geometry) (d : Disk) (user : User) (path : List ℕ) (e : Errno) → read_path path ≡ Err e
+pub last_not_read : (g : Geometry) (d : Disk) (user : User) (path : PathFrom) (e : Errno) → read_path path ≡ Err e
     → NamesLast g d user path (Err e)
 last_not_read g d user path e is t holds = record {
-  answer = ap (λ (r : Result (List Name) Errno). r >>= walk_to_last t user) is;
+  answer = ap (λ (r : Result Way Errno). r >>= walk_to_last t user) is;
   there = tt;
 }
 
-pub last_read : (g : Geometry) (d : Disk) (user : User) (path : List ℕ) (parts : List Name) → read_path path ≡ Ok parts
-    → (r : Result ℕ Errno) → LeadsTo g d user parts r → NamesLast g d user path r
-last_read g d user path parts read r leads t holds =
+pub last_read : (g : Geometry) (d : Disk) (user : User) (path : PathFrom) (way : Way) → read_path path ≡ Ok way
+    → (r : Result ℕ Errno) → LeadsTo g d user way r → NamesLast g d user path r
+last_read g d user path way read r leads t holds =
     let x = leads t holds in
-    record { answer = ap (λ (y : Result (List Name) Errno). y >>= walk_to_last t user) read ∙ x.answer; there = x.there }
+    record { answer = ap (λ (y : Result Way Errno). y >>= walk_to_last t user) read ∙ x.answer; there = x.there }
 
 -- its inode is one of the volume's
 pub its_number : (g : Geometry) (d : Disk) (walk : Tree → Result ℕ Errno) (n : ℕ) → NamesBy g d walk (Ok n) → IsVolume g d

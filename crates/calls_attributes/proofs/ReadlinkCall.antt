@@ -4,6 +4,7 @@ use Rattle.std.specs.Prelude.{Result}
 use Rattle.errno.specs.declared.Errno.{Errno}
 use Rattle.errno.specs.declared.Errno.TheVariants.{EINVAL}
 use Rattle.layout.specs.declared.Geometry.{Geometry}
+use Rattle.tree.specs.declared.PathFrom.{PathFrom}
 use Rattle.tree.specs.declared.User.{User}
 use Rattle.tree.specs.declared.LinkTarget.{LinkTarget}
 use Rattle.tree.specs.Tree.{Tree, target_of}
@@ -33,7 +34,7 @@ told t o = or_refuse o EINVAL >>= λ target. Ok (some_bytes target, t)
 abbrev by_walk : Tree → Result ℕ Errno → Effect
 by_walk t r = r >>= λ n. told t (target_of (t.nodes n))
 
-module _ (g : Geometry) (user : User) (path : List ℕ) where
+module _ (g : Geometry) (user : User) (path : PathFrom) where
   begun : (t : Tree) → readlink t user path ≡ by_walk t (last_walk t user path)
   begun t = sym (after_read (read_path path) (walk_to_last t user) (λ n. told t (target_of (t.nodes n))))
 

@@ -1,12 +1,12 @@
 -- What the paths of calls on one node lead to.
-use Rattle.std.specs.Prelude.{◌≡◌, ℕ, List, Some, Result, Ok, Err, IsTrue}
+use Rattle.std.specs.Prelude.{◌≡◌, ℕ, Some, Result, Ok, Err, IsTrue}
 use Rattle.errno.specs.declared.Errno.{Errno}
 use Rattle.layout.specs.declared.Geometry.{Geometry}
+use Rattle.tree.specs.declared.PathFrom.{PathFrom}
 use Rattle.tree.specs.declared.User.{User}
 use Rattle.tree.specs.Tree.{Tree}
-use Rattle.tree.specs.Names.{Name}
 use Rattle.tree.specs.Refusals.{◌>>=◌}
-use Rattle.tree.specs.Walk.{read_path, walk, walk_to_last}
+use Rattle.tree.specs.Walk.{Way, read_path, walk, walk_to_last}
 use Rattle.volume.specs.declared.Inode.{Inode}
 use Rattle.volume.specs.Reading.{Disk}
 use Rattle.volume.specs.Pieces.{pieces}
@@ -29,19 +29,19 @@ abbrev pub NamesBy : Geometry → Disk → (Tree → Result ℕ Errno) → Resul
 NamesBy g d walk r = (t : Tree) → HoldsVolume g d t → IsNamed t (walk t) r
 
 -- of a path
-abbrev pub Names : Geometry → Disk → User → List ℕ → Result ℕ Errno → Type 0
+abbrev pub Names : Geometry → Disk → User → PathFrom → Result ℕ Errno → Type 0
 Names g d user path r = NamesBy g d (λ t. walk t user path) r
 
 -- the walk of a path, where a link that stands last isn't followed
-abbrev pub last_walk : Tree → User → List ℕ → Result ℕ Errno
+abbrev pub last_walk : Tree → User → PathFrom → Result ℕ Errno
 last_walk t user path = read_path path >>= walk_to_last t user
 
--- of the parts of a path, so
-abbrev pub LeadsTo : Geometry → Disk → User → List Name → Result ℕ Errno → Type 0
-LeadsTo g d user parts r = NamesBy g d (λ t. walk_to_last t user parts) r
+-- of a way, so
+abbrev pub LeadsTo : Geometry → Disk → User → Way → Result ℕ Errno → Type 0
+LeadsTo g d user way r = NamesBy g d (λ t. walk_to_last t user way) r
 
 -- and of a path
-abbrev pub NamesLast : Geometry → Disk → User → List ℕ → Result ℕ Errno → Type 0
+abbrev pub NamesLast : Geometry → Disk → User → PathFrom → Result ℕ Errno → Type 0
 NamesLast g d user path r = NamesBy g d (λ t. last_walk t user path) r
 
 -- the walk w leads to this inode, whose node is there
@@ -60,9 +60,9 @@ FindsNode g d t w (Err e) = w ≡ Err e
 abbrev pub FindsBy : Geometry → Disk → (Tree → Result ℕ Errno) → Result (ℕ × Inode) Errno → Type 0
 FindsBy g d walk r = (t : Tree) → HoldsVolume g d t → FindsNode g d t (walk t) r
 
-abbrev pub Finds : Geometry → Disk → User → List ℕ → Result (ℕ × Inode) Errno → Type 0
+abbrev pub Finds : Geometry → Disk → User → PathFrom → Result (ℕ × Inode) Errno → Type 0
 Finds g d user path r = FindsBy g d (λ t. walk t user path) r
 
 -- where a link that stands last isn't followed
-abbrev pub FindsLast : Geometry → Disk → User → List ℕ → Result (ℕ × Inode) Errno → Type 0
+abbrev pub FindsLast : Geometry → Disk → User → PathFrom → Result (ℕ × Inode) Errno → Type 0
 FindsLast g d user path r = FindsBy g d (λ t. last_walk t user path) r

@@ -17,7 +17,7 @@ use inode::attributes;
 use inode::inode_table::store;
 use layout::Geometry;
 use path::{NameCache, is_owner};
-use tree::{MAX_PERMISSIONS, Reply, User};
+use tree::{MAX_PERMISSIONS, PathFrom, Reply, User};
 
 /// stat: the attributes of the node to which a path leads.
 pub fn stat<B: Blocks>(
@@ -25,12 +25,12 @@ pub fn stat<B: Blocks>(
     names: &mut NameCache,
     geometry: &Geometry,
     user: User,
-    path: &[u8],
+    path: PathFrom,
     reply: &mut Reply,
 ) -> Result<(), Halt>
     requires on { IsOn B.world geometry.now blocks.old }
     ensures turns { Turns B.world blocks.old blocks.new (λ d e. (f : Files) →
-        Meets geometry.now (λ t. stat t user path.now) result reply.new (HasFiles f) (HasFiles f) d e) }
+        Meets geometry.now (λ t. stat t user path.entry) result reply.new (HasFiles f) (HasFiles f) d e) }
     ensures halt { IfErr result (λ h. IsHalt B.world blocks.new h) }
     ensures proper { OnOk result (answer_of reply.new ≢ refused Errno.EIO) }
 {
@@ -56,13 +56,13 @@ pub fn chmod<B: Blocks>(
     geometry: &Geometry,
     user: User,
     now: u32,
-    path: &[u8],
+    path: PathFrom,
     mode: u16,
     reply: &mut Reply,
 ) -> Result<(), Halt>
     requires on { IsOn B.world geometry.now blocks.old }
     ensures turns { Turns B.world blocks.old blocks.new (λ d e. (f : Files) →
-        Meets geometry.now (λ t. chmod t user now path.now mode) result reply.new (HasFiles f) (HasFiles f) d e) }
+        Meets geometry.now (λ t. chmod t user now path.entry mode) result reply.new (HasFiles f) (HasFiles f) d e) }
     ensures halt { IfErr result (λ h. IsHalt B.world blocks.new h) }
     ensures proper { OnOk result (answer_of reply.new ≢ refused Errno.EIO) }
 {
@@ -96,14 +96,14 @@ pub fn chown<B: Blocks>(
     geometry: &Geometry,
     user: User,
     now: u32,
-    path: &[u8],
+    path: PathFrom,
     uid: u16,
     gid: u16,
     reply: &mut Reply,
 ) -> Result<(), Halt>
     requires on { IsOn B.world geometry.now blocks.old }
     ensures turns { Turns B.world blocks.old blocks.new (λ d e. (f : Files) →
-        Meets geometry.now (λ t. chown t user now path.now uid gid) result reply.new (HasFiles f) (HasFiles f) d e) }
+        Meets geometry.now (λ t. chown t user now path.entry uid gid) result reply.new (HasFiles f) (HasFiles f) d e) }
     ensures halt { IfErr result (λ h. IsHalt B.world blocks.new h) }
     ensures proper { OnOk result (answer_of reply.new ≢ refused Errno.EIO) }
 {
@@ -134,14 +134,14 @@ pub fn utime<B: Blocks>(
     geometry: &Geometry,
     user: User,
     now: u32,
-    path: &[u8],
+    path: PathFrom,
     atime: u32,
     mtime: u32,
     reply: &mut Reply,
 ) -> Result<(), Halt>
     requires on { IsOn B.world geometry.now blocks.old }
     ensures turns { Turns B.world blocks.old blocks.new (λ d e. (f : Files) →
-        Meets geometry.now (λ t. utime t user now path.now atime mtime) result reply.new (HasFiles f) (HasFiles f) d e) }
+        Meets geometry.now (λ t. utime t user now path.entry atime mtime) result reply.new (HasFiles f) (HasFiles f) d e) }
     ensures halt { IfErr result (λ h. IsHalt B.world blocks.new h) }
     ensures proper { OnOk result (answer_of reply.new ≢ refused Errno.EIO) }
 {

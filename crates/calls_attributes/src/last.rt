@@ -11,7 +11,7 @@ use errno::Errno;
 use inode::inode_table::load;
 use layout::Geometry;
 use path::{Found, NameCache, Path, Stop, look_up};
-use tree::User;
+use tree::{PathFrom, User};
 use volume::Inode;
 
 /// The number of the inode to which a path leads, where a symbolic link that stands last isn't followed; or the refusal of the walk, ENOENT
@@ -43,11 +43,11 @@ fn named_last<B: Blocks>(
     names: &mut NameCache,
     geometry: &Geometry,
     user: User,
-    path: &[u8],
+    path: PathFrom,
 ) -> Result<Result<u32, Errno>, Halt>
     requires on { IsOn B.world geometry.now blocks.old }
     ensures reads { Reads B.world blocks.old blocks.new (λ d. Ends result
-        (λ r. NamesLast geometry.now d user path.now r) (IsVolume geometry.now d)) }
+        (λ r. NamesLast geometry.now d user path.entry r) (IsVolume geometry.now d)) }
     ensures halt { IfErr result (λ h. IsHalt B.world blocks.new h) }
     ensures proper { IfOk result (λ r. IfErr r (λ e. e ≢ Errno.EIO)) }
 {
@@ -64,11 +64,11 @@ pub fn find_last<B: Blocks>(
     names: &mut NameCache,
     geometry: &Geometry,
     user: User,
-    path: &[u8],
+    path: PathFrom,
 ) -> Result<Result<(u32, Inode), Errno>, Halt>
     requires on { IsOn B.world geometry.now blocks.old }
     ensures reads { Reads B.world blocks.old blocks.new (λ d. Ends result
-        (λ r. FindsLast geometry.now d user path.now r) (IsVolume geometry.now d)) }
+        (λ r. FindsLast geometry.now d user path.entry r) (IsVolume geometry.now d)) }
     ensures halt { IfErr result (λ h. IsHalt B.world blocks.new h) }
     ensures proper { IfOk result (λ r. IfErr r (λ e. e ≢ Errno.EIO)) }
 {

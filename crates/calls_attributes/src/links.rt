@@ -21,7 +21,7 @@ use file::file_pages::reading::read_at;
 use inode::attributes;
 use layout::Geometry;
 use path::NameCache;
-use tree::{LinkTarget, MAX_TARGET, Reply, User};
+use tree::{LinkTarget, MAX_TARGET, PathFrom, Reply, User};
 use volume::Inode;
 
 /// lstat: the attributes of the node to which a path leads, of a symbolic link that stands last its own.
@@ -30,12 +30,12 @@ pub fn lstat<B: Blocks>(
     names: &mut NameCache,
     geometry: &Geometry,
     user: User,
-    path: &[u8],
+    path: PathFrom,
     reply: &mut Reply,
 ) -> Result<(), Halt>
     requires on { IsOn B.world geometry.now blocks.old }
     ensures turns { Turns B.world blocks.old blocks.new (λ d e. (f : Files) →
-        Meets geometry.now (λ t. lstat t user path.now) result reply.new (HasFiles f) (HasFiles f) d e) }
+        Meets geometry.now (λ t. lstat t user path.entry) result reply.new (HasFiles f) (HasFiles f) d e) }
     ensures halt { IfErr result (λ h. IsHalt B.world blocks.new h) }
     ensures proper { OnOk result (answer_of reply.new ≢ refused Errno.EIO) }
 {
@@ -74,12 +74,12 @@ pub fn readlink<B: Blocks>(
     names: &mut NameCache,
     geometry: &Geometry,
     user: User,
-    path: &[u8],
+    path: PathFrom,
     reply: &mut Reply,
 ) -> Result<(), Halt>
     requires on { IsOn B.world geometry.now blocks.old }
     ensures turns { Turns B.world blocks.old blocks.new (λ d e. (f : Files) →
-        Meets geometry.now (λ t. readlink t user path.now) result reply.new (HasFiles f) (HasFiles f) d e) }
+        Meets geometry.now (λ t. readlink t user path.entry) result reply.new (HasFiles f) (HasFiles f) d e) }
     ensures halt { IfErr result (λ h. IsHalt B.world blocks.new h) }
     ensures proper { OnOk result (answer_of reply.new ≢ refused Errno.EIO) }
 {

@@ -11,7 +11,7 @@ use errno::Errno;
 use inode::inode_table::load;
 use layout::Geometry;
 use path::{NameCache, Path, Stop, walk};
-use tree::User;
+use tree::{PathFrom, User};
 use volume::Inode;
 
 /// The number of the inode to which a path leads, or the refusal of the path or of the walk.
@@ -20,11 +20,11 @@ fn named<B: Blocks>(
     names: &mut NameCache,
     geometry: &Geometry,
     user: User,
-    path: &[u8],
+    path: PathFrom,
 ) -> Result<Result<u32, Errno>, Halt>
     requires on { IsOn B.world geometry.now blocks.old }
     ensures reads { Reads B.world blocks.old blocks.new (λ d. Ends result
-        (λ r. Names geometry.now d user path.now r) (IsVolume geometry.now d)) }
+        (λ r. Names geometry.now d user path.entry r) (IsVolume geometry.now d)) }
     ensures halt { IfErr result (λ h. IsHalt B.world blocks.new h) }
     ensures proper { IfOk result (λ r. IfErr r (λ e. e ≢ Errno.EIO)) }
 {
@@ -32,7 +32,7 @@ fn named<B: Blocks>(
         Ok(path) => path,
         Err(errno) => return Ok(Err(errno)),
     };
-    match walk(blocks, names, geometry, user, path.parts()) {
+    match walk(blocks, names, geometry, user, &path) {
         Ok(number) => Ok(Ok(number)),
         Err(Stop::Refused(errno)) => Ok(Err(errno)),
         Err(Stop::Halted(halt)) => Err(halt),
@@ -46,11 +46,11 @@ pub fn find_node<B: Blocks>(
     names: &mut NameCache,
     geometry: &Geometry,
     user: User,
-    path: &[u8],
+    path: PathFrom,
 ) -> Result<Result<(u32, Inode), Errno>, Halt>
     requires on { IsOn B.world geometry.now blocks.old }
     ensures reads { Reads B.world blocks.old blocks.new (λ d. Ends result
-        (λ r. Finds geometry.now d user path.now r) (IsVolume geometry.now d)) }
+        (λ r. Finds geometry.now d user path.entry r) (IsVolume geometry.now d)) }
     ensures halt { IfErr result (λ h. IsHalt B.world blocks.new h) }
     ensures proper { IfOk result (λ r. IfErr r (λ e. e ≢ Errno.EIO)) }
 {

@@ -10,29 +10,29 @@ ghost use Rattle.block_store.specs.Halts.{IsHalt};
 ghost use Rattle.calls_attributes.specs.Does.{Meets};
 
 use block_store::{Blocks, Halt};
-use calls_attributes::found::is_directory;
+use calls_attributes::found::{is_directory, is_link};
 use calls_attributes::named::find_node;
 use errno::Errno;
 use inode_operations::set_size_at;
 use layout::Geometry;
 use path::{NameCache, Wish, may};
-use tree::{MAX_SIZE, Reply, User};
+use tree::{MAX_SIZE, PathFrom, Reply, User};
 
 /// truncate: the size of a file; what lies past it is gone, and what is new reads as zeros. EFBIG of more than 2147483647 bytes, else the
-/// refusals of the path, else EISDIR of a directory, else EACCES where the user may not write the file.
+/// refusals of the path, else EISDIR of a directory and of a link, else EACCES where the user may not write the file.
 pub fn truncate<B: Blocks>(
     blocks: &mut B,
     names: &mut NameCache,
     geometry: &Geometry,
     user: User,
     now: u32,
-    path: &[u8],
+    path: PathFrom,
     size: u32,
     reply: &mut Reply,
 ) -> Result<(), Halt>
     requires on { IsOn B.world geometry.now blocks.old }
     ensures turns { Turns B.world blocks.old blocks.new (λ d e. (f : Files) →
-        Meets geometry.now (λ t. truncate geometry.now t user now path.now size) result reply.new (HasFiles f) (HasFiles f) d e) }
+        Meets geometry.now (λ t. truncate geometry.now t user now path.entry size) result reply.new (HasFiles f) (HasFiles f) d e) }
     ensures halt { IfErr result (λ h. IsHalt B.world blocks.new h) }
     ensures proper { OnOk result (answer_of reply.new ≢ refused Errno.EIO) }
 {
@@ -42,7 +42,7 @@ pub fn truncate<B: Blocks>(
     }
     match find_node(blocks, names, geometry, user, path)? {
         Ok((number, inode)) => {
-            if is_directory(&inode) {
+            if is_directory(&inode) || is_link(&inode) {
                 *reply = Reply::Refused(Errno::EISDIR);
                 return Ok(());
             }

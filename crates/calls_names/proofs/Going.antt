@@ -1,14 +1,14 @@
 -- An empty directory goes.
-use Rattle.std.proofs.Common.{◌≡◌, ◌≢◌, ◌≤◌, ◌<◌, ◌+◌, ◌*◌, ◌^◌, ℕ, List, length, Bool, true, false, Option, Some, None, Ok, Err, refl, sym, ap, subst, ◌∙◌, arith}
+use Rattle.std.proofs.Common.{◌≡◌, ◌≢◌, ◌≤◌, ◌<◌, ◌+◌, ◌*◌, ◌^◌, ℕ, length, Bool, true, false, Option, Some, None, Ok, Err, refl, sym, ap, subst, ◌∙◌, arith}
 use mathlib.Core.Logic.{inl, inr}
 use Rattle.std.specs.Prelude.{nat_le, not, ◌==◌, if◌then◌else◌}
-use Rattle.std.specs.Borrow.{Bor}
 use Rattle.std.proofs.lemmas.Bool.{and_parts, cases_eq, eq-eqb, leb-true, ne_eqb}
 use Rattle.lemmas.proofs.Bools.{false_not_true}
 use Rattle.errno.specs.declared.Errno.{Errno}
 use Rattle.errno.specs.declared.Errno.TheVariants.{EBUSY, ENOTDIR, ENOTEMPTY}
 use Rattle.layout.specs.declared.Geometry.{Geometry}
 use Rattle.layout.specs.Places.{IsGeometry}
+use Rattle.tree.specs.declared.PathFrom.{PathFrom}
 use Rattle.tree.specs.declared.User.{User}
 use Rattle.tree.specs.Sums.{put}
 use Rattle.tree.specs.Names.{Names, without_name}
@@ -106,41 +106,41 @@ link_less now change node (is_directory d) is dir =
     let known : with_names now change node ≡ with_names now change (record node { body = is_directory d }) = ap (λ (b : Body). with_names now change (record node { body = b })) is in
     ap (with_link_lost now) known ∙ sym (ap (fewer_links 1) known)
 
-module _ (g : Geometry) (user : User) (path : Bor (List ℕ)) (now : ℕ) (f : Files) (d : Disk) where
+module _ (g : Geometry) (user : User) (path : PathFrom) (now : ℕ) (f : Files) (d : Disk) where
   -- the name is refused
-  pub rmdir_refused : (e : Disk) (error : Errno) → e ≡ d → FindsName g d user path.now (Err error)
-      → Does g (λ t. rmdir t user now path.now) (refused error) (HasFiles f) (HasFiles f) d e
+  pub rmdir_refused : (e : Disk) (error : Errno) → e ≡ d → FindsName g d user path (Err error)
+      → Does g (λ t. rmdir t user now path) (refused error) (HasFiles f) (HasFiles f) d e
   rmdir_refused e error same finds = record {
-    each = λ t holds files. refused_made g t (rmdir t user now path.now) error (HasFiles f) d e (finds t holds (takes t now)) same holds files;
+    each = λ t holds files. refused_made g t (rmdir t user now path) error (HasFiles f) d e (finds t holds (takes t now)) same holds files;
   }
 
-  module _ (ok : IsGeometry g) (x : Named) (finds : FindsName g d user path.now (Ok x)) where
+  module _ (ok : IsGeometry g) (x : Named) (finds : FindsName g d user path (Ok x)) where
     abbrev place : Place
     place = place_at g d x
 
     abbrev before_it : Node
-    before_it = target g ok user path.now now d x finds
+    before_it = target g ok user path now d x finds
 
     sized : (t : Tree) → HoldsVolume g d t → x.inode.size ≡ size_of before_it.body
     sized t holds =
         ap (λ (i : Inode). i.size) (finds t holds).loaded
-        ∙ (node_stands g d d t.nodes x.number before_it ok (nothing_is_done g d t holds) (target_there g ok user path.now now d x finds t holds)).size
+        ∙ (node_stands g d d t.nodes x.number before_it ok (nothing_is_done g d t holds) (target_there g ok user path now d x finds t holds)).size
 
     empty_is : (t : Tree) → HoldsVolume g d t → is_dir before_it ≡ true → is_empty before_it ≡ (x.inode.size == 128)
     empty_is t holds dir = no_names_by_size before_it before_it.body x.inode.size refl dir (sized t holds)
 
     low : (t : Tree) → HoldsVolume g d t → x.number ≤ 65535
     low t holds =
-        let marked = (node_stands g d d t.nodes x.number before_it ok (nothing_is_done g d t holds) (target_there g ok user path.now now d x finds t holds)).of.marked in
+        let marked = (node_stands g d d t.nodes x.number before_it ok (nothing_is_done g d t holds) (target_there g ok user path now d x finds t holds)).of.marked in
         let most = leb-true x.number g.inodes (and_parts (nat_le 1 x.number) (nat_le x.number g.inodes) (inode_is g (pieces g d) x.number marked)).1 in
         let few = ok.inodes in
         omega (arith, most, few)
 
     effect_is : (t : Tree) → HoldsVolume g d t → HasFiles f t → (o : Option Errno) → (x.number ≤ 65535 → why_kept f x ≡ o)
-        → rmdir t user now path.now ≡ or_else (Ok (done, without t now place x.number)) o
+        → rmdir t user now path ≡ or_else (Ok (done, without t now place x.number)) o
     effect_is t holds files o is =
         let effect : Effect = Ok (done, without t now place x.number) in
-        let kind = target_kind g ok user path.now now d x finds t holds in
+        let kind = target_kind g ok user path now d x finds t holds in
         (finds t holds).goes_on (takes t now)
         ∙ ap (λ (i : Inode). takes t now place x.number (node_of g (pieces g d) i)) (finds t holds).loaded
         ∙ second (is_dir before_it) (is_empty before_it) (is_open t x.number) (x.inode.size == 128) effect (λ dir. empty_is t holds dir)
@@ -151,9 +151,9 @@ module _ (g : Geometry) (user : User) (path : Bor (List ℕ)) (now : ℕ) (f : F
         ∙ ap (or_else effect) (is (low t holds))
 
     -- it may not go
-    pub rmdir_kept : (e : Disk) (error : Errno) → e ≡ d → (x.number ≤ 65535 → why_kept f x ≡ Some error) → Does g (λ t. rmdir t user now path.now) (refused error) (HasFiles f) (HasFiles f) d e
+    pub rmdir_kept : (e : Disk) (error : Errno) → e ≡ d → (x.number ≤ 65535 → why_kept f x ≡ Some error) → Does g (λ t. rmdir t user now path) (refused error) (HasFiles f) (HasFiles f) d e
     rmdir_kept e error same is = record {
-      each = λ t holds files. refused_made g t (rmdir t user now path.now) error (HasFiles f) d e (effect_is t holds files (Some error) is) same holds files;
+      each = λ t holds files. refused_made g t (rmdir t user now path) error (HasFiles f) d e (effect_is t holds files (Some error) is) same holds files;
     }
 
     module _ (small : now < 2 ^ 32) (free : x.number ≤ 65535 → why_kept f x ≡ None) (m0 m : Disk) (same : m0 ≡ d) (removes : Removes g x.directory x.name.now now m0 m) where
@@ -162,23 +162,23 @@ module _ (g : Geometry) (user : User) (path : Bor (List ℕ)) (now : ℕ) (f : F
         may_go = passed (is_directory_mode x.inode.mode) (x.inode.size == 128) (is_open (tree_with f) x.number) (free (low t holds))
 
         abbrev shorter : Node
-        shorter = less g ok user path.now now d x finds
+        shorter = less g ok user path now d x finds
 
         abbrev first : ℕ → Option Node
         first = put t.nodes x.directory (Some shorter)
 
         there : t.nodes x.number ≡ Some before_it
-        there = target_there g ok user path.now now d x finds t holds
+        there = target_there g ok user path now d x finds t holds
 
         kind : is_dir before_it ≡ true
-        kind = target_kind g ok user path.now now d x finds t holds ∙ may_go.first
+        kind = target_kind g ok user path now d x finds t holds ∙ may_go.first
 
         apart : x.number ≢ x.directory
-        apart e = gone_apart g t holds.nodes.tree now small place (placed g ok user path.now now d x finds t holds) x.number (finds t holds).found (ap kind_of there ∙ kind)
+        apart e = gone_apart g t holds.nodes.tree now small place (placed g ok user path now d x finds t holds) x.number (finds t holds).found (ap kind_of there ∙ kind)
             (empty_weighs t x.number before_it there (empty_is t holds kind ∙ may_go.next)) (sym e)
 
         gone : Stands g d m first
-        gone = name_gone g ok user path.now now d x finds t holds m0 m same removes
+        gone = name_gone g ok user path now d x finds t holds m0 m same removes
 
         pub parent_stands : NodeIs g m x.directory shorter
         parent_stands = node_stands g d m first x.directory shorter ok gone (put-same t.nodes x.directory (Some shorter))
@@ -209,14 +209,14 @@ module _ (g : Geometry) (user : User) (path : Bor (List ℕ)) (now : ℕ) (f : F
             tree_is : without t now place x.number ≡ after
             tree_is =
                 ap (λ (u : Tree). with_node (on_node u x.directory (fewer_links 1)) x.number None)
-                (on_node_there t x.directory (with_names now (λ names. without_name names x.name.now)) (parent g ok user path.now now d x finds) (parent_there g ok user path.now now d x finds t holds))
+                (on_node_there t x.directory (with_names now (λ names. without_name names x.name.now)) (parent g ok user path now d x finds) (parent_there g ok user path now d x finds t holds))
                 ∙ ap (λ (u : Tree). with_node u x.number None) (on_node_there (with_node t x.directory (Some shorter)) x.directory (fewer_links 1) shorter (put-same t.nodes x.directory (Some shorter)))
                 ∙ ap (λ (y : Node). with_node (with_node (with_node t x.directory (Some shorter)) x.directory (Some y)) x.number None)
-                (sym (link_less now (λ names. without_name names x.name.now) (parent g ok user path.now now d x finds) (parent g ok user path.now now d x finds).body refl
-                (parent_kind g ok user path.now now d x finds t holds)))
+                (sym (link_less now (λ names. without_name names x.name.now) (parent g ok user path now d x finds) (parent g ok user path now d x finds).body refl
+                (parent_kind g ok user path now d x finds t holds)))
 
             module _ (files : HasFiles f t) where
-              effect : rmdir t user now path.now ≡ Ok (done, after)
+              effect : rmdir t user now path ≡ Ok (done, after)
               effect = effect_is t holds files None free ∙ ap (λ (u : Tree). Ok (done, u)) tree_is
 
               is_tree : IsTree g after
@@ -234,10 +234,10 @@ module _ (g : Geometry) (user : User) (path : Bor (List ℕ)) (now : ℕ) (f : F
       may_free p drops h = (directory_stands h.tree h.holds p drops).of
 
       -- and then the call is done
-      pub removed : (p e : Disk) → DropsLink g x.directory now m p → FreesNode g x.number p e → Does g (λ t. rmdir t user now path.now) done (HasFiles f) (HasFiles f) d e
+      pub removed : (p e : Disk) → DropsLink g x.directory now m p → FreesNode g x.number p e → Does g (λ t. rmdir t user now path) done (HasFiles f) (HasFiles f) d e
       removed p e drops frees = record {
         each = λ t holds files.
-            granted_made g t (after t holds p drops e frees) (rmdir t user now path.now) done (HasFiles f) e (effect t holds p drops e frees files) (held_after t holds p drops e frees files)
+            granted_made g t (after t holds p drops e frees) (rmdir t user now path) done (HasFiles f) e (effect t holds p drops e frees files) (held_after t holds p drops e frees files)
             (record { opened = files.opened; descriptors = files.descriptors });
       }
 

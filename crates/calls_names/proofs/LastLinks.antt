@@ -1,17 +1,13 @@
 -- What open looks up: a symbolic link that stands last is followed, unless it is taken as it is.
-use Rattle.std.proofs.Common.{◌≡◌, ℕ, List, Bool, true, false, refl, sym, ap, ◌∙◌, Ok, Err, None, Some}
+use Rattle.std.proofs.Common.{◌≡◌, ℕ, Bool, true, false, refl, sym, ap, ◌∙◌, Ok, Err, None, Some}
 use Rattle.std.specs.Prelude.{IsTrue, Option, Result, ◌&&◌, if◌then◌else◌, is_some, not}
-use Rattle.lemmas.proofs.Bools.{false_not_true}
 use Rattle.errno.specs.declared.Errno.{Errno}
 use Rattle.layout.specs.declared.Geometry.{Geometry}
 use Rattle.tree.specs.declared.User.{User}
-use Rattle.tree.specs.Names.{Name}
-use Rattle.tree.specs.IsTree.{HasTarget, IsTree}
-use Rattle.tree.specs.Tree.{Body, Node, Tree, is_dir_at, is_directory, is_file, is_link_at}
+use Rattle.tree.specs.Tree.{Node, Tree, is_link_at}
 use Rattle.tree.specs.Refusals.{◌>>=◌}
-use Rattle.tree.specs.Walk.{Found, finds_link, is_missing, is_there, look_up, open_look_up, walk_parts}
+use Rattle.tree.specs.Walk.{Found, finds_link, is_missing, is_there, look_up, open_look_up, walk_parts, Way}
 use Rattle.tree.specs.Walk as tree
-use Rattle.tree.proofs.Walks.{walk_ends_at_no_link}
 use Rattle.volume.specs.declared.Inode.{Inode}
 use Rattle.volume.specs.Holds.{HoldsVolume}
 use Rattle.volume.specs.Nodes.{is_link_mode}
@@ -21,20 +17,20 @@ use Rattle.path.specs.Walking.{Walks}
 use Rattle.calls_attributes.proofs.Made.{node_there}
 use Rattle.calls_names.specs.Opening.{IsFoundToOpen}
 
-module _ (t : Tree) (user : User) (as_is : Bool) (parts : List Name) where
+module _ (t : Tree) (user : User) (as_is : Bool) (way : Way) where
   abbrev whole : Result Found Errno
-  whole = walk_parts t user parts >>= λ n. Ok (is_there n)
+  whole = walk_parts t user way >>= λ n. Ok (is_there n)
 
   abbrev after_look : Found → Result Found Errno
   after_look found = if not as_is && finds_link t found then whole else Ok found
 
   -- the look-up is refused
-  pub look_refused : (e : Errno) → look_up t user parts ≡ Err e → open_look_up t user as_is parts ≡ Err e
+  pub look_refused : (e : Errno) → look_up t user way ≡ Err e → open_look_up t user as_is way ≡ Err e
   look_refused e is = ap (λ r. r >>= after_look) is
 
   -- a name is missing
-  pub look_missing : (place : tree.Place) → look_up t user parts ≡ Ok (is_missing place)
-      → open_look_up t user as_is parts ≡ Ok (is_missing place)
+  pub look_missing : (place : tree.Place) → look_up t user way ≡ Ok (is_missing place)
+      → open_look_up t user as_is way ≡ Ok (is_missing place)
   look_missing place is = ap (λ r. r >>= after_look) is ∙ ap (λ b. if b then whole else Ok (is_missing place)) (no_link (not as_is))
     where
       no_link : (b : Bool) → (b && false) ≡ false
@@ -42,12 +38,12 @@ module _ (t : Tree) (user : User) (as_is : Bool) (parts : List Name) where
       no_link false = refl
 
   -- what is there stays, or is followed
-  look_stays : (n : ℕ) → look_up t user parts ≡ Ok (is_there n) → (not as_is && is_link_at t.nodes n) ≡ false
-      → open_look_up t user as_is parts ≡ Ok (is_there n)
+  look_stays : (n : ℕ) → look_up t user way ≡ Ok (is_there n) → (not as_is && is_link_at t.nodes n) ≡ false
+      → open_look_up t user as_is way ≡ Ok (is_there n)
   look_stays n is stays = ap (λ r. r >>= after_look) is ∙ ap (λ b. if b then whole else Ok (is_there n)) stays
 
-  look_follows : (n : ℕ) → look_up t user parts ≡ Ok (is_there n) → (not as_is && is_link_at t.nodes n) ≡ true
-      → open_look_up t user as_is parts ≡ whole
+  look_follows : (n : ℕ) → look_up t user way ≡ Ok (is_there n) → (not as_is && is_link_at t.nodes n) ≡ true
+      → open_look_up t user as_is way ≡ whole
   look_follows n is follows = ap (λ r. r >>= after_look) is ∙ ap (λ b. if b then whole else Ok (is_there n)) follows
 
 -- whether a link stands there is in its inode
@@ -58,31 +54,13 @@ link_is g d t n holds there i loaded =
     ap (λ (o : Option Node). elim o [ None ↦ false | Some node ↦ node.symbolic ]) (node_there g d t n holds there).1
     ∙ ap (λ (j : Inode). is_link_mode j.mode) (sym loaded)
 
--- the root of a tree is no link
-root_no_link : (g : Geometry) (t : Tree) → IsTree g t → is_link_at t.nodes 1 ≡ false
-root_no_link g t tree = by_node (t.nodes 1) refl
-  where
-    by_body : (symbolic : Bool) (body : Body) → (IsTrue symbolic → HasTarget body)
-        → (elim body [ is_file f ↦ false | is_directory d ↦ true ]) ≡ true → symbolic ≡ false
-    by_body false body target is = refl
-    by_body true (is_file f) target is = absurd (false_not_true is)
-    by_body true (is_directory d) target is = absurd (target refl)
-
-    by_node : (o : Option Node) → t.nodes 1 ≡ o → is_link_at t.nodes 1 ≡ false
-    by_node None e = ap (λ (o : Option Node). elim o [ None ↦ false | Some node ↦ node.symbolic ]) e
-    by_node (Some node) e =
-        ap (λ (o : Option Node). elim o [ None ↦ false | Some x ↦ x.symbolic ]) e
-        ∙ by_body node.symbolic node.body (tree.nodes.each 1 node e).target
-        (sym (ap (λ (o : Option Node). is_dir_at (λ _. o) 1) e) ∙ tree.nodes.root)
-
-module _ (g : Geometry) (d : Disk) (t : Tree) (user : User) (as_is : Bool) (parts : List Name) (holds : HoldsVolume g d t) (n : ℕ)
-    (looked : look_up t user parts ≡ Ok (is_there n)) (there : IsTrue (is_some (t.nodes n))) where
+module _ (g : Geometry) (d : Disk) (t : Tree) (user : User) (as_is : Bool) (way : Way) (holds : HoldsVolume g d t) (n : ℕ)
+    (looked : look_up t user way ≡ Ok (is_there n)) (there : IsTrue (is_some (t.nodes n))) where
   -- what is found is taken as it is
-  pub found_as_is : as_is ≡ true → IsFoundToOpen t user as_is parts n
+  pub found_as_is : as_is ≡ true → IsFoundToOpen t user as_is way n
   found_as_is is = record {
-    found = look_stays t user as_is parts n looked (ap (λ b. not b && is_link_at t.nodes n) is);
+    found = look_stays t user as_is way n looked (ap (λ b. not b && is_link_at t.nodes n) is);
     there = there;
-    no_link = λ other. absurd (false_not_true (sym other ∙ is));
   }
 
   module _ (follows : as_is ≡ false) (i : Inode) (loaded : i ≡ (pieces g d).inodes n) where
@@ -90,21 +68,19 @@ module _ (g : Geometry) (d : Disk) (t : Tree) (user : User) (as_is : Bool) (part
     its_kind link is = ap (λ b. not b && is_link_at t.nodes n) follows ∙ link_is g d t n holds there i loaded ∙ is
 
     -- it is no link
-    pub found_no_link : is_link_mode i.mode ≡ false → IsFoundToOpen t user as_is parts n
+    pub found_no_link : is_link_mode i.mode ≡ false → IsFoundToOpen t user as_is way n
     found_no_link is = record {
-      found = look_stays t user as_is parts n looked (its_kind false is);
+      found = look_stays t user as_is way n looked (its_kind false is);
       there = there;
-      no_link = λ other. link_is g d t n holds there i loaded ∙ is;
     }
 
     -- it is one, and the whole path is walked
     module _ (is : is_link_mode i.mode ≡ true) where
-      pub walk_found : (m : ℕ) → Walks t user parts (Ok m) → IsFoundToOpen t user as_is parts m
+      pub walk_found : (m : ℕ) → Walks t user way (Ok m) → IsFoundToOpen t user as_is way m
       walk_found m w = record {
-        found = look_follows t user as_is parts n looked (its_kind true is) ∙ ap (λ r. r >>= λ k. Ok (is_there k)) (sym w.answer);
+        found = look_follows t user as_is way n looked (its_kind true is) ∙ ap (λ r. r >>= λ k. Ok (is_there k)) (sym w.answer);
         there = w.there;
-        no_link = λ other. walk_ends_at_no_link t user parts m (root_no_link g t holds.nodes.tree) (sym w.answer);
       }
 
-      pub walk_refused : (e : Errno) → Walks t user parts (Err e) → open_look_up t user as_is parts ≡ Err e
-      walk_refused e w = look_follows t user as_is parts n looked (its_kind true is) ∙ ap (λ r. r >>= λ k. Ok (is_there k)) (sym w.answer)
+      pub walk_refused : (e : Errno) → Walks t user way (Err e) → open_look_up t user as_is way ≡ Err e
+      walk_refused e w = look_follows t user as_is way n looked (its_kind true is) ∙ ap (λ r. r >>= λ k. Ok (is_there k)) (sym w.answer)

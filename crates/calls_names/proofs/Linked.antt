@@ -1,8 +1,7 @@
 -- Link, once its paths are read.
-use Rattle.std.proofs.Common.{◌≡◌, ◌≢◌, ◌<◌, ◌≤◌, ◌+◌, ◌*◌, ◌^◌, ℕ, List, length, Bool, true, false, Option, Some, None, Ok, Err, refl, sym, ap, subst, ◌∙◌, arith}
+use Rattle.std.proofs.Common.{◌≡◌, ◌≢◌, ◌<◌, ◌≤◌, ◌+◌, ◌*◌, ◌^◌, ℕ, length, Bool, true, false, Option, Some, None, Ok, Err, refl, sym, ap, subst, ◌∙◌, arith}
 use mathlib.Core.Logic.{inl, inr}
 use Rattle.std.specs.Prelude.{IsTrue, Result, not, nat_le, nat_lt, ◌==◌, ◌||◌, ◌&&◌, if◌then◌else◌}
-use Rattle.std.specs.Borrow.{Bor}
 use Rattle.std.specs.List.{All, list_any}
 use Rattle.std.proofs.lemmas.Bool.{and_parts, cases_eq, cases_lt, cond-true, le-ltb, leb-true, lt-ltb}
 use Rattle.lemmas.proofs.Bools.{false_not_true}
@@ -10,13 +9,14 @@ use Rattle.errno.specs.declared.Errno.{Errno}
 use Rattle.errno.specs.declared.Errno.TheVariants.{ENOSPC}
 use Rattle.layout.specs.declared.Geometry.{Geometry}
 use Rattle.layout.specs.Places.{IsGeometry}
+use Rattle.tree.specs.declared.PathFrom.{PathFrom}
 use Rattle.tree.specs.declared.User.{User}
 use Rattle.tree.specs.Sums.{put}
 use Rattle.tree.specs.Names.{Name, Names, inode_of, is_dots, is_name, most_name, with_name}
 use Rattle.tree.specs.Tree.{Body, Node, Tree, is_dir, is_directory, most_size, names_of, size_of, with_node}
 use Rattle.tree.specs.IsTree.{IsTree}
 use Rattle.tree.specs.Refusals.{◌>>=◌}
-use Rattle.tree.specs.Walk.{Place, read_path}
+use Rattle.tree.specs.Walk.{Place, read_path, Way}
 use Rattle.tree.specs.Changes.{more_links, with_ctime, with_names}
 use Rattle.tree.specs.Space.{data_zones, zones_of, zones_used}
 use Rattle.tree.specs.Answers.{Effect, done, if_it_fits, refused}
@@ -50,8 +50,8 @@ use Rattle.calls_names.specs.declared.linking.Free.{Free}
 use Rattle.calls_names.specs.Linking.{FindsFile, FindsFree, IsFree, IsLast, IsRoomFor, free_at, on_file, on_free}
 
 -- a last name is within its limit, and is a name
-pub name_of : (path : List ℕ) (parts : List Name) (name : Name) → All (λ b. b < 256) path → read_path path ≡ Ok parts → IsLast parts name → IsTrue (is_name name)
-name_of path parts name bytes read last = ap is_name last.last ∙ last_is_name path parts bytes read last.named
+pub name_of : (path : PathFrom) (way : Way) (name : Name) → All (λ b. b < 256) path.bytes.now → read_path path ≡ Ok way → IsLast way name → IsTrue (is_name name)
+name_of path way name bytes read last = ap is_name last.last ∙ last_is_name path way bytes read last.named
 
 pub name_short : (name : Name) → IsTrue (is_name name) → length name ≤ most_name
 name_short name is =
@@ -77,39 +77,39 @@ taken_alike g nodes n m x y o is same apart = same_sum _ _ (g.inodes + 1) (λ k 
           ∙ sym (ap (zones_of g) (put-other nodes m o k d))
     ]
 
-module _ (g : Geometry) (user : User) (now : ℕ) (old new : Bor (List ℕ)) (f : Files) (d : Disk) where
+module _ (g : Geometry) (user : User) (now : ℕ) (old new : PathFrom) (f : Files) (d : Disk) where
   abbrev at_end : Tree → ℕ → Node → Place → Effect
   at_end t n node place = if_it_fits g done (with_entry (with_node t n (Some (with_ctime now (more_links 1 node)))) now place n)
 
-  abbrev from_new : Tree → List Name → List Name → Effect
+  abbrev from_new : Tree → Way → Way → Effect
   from_new t from to = on_file t user from (λ n node. on_free t user to (λ place. at_end t n node place))
 
   -- a path can't be read
-  pub old_refused : (e : Disk) (error : Errno) → e ≡ d → read_path old.now ≡ Err error → Does g (λ t. link g t user now old.now new.now) (refused error) (HasFiles f) (HasFiles f) d e
+  pub old_refused : (e : Disk) (error : Errno) → e ≡ d → read_path old ≡ Err error → Does g (λ t. link g t user now old new) (refused error) (HasFiles f) (HasFiles f) d e
   old_refused e error same is = record {
-    each = λ t holds files. refused_made g t (link g t user now old.now new.now) error (HasFiles f) d e
-        (ap (λ (r : Result (List Name) Errno). r >>= λ from. read_path new.now >>= λ to. from_new t from to) is) same holds files;
+    each = λ t holds files. refused_made g t (link g t user now old new) error (HasFiles f) d e
+        (ap (λ (r : Result Way Errno). r >>= λ from. read_path new >>= λ to. from_new t from to) is) same holds files;
   }
 
-  module _ (from : List Name) (old_read : read_path old.now ≡ Ok from) where
-    pub new_refused : (e : Disk) (error : Errno) → e ≡ d → read_path new.now ≡ Err error → Does g (λ t. link g t user now old.now new.now) (refused error) (HasFiles f) (HasFiles f) d e
+  module _ (from : Way) (old_read : read_path old ≡ Ok from) where
+    pub new_refused : (e : Disk) (error : Errno) → e ≡ d → read_path new ≡ Err error → Does g (λ t. link g t user now old new) (refused error) (HasFiles f) (HasFiles f) d e
     new_refused e error same is = record {
-      each = λ t holds files. refused_made g t (link g t user now old.now new.now) error (HasFiles f) d e
-          (ap (λ (r : Result (List Name) Errno). r >>= λ ps. read_path new.now >>= λ to. from_new t ps to) old_read
-          ∙ ap (λ (r : Result (List Name) Errno). r >>= λ to. from_new t from to) is) same holds files;
+      each = λ t holds files. refused_made g t (link g t user now old new) error (HasFiles f) d e
+          (ap (λ (r : Result Way Errno). r >>= λ ps. read_path new >>= λ to. from_new t ps to) old_read
+          ∙ ap (λ (r : Result Way Errno). r >>= λ to. from_new t from to) is) same holds files;
     }
 
-    module _ (to : List Name) (new_read : read_path new.now ≡ Ok to) where
-      begun : (t : Tree) → link g t user now old.now new.now ≡ from_new t from to
+    module _ (to : Way) (new_read : read_path new ≡ Ok to) where
+      begun : (t : Tree) → link g t user now old new ≡ from_new t from to
       begun t =
-          ap (λ (r : Result (List Name) Errno). r >>= λ ps. read_path new.now >>= λ qs. from_new t ps qs) old_read
-          ∙ ap (λ (r : Result (List Name) Errno). r >>= λ qs. from_new t from qs) new_read
+          ap (λ (r : Result Way Errno). r >>= λ ps. read_path new >>= λ qs. from_new t ps qs) old_read
+          ∙ ap (λ (r : Result Way Errno). r >>= λ qs. from_new t from qs) new_read
 
       -- the file is refused
       pub file_refused : (e : Disk) (error : Errno) → e ≡ d → FindsFile g d user from (Err error)
-          → Does g (λ t. link g t user now old.now new.now) (refused error) (HasFiles f) (HasFiles f) d e
+          → Does g (λ t. link g t user now old new) (refused error) (HasFiles f) (HasFiles f) d e
       file_refused e error same finds = record {
-        each = λ t holds files. refused_made g t (link g t user now old.now new.now) error (HasFiles f) d e
+        each = λ t holds files. refused_made g t (link g t user now old new) error (HasFiles f) d e
             (begun t ∙ finds t holds (λ n node. on_free t user to (λ place. at_end t n node place))) same holds files;
       }
 
@@ -120,14 +120,14 @@ module _ (g : Geometry) (user : User) (now : ℕ) (old new : Bor (List ℕ)) (f 
         abbrev target : Node
         target = node_at g v n
 
-        gone_on : (t : Tree) → HoldsVolume g d t → link g t user now old.now new.now ≡ on_free t user to (λ place. at_end t n target place)
+        gone_on : (t : Tree) → HoldsVolume g d t → link g t user now old new ≡ on_free t user to (λ place. at_end t n target place)
         gone_on t holds = begun t ∙ (file t holds).goes_on (λ m node. on_free t user to (λ place. at_end t m node place))
 
         -- the place is
         pub place_refused : (e : Disk) (error : Errno) → e ≡ d → FindsFree g d user to (Err error)
-            → Does g (λ t. link g t user now old.now new.now) (refused error) (HasFiles f) (HasFiles f) d e
+            → Does g (λ t. link g t user now old new) (refused error) (HasFiles f) (HasFiles f) d e
         place_refused e error same finds = record {
-          each = λ t holds files. refused_made g t (link g t user now old.now new.now) error (HasFiles f) d e
+          each = λ t holds files. refused_made g t (link g t user now old new) error (HasFiles f) d e
               (gone_on t holds ∙ finds t holds (λ place. at_end t n target place)) same holds files;
         }
 
@@ -183,7 +183,7 @@ module _ (g : Geometry) (user : User) (now : ℕ) (old new : Bor (List ℕ)) (f 
             taken : zones_used g after ≡ taken_by g (put t.nodes x.directory (Some longer))
             taken = taken_alike g t.nodes n x.directory target more (Some longer) (file t holds).there refl apart
 
-            effect_is : link g t user now old.now new.now ≡ if_it_fits g done after
+            effect_is : link g t user now old new ≡ if_it_fits g done after
             effect_is = gone_on t holds ∙ y.goes_on (λ place. at_end t n target place) ∙ ap (if_it_fits g done) tree_is
 
             -- a directory that fits isn't too long
@@ -227,10 +227,10 @@ module _ (g : Geometry) (user : User) (now : ℕ) (old new : Bor (List ℕ)) (f 
                 (λ yes. let fits = both.0 yes in omega (arith, fits, same), λ fits. both.1 (omega (arith, fits, same)))
 
             -- there is none
-            pub no_room : (e : Disk) → e ≡ d → room ≡ false → Does g (λ t. link g t user now old.now new.now) (refused ENOSPC) (HasFiles f) (HasFiles f) d e
+            pub no_room : (e : Disk) → e ≡ d → room ≡ false → Does g (λ t. link g t user now old new) (refused ENOSPC) (HasFiles f) (HasFiles f) d e
             no_room e same is = record {
               each = λ t holds files.
-                  refused_made g t (link g t user now old.now new.now) ENOSPC (HasFiles f) d e (effect_is t holds ∙ cond-true _ _ _ (too_big t holds)) same holds files;
+                  refused_made g t (link g t user now old new) ENOSPC (HasFiles f) d e (effect_is t holds ∙ cond-true _ _ _ (too_big t holds)) same holds files;
             }
               where
                 too_big : (t : Tree) (holds : HoldsVolume g d t) → nat_lt (data_zones g) (zones_used g (after t holds)) ≡ true
@@ -263,7 +263,7 @@ module _ (g : Geometry) (user : User) (now : ℕ) (old new : Bor (List ℕ)) (f 
                 may_insert h = may_put h.tree h.holds
 
                 -- and then the call is done
-                module _ (e : Disk) (inserts : Inserts g x.directory x.name.now n now m e) (small : now < 2 ^ 32) (bytes : All (λ b. b < 256) new.now) where
+                module _ (e : Disk) (inserts : Inserts g x.directory x.name.now n now m e) (small : now < 2 ^ 32) (bytes : All (λ b. b < 256) new.bytes.now) where
                   at_last : (t : Tree) (holds : HoldsVolume g d t) → Stands g d e (put (first t holds) x.directory (Some longer))
                   at_last t holds =
                       let b = inserts.becomes (may_put t holds) in
@@ -271,7 +271,7 @@ module _ (g : Geometry) (user : User) (now : ℕ) (old new : Bor (List ℕ)) (f 
                       step_is_done g d m e (first t holds) x.directory (Some longer) (between t holds) inserts.head
                       (subst (λ (z : Node). BecomesAt g (pieces g m) (pieces g e) x.directory (Some (named now x.name.now n z))) here.node (record { sound = b.sound; nodes = b.nodes }))
 
-                  effect : (t : Tree) (holds : HoldsVolume g d t) → link g t user now old.now new.now ≡ Ok (done, after t holds)
+                  effect : (t : Tree) (holds : HoldsVolume g d t) → link g t user now old new ≡ Ok (done, after t holds)
                   effect t holds =
                       effect_is t holds
                       ∙ ap (λ b. if b then Err ENOSPC else Ok (done, after t holds)) (le-ltb (data_zones g) (zones_used g (after t holds)) (fits t holds))
@@ -280,10 +280,10 @@ module _ (g : Geometry) (user : User) (now : ℕ) (old new : Bor (List ℕ)) (f 
                   is_tree t holds = subst (λ (r : Effect). IsTree g (tree_in t r)) (effect t holds)
                       (link_keeps g t (record { session = 0; uid = user.uid; gid = user.gid }) now old new ok small bytes holds.nodes.tree)
 
-                  pub linked : Does g (λ t. link g t user now old.now new.now) done (HasFiles f) (HasFiles f) d e
+                  pub linked : Does g (λ t. link g t user now old new) done (HasFiles f) (HasFiles f) d e
                   linked = record {
                     each = λ t holds files.
-                        granted_made g t (after t holds) (link g t user now old.now new.now) done (HasFiles f) e (effect t holds)
+                        granted_made g t (after t holds) (link g t user now old new) done (HasFiles f) e (effect t holds)
                         (holds_at_end g d e (put (first t holds) x.directory (Some longer)) t (after t holds) ok holds (at_last t holds) refl (is_tree t holds))
                         (record { opened = files.opened; descriptors = files.descriptors });
                   }

@@ -7,11 +7,12 @@ use Rattle.std.proofs.lemmas.Bool.{and_parts, cond-true, eqb-false, not-true}
 use Rattle.errno.specs.declared.Errno.{Errno}
 use Rattle.errno.specs.declared.Errno.TheVariants.{EACCES, EINVAL, ENOENT}
 use Rattle.layout.specs.declared.Geometry.{Geometry}
+use Rattle.tree.specs.declared.PathFrom.{PathFrom}
 use Rattle.tree.specs.declared.User.{User}
 use Rattle.tree.specs.Names.{Name, Names, inode_of, is_dots, is_name}
 use Rattle.tree.specs.Tree.{Node, Tree}
 use Rattle.tree.specs.Refusals.{◌>>=◌, or_refuse, refuse_if}
-use Rattle.tree.specs.Walk.{Place, has_last_name, last_part, may_access, node_at, parent_walk, read_path, to_write}
+use Rattle.tree.specs.Walk.{Place, has_last_name, last_part, may_access, node_at, parent_walk, read_path, to_write, Way}
 use Rattle.tree.specs.Answers.{Effect}
 use Rattle.tree.proofs.PathNames.{last_is_name}
 use Rattle.volume.specs.declared.Inode.{Inode}
@@ -33,20 +34,20 @@ use Rattle.calls_attributes.proofs.Made.{node_there}
 use Rattle.calls_names.specs.Names.{FindsName, IsOfInode, IsVolume, MeansPlace, on_name}
 
 -- What the place's search answers, of each tree that is held.
-module _ (g : Geometry) (d : Disk) (user : User) (parts : List Name) (s : Result Found Stop) (finds : (t : Tree) → Holds g d t → Answers s (FindsPlace g d t user parts)) where
-  answered : (r : Result Found Stop) → s ≡ r → (t : Tree) → HoldsVolume g d t → Answers r (FindsPlace g d t user parts)
-  answered r is t holds = subst (λ (x : Result Found Stop). Answers x (FindsPlace g d t user parts)) is (finds t holds.nodes)
+module _ (g : Geometry) (d : Disk) (user : User) (way : Way) (s : Result Found Stop) (finds : (t : Tree) → Holds g d t → Answers s (FindsPlace g d t user way)) where
+  answered : (r : Result Found Stop) → s ≡ r → (t : Tree) → HoldsVolume g d t → Answers r (FindsPlace g d t user way)
+  answered r is t holds = subst (λ (x : Result Found Stop). Answers x (FindsPlace g d t user way)) is (finds t holds.nodes)
 
-  pub place_meant : (p : Found) → s ≡ Ok p → MeansPlace g d user parts (Ok p)
+  pub place_meant : (p : Found) → s ≡ Ok p → MeansPlace g d user way (Ok p)
   place_meant p is t holds = answered (Ok p) is t holds
 
-  pub place_refused : (e : Errno) → s ≡ Err (stop.Refused e) → MeansPlace g d user parts (Err e)
+  pub place_refused : (e : Errno) → s ≡ Err (stop.Refused e) → MeansPlace g d user way (Err e)
   place_refused e is t holds = answered (Err (stop.Refused e)) is t holds
 
   pub place_halted : {X : Type 0} (h : Halt) (P : X → Type 0) → s ≡ Err (stop.Halted h) → Ends (Err h) P (IsVolume g d)
   place_halted h P is = by P h (λ t holds. answered (Err (stop.Halted h)) is t holds)
     where
-      by : {X : Type 0} (P : X → Type 0) (h : Halt) → ((t : Tree) → HoldsVolume g d t → Answers (Err (stop.Halted h)) (FindsPlace g d t user parts)) → Ends (Err h) P (IsVolume g d)
+      by : {X : Type 0} (P : X → Type 0) (h : Halt) → ((t : Tree) → HoldsVolume g d t → Answers (Err (stop.Halted h)) (FindsPlace g d t user way)) → Ends (Err h) P (IsVolume g d)
       by P (halt.Cut c) a = tt
       by P halt.Unsound a = λ x. a x.tree x.holds
 
@@ -63,40 +64,40 @@ from_parent t user rest place n = node_at t place.directory >>= λ parent. refus
 abbrev from_place : Tree → User → Rest → Place → Effect
 from_place t user rest place = or_refuse (inode_of place.names place.name) ENOENT >>= λ n. from_parent t user rest place n
 
-abbrev from_parts : Tree → User → Rest → List Name → Effect
-from_parts t user rest parts = refuse_if (not (has_last_name parts)) EINVAL >>= λ _. parent_walk t user parts >>= λ place. from_place t user rest place
+abbrev from_parts : Tree → User → Rest → Way → Effect
+from_parts t user rest way = refuse_if (not (has_last_name way)) EINVAL >>= λ _. parent_walk t user way >>= λ place. from_place t user rest place
 
 -- the path can't be read
-pub not_read : (g : Geometry) (d : Disk) (user : User) (path : List ℕ) (e : Errno) → read_path path ≡ Err e → FindsName g d user path (Err e)
-not_read g d user path e is t holds rest = ap (λ (r : Result (List Name) Errno). r >>= λ parts. from_parts t user rest parts) is
+pub not_read : (g : Geometry) (d : Disk) (user : User) (path : PathFrom) (e : Errno) → read_path path ≡ Err e → FindsName g d user path (Err e)
+not_read g d user path e is t holds rest = ap (λ (r : Result Way Errno). r >>= λ way. from_parts t user rest way) is
 
-module _ (g : Geometry) (d : Disk) (user : User) (path : List ℕ) (parts : List Name) (read : read_path path ≡ Ok parts) where
-  begun : (t : Tree) (rest : Rest) (b : Bool) → has_last_name parts ≡ b
-      → on_name t user path rest ≡ (refuse_if (not b) EINVAL >>= λ _. parent_walk t user parts >>= λ place. from_place t user rest place)
+module _ (g : Geometry) (d : Disk) (user : User) (path : PathFrom) (way : Way) (read : read_path path ≡ Ok way) where
+  begun : (t : Tree) (rest : Rest) (b : Bool) → has_last_name way ≡ b
+      → on_name t user path rest ≡ (refuse_if (not b) EINVAL >>= λ _. parent_walk t user way >>= λ place. from_place t user rest place)
   begun t rest b is =
-      ap (λ (r : Result (List Name) Errno). r >>= λ ps. from_parts t user rest ps) read
-      ∙ ap (λ (x : Bool). refuse_if (not x) EINVAL >>= λ _. parent_walk t user parts >>= λ place. from_place t user rest place) is
+      ap (λ (r : Result Way Errno). r >>= λ ps. from_parts t user rest ps) read
+      ∙ ap (λ (x : Bool). refuse_if (not x) EINVAL >>= λ _. parent_walk t user way >>= λ place. from_place t user rest place) is
 
   -- it has no last name
-  pub no_last_name : has_last_name parts ≡ false → FindsName g d user path (Err EINVAL)
+  pub no_last_name : has_last_name way ≡ false → FindsName g d user path (Err EINVAL)
   no_last_name none t holds rest = begun t rest false none
 
-  module _ (last : has_last_name parts ≡ true) where
-    walked : (t : Tree) (rest : Rest) (r : Result Place Errno) → parent_walk t user parts ≡ r → on_name t user path rest ≡ (r >>= λ place. from_place t user rest place)
+  module _ (last : has_last_name way ≡ true) where
+    walked : (t : Tree) (rest : Rest) (r : Result Place Errno) → parent_walk t user way ≡ r → on_name t user path rest ≡ (r >>= λ place. from_place t user rest place)
     walked t rest r is = begun t rest true last ∙ ap (λ (x : Result Place Errno). x >>= λ place. from_place t user rest place) is
 
     -- the walk is refused
-    pub not_walked : (e : Errno) → MeansPlace g d user parts (Err e) → FindsName g d user path (Err e)
+    pub not_walked : (e : Errno) → MeansPlace g d user way (Err e) → FindsName g d user path (Err e)
     not_walked e means t holds rest = walked t rest (Err e) (means t holds)
 
-    module _ (p : Found) (means : MeansPlace g d user parts (Ok p)) where
+    module _ (p : Found) (means : MeansPlace g d user way (Ok p)) where
       abbrev v : Pieces
       v = pieces g d
 
       leads : (t : Tree) → HoldsVolume g d t → inode_of (place_of g d p).names p.name.now ≡ p.there
       leads t holds =
           let at = means t holds in
-          ap (inode_of (place_of g d p).names) at.name ∙ sym (cond-true (has_last_name parts) (inode_of (place_of g d p).names (last_part parts)) None last) ∙ sym at.there
+          ap (inode_of (place_of g d p).names) at.name ∙ sym (cond-true (has_last_name way) (inode_of (place_of g d p).names (last_part way.parts)) None last) ∙ sym at.there
 
       at_place : (t : Tree) → HoldsVolume g d t → (rest : Rest) (o : Option ℕ) → p.there ≡ o
           → on_name t user path rest ≡ (or_refuse o ENOENT >>= λ n. from_parent t user rest (place_of g d p) n)
@@ -139,8 +140,8 @@ module _ (g : Geometry) (d : Disk) (user : User) (path : List ℕ) (parts : List
         its_number x = inode_is g v n (node_there g d x.tree n x.holds (there x.tree x.holds)).0
 
         -- and that is the one
-        pub name_found : (b : Bool) → ((node : Node) → IsOfInode node p.inode → b ≡ may_access user node to_write) → b ≡ true → All (λ c. c < 256) path
-            → (i : Inode) → i ≡ v.inodes n → (name : Bor Name) → name.now ≡ last_part parts
+        pub name_found : (b : Bool) → ((node : Node) → IsOfInode node p.inode → b ≡ may_access user node to_write) → b ≡ true → All (λ c. c < 256) path.bytes.now
+            → (i : Inode) → i ≡ v.inodes n → (name : Bor Name) → name.now ≡ last_part way.parts
             → FindsName g d user path (Ok (record { directory = p.directory; name = name; number = n; inode = i }))
         name_found b right b_is bytes i loaded name name_is t holds =
             let at = means t holds in
@@ -148,7 +149,7 @@ module _ (g : Geometry) (d : Disk) (user : User) (path : List ℕ) (parts : List
             let same : p.name.now ≡ name.now = at.name ∙ sym name_is in
             record {
               directory = at.directory;
-              name = ap is_name name_is ∙ last_is_name path parts bytes read last;
+              name = ap is_name name_is ∙ last_is_name path way bytes read last;
               found = (λ k. inode_of (sym names k) (sym same k)) ∙ leads t holds ∙ is;
               loaded = loaded;
               goes_on = λ rest.
@@ -158,8 +159,8 @@ module _ (g : Geometry) (d : Disk) (user : User) (path : List ℕ) (parts : List
             }
 
 -- a last name has bytes
-pub has_bytes : (parts : List Name) (name : List ℕ) → has_last_name parts ≡ true → name ≡ last_part parts → 0 < length name
-has_bytes parts name last is =
-    let some = eqb-false (length (last_part parts)) 0 (not-true _ (and_parts (not (length (last_part parts) == 0)) (not (is_dots (last_part parts))) last).0) in
+pub has_bytes : (way : Way) (name : List ℕ) → has_last_name way ≡ true → name ≡ last_part way.parts → 0 < length name
+has_bytes way name last is =
+    let some = eqb-false (length (last_part way.parts)) 0 (not-true _ (and_parts (not (length (last_part way.parts) == 0)) (not (is_dots (last_part way.parts))) last).0) in
     let same = ap length is in
     omega (arith, some, same)

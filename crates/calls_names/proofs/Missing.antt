@@ -1,18 +1,19 @@
 -- From a path to the node that is opened: one that is there, or a file that is made.
-use Rattle.std.proofs.Common.{◌≡◌, ℕ, List, false, refl, ap, ◌∙◌, Ok, Err}
+use Rattle.std.proofs.Common.{◌≡◌, ℕ, false, refl, ap, ◌∙◌, Ok, Err}
 use Rattle.std.specs.Prelude.{Result, is_some, not, ◌||◌, nat_lt}
 use Rattle.std.proofs.lemmas.Bool.{cond-false, cond-true, le-ltb, lt-ltb}
 use Rattle.errno.specs.declared.Errno.{Errno}
 use Rattle.errno.specs.declared.Errno.TheVariants.{ENOSPC}
 use Rattle.layout.specs.declared.Geometry.{Geometry}
 use Rattle.layout.specs.Places.{IsGeometry}
+use Rattle.tree.specs.declared.PathFrom.{PathFrom}
 use Rattle.tree.specs.declared.User.{User}
 use Rattle.tree.specs.IsCall.{IsBytes}
 use Rattle.tree.specs.Flags.{creates}
-use Rattle.tree.specs.Names.{Name, has_name}
+use Rattle.tree.specs.Names.{has_name}
 use Rattle.tree.specs.Tree.{Node, Tree}
 use Rattle.tree.specs.Refusals.{◌>>=◌}
-use Rattle.tree.specs.Walk.{Found, is_missing, is_taken, is_there, look_up, open_look_up, read_path}
+use Rattle.tree.specs.Walk.{Found, is_missing, is_taken, is_there, look_up, open_look_up, read_path, Way}
 use Rattle.tree.specs.Walk as tree
 use Rattle.tree.specs.Answers.{Effect, descriptor, if_it_fits}
 use Rattle.tree.specs.FileCalls.{Slot, open_found, with_open}
@@ -31,32 +32,32 @@ use Rattle.calls_names.proofs.Trees.{file_files}
 use Rattle.calls_names.proofs.Vacancies.{is_vacant, parent_node}
 use Rattle.calls_names.specs.Opening.{IsReady, IsRefused, Readies, open_named}
 
-module _ (g : Geometry) (t : Tree) (user : User) (now : ℕ) (path : List ℕ) (flags mode : ℕ) (d e : Disk) where
+module _ (g : Geometry) (t : Tree) (user : User) (now : ℕ) (path : PathFrom) (flags mode : ℕ) (d e : Disk) where
   abbrev call : Slot → Effect
   call slot = open_named g t user now path flags mode slot
 
-  abbrev looked_up : List Name → Result Found Errno
-  looked_up parts = open_look_up t user (only_makes flags) parts
+  abbrev looked_up : Way → Result Found Errno
+  looked_up way = open_look_up t user (only_makes flags) way
 
   -- the path can't be read
   pub not_read : (errno : Errno) → e ≡ d → read_path path ≡ Err errno → Readies g t call flags d e (Err errno)
   not_read errno same is = record {
     same = same;
-    refused = λ slot. ap (λ r. r >>= λ parts. looked_up parts >>= λ found. open_found g t user now slot flags mode found) is;
+    refused = λ slot. ap (λ r. r >>= λ way. looked_up way >>= λ found. open_found g t user now slot flags mode found) is;
   }
 
-  module _ (parts : List Name) (read : read_path path ≡ Ok parts) where
-    to_parts : (slot : Slot) → call slot ≡ (looked_up parts >>= λ found. open_found g t user now slot flags mode found)
-    to_parts slot = ap (λ r. r >>= λ parts. looked_up parts >>= λ found. open_found g t user now slot flags mode found) read
+  module _ (way : Way) (read : read_path path ≡ Ok way) where
+    to_parts : (slot : Slot) → call slot ≡ (looked_up way >>= λ found. open_found g t user now slot flags mode found)
+    to_parts slot = ap (λ r. r >>= λ way. looked_up way >>= λ found. open_found g t user now slot flags mode found) read
 
     -- the look-up is refused
-    pub not_looked_up : (errno : Errno) → e ≡ d → looked_up parts ≡ Err errno → Readies g t call flags d e (Err errno)
+    pub not_looked_up : (errno : Errno) → e ≡ d → looked_up way ≡ Err errno → Readies g t call flags d e (Err errno)
     not_looked_up errno same is = record {
       same = same;
       refused = λ slot. to_parts slot ∙ ap (λ r. r >>= λ found. open_found g t user now slot flags mode found) is;
     }
 
-    module _ (found : Found) (looked : looked_up parts ≡ Ok found) where
+    module _ (found : Found) (looked : looked_up way ≡ Ok found) where
       pub to_found : (slot : Slot) → call slot ≡ open_found g t user now slot flags mode found
       to_found slot = to_parts slot ∙ ap (λ r. r >>= λ found. open_found g t user now slot flags mode found) looked
 
@@ -67,13 +68,13 @@ module _ (g : Geometry) (t : Tree) (user : User) (now : ℕ) (path : List ℕ) (
       refused_as errno x = record { same = x.same; refused = λ slot. to_found slot ∙ x.refused slot }
 
 -- a missing name is of a vacant place
-pub missing_vacant : (g : Geometry) (d : Disk) (t : Tree) (user : User) (path : List ℕ) (parts : List Name) (p : NamePlace) (holds : HoldsVolume g d t) (at : IsPlace g d t user parts p)
-    → IsBytes path → read_path path ≡ Ok parts → look_up t user parts ≡ Ok (is_missing (place_of g d p)) → IsVacant g d t p (parent_node g d t user parts p holds at)
-missing_vacant g d t user path parts p holds at bytes read looked =
-    let m = missing_at t user parts (place_of g d p) looked in
-    let free : is_taken (place_of g d p) parts ≡ false =
+pub missing_vacant : (g : Geometry) (d : Disk) (t : Tree) (user : User) (path : PathFrom) (way : Way) (p : NamePlace) (holds : HoldsVolume g d t) (at : IsPlace g d t user way p)
+    → IsBytes path.bytes.now → read_path path ≡ Ok way → look_up t user way ≡ Ok (is_missing (place_of g d p)) → IsVacant g d t p (parent_node g d t user way p holds at)
+missing_vacant g d t user path way p holds at bytes read looked =
+    let m = missing_at t user way (place_of g d p) looked in
+    let free : is_taken (place_of g d p) way ≡ false =
     ap (λ b. not b || has_name (place_of g d p).names p.name.now) m.last ∙ ap is_some m.free in
-    is_vacant g d t user parts p holds at path bytes read free
+    is_vacant g d t user way p holds at path bytes read free
 
 module _ (g : Geometry) (ok : IsGeometry g) (t : Tree) (user : User) (now flags mode : ℕ) (d e : Disk) (p : NamePlace) (parent : Node) (vacant : IsVacant g d t p parent) where
   abbrev place : tree.Place
@@ -111,8 +112,8 @@ module _ (g : Geometry) (ok : IsGeometry g) (t : Tree) (user : User) (now flags 
   }
 
   -- what make_file answers is what open does up to the descriptor
-  pub file_readies : (path : List ℕ) (parts : List Name) (r : Result ℕ Errno) → read_path path ≡ Ok parts
-      → open_look_up t user (only_makes flags) parts ≡ Ok (is_missing place)
+  pub file_readies : (path : PathFrom) (way : Way) (r : Result ℕ Errno) → read_path path ≡ Ok way
+      → open_look_up t user (only_makes flags) way ≡ Ok (is_missing place)
       → MakesFileOr g t user (creates flags) now mode p d e r → Readies g t (open_named g t user now path flags mode) flags d e r
-  file_readies path parts (Ok n) read looked x = ready_as g t user now path flags mode d e parts read (is_missing place) looked n (file_ready n x)
-  file_readies path parts (Err errno) read looked x = refused_as g t user now path flags mode d e parts read (is_missing place) looked errno (file_refused errno x)
+  file_readies path way (Ok n) read looked x = ready_as g t user now path flags mode d e way read (is_missing place) looked n (file_ready n x)
+  file_readies path way (Err errno) read looked x = refused_as g t user now path flags mode d e way read (is_missing place) looked errno (file_refused errno x)

@@ -1,13 +1,13 @@
 -- What mkdir answers, and the tree that it leaves.
-use Rattle.std.proofs.Common.{◌≡◌, ◌<◌, ◌≤◌, ◌+◌, ◌^◌, ℕ, List, refl, sym, ap, subst, ◌∙◌, arith, Ok, Err}
+use Rattle.std.proofs.Common.{◌≡◌, ◌<◌, ◌≤◌, ◌+◌, ◌^◌, ℕ, refl, sym, ap, subst, ◌∙◌, arith, Ok, Err}
 use mathlib.Core.Logic.{inl, inr}
-use Rattle.std.specs.Borrow.{Bor}
 use Rattle.std.specs.Prelude.{nat_le, nat_lt}
 use Rattle.std.proofs.lemmas.Bool.{cond-false, cond-true, le-leb, le-ltb, lt-leb, lt-ltb}
 use Rattle.errno.specs.declared.Errno.{Errno}
 use Rattle.errno.specs.declared.Errno.TheVariants.{EINVAL, EMLINK, ENOSPC}
 use Rattle.layout.specs.declared.Geometry.{Geometry}
 use Rattle.layout.specs.Places.{IsGeometry}
+use Rattle.tree.specs.declared.PathFrom.{PathFrom}
 use Rattle.tree.specs.declared.User.{User}
 use Rattle.tree.specs.declared.Who.{Who}
 use Rattle.tree.specs.IsCall.{IsBytes}
@@ -35,9 +35,9 @@ use Rattle.calls_names.proofs.Numbers.{directory_in}
 use Rattle.calls_names.proofs.Putting.{is_free, parent_links}
 use Rattle.calls_names.proofs.Trees.{directory_files, directory_zones}
 
-module _ (g : Geometry) (ok : IsGeometry g) (user : User) (now mode : ℕ) (path : Bor (List ℕ)) where
+module _ (g : Geometry) (ok : IsGeometry g) (user : User) (now mode : ℕ) (path : PathFrom) where
   abbrev effect : Tree → Effect
-  effect t = mkdir g t user now path.now mode
+  effect t = mkdir g t user now path mode
 
   abbrev after : Tree → tree.Place → ℕ → Tree
   after t place n = with_new_directory t user now mode place n
@@ -50,17 +50,17 @@ module _ (g : Geometry) (ok : IsGeometry g) (user : User) (now mode : ℕ) (path
 
   -- bits that are no permissions
   pub bad_mode : (t : Tree) → 511 < mode → effect t ≡ Err EINVAL
-  bad_mode t big = ap (λ b. refuse_if b EINVAL >>= λ _. at_new_place t user path.now (rest t)) (lt-ltb most_permissions mode big)
+  bad_mode t big = ap (λ b. refuse_if b EINVAL >>= λ _. at_new_place t user path (rest t)) (lt-ltb most_permissions mode big)
 
   module _ (few : mode ≤ 511) where
-    good_mode : (t : Tree) → effect t ≡ at_new_place t user path.now (rest t)
-    good_mode t = ap (λ b. refuse_if b EINVAL >>= λ _. at_new_place t user path.now (rest t)) (le-ltb most_permissions mode few)
+    good_mode : (t : Tree) → effect t ≡ at_new_place t user path (rest t)
+    good_mode t = ap (λ b. refuse_if b EINVAL >>= λ _. at_new_place t user path (rest t)) (le-ltb most_permissions mode few)
 
     -- the place isn't new
-    pub no_place : (t : Tree) (e : Errno) → ((rest : tree.Place → Node → Effect) → at_new_place t user path.now rest ≡ Err e) → effect t ≡ Err e
+    pub no_place : (t : Tree) (e : Errno) → ((rest : tree.Place → Node → Effect) → at_new_place t user path rest ≡ Err e) → effect t ≡ Err e
     no_place t e h = good_mode t ∙ h (rest t)
 
-    module _ (d : Disk) (t : Tree) (p : NamePlace) (holds : HoldsVolume g d t) (new : IsNewPlace g d t user path.now p) where
+    module _ (d : Disk) (t : Tree) (p : NamePlace) (holds : HoldsVolume g d t) (new : IsNewPlace g d t user path p) where
       abbrev place : tree.Place
       place = place_of g d p
 
@@ -114,7 +114,7 @@ module _ (g : Geometry) (ok : IsGeometry g) (user : User) (now mode : ℕ) (path
           who = record { session = 0; uid = user.uid; gid = user.gid }
 
           -- and is a tree
-          still_tree : now < 2 ^ 32 → user.uid < 2 ^ 16 → user.gid < 2 ^ 16 → IsBytes path.now → IsTree g (after t place n)
+          still_tree : now < 2 ^ 32 → user.uid < 2 ^ 16 → user.gid < 2 ^ 16 → IsBytes path.bytes.now → IsTree g (after t place n)
           still_tree small uid gid bytes =
               subst (IsTree g) (ap (λ (r : Effect). elim r [ Ok made ↦ made.1 | Err e ↦ t ]) is_made)
               (mkdir_keeps g t who now path mode ok (record { session = omega arith; uid = uid; gid = gid }) small bytes holds.nodes.tree)
@@ -122,7 +122,7 @@ module _ (g : Geometry) (ok : IsGeometry g) (user : User) (now mode : ℕ) (path
           pub may_make : MayMakeDirectoryAt g d p n
           may_make = record { make = record { tree = t; holds = holds; parent = new.parent; vacant = new.vacant; free = free }; links = low }
 
-          pub made_held : (e : Disk) → MakesDirectoryAt g user now mode p n d e → now < 2 ^ 32 → user.uid < 2 ^ 16 → user.gid < 2 ^ 16 → IsBytes path.now
+          pub made_held : (e : Disk) → MakesDirectoryAt g user now mode p n d e → now < 2 ^ 32 → user.uid < 2 ^ 16 → user.gid < 2 ^ 16 → IsBytes path.bytes.now
               → HoldsVolume g e (after t place n)
           unfolding may_make
           made_held e makes small uid gid bytes = holds_at_end g d e (after t place n).nodes t (after t place n) ok holds (makes may_make) refl (still_tree small uid gid bytes)
@@ -133,8 +133,8 @@ module _ (g : Geometry) (ok : IsGeometry g) (user : User) (now mode : ℕ) (path
               directory_files g ok t user now mode place n new.parent new.vacant.there new.vacant.directory it.nothing new.vacant.free f h
 
     -- the whole call
-    pub directory_done : (d e : Disk) (p : NamePlace) (n : ℕ) (f : Files) → now < 2 ^ 32 → user.uid < 2 ^ 16 → user.gid < 2 ^ 16 → IsBytes path.now → p.inode.links < most_links
-        → ((t : Tree) → HoldsVolume g d t → (new : IsNewPlace g d t user path.now p) × IsFreeFor g t p.directory new.parent p.name.now 1 n)
+    pub directory_done : (d e : Disk) (p : NamePlace) (n : ℕ) (f : Files) → now < 2 ^ 32 → user.uid < 2 ^ 16 → user.gid < 2 ^ 16 → IsBytes path.bytes.now → p.inode.links < most_links
+        → ((t : Tree) → HoldsVolume g d t → (new : IsNewPlace g d t user path p) × IsFreeFor g t p.directory new.parent p.name.now 1 n)
         → MakesDirectoryAt g user now mode p n d e → Does g effect done (HasFiles f) (HasFiles f) d e
     directory_done d e p n f small uid gid bytes low found makes = record {
       each = λ t holds files.

@@ -9,6 +9,7 @@ use Rattle.errno.specs.declared.Errno.{Errno}
 use Rattle.errno.specs.declared.Errno.TheVariants.{EINVAL, ENAMETOOLONG, ENOENT, ENOSPC}
 use Rattle.layout.specs.declared.Geometry.{Geometry}
 use Rattle.layout.specs.Places.{IsGeometry}
+use Rattle.tree.specs.declared.PathFrom.{PathFrom}
 use Rattle.tree.specs.declared.User.{User}
 use Rattle.tree.specs.declared.Who.{Who}
 use Rattle.tree.specs.IsCall.{IsBytes}
@@ -48,9 +49,9 @@ asked_first false true c call = refl
 asked_first false false true call = refl
 asked_first false false false call = refl
 
-module _ (g : Geometry) (ok : IsGeometry g) (user : User) (now : ℕ) (target path : Bor (List ℕ)) where
+module _ (g : Geometry) (ok : IsGeometry g) (user : User) (now : ℕ) (target : Bor (List ℕ)) (path : PathFrom) where
   abbrev effect : Tree → Effect
-  effect t = symlink g t user now target.now path.now
+  effect t = symlink g t user now target.now path
 
   abbrev after : Tree → tree.Place → ℕ → Tree
   after t place n = with_new_link t user now target.now place n
@@ -61,25 +62,25 @@ module _ (g : Geometry) (ok : IsGeometry g) (user : User) (now : ℕ) (target pa
   abbrev rest : Tree → tree.Place → Node → Effect
   rest t place parent = free_inode g t >>= with_number t place
 
-  by_target : (t : Tree) → effect t ≡ (may_be_target target.now >>= λ _. at_new_place t user path.now (rest t))
+  by_target : (t : Tree) → effect t ≡ (may_be_target target.now >>= λ _. at_new_place t user path (rest t))
   by_target t =
       asked_first (length target.now == 0) (nat_lt most_target (length target.now)) (list_any (λ c. c == 0) target.now)
-      (at_new_place t user path.now (rest t))
+      (at_new_place t user path (rest t))
 
   -- the bytes are no target
   pub bad_target : (t : Tree) (e : Errno) → may_be_target target.now ≡ Err e → effect t ≡ Err e
-  bad_target t e is = by_target t ∙ ap (λ r. r >>= λ _. at_new_place t user path.now (rest t)) is
+  bad_target t e is = by_target t ∙ ap (λ r. r >>= λ _. at_new_place t user path (rest t)) is
 
   module _ (fit : may_be_target target.now ≡ Ok tt) where
-    good_target : (t : Tree) → effect t ≡ at_new_place t user path.now (rest t)
-    good_target t = by_target t ∙ ap (λ r. r >>= λ _. at_new_place t user path.now (rest t)) fit
+    good_target : (t : Tree) → effect t ≡ at_new_place t user path (rest t)
+    good_target t = by_target t ∙ ap (λ r. r >>= λ _. at_new_place t user path (rest t)) fit
 
     -- the place isn't new
-    pub no_place : (t : Tree) (e : Errno) → ((rest : tree.Place → Node → Effect) → at_new_place t user path.now rest ≡ Err e)
+    pub no_place : (t : Tree) (e : Errno) → ((rest : tree.Place → Node → Effect) → at_new_place t user path rest ≡ Err e)
         → effect t ≡ Err e
     no_place t e h = good_target t ∙ h (rest t)
 
-    module _ (d : Disk) (t : Tree) (p : NamePlace) (holds : HoldsVolume g d t) (new : IsNewPlace g d t user path.now p) where
+    module _ (d : Disk) (t : Tree) (p : NamePlace) (holds : HoldsVolume g d t) (new : IsNewPlace g d t user path p) where
       abbrev place : tree.Place
       place = place_of g d p
 
@@ -121,7 +122,7 @@ module _ (g : Geometry) (ok : IsGeometry g) (user : User) (now : ℕ) (target pa
         who = record { session = 0; uid = user.uid; gid = user.gid }
 
         -- and is a tree
-        still_tree : now < 2 ^ 32 → user.uid < 2 ^ 16 → user.gid < 2 ^ 16 → IsBytes target.now → IsBytes path.now
+        still_tree : now < 2 ^ 32 → user.uid < 2 ^ 16 → user.gid < 2 ^ 16 → IsBytes target.now → IsBytes path.bytes.now
             → IsTree g (after t place n)
         still_tree small uid gid its_bytes bytes =
             subst (IsTree g) (ap (λ (r : Effect). elim r [ Ok made ↦ made.1 | Err e ↦ t ]) is_made)
@@ -132,7 +133,7 @@ module _ (g : Geometry) (ok : IsGeometry g) (user : User) (now : ℕ) (target pa
         may_make = record { tree = t; holds = holds; parent = new.parent; vacant = new.vacant; free = free }
 
         pub made_held : (e : Disk) → MakesLinkAt g user now target.now p n d e → now < 2 ^ 32 → user.uid < 2 ^ 16 → user.gid < 2 ^ 16
-            → IsBytes target.now → IsBytes path.now → HoldsVolume g e (after t place n)
+            → IsBytes target.now → IsBytes path.bytes.now → HoldsVolume g e (after t place n)
         unfolding may_make
         made_held e makes small uid gid its_bytes bytes =
             holds_at_end g d e (after t place n).nodes t (after t place n) ok holds (makes may_make) refl
@@ -145,8 +146,8 @@ module _ (g : Geometry) (ok : IsGeometry g) (user : User) (now : ℕ) (target pa
 
     -- the whole call
     pub link_done : (d e : Disk) (p : NamePlace) (n : ℕ) (f : Files) → now < 2 ^ 32 → user.uid < 2 ^ 16 → user.gid < 2 ^ 16
-        → IsBytes target.now → IsBytes path.now
-        → ((t : Tree) → HoldsVolume g d t → (new : IsNewPlace g d t user path.now p) × IsFreeFor g t p.directory new.parent p.name.now 1 n)
+        → IsBytes target.now → IsBytes path.bytes.now
+        → ((t : Tree) → HoldsVolume g d t → (new : IsNewPlace g d t user path p) × IsFreeFor g t p.directory new.parent p.name.now 1 n)
         → MakesLinkAt g user now target.now p n d e → Does g effect done (HasFiles f) (HasFiles f) d e
     link_done d e p n f small uid gid its_bytes bytes found makes = record {
       each = λ t holds files.

@@ -1,11 +1,11 @@
 -- open, made on a volume.
-use Rattle.std.proofs.Common.{◌≡◌, ◌<◌, ◌^◌, ℕ, List, refl, sym, ap, subst, ◌∙◌, arith, Some, Ok, Err}
-use Rattle.std.specs.Borrow.{Bor}
+use Rattle.std.proofs.Common.{◌≡◌, ◌<◌, ◌^◌, ℕ, refl, sym, ap, subst, ◌∙◌, arith, Some, Ok, Err}
 use Rattle.std.specs.Prelude.{Option, Result}
 use Rattle.errno.specs.declared.Errno.{Errno}
 use Rattle.layout.specs.declared.Geometry.{Geometry}
 use Rattle.layout.specs.Places.{IsGeometry}
 use Rattle.tree.specs.declared.OpenFlags.{OpenFlags}
+use Rattle.tree.specs.declared.PathFrom.{PathFrom}
 use Rattle.tree.specs.declared.User.{User}
 use Rattle.tree.specs.declared.Who.{Who}
 use Rattle.tree.specs.declared.Call.TheVariants.{Open}
@@ -37,16 +37,16 @@ pub open_halted : {X Y : Type 0} (g : Geometry) (Before : Tree → Type 0) (d : 
 open_halted g Before d (halt.Cut c) P Q p = tt
 open_halted g Before d halt.Unsound P Q p = λ held. p held.tree held.holds
 
-module _ (g : Geometry) (ok : IsGeometry g) (user : User) (now session : ℕ) (path : Bor (List ℕ)) (flags : OpenFlags) (mode : ℕ) (f : Files) where
+module _ (g : Geometry) (ok : IsGeometry g) (user : User) (now session : ℕ) (path : PathFrom) (flags : OpenFlags) (mode : ℕ) (f : Files) where
   abbrev effect : Tree → Effect
-  effect t = open_path g t user now session path.now flags.0 mode
+  effect t = open_path g t user now session path flags.0 mode
 
   -- it doesn't begin
   pub begin_refused : (d e : Disk) (h : Files) (errno : Errno) → e ≡ d → h ≡ f → may_begin f session flags.0 mode ≡ Err errno
       → Does g effect (refused errno) (HasFiles f) (HasFiles h) d e
   begin_refused d e h errno same stays is = record {
     each = λ t holds files.
-        refused_made g t (effect t) errno (HasFiles h) d e (not_begun g t user now session path.now flags.0 mode f files errno is) same holds
+        refused_made g t (effect t) errno (HasFiles h) d e (not_begun g t user now session path flags.0 mode f files errno is) same holds
         (subst (λ (x : Files). HasFiles x t) (sym stays) files);
   }
 
@@ -58,10 +58,10 @@ module _ (g : Geometry) (ok : IsGeometry g) (user : User) (now session : ℕ) (p
     slot = slot_of f session its_slot
 
     abbrev call : Tree → Slot → Effect
-    call t = open_named g t user now path.now flags.0 mode
+    call t = open_named g t user now path flags.0 mode
 
     to_call : (t : Tree) → HasFiles f t → effect t ≡ call t slot
-    to_call t files = goes_on g t user now session path.now flags.0 mode f files begun its_slot
+    to_call t files = goes_on g t user now session path flags.0 mode f files begun its_slot
 
     -- it is refused
     pub ready_refused : (d e : Disk) (h : Files) (errno : Errno) → h ≡ f → ((t : Tree) → HoldsVolume g d t → Readies g t (call t) flags.0 d e (Err errno))
@@ -106,7 +106,7 @@ module _ (g : Geometry) (ok : IsGeometry g) (user : User) (now session : ℕ) (p
           abbrev who : Who
           who = record { session = session; uid = user.uid; gid = user.gid }
 
-          still_tree : session < 64 → now < 2 ^ 32 → user.uid < 2 ^ 16 → user.gid < 2 ^ 16 → IsBytes path.now → IsTree g after
+          still_tree : session < 64 → now < 2 ^ 32 → user.uid < 2 ^ 16 → user.gid < 2 ^ 16 → IsBytes path.bytes.now → IsTree g after
           still_tree early small uid gid bytes =
               tree_kept g t who now (Open path flags mode) early after (descriptor its_slot.fd) opened
               (open_keeps g t who now path flags mode ok (record { session = omega (arith, early); uid = uid; gid = gid }) small bytes holds.nodes.tree)
@@ -124,7 +124,7 @@ module _ (g : Geometry) (ok : IsGeometry g) (user : User) (now session : ℕ) (p
           })
 
         -- it is opened
-        pub open_done : session < 64 → now < 2 ^ 32 → user.uid < 2 ^ 16 → user.gid < 2 ^ 16 → IsBytes path.now → Does g effect answer (HasFiles f) (HasFiles h) d e
+        pub open_done : session < 64 → now < 2 ^ 32 → user.uid < 2 ^ 16 → user.gid < 2 ^ 16 → IsBytes path.bytes.now → Does g effect answer (HasFiles f) (HasFiles h) d e
         open_done early small uid gid bytes = record {
           each = λ t holds files.
               granted_made g t (after t holds files) (effect t) answer (HasFiles h) e (answers t holds files)

@@ -1,10 +1,11 @@
 -- What open asks before it looks at the path, and the slot of a new open file.
-use Rattle.std.proofs.Common.{◌≡◌, ◌≤◌, ℕ, List, Bool, true, false, refl, ap, ◌∙◌, Ok, Err}
+use Rattle.std.proofs.Common.{◌≡◌, ◌≤◌, ℕ, Bool, true, false, refl, ap, ◌∙◌, Ok, Err}
 use Rattle.std.specs.Prelude.{Result, ◌||◌, nat_lt}
 use Rattle.std.proofs.lemmas.Bool.{ltb-false, or_parts}
 use Rattle.errno.specs.declared.Errno.{Errno}
 use Rattle.errno.specs.declared.Errno.TheVariants.{EINVAL, EMFILE, ENFILE}
 use Rattle.layout.specs.declared.Geometry.{Geometry}
+use Rattle.tree.specs.declared.PathFrom.{PathFrom}
 use Rattle.tree.specs.declared.User.{User}
 use Rattle.tree.specs.Flags.{bad_flags}
 use Rattle.tree.specs.Tree.{Tree, most_descriptors, most_open_files, most_permissions}
@@ -67,7 +68,7 @@ is_begun f session flags mode h =
     let x = begun_by (bad_flags flags || nat_lt most_permissions mode) (free_place (f.descriptors session) most_descriptors EMFILE) (free_place f.opened most_open_files ENFILE) h in
     record { good = x.0; few = ltb-false most_permissions mode (or_parts (bad_flags flags) (nat_lt most_permissions mode) x.0).1; room = x.1 }
 
-module _ (g : Geometry) (t : Tree) (user : User) (now session : ℕ) (path : List ℕ) (flags mode : ℕ) where
+module _ (g : Geometry) (t : Tree) (user : User) (now session : ℕ) (path : PathFrom) (flags mode : ℕ) where
   abbrev named : ℕ → ℕ → Effect
   named fd k = open_named g t user now path flags mode (record { session = session; fd = fd; number = k })
 

@@ -1,9 +1,10 @@
 -- The directory of a name, and the nodes once the name is gone.
-use Rattle.std.proofs.Common.{◌≡◌, ◌≤◌, ℕ, List, true, Option, Some, None, Ok, refl, sym, ap, subst, ◌∙◌}
+use Rattle.std.proofs.Common.{◌≡◌, ◌≤◌, ℕ, true, Option, Some, None, Ok, refl, sym, ap, subst, ◌∙◌}
 use Rattle.std.specs.Prelude.{IsTrue, is_some}
 use Rattle.std.proofs.lemmas.Bool.{and_parts, cond-true}
 use Rattle.layout.specs.declared.Geometry.{Geometry}
 use Rattle.layout.specs.Places.{IsGeometry}
+use Rattle.tree.specs.declared.PathFrom.{PathFrom}
 use Rattle.tree.specs.declared.User.{User}
 use Rattle.tree.specs.Sums.{put}
 use Rattle.tree.specs.Names.{Names, inode_of, without_name}
@@ -32,7 +33,7 @@ use Rattle.calls_names.specs.Names.{FindsName, IsNamed, IsVolume, place_at}
 pub volume_of : (g : Geometry) (d : Disk) (f : Files) → IsHeld g (HasFiles f) d → IsVolume g d
 volume_of g d f h = record { tree = h.tree; holds = h.holds }
 
-module _ (g : Geometry) (ok : IsGeometry g) (user : User) (path : List ℕ) (now : ℕ) (d : Disk) (x : Named) (finds : FindsName g d user path (Ok x)) where
+module _ (g : Geometry) (ok : IsGeometry g) (user : User) (path : PathFrom) (now : ℕ) (d : Disk) (x : Named) (finds : FindsName g d user path (Ok x)) where
   abbrev v : Pieces
   v = pieces g d
 

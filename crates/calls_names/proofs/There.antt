@@ -3,12 +3,12 @@ use Rattle.std.proofs.Common.{◌≡◌, ◌<◌, ◌≤◌, ◌-◌, ◌/◌, �
 use Rattle.std.specs.Prelude.{IsTrue, Option, is_some, not, ◌&&◌, nat_le, if◌then◌else◌}
 use Rattle.std.proofs.lemmas.Bool.{and_parts, cond-false, leb-true}
 use Rattle.errno.specs.declared.Errno.{Errno}
-use Rattle.errno.specs.declared.Errno.TheVariants.{EACCES, EEXIST, EISDIR, ENOENT}
+use Rattle.errno.specs.declared.Errno.TheVariants.{EACCES, EEXIST, EISDIR, ELOOP, ENOENT}
 use Rattle.layout.specs.declared.Geometry.{Geometry}
 use Rattle.layout.specs.Places.{IsGeometry}
 use Rattle.tree.specs.declared.User.{User}
 use Rattle.tree.specs.Flags.{creates, is_exclusive, truncates, writes}
-use Rattle.tree.specs.Tree.{Directory, File, Node, Tree, is_dir, is_directory, is_file, is_link_at, with_node}
+use Rattle.tree.specs.Tree.{Directory, File, Node, Tree, is_dir, is_directory, is_file, with_node}
 use Rattle.tree.specs.Refusals.{◌>>=◌, or_refuse, refuse_if}
 use Rattle.tree.specs.Walk.{is_there}
 use Rattle.tree.specs.Changes.{file_after_resize, with_body}
@@ -19,7 +19,7 @@ use Rattle.tree.proofs.FileBodies.{resized_fits}
 use Rattle.volume.specs.declared.Inode.{Inode}
 use Rattle.volume.specs.Reading.{Disk, is_inode}
 use Rattle.volume.specs.Pieces.{Pieces, pieces}
-use Rattle.volume.specs.Nodes.{directory_of, entry_inode, is_directory_mode, is_marked, names_in, node_of, permissions_in}
+use Rattle.volume.specs.Nodes.{directory_of, entry_inode, is_directory_mode, is_link_mode, is_marked, names_in, node_of, permissions_in}
 use Rattle.volume.specs.Holds.{HoldsVolume}
 use Rattle.zone.specs.ZoneSteps.{node_from}
 use Rattle.path.specs.Wishes.{IsWhose}
@@ -36,22 +36,24 @@ use Rattle.calls_names.specs.Opening.{IsReady, IsRefused}
 abbrev told : Option Errno → Answer × Tree → Effect
 told why last = elim why [ None ↦ Ok last | Some e ↦ Err e ]
 
-abbrev first_of : Bool → Bool → Bool → Option Errno
-first_of a b c = if a then Some EEXIST else if b then Some EISDIR else if c then Some EACCES else None
+abbrev first_of : Bool → Bool → Bool → Bool → Option Errno
+first_of a l b c = if a then Some EEXIST else if l then Some ELOOP else if b then Some EISDIR else if c then Some EACCES else None
 
-abbrev asked : Bool → Bool → Bool → Answer × Tree → Effect
-asked a b c last = refuse_if a EEXIST >>= λ _. refuse_if b EISDIR >>= λ _. refuse_if c EACCES >>= λ _. Ok last
+abbrev asked : Bool → Bool → Bool → Bool → Answer × Tree → Effect
+asked a l b c last = refuse_if a EEXIST >>= λ _. refuse_if l ELOOP >>= λ _. refuse_if b EISDIR >>= λ _. refuse_if c EACCES >>= λ _. Ok last
 
--- nothing speaks against it, so the call takes what is there
-not_made : (a b c : Bool) → first_of a b c ≡ None → a ≡ false
-not_made true b c h = cc
-not_made false b c h = refl
+-- nothing speaks against it, so it is no link
+not_link : (a l b c : Bool) → first_of a l b c ≡ None → l ≡ false
+not_link true l b c h = cc
+not_link false true b c h = cc
+not_link false false b c h = refl
 
-asked_is : (a b c : Bool) (last : Answer × Tree) → asked a b c last ≡ told (first_of a b c) last
-asked_is true b c last = refl
-asked_is false true c last = refl
-asked_is false false true last = refl
-asked_is false false false last = refl
+asked_is : (a l b c : Bool) (last : Answer × Tree) → asked a l b c last ≡ told (first_of a l b c) last
+asked_is true l b c last = refl
+asked_is false true b c last = refl
+asked_is false false true c last = refl
+asked_is false false false true last = refl
+asked_is false false false false last = refl
 
 -- what the truncate flag leaves of a node, by its kind
 module _ (g : Geometry) (t : Tree) (now n : ℕ) (node : Node) (dir : Directory) (h : File) where
@@ -81,7 +83,7 @@ module _ (g : Geometry) (t : Tree) (now n : ℕ) (node : Node) (dir : Directory)
 
 module _ (g : Geometry) (ok : IsGeometry g) (d : Disk) (t : Tree) (holds : HoldsVolume g d t) (user : User) (now n flags : ℕ) (there : IsTrue (is_some (t.nodes n)))
     (i : Inode) (loaded : i ≡ (pieces g d).inodes n) (why : Option Errno)
-    (barred : (node : Node) → IsWhose node (permissions_in i.mode) i.uid i.gid → why ≡ why_barred (is_directory_mode i.mode) (lacks_permission user node flags) flags) where
+    (barred : (node : Node) → IsWhose node (permissions_in i.mode) i.uid i.gid → why ≡ why_barred (is_link_mode i.mode) (is_directory_mode i.mode) (lacks_permission user node flags) flags) where
   abbrev v : Pieces
   v = pieces g d
 
@@ -103,14 +105,18 @@ module _ (g : Geometry) (ok : IsGeometry g) (d : Disk) (t : Tree) (holds : Holds
   kind : is_directory_mode i.mode ≡ is_directory_mode (v.inodes n).mode
   kind = ap (λ (j : Inode). is_directory_mode j.mode) loaded
 
-  its_why : why ≡ why_barred (is_dir node) (lacks_permission user node flags) flags
+  link : is_link_mode i.mode ≡ node.symbolic
+  link = ap (λ (j : Inode). is_link_mode j.mode) loaded
+
+  its_why : why ≡ why_barred node.symbolic (is_dir node) (lacks_permission user node flags) flags
   its_why =
       barred node (record {
         permissions_are = ap (λ (j : Inode). permissions_in j.mode) (sym loaded);
         owner = ap (λ (j : Inode). j.uid) (sym loaded);
         group = ap (λ (j : Inode). j.gid) (sym loaded);
       })
-      ∙ ap (λ b. why_barred b (lacks_permission user node flags) flags) (kind ∙ sym (kind_is g v n))
+      ∙ ap (λ b. why_barred b (is_directory_mode i.mode) (lacks_permission user node flags) flags) link
+      ∙ ap (λ b. why_barred node.symbolic b (lacks_permission user node flags) flags) (kind ∙ sym (kind_is g v n))
 
   abbrev call : ℕ → Slot → Effect
   call mode slot = open_found g t user now slot flags mode (is_there n)
@@ -120,10 +126,10 @@ module _ (g : Geometry) (ok : IsGeometry g) (d : Disk) (t : Tree) (holds : Holds
 
   effect : (mode : ℕ) (slot : Slot) → call mode slot ≡ told why (last slot)
   effect mode slot =
-      ap (λ o. refuse_if (creates flags && is_exclusive flags) EEXIST >>= λ _. or_refuse o ENOENT >>= λ x.
+      ap (λ o. refuse_if (creates flags && is_exclusive flags) EEXIST >>= λ _. or_refuse o ENOENT >>= λ x. refuse_if x.symbolic ELOOP >>= λ _.
       refuse_if (is_dir x && writes flags) EISDIR >>= λ _. refuse_if (lacks_permission user x flags) EACCES >>= λ _.
       Ok (descriptor slot.fd, with_open (after_truncate_flag g t now flags n x) slot n flags)) at.1
-      ∙ asked_is (creates flags && is_exclusive flags) (is_dir node && writes flags) (lacks_permission user node flags) (last slot)
+      ∙ asked_is (creates flags && is_exclusive flags) node.symbolic (is_dir node && writes flags) (lacks_permission user node flags) (last slot)
       ∙ ap (λ o. told o (last slot)) (sym its_why)
 
   -- it is refused
@@ -151,7 +157,7 @@ module _ (g : Geometry) (ok : IsGeometry g) (d : Disk) (t : Tree) (holds : Holds
 
     -- or it is emptied
     module _ (emptied : (truncates flags && not (is_directory_mode i.mode)) ≡ true) (small : now < 2 ^ 32) (e : Disk)
-        (s : SetsSizeAt g n 0 now d e) (last : only_makes flags ≡ false → is_link_at t.nodes n ≡ false) where
+        (s : SetsSizeAt g n 0 now d e) where
       abbrev new : File
       new = file_after_resize g h 0
 
@@ -168,9 +174,7 @@ module _ (g : Geometry) (ok : IsGeometry g) (d : Disk) (t : Tree) (holds : Holds
       body = cond-false (is_directory_mode (v.inodes n).mode) (is_directory dir) (is_file h) plain
 
       no_link : node.symbolic ≡ false
-      no_link =
-          sym (ap (λ (o : Option Node). elim o [ None ↦ false | Some x ↦ x.symbolic ]) at.1)
-          ∙ last (not_made (only_makes flags) (is_dir node && writes flags) (lacks_permission user node flags) (sym its_why ∙ none))
+      no_link = not_link (only_makes flags) node.symbolic (is_dir node && writes flags) (lacks_permission user node flags) (sym its_why ∙ none)
 
       held : HoldsVolume g e (with_node t n (Some new_node))
       held =

@@ -2,7 +2,7 @@
 use Rattle.std.specs.Prelude.{ℕ, List, length, Bool, not, ◌&&◌, ◌||◌, ◌==◌, nat_lt, Option, None, Some, Result, Ok, if◌then◌else◌}
 use Rattle.std.specs.List.{list_any}
 use Rattle.errno.specs.declared.Errno.{Errno}
-use Rattle.errno.specs.declared.Errno.TheVariants.{EACCES, EEXIST, EINVAL, EISDIR, ENAMETOOLONG, ENOENT}
+use Rattle.errno.specs.declared.Errno.TheVariants.{EACCES, EEXIST, EINVAL, EISDIR, ELOOP, ENAMETOOLONG, ENOENT}
 use Rattle.tree.specs.declared.User.{User}
 use Rattle.tree.specs.Flags.{bad_flags, creates, is_exclusive, reads, writes}
 use Rattle.tree.specs.Tree.{Node, most_permissions, most_target}
@@ -21,10 +21,11 @@ abbrev pub lacks_permission : User → Node → ℕ → Bool
 lacks_permission user node flags =
     (reads flags && not (may_access user node to_read)) || (writes flags && not (may_access user node to_write))
 
--- the first of the reasons against opening a node that is there: a directory or not, with or without the permissions
-abbrev pub why_barred : Bool → Bool → ℕ → Option Errno
-why_barred directory lacks flags =
+-- the first of the reasons against opening a node that is there: a link or not, a directory or not, with or without the permissions
+abbrev pub why_barred : Bool → Bool → Bool → ℕ → Option Errno
+why_barred link directory lacks flags =
     if creates flags && is_exclusive flags then Some EEXIST
+    else if link then Some ELOOP
     else if directory && writes flags then Some EISDIR
     else if lacks then Some EACCES
     else None

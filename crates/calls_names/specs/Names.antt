@@ -1,13 +1,14 @@
 -- What the paths of calls on names mean.
-use Rattle.std.specs.Prelude.{◌≡◌, ◌==◌, ℕ, List, not, Option, None, Some, Result, Ok, Err, IsTrue, if◌then◌else◌}
+use Rattle.std.specs.Prelude.{◌≡◌, ◌==◌, ℕ, not, Option, None, Some, Result, Ok, Err, IsTrue, if◌then◌else◌}
 use Rattle.errno.specs.declared.Errno.{Errno}
 use Rattle.errno.specs.declared.Errno.TheVariants.{EACCES, EBUSY, EINVAL, ENOENT, ENOTDIR, ENOTEMPTY}
 use Rattle.layout.specs.declared.Geometry.{Geometry}
+use Rattle.tree.specs.declared.PathFrom.{PathFrom}
 use Rattle.tree.specs.declared.User.{User}
-use Rattle.tree.specs.Names.{Name, inode_of, is_name}
+use Rattle.tree.specs.Names.{inode_of, is_name}
 use Rattle.tree.specs.Tree.{Node, Tree, is_open}
 use Rattle.tree.specs.Refusals.{◌>>=◌, or_refuse, refuse_if}
-use Rattle.tree.specs.Walk.{Place, has_last_name, may_access, node_at, parent_walk, read_path, to_write}
+use Rattle.tree.specs.Walk.{Place, Way, has_last_name, may_access, node_at, parent_walk, read_path, to_write}
 use Rattle.tree.specs.Answers.{Effect}
 use Rattle.volume.specs.declared.Inode.{Inode}
 use Rattle.volume.specs.Reading.{Disk}
@@ -33,15 +34,15 @@ pub record IsOfInode (node : Node) (i : Inode) : Type 0 where
   pub gid : node.gid ≡ i.gid
 
 -- the place, or the walk's refusal, of each tree that is held
-abbrev pub MeansPlace : Geometry → Disk → User → List Name → Result Found Errno → Type 0
-MeansPlace g d user parts r = (t : Tree) → HoldsVolume g d t → FindsPlace g d t user parts r
+abbrev pub MeansPlace : Geometry → Disk → User → Way → Result Found Errno → Type 0
+MeansPlace g d user way r = (t : Tree) → HoldsVolume g d t → FindsPlace g d t user way r
 
 -- A call that takes a name away, up to where it looks at the node.
-abbrev pub on_name : Tree → User → List ℕ → (Place → ℕ → Node → Effect) → Effect
+abbrev pub on_name : Tree → User → PathFrom → (Place → ℕ → Node → Effect) → Effect
 on_name t user path rest = do
-  parts ← read_path path
-  _ ← refuse_if (not (has_last_name parts)) EINVAL
-  place ← parent_walk t user parts
+  way ← read_path path
+  _ ← refuse_if (not (has_last_name way)) EINVAL
+  place ← parent_walk t user way
   n ← or_refuse (inode_of place.names place.name) ENOENT
   parent ← node_at t place.directory
   _ ← refuse_if (not (may_access user parent to_write)) EACCES
@@ -53,7 +54,7 @@ abbrev pub place_at : Geometry → Disk → Named → Place
 place_at g d x = record { directory = x.directory; names = (before g (pieces g d) x.directory).names; name = x.name.now }
 
 -- The name stands in a directory and leads to this inode, and the call goes on with them.
-pub record IsNamed (g : Geometry) (d : Disk) (t : Tree) (user : User) (path : List ℕ) (x : Named) : Type 0 where
+pub record IsNamed (g : Geometry) (d : Disk) (t : Tree) (user : User) (path : PathFrom) (x : Named) : Type 0 where
   pub directory : IsTrue (is_directory_inode g (pieces g d) x.directory)
   pub name : IsTrue (is_name x.name.now)
   pub found : inode_of (place_at g d x).names x.name.now ≡ Some x.number
@@ -61,11 +62,11 @@ pub record IsNamed (g : Geometry) (d : Disk) (t : Tree) (user : User) (path : Li
   pub goes_on : (rest : Place → ℕ → Node → Effect) → on_name t user path rest ≡ rest (place_at g d x) x.number (node_of g (pieces g d) x.inode)
 
 -- the name, or the refusal
-abbrev pub IsNameOr : Geometry → Disk → Tree → User → List ℕ → Result Named Errno → Type 0
+abbrev pub IsNameOr : Geometry → Disk → Tree → User → PathFrom → Result Named Errno → Type 0
 IsNameOr g d t user path (Ok x) = IsNamed g d t user path x
 IsNameOr g d t user path (Err e) = (rest : Place → ℕ → Node → Effect) → on_name t user path rest ≡ Err e
 
-abbrev pub FindsName : Geometry → Disk → User → List ℕ → Result Named Errno → Type 0
+abbrev pub FindsName : Geometry → Disk → User → PathFrom → Result Named Errno → Type 0
 FindsName g d user path r = (t : Tree) → HoldsVolume g d t → IsNameOr g d t user path r
 
 -- why a name may not go with its directory where these files are open

@@ -1,12 +1,12 @@
 -- A node is readied, and then opened.
-use Rattle.std.specs.Prelude.{◌≡◌, ◌≤◌, ℕ, List, Bool, false, Result, Ok, Err, IsTrue, is_some}
+use Rattle.std.specs.Prelude.{◌≡◌, ◌≤◌, ℕ, Bool, Result, Ok, Err, IsTrue, is_some}
 use Rattle.errno.specs.declared.Errno.{Errno}
 use Rattle.layout.specs.declared.Geometry.{Geometry}
+use Rattle.tree.specs.declared.PathFrom.{PathFrom}
 use Rattle.tree.specs.declared.User.{User}
-use Rattle.tree.specs.Names.{Name}
-use Rattle.tree.specs.Tree.{Tree, is_link_at}
+use Rattle.tree.specs.Tree.{Tree}
 use Rattle.tree.specs.Refusals.{◌>>=◌}
-use Rattle.tree.specs.Walk.{is_there, open_look_up, read_path}
+use Rattle.tree.specs.Walk.{Way, is_there, open_look_up, read_path}
 use Rattle.tree.specs.Answers.{Answer, Effect, descriptor}
 use Rattle.tree.specs.FileCalls.{Slot, open_found, with_open}
 use Rattle.volume.specs.Reading.{Disk}
@@ -18,23 +18,22 @@ use Rattle.inode_operations.specs.Stands.{Stands}
 use Rattle.calls_names.specs.Asking.{only_makes}
 
 -- open from the path on, where the slot of the open file is known
-abbrev pub open_named : Geometry → Tree → User → ℕ → List ℕ → ℕ → ℕ → Slot → Effect
+abbrev pub open_named : Geometry → Tree → User → ℕ → PathFrom → ℕ → ℕ → Slot → Effect
 open_named g t user now path flags mode slot = do
-  parts ← read_path path
-  found ← open_look_up t user (only_makes flags) parts
+  way ← read_path path
+  found ← open_look_up t user (only_makes flags) way
   open_found g t user now slot flags mode found
 
--- A path finds this node for open: a link only where links are taken as they are.
-pub record IsFoundToOpen (t : Tree) (user : User) (as_is : Bool) (parts : List Name) (n : ℕ) : Type 0 where
-  pub found : open_look_up t user as_is parts ≡ Ok (is_there n)
+-- A path finds this node for open.
+pub record IsFoundToOpen (t : Tree) (user : User) (as_is : Bool) (way : Way) (n : ℕ) : Type 0 where
+  pub found : open_look_up t user as_is way ≡ Ok (is_there n)
   pub there : IsTrue (is_some (t.nodes n))
-  pub no_link : as_is ≡ false → is_link_at t.nodes n ≡ false
 
 -- the node, or the place where a name is missing, or the refusal of the walk
-abbrev pub FindsToOpen : Geometry → Disk → Tree → User → Bool → List Name → Result Found Errno → Type 0
-FindsToOpen g d t user as_is parts (Ok (found.There n)) = IsFoundToOpen t user as_is parts n
-FindsToOpen g d t user as_is parts (Ok (found.Missing p)) = Finds g d t user parts (Ok (found.Missing p))
-FindsToOpen g d t user as_is parts (Err e) = open_look_up t user as_is parts ≡ Err e
+abbrev pub FindsToOpen : Geometry → Disk → Tree → User → Bool → Way → Result Found Errno → Type 0
+FindsToOpen g d t user as_is way (Ok (found.There n)) = IsFoundToOpen t user as_is way n
+FindsToOpen g d t user as_is way (Ok (found.Missing p)) = Finds g d t user way (Ok (found.Missing p))
+FindsToOpen g d t user as_is way (Err e) = open_look_up t user as_is way ≡ Err e
 
 -- The call opens node n in every slot, in a tree whose nodes the volume has; as yet the same is open as before.
 pub record IsReady (g : Geometry) (t : Tree) (call : Slot → Effect) (flags : ℕ) (d e : Disk) (n : ℕ) : Type 0 where

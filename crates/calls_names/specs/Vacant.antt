@@ -1,8 +1,9 @@
 -- Places for new names, and numbers for new nodes.
-use Rattle.std.specs.Prelude.{◌≡◌, ◌<◌, ◌≤◌, ℕ, ◌+◌, List, not, true, None, Some, Result, Ok, Err, IsTrue}
+use Rattle.std.specs.Prelude.{◌≡◌, ◌<◌, ◌≤◌, ℕ, ◌+◌, not, true, None, Some, Result, Ok, Err, IsTrue}
 use Rattle.errno.specs.declared.Errno.{Errno}
 use Rattle.errno.specs.declared.Errno.TheVariants.{EACCES, EEXIST, ENOSPC}
 use Rattle.layout.specs.declared.Geometry.{Geometry}
+use Rattle.tree.specs.declared.PathFrom.{PathFrom}
 use Rattle.tree.specs.declared.User.{User}
 use Rattle.tree.specs.Names.{Name, inode_of, is_name, with_name}
 use Rattle.tree.specs.Sums.{put}
@@ -20,11 +21,11 @@ use Rattle.path.specs.declared.place.NamePlace.{NamePlace}
 use Rattle.path.specs.Places.{place_of}
 
 -- A call that puts a new name at the end of a path, up to where it looks at the place and its directory.
-abbrev pub at_new_place : Tree → User → List ℕ → (tree.Place → Node → Effect) → Effect
+abbrev pub at_new_place : Tree → User → PathFrom → (tree.Place → Node → Effect) → Effect
 at_new_place t user path rest = do
-  parts ← read_path path
-  place ← parent_walk t user parts
-  _ ← refuse_if (is_taken place parts) EEXIST
+  way ← read_path path
+  place ← parent_walk t user way
+  _ ← refuse_if (is_taken place way) EEXIST
   parent ← node_at t place.directory
   _ ← refuse_if (not (may_access user parent to_write)) EACCES
   rest place parent
@@ -39,13 +40,13 @@ pub record IsVacant (g : Geometry) (d : Disk) (t : Tree) (p : NamePlace) (parent
   pub free : inode_of (names_of (Some parent)) p.name.now ≡ None
 
 -- The call goes on with that place and its directory.
-pub record IsNewPlace (g : Geometry) (d : Disk) (t : Tree) (user : User) (path : List ℕ) (p : NamePlace) : Type 0 where
+pub record IsNewPlace (g : Geometry) (d : Disk) (t : Tree) (user : User) (path : PathFrom) (p : NamePlace) : Type 0 where
   pub parent : Node
   pub goes_on : (rest : tree.Place → Node → Effect) → at_new_place t user path rest ≡ rest (place_of g d p) parent
   pub vacant : IsVacant g d t p parent
 
 -- or the refusal
-abbrev pub FindsNewPlace : Geometry → Disk → Tree → User → List ℕ → Result NamePlace Errno → Type 0
+abbrev pub FindsNewPlace : Geometry → Disk → Tree → User → PathFrom → Result NamePlace Errno → Type 0
 FindsNewPlace g d t user path (Ok p) = IsNewPlace g d t user path p
 FindsNewPlace g d t user path (Err e) = (rest : tree.Place → Node → Effect) → at_new_place t user path rest ≡ Err e
 

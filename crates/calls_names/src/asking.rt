@@ -3,13 +3,13 @@
 ghost use Rattle.std.specs.Prelude.{◌≡◌, ◌≢◌, ◌<◌, ◌&&◌, IfErr, IfSome, not};
 ghost use Rattle.tree.specs.Flags.{bad_flags, truncates};
 ghost use Rattle.tree.specs.Tree.{Node, most_sessions};
-ghost use Rattle.volume.specs.Nodes.{is_directory_mode, permissions_in};
+ghost use Rattle.volume.specs.Nodes.{is_directory_mode, is_link_mode, permissions_in};
 ghost use Rattle.descriptors.specs.Table.{files_of};
 ghost use Rattle.path.specs.Wishes.{IsWhose};
 ghost use Rattle.calls_names.specs.Asking.{lacks_permission, may_begin, only_makes, why_barred};
 
 use bitflags::Flags;
-use calls_attributes::found::is_directory;
+use calls_attributes::found::{is_directory, is_link};
 use descriptors::Descriptors;
 use errno::Errno;
 use path::{Wish, may};
@@ -56,13 +56,16 @@ fn lacks(user: User, inode: &Inode, flags: OpenFlags) -> bool
     flags.reads() && !may_read || flags.writes() && !may_write
 }
 
-/// Why a node that is there can't be opened, if it can't: EEXIST where the call makes files and takes no others, else EISDIR of a directory
-/// to be written, else EACCES where the user lacks a permission.
-fn why_barred(is_directory: bool, lacks: bool, flags: OpenFlags) -> Option<Errno>
-    ensures { result ≡ why_barred is_directory lacks flags.0 }
+/// Why a node that is there can't be opened, if it can't: EEXIST where the call makes files and takes no others, else ELOOP of a symbolic
+/// link, else EISDIR of a directory to be written, else EACCES where the user lacks a permission.
+fn why_barred(is_link: bool, is_directory: bool, lacks: bool, flags: OpenFlags) -> Option<Errno>
+    ensures { result ≡ why_barred is_link is_directory lacks flags.0 }
 {
     if flags.creates() && flags.is_exclusive() {
         return Some(Errno::EEXIST);
+    }
+    if is_link {
+        return Some(Errno::ELOOP);
     }
     if is_directory && flags.writes() {
         return Some(Errno::EISDIR);
@@ -76,10 +79,15 @@ fn why_barred(is_directory: bool, lacks: bool, flags: OpenFlags) -> Option<Errno
 /// Why the node of an inode can't be opened, if it can't.
 pub(crate) fn refusal(user: User, inode: &Inode, flags: OpenFlags) -> Option<Errno>
     ensures barred { (node : Node) → IsWhose node (permissions_in inode.now.mode) inode.now.uid inode.now.gid
-        → result ≡ why_barred (is_directory_mode inode.now.mode) (lacks_permission user node flags.0) flags.0 }
+        → result ≡ why_barred (is_link_mode inode.now.mode) (is_directory_mode inode.now.mode) (lacks_permission user node flags.0) flags.0 }
     ensures proper { IfSome result (λ e. e ≢ Errno.EIO) }
 {
-    why_barred(is_directory(inode), lacks(user, inode, flags), flags)
+    why_barred(
+        is_link(inode),
+        is_directory(inode),
+        lacks(user, inode, flags),
+        flags,
+    )
 }
 
 /// Whether the node of an inode is emptied: that of a file, with the truncate flag.

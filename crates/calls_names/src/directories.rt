@@ -13,6 +13,7 @@ ghost use Rattle.path.specs.Stops.{IfRefused, IsStop};
 ghost use Rattle.calls_names.specs.Making.{MakesDirectoryAt, MayMakeDirectoryAt};
 ghost use Rattle.calls_names.specs.Stopping.{MeetsOrStops};
 
+use crate::named::are_bytes;
 use crate::vacant::{free_number, vacant_place};
 use block_store::{Blocks, Halt};
 use directory::insert;
@@ -20,7 +21,7 @@ use errno::Errno;
 use inode_operations::{add_link, new_directory};
 use layout::Geometry;
 use path::{NameCache, NamePlace, Stop};
-use tree::{MAX_LINKS, MAX_NAME, MAX_PERMISSIONS, Reply, User};
+use tree::{MAX_LINKS, MAX_NAME, MAX_PERMISSIONS, PathFrom, Reply, User};
 
 /// Makes a directory at a vacant place: its node, its name, and the link that its `..` is of its parent.
 fn put_directory<B: Blocks>(
@@ -54,15 +55,16 @@ fn make<B: Blocks>(
     geometry: &Geometry,
     user: User,
     now: u32,
-    path: &[u8],
+    path: PathFrom,
     mode: u16,
 ) -> Result<(), Stop>
     requires on { IsOn B.world geometry.now blocks.old }
     ensures turns { Turns B.world blocks.old blocks.new (λ d e. (f : Files) →
-        MeetsOrStops geometry.now (λ t. mkdir geometry.now t user now path.now mode) (λ x. done) result (HasFiles f) (HasFiles f) d e) }
+        MeetsOrStops geometry.now (λ t. mkdir geometry.now t user now path.entry mode) (λ x. done) result (HasFiles f) (HasFiles f) d e) }
     ensures stop { IfErr result (λ s. IsStop B.world blocks.new s) }
     ensures proper { IfErr result (λ s. IfRefused s (λ e. e ≢ Errno.EIO)) }
 {
+    are_bytes(path.bytes);
     if mode > MAX_PERMISSIONS {
         return Err(Stop::Refused(Errno::EINVAL));
     }
@@ -84,13 +86,13 @@ pub fn mkdir<B: Blocks>(
     geometry: &Geometry,
     user: User,
     now: u32,
-    path: &[u8],
+    path: PathFrom,
     mode: u16,
     reply: &mut Reply,
 ) -> Result<(), Halt>
     requires on { IsOn B.world geometry.now blocks.old }
     ensures turns { Turns B.world blocks.old blocks.new (λ d e. (f : Files) →
-        Meets geometry.now (λ t. mkdir geometry.now t user now path.now mode) result reply.new (HasFiles f) (HasFiles f) d e) }
+        Meets geometry.now (λ t. mkdir geometry.now t user now path.entry mode) result reply.new (HasFiles f) (HasFiles f) d e) }
     ensures halt { IfErr result (λ h. IsHalt B.world blocks.new h) }
     ensures proper { OnOk result (answer_of reply.new ≢ refused Errno.EIO) }
 {

@@ -14,7 +14,7 @@ ghost use Rattle.calls_attributes.specs.Does.{Meets};
 ghost use Rattle.calls_names.specs.Names.{IsVolume};
 ghost use Rattle.calls_names.specs.Linking.{FindsFile, FindsFree, IsLast, IsRoomFor};
 
-use crate::named::{may_write, place_of};
+use crate::named::{are_bytes, may_write, place_of};
 use block_store::{Blocks, Halt};
 use calls_attributes::found::is_directory;
 use calls_attributes::last::walk_to_last;
@@ -25,7 +25,7 @@ use inode::inode_table::load;
 use inode_operations::add_link;
 use layout::Geometry;
 use path::{NameCache, Path};
-use tree::{MAX_LINKS, MAX_SIZE, Reply, User};
+use tree::{MAX_LINKS, MAX_SIZE, PathFrom, Reply, User};
 
 /// A place for a name more.
 #[derive(Drop)]
@@ -123,16 +123,17 @@ pub fn link<B: Blocks>(
     geometry: &Geometry,
     user: User,
     now: u32,
-    old: &[u8],
-    new: &[u8],
+    old: PathFrom,
+    new: PathFrom,
     reply: &mut Reply,
 ) -> Result<(), Halt>
     requires on { IsOn B.world geometry.now blocks.old }
     ensures turns { Turns B.world blocks.old blocks.new (λ d e. (f : Files) →
-        Meets geometry.now (λ t. link geometry.now t user now old.now new.now) result reply.new (HasFiles f) (HasFiles f) d e) }
+        Meets geometry.now (λ t. link geometry.now t user now old.entry new.entry) result reply.new (HasFiles f) (HasFiles f) d e) }
     ensures halt { IfErr result (λ h. IsHalt B.world blocks.new h) }
     ensures proper { OnOk result (answer_of reply.new ≢ refused Errno.EIO) }
 {
+    are_bytes(new.bytes);
     let from = match Path::parse(old) {
         Ok(path) => path,
         Err(errno) => {

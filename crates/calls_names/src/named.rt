@@ -4,6 +4,7 @@ ghost use Rattle.std.specs.Prelude.{◌≡◌, ◌≢◌, ◌<◌, IfErr, IfOk, 
 ghost use Rattle.block_store.specs.World.{Reads};
 ghost use Rattle.block_store.specs.Volume.{IsOn};
 ghost use Rattle.block_store.specs.Halts.{IsHalt, Ends};
+ghost use Rattle.tree.specs.IsCall.{IsBytes};
 ghost use Rattle.tree.specs.Tree.{Node};
 ghost use Rattle.tree.specs.Walk.{may_access, to_write};
 ghost use Rattle.calls_names.specs.Names.{FindsName, IsOfInode, IsVolume, MeansPlace};
@@ -13,7 +14,7 @@ use errno::Errno;
 use inode::inode_table::load;
 use layout::Geometry;
 use path::{NameCache, NamePlace, Path, Stop, Wish, find_place, may};
-use tree::User;
+use tree::{PathFrom, User};
 use volume::Inode;
 
 /// A name that leads to a node.
@@ -34,6 +35,11 @@ pub fn may_write(user: User, inode: &Inode) -> bool
 {
     may(user, inode.mode % 512, inode.uid, inode.gid, Wish::Write)
 }
+
+/// The bytes of a path are bytes: a proof hears it of a slice alone, and not of a struct's. Nothing is done.
+pub fn are_bytes(bytes: &[u8])
+    ensures { IsBytes bytes.now }
+{}
 
 /// The place that a path means, or the refusal of the walk there.
 pub fn place_of<'a, B: Blocks>(
@@ -63,15 +69,16 @@ pub(crate) fn find_name<'a, B: Blocks>(
     names: &mut NameCache,
     geometry: &Geometry,
     user: User,
-    path: &'a [u8],
+    path: PathFrom<'a>,
 ) -> Result<Result<Named<'a>, Errno>, Halt>
     requires on { IsOn B.world geometry.now blocks.old }
     ensures reads { Reads B.world blocks.old blocks.new (λ d. Ends result
-        (λ r. FindsName geometry.now d user path.now r) (IsVolume geometry.now d)) }
+        (λ r. FindsName geometry.now d user path.entry r) (IsVolume geometry.now d)) }
     ensures named { IfOk result (λ r. IfOk r (λ x. 0 < length x.name.now)) }
     ensures proper { IfOk result (λ r. IfErr r (λ e. e ≢ Errno.EIO)) }
     ensures halt { IfErr result (λ h. IsHalt B.world blocks.new h) }
 {
+    are_bytes(path.bytes);
     let parts = match Path::parse(path) {
         Ok(parts) => parts,
         Err(errno) => return Ok(Err(errno)),

@@ -13,13 +13,14 @@ ghost use Rattle.calls_attributes.specs.Does.{Meets};
 ghost use Rattle.calls_names.specs.Opening.{IsPut};
 
 use crate::asking::may_begin;
+use crate::named::are_bytes;
 use crate::readying::ready;
 use block_store::{Blocks, Halt};
 use descriptors::Descriptors;
 use errno::Errno;
 use layout::Geometry;
 use path::{NameCache, Stop};
-use tree::{OpenFlags, Reply, User};
+use tree::{OpenFlags, PathFrom, Reply, User};
 
 /// Opens a node at position 0, under the lowest free descriptor of a session that has one.
 fn put(opens: &mut Descriptors, session: u8, inode: u16, flags: OpenFlags, reply: &mut Reply)
@@ -38,9 +39,9 @@ fn put(opens: &mut Descriptors, session: u8, inode: u16, flags: OpenFlags, reply
 /// symbolic link that stands last is followed, but with create and exclusive; no file is made where it leads to nothing.
 /// Refused, in this order, with nothing changed: EINVAL of flags or of a mode that can't be, EMFILE where the session has no free
 /// descriptor, ENFILE where 128 files are open, the refusals of the path and of the look-up, and of a link that is followed those of the
-/// walk of the whole path; then of a node that is there EEXIST with create and exclusive, EISDIR of a directory to be written, EACCES where
-/// the user lacks a permission; and of a missing name ENOENT without create, EACCES where the user may not change the directory's names,
-/// ENOSPC where no inode is free or there are too few zones.
+/// walk of the whole path; then of a node that is there EEXIST with create and exclusive, ELOOP of a link that is the path's start, EISDIR
+/// of a directory to be written, EACCES where the user lacks a permission; and of a missing name ENOENT without create, EACCES where the
+/// user may not change the directory's names, ENOSPC where no inode is free or there are too few zones.
 pub fn open<B: Blocks>(
     blocks: &mut B,
     names: &mut NameCache,
@@ -49,7 +50,7 @@ pub fn open<B: Blocks>(
     user: User,
     now: u32,
     session: u8,
-    path: &[u8],
+    path: PathFrom,
     flags: OpenFlags,
     mode: u16,
     reply: &mut Reply,
@@ -57,11 +58,12 @@ pub fn open<B: Blocks>(
     requires on { IsOn B.world geometry.now blocks.old }
     requires session { session < most_sessions }
     ensures turns { Turns B.world blocks.old blocks.new (λ d e.
-        Meets geometry.now (λ t. open_path geometry.now t user now session path.now flags.0 mode) result reply.new
+        Meets geometry.now (λ t. open_path geometry.now t user now session path.entry flags.0 mode) result reply.new
         (HasFiles (files_of opens.old)) (HasFiles (files_of opens.new)) d e) }
     ensures halt { IfErr result (λ h. IsHalt B.world blocks.new h) }
     ensures proper { OnOk result (answer_of reply.new ≢ refused Errno.EIO) }
 {
+    are_bytes(path.bytes);
     if let Err(errno) = may_begin(opens, session, flags, mode) {
         *reply = Reply::Refused(errno);
         return Ok(());

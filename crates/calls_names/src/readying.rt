@@ -1,16 +1,16 @@
 //! The node that open opens.
 
-ghost use Rattle.std.specs.Prelude.{◌≡◌, ◌≢◌, ◌≤◌, IfErr, IsTrue, false, is_some};
-ghost use Rattle.tree.specs.Tree.{Tree, is_link_at, most_permissions};
+ghost use Rattle.std.specs.Prelude.{◌≡◌, ◌≢◌, ◌≤◌, IfErr, IsTrue, is_some};
+ghost use Rattle.tree.specs.Tree.{Tree, most_permissions};
 ghost use Rattle.volume.specs.Holds.{HoldsVolume};
 ghost use Rattle.block_store.specs.Volume.{IsOn};
 ghost use Rattle.block_store.specs.World.{Reads, Turns};
 ghost use Rattle.path.specs.Stops.{Answers, IfRefused, IsStop};
-ghost use Rattle.calls_names.specs.Asking.{only_makes};
 ghost use Rattle.calls_names.specs.Opening.{FindsToOpen, Readies, ReadiesThere, open_named};
 
 use crate::asking::{is_emptied, only_makes, refusal};
 use crate::make_file;
+use crate::named::are_bytes;
 use block_store::Blocks;
 use calls_attributes::found::is_link;
 use errno::Errno;
@@ -18,11 +18,11 @@ use inode::inode_table::load;
 use inode_operations::set_size_at;
 use layout::Geometry;
 use path::{Found, NameCache, Path, Stop, look_up, walk};
-use tree::{OpenFlags, User};
+use tree::{OpenFlags, PathFrom, User};
 
-/// Readies a node that is there, no symbolic link unless the call opens only what it makes: with the truncate flag its file is emptied,
-/// changed at `now` (seconds). EEXIST where the call makes files and takes no others, EISDIR of a directory to be written, EACCES where the
-/// user lacks a permission; then nothing is changed.
+/// Readies a node that is there: with the truncate flag its file is emptied, changed at `now` (seconds). EEXIST where the call makes files
+/// and takes no others, ELOOP of a symbolic link, EISDIR of a directory to be written, EACCES where the user lacks a permission; then
+/// nothing is changed.
 fn ready_there<B: Blocks>(
     blocks: &mut B,
     geometry: &Geometry,
@@ -33,7 +33,7 @@ fn ready_there<B: Blocks>(
 ) -> Result<(), Stop>
     requires on { IsOn B.world geometry.now blocks.old }
     ensures turns { Turns B.world blocks.old blocks.new (λ d e. (t : Tree) → HoldsVolume geometry.now d t
-        → IsTrue (is_some (t.nodes number)) → (only_makes flags.0 ≡ false → is_link_at t.nodes number ≡ false)
+        → IsTrue (is_some (t.nodes number))
         → Answers result (ReadiesThere geometry.now t user now number flags.0 d e)) }
     ensures stop { IfErr result (λ s. IsStop B.world blocks.new s) }
     ensures proper { IfErr result (λ s. IfRefused s (λ e. e ≢ Errno.EIO)) }
@@ -75,7 +75,7 @@ fn find<'a, B: Blocks>(
     if !is_link(&inode) {
         return Ok(Found::There(number));
     }
-    let end = walk(blocks, names, geometry, user, path.parts())?;
+    let end = walk(blocks, names, geometry, user, path)?;
     Ok(Found::There(end))
 }
 
@@ -87,17 +87,18 @@ pub(crate) fn ready<B: Blocks>(
     geometry: &Geometry,
     user: User,
     now: u32,
-    path: &[u8],
+    path: PathFrom,
     flags: OpenFlags,
     mode: u16,
 ) -> Result<u32, Stop>
     requires on { IsOn B.world geometry.now blocks.old }
     requires mode { mode ≤ most_permissions }
     ensures turns { Turns B.world blocks.old blocks.new (λ d e. (t : Tree) → HoldsVolume geometry.now d t
-        → Answers result (Readies geometry.now t (open_named geometry.now t user now path.now flags.0 mode) flags.0 d e)) }
+        → Answers result (Readies geometry.now t (open_named geometry.now t user now path.entry flags.0 mode) flags.0 d e)) }
     ensures stop { IfErr result (λ s. IsStop B.world blocks.new s) }
     ensures proper { IfErr result (λ s. IfRefused s (λ e. e ≢ Errno.EIO)) }
 {
+    are_bytes(path.bytes);
     let path = Path::parse(path)?;
     match find(blocks, names, geometry, user, &path, only_makes(flags))? {
         Found::There(number) => {

@@ -20,7 +20,7 @@ use errno::Errno;
 use inode_operations::{drop_link, free_node, lose_name};
 use layout::Geometry;
 use path::NameCache;
-use tree::{Reply, User};
+use tree::{PathFrom, Reply, User};
 
 /// unlink: a file has one name less, and is gone where that was its last and it isn't open; one that is open lives on without a name. In
 /// this order: the refusals of the path, EINVAL of one without a last name, those of the walk, ENOENT, EACCES of a directory that the user
@@ -32,12 +32,12 @@ pub fn unlink<B: Blocks>(
     geometry: &Geometry,
     user: User,
     now: u32,
-    path: &[u8],
+    path: PathFrom,
     reply: &mut Reply,
 ) -> Result<(), Halt>
     requires on { IsOn B.world geometry.now blocks.old }
     ensures turns { let f = files_of opens.now in Turns B.world blocks.old blocks.new (λ d e.
-        Meets geometry.now (λ t. unlink t user now path.now) result reply.new (HasFiles f) (HasFiles f) d e) }
+        Meets geometry.now (λ t. unlink t user now path.entry) result reply.new (HasFiles f) (HasFiles f) d e) }
     ensures halt { IfErr result (λ h. IsHalt B.world blocks.new h) }
     ensures proper { OnOk result (answer_of reply.new ≢ refused Errno.EIO) }
 {
@@ -86,12 +86,12 @@ pub fn rmdir<B: Blocks>(
     geometry: &Geometry,
     user: User,
     now: u32,
-    path: &[u8],
+    path: PathFrom,
     reply: &mut Reply,
 ) -> Result<(), Halt>
     requires on { IsOn B.world geometry.now blocks.old }
     ensures turns { let f = files_of opens.now in Turns B.world blocks.old blocks.new (λ d e.
-        Meets geometry.now (λ t. rmdir t user now path.now) result reply.new (HasFiles f) (HasFiles f) d e) }
+        Meets geometry.now (λ t. rmdir t user now path.entry) result reply.new (HasFiles f) (HasFiles f) d e) }
     ensures halt { IfErr result (λ h. IsHalt B.world blocks.new h) }
     ensures proper { OnOk result (answer_of reply.new ≢ refused Errno.EIO) }
 {

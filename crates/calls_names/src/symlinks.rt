@@ -15,6 +15,7 @@ ghost use Rattle.calls_names.specs.Asking.{may_be_target};
 ghost use Rattle.calls_names.specs.Making.{MakesLinkAt, MayMakeAt};
 ghost use Rattle.calls_names.specs.Stopping.{MeetsOrStops};
 
+use crate::named::are_bytes;
 use crate::vacant::{free_number, vacant_place};
 use block_store::{Blocks, Halt};
 use directory::insert;
@@ -22,7 +23,7 @@ use errno::Errno;
 use inode_operations::new_link;
 use layout::Geometry;
 use path::{NameCache, NamePlace, Stop};
-use tree::{MAX_NAME, MAX_TARGET, Reply, User};
+use tree::{MAX_NAME, MAX_TARGET, PathFrom, Reply, User};
 
 /// Whether a byte of a target is zero.
 fn has_zero(target: &[u8]) -> bool
@@ -83,15 +84,16 @@ fn make<B: Blocks>(
     user: User,
     now: u32,
     target: &[u8],
-    path: &[u8],
+    path: PathFrom,
 ) -> Result<(), Stop>
     requires on { IsOn B.world geometry.now blocks.old }
     ensures turns { Turns B.world blocks.old blocks.new (λ d e. (f : Files) →
-        MeetsOrStops geometry.now (λ t. symlink geometry.now t user now target.now path.now) (λ x. done) result
+        MeetsOrStops geometry.now (λ t. symlink geometry.now t user now target.now path.entry) (λ x. done) result
         (HasFiles f) (HasFiles f) d e) }
     ensures stop { IfErr result (λ s. IsStop B.world blocks.new s) }
     ensures proper { IfErr result (λ s. IfRefused s (λ e. e ≢ Errno.EIO)) }
 {
+    are_bytes(path.bytes);
     may_be_target(target)?;
     let place = vacant_place(blocks, names, geometry, user, path)?;
     let number = free_number(blocks, geometry, &place, 1)?;
@@ -109,12 +111,12 @@ pub fn symlink<B: Blocks>(
     user: User,
     now: u32,
     target: &[u8],
-    path: &[u8],
+    path: PathFrom,
     reply: &mut Reply,
 ) -> Result<(), Halt>
     requires on { IsOn B.world geometry.now blocks.old }
     ensures turns { Turns B.world blocks.old blocks.new (λ d e. (f : Files) →
-        Meets geometry.now (λ t. symlink geometry.now t user now target.now path.now) result reply.new (HasFiles f) (HasFiles f) d e) }
+        Meets geometry.now (λ t. symlink geometry.now t user now target.now path.entry) result reply.new (HasFiles f) (HasFiles f) d e) }
     ensures halt { IfErr result (λ h. IsHalt B.world blocks.new h) }
     ensures proper { OnOk result (answer_of reply.new ≢ refused Errno.EIO) }
 {

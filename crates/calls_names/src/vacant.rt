@@ -8,14 +8,14 @@ ghost use Rattle.block_store.specs.World.{Reads};
 ghost use Rattle.path.specs.Stops.{Answers, IfRefused, IsStop};
 ghost use Rattle.calls_names.specs.Vacant.{FindsNewPlace, FindsNumber, IsVacant};
 
-use crate::named::may_write;
+use crate::named::{are_bytes, may_write};
 use block_store::{Blocks, Halt};
 use errno::Errno;
 use file::file_room::has_room_beside;
 use inode_operations::free_inode;
 use layout::Geometry;
 use path::{NameCache, NamePlace, Path, Stop, find_place};
-use tree::{MAX_SIZE, User};
+use tree::{MAX_SIZE, PathFrom, User};
 
 /// The place at which a path's last name is missing. The refusals of the path and of the walk come first, then EEXIST where the name is
 /// there or the path has none, then EACCES where the user may not change the directory's names.
@@ -24,14 +24,15 @@ pub(crate) fn vacant_place<'a, B: Blocks>(
     names: &mut NameCache,
     geometry: &Geometry,
     user: User,
-    path: &'a [u8],
+    path: PathFrom<'a>,
 ) -> Result<NamePlace<'a>, Stop>
     requires on { IsOn B.world geometry.now blocks.old }
     ensures reads { Reads B.world blocks.old blocks.new (λ d. (t : Tree) → HoldsVolume geometry.now d t
-        → Answers result (FindsNewPlace geometry.now d t user path.now)) }
+        → Answers result (FindsNewPlace geometry.now d t user path.entry)) }
     ensures stop { IfErr result (λ s. IsStop B.world blocks.new s) }
     ensures proper { IfErr result (λ s. IfRefused s (λ e. e ≢ Errno.EIO)) }
 {
+    are_bytes(path.bytes);
     let path = Path::parse(path)?;
     let place = find_place(blocks, names, geometry, user, &path)?;
     if !path.has_last_name() || place.there.is_some() {

@@ -1,5 +1,5 @@
 -- The places of a rename.
-use Rattle.std.proofs.Common.{◌≡◌, ◌<◌, ℕ, List, Bool, true, false, Option, Some, None, Ok, Err, refl, sym, ap, ◌∙◌}
+use Rattle.std.proofs.Common.{◌≡◌, ◌<◌, ℕ, Bool, true, false, Option, Some, None, Ok, Err, refl, sym, ap, ◌∙◌}
 use Rattle.std.specs.Prelude.{IfOk, IsTrue, Result, is_some, not, ◌||◌}
 use Rattle.std.specs.Borrow.{Bor}
 use Rattle.std.specs.List.{All}
@@ -7,11 +7,12 @@ use Rattle.std.proofs.lemmas.Bool.{and_parts, cond-true}
 use Rattle.errno.specs.declared.Errno.{Errno}
 use Rattle.errno.specs.declared.Errno.TheVariants.{EACCES, EINVAL, ENOENT}
 use Rattle.layout.specs.declared.Geometry.{Geometry}
+use Rattle.tree.specs.declared.PathFrom.{PathFrom}
 use Rattle.tree.specs.declared.User.{User}
 use Rattle.tree.specs.Names.{Name, Names, inode_of, is_name}
 use Rattle.tree.specs.Tree.{Node, Tree}
 use Rattle.tree.specs.Refusals.{◌>>=◌, or_refuse, refuse_if}
-use Rattle.tree.specs.Walk.{Place, has_last_name, last_part, may_access, node_at, parent_walk, read_path, to_write}
+use Rattle.tree.specs.Walk.{Place, has_last_name, last_part, may_access, node_at, parent_walk, read_path, to_write, Way}
 use Rattle.tree.specs.Answers.{Effect}
 use Rattle.tree.proofs.PathNames.{last_is_name}
 use Rattle.volume.specs.declared.Inode.{Inode}
@@ -40,21 +41,21 @@ from_new t user rest old new n = node_at t new.directory >>= λ parent. refuse_i
 abbrev from_old : Tree → User → Rest → Place → Place → ℕ → Effect
 from_old t user rest old new n = node_at t old.directory >>= λ parent. refuse_if (not (may_access user parent to_write)) EACCES >>= λ _. from_new t user rest old new n
 
-abbrev from_second : Tree → User → List Name → Rest → Place → ℕ → Effect
+abbrev from_second : Tree → User → Way → Rest → Place → ℕ → Effect
 from_second t user to rest old n = parent_walk t user to >>= λ new. from_old t user rest old new n
 
-abbrev from_first : Tree → User → List Name → Rest → Place → Effect
+abbrev from_first : Tree → User → Way → Rest → Place → Effect
 from_first t user to rest old = or_refuse (inode_of old.names old.name) ENOENT >>= λ n. from_second t user to rest old n
 
 -- A place, with its last name.
-module _ (g : Geometry) (d : Disk) (user : User) (parts : List Name) (p : Found) (means : MeansPlace g d user parts (Ok p)) where
+module _ (g : Geometry) (d : Disk) (user : User) (way : Way) (p : Found) (means : MeansPlace g d user way (Ok p)) where
   abbrev v : Pieces
   v = pieces g d
 
-  leads_to : has_last_name parts ≡ true → (t : Tree) → HoldsVolume g d t → inode_of (place_of g d p).names p.name.now ≡ p.there
+  leads_to : has_last_name way ≡ true → (t : Tree) → HoldsVolume g d t → inode_of (place_of g d p).names p.name.now ≡ p.there
   leads_to last t holds =
       let at = means t holds in
-      ap (inode_of (place_of g d p).names) at.name ∙ sym (cond-true (has_last_name parts) (inode_of (place_of g d p).names (last_part parts)) None last) ∙ sym at.there
+      ap (inode_of (place_of g d p).names) at.name ∙ sym (cond-true (has_last_name way) (inode_of (place_of g d p).names (last_part way.parts)) None last) ∙ sym at.there
 
   its_directory : (t : Tree) → HoldsVolume g d t → t.nodes p.directory ≡ Some (node_of g v p.inode)
   its_directory t holds =
@@ -63,7 +64,7 @@ module _ (g : Geometry) (d : Disk) (user : User) (parts : List Name) (p : Found)
       ∙ cond-true (is_marked g v p.directory) _ _ (and_parts (is_marked g v p.directory) (is_directory_mode (v.inodes p.directory).mode) at.directory).0
       ∙ ap (λ (j : Inode). Some (node_of g v j)) (sym at.inode)
 
-module _ (g : Geometry) (d : Disk) (user : User) (from to : List Name) where
+module _ (g : Geometry) (d : Disk) (user : User) (from to : Way) where
   -- the walk to the old place is refused
   pub old_not_walked : (e : Errno) → MeansPlace g d user from (Err e) → FindsBoth g d user from to (Err e)
   old_not_walked e means t holds rest = ap (λ (r : Result Place Errno). r >>= λ old. from_first t user to rest old) (means t holds)
@@ -128,7 +129,7 @@ module _ (g : Geometry) (d : Disk) (user : User) (from to : List Name) where
 
           -- and these are the places
           pub both_found : w ≡ true → has_last_name to ≡ true → (i : Inode) → i ≡ (pieces g d).inodes n → (k : Bool) → k ≡ is_directory_mode i.mode
-              → (now : ℕ) (old new : Bor Name) → old.now ≡ last_part from → new.now ≡ last_part to
+              → (now : ℕ) (old new : Bor Name) → old.now ≡ last_part from.parts → new.now ≡ last_part to.parts
               → FindsBoth g d user from to (Ok (record {
                 what = record { number = n; is_directory = k; from = p.directory; old = old; to = q.directory; new = new; now = now };
                 from = p.inode;
@@ -159,25 +160,25 @@ module _ (g : Geometry) (d : Disk) (user : User) (from to : List Name) where
               }
 
 -- The two paths.
-module _ (g : Geometry) (d : Disk) (user : User) (old new : List ℕ) where
-  abbrev from_parts : Tree → Rest → List Name → List Name → Effect
-  from_parts t rest from to = refuse_if (not (has_last_name from) || not (has_last_name to)) EINVAL >>= λ _. on_places t user from to rest
+module _ (g : Geometry) (d : Disk) (user : User) (old new : PathFrom) where
+  abbrev from_ways : Tree → Rest → Way → Way → Effect
+  from_ways t rest from to = refuse_if (not (has_last_name from) || not (has_last_name to)) EINVAL >>= λ _. on_places t user from to rest
 
   -- the old one can't be read
   pub old_not_read : (e : Errno) → read_path old ≡ Err e → FindsAsked g d user old new (Err e)
-  old_not_read e is t holds rest = ap (λ (r : Result (List Name) Errno). r >>= λ from. read_path new >>= λ to. from_parts t rest from to) is
+  old_not_read e is t holds rest = ap (λ (r : Result Way Errno). r >>= λ from. read_path new >>= λ to. from_ways t rest from to) is
 
-  module _ (from : List Name) (old_read : read_path old ≡ Ok from) where
-    begun : (t : Tree) (rest : Rest) (r : Result (List Name) Errno) → read_path new ≡ r → on_paths t user old new rest ≡ (r >>= λ to. from_parts t rest from to)
+  module _ (from : Way) (old_read : read_path old ≡ Ok from) where
+    begun : (t : Tree) (rest : Rest) (r : Result Way Errno) → read_path new ≡ r → on_paths t user old new rest ≡ (r >>= λ to. from_ways t rest from to)
     begun t rest r is =
-        ap (λ (r : Result (List Name) Errno). r >>= λ ps. read_path new >>= λ to. from_parts t rest ps to) old_read
-        ∙ ap (λ (r : Result (List Name) Errno). r >>= λ to. from_parts t rest from to) is
+        ap (λ (r : Result Way Errno). r >>= λ ps. read_path new >>= λ to. from_ways t rest ps to) old_read
+        ∙ ap (λ (r : Result Way Errno). r >>= λ to. from_ways t rest from to) is
 
     -- or the new one
     pub new_not_read : (e : Errno) → read_path new ≡ Err e → FindsAsked g d user old new (Err e)
     new_not_read e is t holds rest = begun t rest (Err e) is
 
-    module _ (to : List Name) (new_read : read_path new ≡ Ok to) where
+    module _ (to : Way) (new_read : read_path new ≡ Ok to) where
       asks : (t : Tree) (rest : Rest) (b c : Bool) → has_last_name from ≡ b → has_last_name to ≡ c
           → on_paths t user old new rest ≡ (refuse_if (not b || not c) EINVAL >>= λ _. on_places t user from to rest)
       asks t rest b c b_is c_is =
@@ -212,7 +213,7 @@ module _ (g : Geometry) (d : Disk) (user : User) (old new : List ℕ) where
           }
 
       -- the names are names
-      pub named_as_between : has_last_name from ≡ true → has_last_name to ≡ true → All (λ c. c < 256) old → All (λ c. c < 256) new
+      pub named_as_between : has_last_name from ≡ true → has_last_name to ≡ true → All (λ c. c < 256) old.bytes.now → All (λ c. c < 256) new.bytes.now
           → (now : ℕ) (m : Move) → IsBetween now from to m → IsNamed now m
       named_as_between last last_too bytes bytes_too now m at = record {
         time = at.time;
@@ -220,7 +221,7 @@ module _ (g : Geometry) (d : Disk) (user : User) (old new : List ℕ) where
         new = ap is_name at.new ∙ last_is_name new to bytes_too new_read last_too;
       }
 
-      pub named_in_asked : has_last_name from ≡ true → has_last_name to ≡ true → All (λ c. c < 256) old → All (λ c. c < 256) new
+      pub named_in_asked : has_last_name from ≡ true → has_last_name to ≡ true → All (λ c. c < 256) old.bytes.now → All (λ c. c < 256) new.bytes.now
           → (now : ℕ) (r : Result (Result Asked Errno) Halt) → IfOk r (λ s. IfOk s (λ (x : Asked). IsBetween now from to x.what)) → IfOk r (λ s. IfOk s (λ (x : Asked). IsNamed now x.what))
       named_in_asked last last_too bytes bytes_too now (Ok (Ok x)) at = named_as_between last last_too bytes bytes_too now x.what at
       named_in_asked last last_too bytes bytes_too now (Ok (Err e)) at = tt

@@ -1,8 +1,7 @@
 -- The call, from what is found to the tree after it.
-use Rattle.std.proofs.Common.{◌≡◌, ◌≤◌, ◌<◌, ◌^◌, ℕ, List, Bool, true, false, Option, Some, None, Ok, Err, refl, sym, ap, subst, ◌∙◌}
+use Rattle.std.proofs.Common.{◌≡◌, ◌≤◌, ◌<◌, ◌^◌, ℕ, Bool, true, false, Option, Some, None, Ok, Err, refl, sym, ap, subst, ◌∙◌}
 use mathlib.Core.Logic.{inl, inr}
 use Rattle.std.specs.Prelude.{◌&&◌, nat_le, nat_lt, option_map, if◌then◌else◌}
-use Rattle.std.specs.Borrow.{Bor}
 use Rattle.std.specs.List.{All}
 use Rattle.std.proofs.lemmas.Bool.{cases_lt, le-leb, le-ltb, leb-true, lt-ltb}
 use Rattle.lemmas.proofs.Bools.{false_not_true}
@@ -10,6 +9,7 @@ use Rattle.errno.specs.declared.Errno.{Errno}
 use Rattle.errno.specs.declared.Errno.TheVariants.{EINVAL, ENOENT, ENOSPC}
 use Rattle.layout.specs.declared.Geometry.{Geometry}
 use Rattle.layout.specs.Places.{IsGeometry}
+use Rattle.tree.specs.declared.PathFrom.{PathFrom}
 use Rattle.tree.specs.declared.User.{User}
 use Rattle.tree.specs.Names.{inode_of}
 use Rattle.tree.specs.Tree.{Node, Tree, is_dir, is_open, on_node, with_node}
@@ -101,23 +101,23 @@ if_too_big g u lacking = ap (λ b. if b then Err ENOSPC else Ok (done, u)) big
 pub volume_of : (g : Geometry) (d : Disk) (f : Files) → IsHeld g (HasFiles f) d → IsVolume g d
 volume_of g d f h = record { tree = h.tree; holds = h.holds }
 
-module _ (g : Geometry) (user : User) (now : ℕ) (old new : Bor (List ℕ)) (f : Files) (d : Disk) where
+module _ (g : Geometry) (user : User) (now : ℕ) (old new : PathFrom) (f : Files) (d : Disk) where
   abbrev effect : Tree → Effect
-  effect t = rename g t user now old.now new.now
+  effect t = rename g t user now old new
 
   abbrev on : Tree → Rest → Effect
-  on t = on_paths t user old.now new.now
+  on t = on_paths t user old new
 
   begun : (t : Tree) → effect t ≡ on t (rest_of g t now)
   begun t = refl
 
   -- the places are refused
-  pub not_found : (e : Disk) (error : Errno) → e ≡ d → FindsAsked g d user old.now new.now (Err error) → Does g effect (refused error) (HasFiles f) (HasFiles f) d e
+  pub not_found : (e : Disk) (error : Errno) → e ≡ d → FindsAsked g d user old new (Err error) → Does g effect (refused error) (HasFiles f) (HasFiles f) d e
   not_found e error same finds = record {
     each = λ t holds files. refused_made g t (effect t) error (HasFiles f) d e (begun t ∙ finds t holds (rest_of g t now)) same holds files;
   }
 
-  module _ (x : Asked) (finds : FindsAsked g d user old.now new.now (Ok x)) where
+  module _ (x : Asked) (finds : FindsAsked g d user old new (Ok x)) where
     pub is_found : IsHeld g (HasFiles f) d → IsFound g d x
     is_found h = record { tree = h.tree; on = on h.tree; holds = h.holds; found = finds h.tree h.holds }
 
@@ -226,7 +226,7 @@ module _ (g : Geometry) (user : User) (now : ℕ) (old new : Bor (List ℕ)) (f 
           })
 
           -- and then the call is done
-          pub renamed : (m e : Disk) → m ≡ d → Leads g (MayCarry g f x.what x.there) (carried x.what x.there) m e → now < 2 ^ 32 → All (λ b. b < 256) new.now
+          pub renamed : (m e : Disk) → m ≡ d → Leads g (MayCarry g f x.what x.there) (carried x.what x.there) m e → now < 2 ^ 32 → All (λ b. b < 256) new.bytes.now
               → Does g effect done (HasFiles f) (HasFiles f) d e
           renamed m e same leads small bytes = record {
             each = λ t holds files.

@@ -1,13 +1,14 @@
 -- What a rename asks of its two paths.
-use Rattle.std.specs.Prelude.{◌≡◌, ◌||◌, ℕ, List, not, Some, Result, Ok, Err, IsTrue}
+use Rattle.std.specs.Prelude.{◌≡◌, ◌||◌, ℕ, not, Some, Result, Ok, Err, IsTrue}
 use Rattle.errno.specs.declared.Errno.{Errno}
 use Rattle.errno.specs.declared.Errno.TheVariants.{EACCES, EINVAL, ENOENT}
 use Rattle.layout.specs.declared.Geometry.{Geometry}
+use Rattle.tree.specs.declared.PathFrom.{PathFrom}
 use Rattle.tree.specs.declared.User.{User}
-use Rattle.tree.specs.Names.{Name, inode_of, is_name}
+use Rattle.tree.specs.Names.{inode_of, is_name}
 use Rattle.tree.specs.Tree.{Node, Tree}
 use Rattle.tree.specs.Refusals.{◌>>=◌, or_refuse, refuse_if}
-use Rattle.tree.specs.Walk.{Place, has_last_name, last_part, may_access, node_at, parent_walk, read_path, to_write}
+use Rattle.tree.specs.Walk.{Place, Way, has_last_name, last_part, may_access, node_at, parent_walk, read_path, to_write}
 use Rattle.tree.specs.Answers.{Effect}
 use Rattle.volume.specs.Reading.{Disk}
 use Rattle.volume.specs.Pieces.{pieces}
@@ -22,7 +23,7 @@ abbrev pub Rest : Type 0
 Rest = Place → Place → ℕ → Node → Effect
 
 -- A rename, from its walks up to where it looks at what stands at the new name.
-abbrev pub on_places : Tree → User → List Name → List Name → Rest → Effect
+abbrev pub on_places : Tree → User → Way → Way → Rest → Effect
 on_places t user from to rest = do
   old ← parent_walk t user from
   n ← or_refuse (inode_of old.names old.name) ENOENT
@@ -35,7 +36,7 @@ on_places t user from to rest = do
   rest old new n node
 
 -- The same, from where it reads its paths.
-abbrev pub on_paths : Tree → User → List ℕ → List ℕ → Rest → Effect
+abbrev pub on_paths : Tree → User → PathFrom → PathFrom → Rest → Effect
 on_paths t user old_path new_path rest = do
   from ← read_path old_path
   to ← read_path new_path
@@ -73,19 +74,19 @@ abbrev pub AreFoundOr : Geometry → Disk → Tree → (Rest → Effect) → Res
 AreFoundOr g d t on (Ok x) = AreFound g d t on x
 AreFoundOr g d t on (Err e) = (rest : Rest) → on rest ≡ Err e
 
--- of the parts of two paths, whatever tree is held
-abbrev pub FindsBoth : Geometry → Disk → User → List Name → List Name → Result Asked Errno → Type 0
+-- of two ways, whatever tree is held
+abbrev pub FindsBoth : Geometry → Disk → User → Way → Way → Result Asked Errno → Type 0
 FindsBoth g d user from to r = (t : Tree) → HoldsVolume g d t → AreFoundOr g d t (on_places t user from to) r
 
 -- of two paths
-abbrev pub FindsAsked : Geometry → Disk → User → List ℕ → List ℕ → Result Asked Errno → Type 0
+abbrev pub FindsAsked : Geometry → Disk → User → PathFrom → PathFrom → Result Asked Errno → Type 0
 FindsAsked g d user old new r = (t : Tree) → HoldsVolume g d t → AreFoundOr g d t (on_paths t user old new) r
 
--- the move is from the last part of a path to that of another, at this time
-pub record IsBetween (now : ℕ) (from to : List Name) (m : Move) : Type 0 where
+-- the move is from the last part of a way to that of another, at this time
+pub record IsBetween (now : ℕ) (from to : Way) (m : Move) : Type 0 where
   pub time : m.now ≡ now
-  pub old : m.old.now ≡ last_part from
-  pub new : m.new.now ≡ last_part to
+  pub old : m.old.now ≡ last_part from.parts
+  pub new : m.new.now ≡ last_part to.parts
 
 -- from a name to a name
 pub record IsNamed (now : ℕ) (m : Move) : Type 0 where

@@ -10,13 +10,13 @@ ghost use Rattle.calls_rename.specs.Asked.{FindsAsked, FindsBoth, IsBetween, IsN
 
 use block_store::{Blocks, Halt};
 use calls_attributes::found::is_directory;
-use calls_names::named::{may_write, place_of};
+use calls_names::named::{are_bytes, may_write, place_of};
 use errno::Errno;
 use inode::inode_table::load;
 use inode_operations::Move;
 use layout::Geometry;
 use path::{NameCache, Path};
-use tree::User;
+use tree::{PathFrom, User};
 use volume::Inode;
 
 /// What a rename is asked to move, once both places are found.
@@ -95,16 +95,18 @@ pub fn find_asked<'a, B: Blocks>(
     geometry: &Geometry,
     user: User,
     now: u32,
-    old: &'a [u8],
-    new: &'a [u8],
+    old: PathFrom<'a>,
+    new: PathFrom<'a>,
 ) -> Result<Result<Asked<'a>, Errno>, Halt>
     requires on { IsOn B.world geometry.now blocks.old }
     ensures reads { Reads B.world blocks.old blocks.new (λ d. Ends result
-        (λ r. FindsAsked geometry.now d user old.now new.now r) (IsVolume geometry.now d)) }
+        (λ r. FindsAsked geometry.now d user old.entry new.entry r) (IsVolume geometry.now d)) }
     ensures named { IfOk result (λ r. IfOk r (λ x. IsNamed now x.what)) }
     ensures proper { IfOk result (λ r. IfErr r (λ e. e ≢ Errno.EIO)) }
     ensures halt { IfErr result (λ h. IsHalt B.world blocks.new h) }
 {
+    are_bytes(old.bytes);
+    are_bytes(new.bytes);
     let from = match Path::parse(old) {
         Ok(path) => path,
         Err(errno) => return Ok(Err(errno)),

@@ -13,11 +13,12 @@ ghost use Rattle.calls_attributes.specs.Does.{Meets};
 use crate::carrying::{carry, fits};
 use crate::{Asked, find_asked, why_barred};
 use block_store::{Blocks, Halt};
+use calls_names::named::are_bytes;
 use descriptors::Descriptors;
 use errno::Errno;
 use layout::Geometry;
 use path::NameCache;
-use tree::{Reply, User};
+use tree::{PathFrom, Reply, User};
 
 /// Whether the node at the new name is the one that was to move.
 fn is_same(asked: &Asked) -> bool
@@ -42,16 +43,17 @@ pub fn rename<B: Blocks>(
     geometry: &Geometry,
     user: User,
     now: u32,
-    old: &[u8],
-    new: &[u8],
+    old: PathFrom,
+    new: PathFrom,
     reply: &mut Reply,
 ) -> Result<(), Halt>
     requires on { IsOn B.world geometry.now blocks.old }
     ensures turns { let f = files_of opens.now in Turns B.world blocks.old blocks.new (λ d e.
-        Meets geometry.now (λ t. rename geometry.now t user now old.now new.now) result reply.new (HasFiles f) (HasFiles f) d e) }
+        Meets geometry.now (λ t. rename geometry.now t user now old.entry new.entry) result reply.new (HasFiles f) (HasFiles f) d e) }
     ensures halt { IfErr result (λ h. IsHalt B.world blocks.new h) }
     ensures proper { OnOk result (answer_of reply.new ≢ refused Errno.EIO) }
 {
+    are_bytes(new.bytes);
     let asked = match find_asked(blocks, names, geometry, user, now, old, new)? {
         Ok(asked) => asked,
         Err(errno) => {

@@ -8,7 +8,7 @@ use reply_text::text::OutcomeText;
 use serve::service::Shared;
 use serve::session::Session;
 use std::sync::Wait;
-use tree::{Call, Outcome};
+use tree::{Call, Outcome, PathFrom};
 
 /// A session, whichever service it is of.
 pub trait Caller {
@@ -60,7 +60,7 @@ fn told_marks<C: Caller>(one: &C, two: &C, lines: &mut String) {
 /// Two sessions ask for the root three times each in turn, meet, and ask for the device: a line for each answer, how many marks each had
 /// seen before they met and after, and the device, as each saw it at last.
 pub(crate) fn in_turn<C: Caller>(one: &mut C, two: &mut C, lines: &mut String) {
-    let stat = Call::Stat { path: b"/" };
+    let stat = Call::Stat { path: PathFrom::root(b"/") };
     for now in [100, 101, 102] {
         told(one, now, &stat, lines);
         told(two, now, &stat, lines);

@@ -10,7 +10,7 @@ use serve::stopping::StopRefusal;
 use std::alloc::Global;
 use std::sync::Wait;
 use std::thread::{Threads, join};
-use tree::Call;
+use tree::{Call, PathFrom};
 
 /// Two sessions, of user 0 and of user 7, call in turn, and end. No image.
 pub fn two_in_turn<
@@ -34,7 +34,7 @@ fn three_calls<N: ServiceParameters, R: Threads + Wait + Copy, L: Recorder<N>, S
 ) -> String {
     let mut lines = String::new(alloc);
     for now in [100, 101, 102] {
-        told(&mut session, now, &Call::Stat { path: b"/" }, &mut lines);
+        told(&mut session, now, &Call::Stat { path: PathFrom::root(b"/") }, &mut lines);
     }
     session.end();
     lines
@@ -162,7 +162,7 @@ pub fn asked_and_stopped<
     S: FileServer<L>,
 >(service: Service<N, R, L, S>, lines: &mut String) -> Option<Vec<u8>> {
     let mut session = service.session(0, 0).ok()?;
-    told(&mut session, 100, &Call::Stat { path: b"/" }, lines);
+    told(&mut session, 100, &Call::Stat { path: PathFrom::root(b"/") }, lines);
     let refusal = service.session(0, 0).err();
     let _ = writeln!(lines, "{refusal:?}");
     session.end();

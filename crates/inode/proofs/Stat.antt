@@ -1,20 +1,24 @@
 -- What a volume's inodes tell is what stat answers.
 use Rattle.std.proofs.Common.{◌≡◌, ◌<◌, ◌≤◌, ◌+◌, ◌*◌, ◌%◌, ◌^◌, ℕ, List, [], ◌∷◌, length, true, false, refl, sym, ap, ◌∙◌, arith}
 use mathlib.Core.Logic.{inl, inr}
-use Rattle.std.specs.Prelude.{Option, None, Some, Ok, Err, IsTrue, ◌==◌, ◌||◌, nat_lt, codes}
-use Rattle.std.specs.Borrow.{Bor}
+use Rattle.std.specs.Prelude.{Option, None, Some, Result, Ok, Err, IsTrue, ◌==◌, ◌||◌, nat_lt, codes}
 use Rattle.std.proofs.lemmas.Bool.{cases_Bool, and_parts, eqb-true, ltb-true, lt-ltb, le-leb, lt-leb, or_cases, and_from, cond-true, cond-false}
 use Rattle.std.proofs.Math.Nat.{zero-add}
 use Rattle.lemmas.proofs.Bools.{false_not_true}
 use Rattle.layout.specs.declared.Geometry.{Geometry}
 use Rattle.layout.proofs.Parsed.{block_sizes, geometry_fits}
+use Rattle.errno.specs.declared.Errno.{Errno}
 use Rattle.errno.specs.declared.Errno.TheVariants.{EINVAL, ENOENT}
+use Rattle.tree.specs.declared.Start.{Start}
+use Rattle.tree.specs.declared.Start.TheVariants as start
+use Rattle.tree.specs.declared.PathFrom.{PathFrom}
 use Rattle.tree.specs.declared.Who.{Who}
 use Rattle.tree.specs.declared.Call.TheVariants.{Stat}
 use Rattle.tree.specs.Tree.{Body, is_file, is_directory, Node, Tree, file_type, link_type, bytes_type, directory_type, mode_of, size_of}
 use Rattle.tree.specs.Tree.{is_dir, most_sessions}
 use Rattle.tree.specs.Refusals.{◌>>=◌, or_refuse, refuse_if}
 use Rattle.tree.specs.Answers.{Answer, Effect, refused, node_is}
+use Rattle.tree.specs.Walk.{Way, read_path, walk_parts, node_at}
 use Rattle.tree.specs.NodeCalls.{stat, attributes_of}
 use Rattle.tree.specs.Effects.{reply_to, user_of}
 use Rattle.tree.proofs.Leaves.{looks_leave}
@@ -173,6 +177,16 @@ there : (o : Option Node) → IsTrue (elim o [ None ↦ false | Some node ↦ is
 there None is = absurd (false_not_true is)
 there (Some node) is = (node, refl)
 
+-- what bytes mean that start so
+reading : Start → List ℕ → Result Way Errno
+reading s bytes = read_path (record { start = s; bytes = record { ref_ptr = (0, 0); now = bytes } })
+
+-- a slash is read from the root on
+read_slash : (s : Start) → reading s (codes "/") ≡ Ok (record { start = start.Root; parts = [] })
+unfolding reading
+read_slash start.Root = refl
+read_slash (start.Inode n) = refl
+
 module _ (g : Geometry) (image : ℕ → ℕ) (t : Tree) (holds : HoldsVolume g (blocks_of g image) t) where
   -- the disk of the image
   abbrev d : Disk
@@ -200,14 +214,15 @@ module _ (g : Geometry) (image : ℕ → ℕ) (t : Tree) (holds : HoldsVolume g 
     root_inode = same_inode (d (inode_block g 1)) bytes (inode_offset g 1) (λ k under. root_byte k under ∙ sym (same k under))
 
     -- stat of / in a session that may be
-    root_stat : (who : Who) (now : ℕ) (path : Bor (List ℕ)) → path.now ≡ codes "/" → who.session < most_sessions
+    root_stat : (who : Who) (now : ℕ) (path : PathFrom) → path.bytes.now ≡ codes "/" → who.session < most_sessions
         → reply_to g t who now (Stat path) ≡ node_is (attributes_in 1 (inode_in bytes 0))
-    unfolding answer_after
+    unfolding answer_after reading
     root_stat who now path is session =
         let found = there (t.nodes 1) holds.nodes.tree.nodes.root in
         let early = lt-leb most_sessions who.session session in
-        ap (λ b. answer_after (refuse_if b EINVAL >>= λ _. stat t (user_of who) path.now)) early
-        ∙ ap (λ p. answer_after (stat t (user_of who) p)) is
+        ap (λ b. answer_after (refuse_if b EINVAL >>= λ _. stat t (user_of who) path)) early
+        ∙ ap (λ way. answer_after (way >>= walk_parts t (user_of who) >>= λ n. node_at t n >>= λ node. Ok (node_is (attributes_of n node), t)))
+            (ap (reading path.start) is ∙ read_slash path.start)
         ∙ ap (λ o. answer_after (or_refuse o ENOENT >>= λ node. Ok (node_is (attributes_of 1 node), t))) found.1
         ∙ ap node_is (held_attributes g d t 1 found.0 holds.nodes found.1 ∙ ap (attributes_in 1) root_inode)
 
@@ -216,7 +231,7 @@ pub root_reply : RootReply
 unfolding answer_after
 root_reply g image t holds bytes same = record {
   reply = root_stat g image t holds bytes same;
-  refusal = λ who now path out. ap (λ b. answer_after (refuse_if b EINVAL >>= λ _. stat t (user_of who) path.now)) (le-leb most_sessions who.session out);
+  refusal = λ who now path out. ap (λ b. answer_after (refuse_if b EINVAL >>= λ _. stat t (user_of who) path)) (le-leb most_sessions who.session out);
   stays = λ who now path. looks_leave g t who now (Stat path) refl;
   no_memory = λ path. refl;
 }

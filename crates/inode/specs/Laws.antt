@@ -1,9 +1,9 @@
 -- Laws of inodes: what a volume's inodes tell is what stat answers of the tree that it holds.
 use Rattle.std.specs.Prelude.{◌≡◌, ◌≤◌, ◌<◌, ℕ, ◌+◌, ◌*◌, ◌%◌, List, Some, false, codes}
-use Rattle.std.specs.Borrow.{Bor}
 use Rattle.layout.specs.declared.Geometry.{Geometry}
 use Rattle.layout.specs.Places.{IsGeometry}
 use Rattle.errno.specs.declared.Errno.TheVariants.{EINVAL}
+use Rattle.tree.specs.declared.PathFrom.{PathFrom}
 use Rattle.tree.specs.declared.Who.{Who}
 use Rattle.tree.specs.declared.Attributes.{Attributes}
 use Rattle.tree.specs.declared.Call.TheVariants.{Stat}
@@ -36,14 +36,15 @@ HeldAttributes =
     (g : Geometry) (d : Disk) (t : Tree) (n : ℕ) (node : Node) → Holds g d t → t.nodes n ≡ Some node
     → attributes_of n node ≡ attributes_in n (inode_of_disk g d n)
 
--- Each stat of / answers these attributes, and one of a session that can't be is refused. None wants memory or moves the tree.
+-- Each stat of /, wherever it starts, answers these attributes, and one of a session that can't be is refused. None wants memory or moves
+-- the tree.
 pub record StatOfRoot (g : Geometry) (t : Tree) (attributes : Attributes) : Type 0 where
-  pub reply : (who : Who) (now : ℕ) (path : Bor (List ℕ)) → path.now ≡ codes "/" → who.session < most_sessions
+  pub reply : (who : Who) (now : ℕ) (path : PathFrom) → path.bytes.now ≡ codes "/" → who.session < most_sessions
       → reply_to g t who now (Stat path) ≡ node_is attributes
-  pub refusal : (who : Who) (now : ℕ) (path : Bor (List ℕ)) → most_sessions ≤ who.session
+  pub refusal : (who : Who) (now : ℕ) (path : PathFrom) → most_sessions ≤ who.session
       → reply_to g t who now (Stat path) ≡ refused EINVAL
-  pub stays : (who : Who) (now : ℕ) (path : Bor (List ℕ)) → tree_after_call g t who now (Stat path) ≡ t
-  pub no_memory : (path : Bor (List ℕ)) → may_want_memory (Stat path) ≡ false
+  pub stays : (who : Who) (now : ℕ) (path : PathFrom) → tree_after_call g t who now (Stat path) ≡ t
+  pub no_memory : (path : PathFrom) → may_want_memory (Stat path) ≡ false
 
 -- the 64 bytes of inode 1, wherever they were read from, answer each stat of / on the tree that the volume holds
 abbrev pub RootReply : Type 0

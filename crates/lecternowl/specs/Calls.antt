@@ -1,6 +1,9 @@
 -- One call of a session.
 use Rattle.std.specs.Prelude.{◌≡◌, ℕ, List, Result}
+use Rattle.std.specs.Borrow.{Bor}
 use Rattle.layout.specs.declared.Geometry.{Geometry}
+use Rattle.tree.specs.declared.Start.TheVariants.{Root}
+use Rattle.tree.specs.declared.PathFrom.{PathFrom}
 use Rattle.tree.specs.declared.Call.{Call}
 use Rattle.tree.specs.declared.Outcome.{Outcome}
 use Rattle.records.specs.Marks.{Mark}
@@ -10,6 +13,10 @@ use Rattle.reissue.specs.declared.link.Link.{Ghosts as LinkWords}
 use Rattle.file_server.specs.Over.{outcome_of}
 use Rattle.shared_server.specs.Held.{HoldsIfTrue, IsCutAtEnd, IsEioOnceGivenUp, IsGuaranteed, IsSound}
 use Rattle.lecternowl.specs.declared.answers.CallError.{CallError}
+
+-- the path of these bytes from the root
+abbrev pub from_root : Bor (List ℕ) → PathFrom
+from_root bytes = record { start = Root; bytes = bytes }
 
 -- A call of a session came to this outcome: all that `Session::call` of `serve` promises.
 pub record IsCalled {L : Type 0} (link : LinkWords L) (marks : L → List Mark) (g : Geometry) (v : Opening)

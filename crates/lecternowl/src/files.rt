@@ -8,14 +8,26 @@ ghost use Rattle.records.specs.Session.{SessionState, DeviceKeeps};
 ghost use Rattle.reissue.specs.declared.link.Link.{Ghosts as LinkWords};
 ghost use Rattle.board.specs.Words.{is_given_up};
 ghost use Rattle.lecternowl.specs.Answers.{described, done, followed, listed, measured, opened, placed, read, wrote};
-ghost use Rattle.lecternowl.specs.Calls.{Gives, IsCalled};
+ghost use Rattle.lecternowl.specs.Calls.{Gives, IsCalled, from_root};
 
 use crate::answers::{
     CallError, described_of, done_of, followed_of, listed_of, measured_of, opened_of, placed_of,
     read_of, wrote_of,
 };
 use board::Device;
-use tree::{Attributes, Call, Entry, LinkTarget, OpenFlags, Outcome, Statfs, Whence};
+use tree::{
+    Attributes, Call, Entry, LinkTarget, OpenFlags, Outcome, PathFrom, Start, Statfs, Whence,
+};
+
+/// A path from the root.
+fn from_root(bytes: &[u8]) -> PathFrom<'_>
+    ensures { result ≡ from_root bytes.entry }
+{
+    PathFrom {
+        start: Start::Root,
+        bytes,
+    }
+}
 
 /// A session of a service: it makes the calls of one user and group, one at a time.
 ///
@@ -67,8 +79,10 @@ pub trait Files: Drop {
         flags: OpenFlags,
         mode: u16,
     ) -> Result<u32, CallError>
-        ensures { Gives words marks sizes opening opened (state self.old) now (Call.Open path.entry flags mode) result (state self.new) }
+        ensures { Gives words marks sizes opening opened (state self.old) now (Call.Open (from_root path.entry) flags mode) result
+            (state self.new) }
     {
+        let path = from_root(path);
         opened_of(self.call(now, &Call::Open { path, flags, mode }))
     }
 
@@ -116,8 +130,10 @@ pub trait Files: Drop {
 
     /// The attributes of what a path leads to.
     final fn stat(&mut self, now: u32, path: &[u8]) -> Result<Attributes, CallError>
-        ensures { Gives words marks sizes opening described (state self.old) now (Call.Stat path.entry) result (state self.new) }
+        ensures { Gives words marks sizes opening described (state self.old) now (Call.Stat (from_root path.entry)) result
+            (state self.new) }
     {
+        let path = from_root(path);
         described_of(self.call(now, &Call::Stat { path }))
     }
 
@@ -130,58 +146,72 @@ pub trait Files: Drop {
 
     /// The attributes of what a path names: of a symbolic link that stands last, its own.
     final fn lstat(&mut self, now: u32, path: &[u8]) -> Result<Attributes, CallError>
-        ensures { Gives words marks sizes opening described (state self.old) now (Call.Lstat path.entry) result (state self.new) }
+        ensures { Gives words marks sizes opening described (state self.old) now (Call.Lstat (from_root path.entry)) result
+            (state self.new) }
     {
+        let path = from_root(path);
         described_of(self.call(now, &Call::Lstat { path }))
     }
 
     /// A further name, `to`, for the file of the name `from`.
     final fn link(&mut self, now: u32, from: &[u8], to: &[u8]) -> Result<(), CallError>
-        ensures { Gives words marks sizes opening done (state self.old) now (Call.Link from.entry to.entry) result (state self.new) }
+        ensures { Gives words marks sizes opening done (state self.old) now (Call.Link (from_root from.entry) (from_root to.entry)) result
+            (state self.new) }
     {
-        done_of(self.call(now, &Call::Link { old: from, new: to }))
+        let (old, new) = (from_root(from), from_root(to));
+        done_of(self.call(now, &Call::Link { old, new }))
     }
 
     /// Takes a name from a file. A file without a name is freed once it isn't open.
     final fn unlink(&mut self, now: u32, path: &[u8]) -> Result<(), CallError>
-        ensures { Gives words marks sizes opening done (state self.old) now (Call.Unlink path.entry) result (state self.new) }
+        ensures { Gives words marks sizes opening done (state self.old) now (Call.Unlink (from_root path.entry)) result (state self.new) }
     {
+        let path = from_root(path);
         done_of(self.call(now, &Call::Unlink { path }))
     }
 
     /// Makes an empty directory.
     final fn mkdir(&mut self, now: u32, path: &[u8], mode: u16) -> Result<(), CallError>
-        ensures { Gives words marks sizes opening done (state self.old) now (Call.Mkdir path.entry mode) result (state self.new) }
+        ensures { Gives words marks sizes opening done (state self.old) now (Call.Mkdir (from_root path.entry) mode) result
+            (state self.new) }
     {
+        let path = from_root(path);
         done_of(self.call(now, &Call::Mkdir { path, mode }))
     }
 
     /// Removes an empty directory that isn't open.
     final fn rmdir(&mut self, now: u32, path: &[u8]) -> Result<(), CallError>
-        ensures { Gives words marks sizes opening done (state self.old) now (Call.Rmdir path.entry) result (state self.new) }
+        ensures { Gives words marks sizes opening done (state self.old) now (Call.Rmdir (from_root path.entry)) result (state self.new) }
     {
+        let path = from_root(path);
         done_of(self.call(now, &Call::Rmdir { path }))
     }
 
     /// Moves a file or a directory from one name to another. What stood there loses the name: a file if a file moves, an empty
     /// directory that isn't open if a directory does.
     final fn rename(&mut self, now: u32, from: &[u8], to: &[u8]) -> Result<(), CallError>
-        ensures { Gives words marks sizes opening done (state self.old) now (Call.Rename from.entry to.entry) result (state self.new) }
+        ensures { Gives words marks sizes opening done (state self.old) now (Call.Rename (from_root from.entry) (from_root to.entry)) result
+            (state self.new) }
     {
-        done_of(self.call(now, &Call::Rename { old: from, new: to }))
+        let (old, new) = (from_root(from), from_root(to));
+        done_of(self.call(now, &Call::Rename { old, new }))
     }
 
     /// Sets the permissions, for the owner and user 0.
     final fn chmod(&mut self, now: u32, path: &[u8], mode: u16) -> Result<(), CallError>
-        ensures { Gives words marks sizes opening done (state self.old) now (Call.Chmod path.entry mode) result (state self.new) }
+        ensures { Gives words marks sizes opening done (state self.old) now (Call.Chmod (from_root path.entry) mode) result
+            (state self.new) }
     {
+        let path = from_root(path);
         done_of(self.call(now, &Call::Chmod { path, mode }))
     }
 
     /// Sets the owner and the group, for user 0.
     final fn chown(&mut self, now: u32, path: &[u8], uid: u16, gid: u16) -> Result<(), CallError>
-        ensures { Gives words marks sizes opening done (state self.old) now (Call.Chown path.entry uid gid) result (state self.new) }
+        ensures { Gives words marks sizes opening done (state self.old) now (Call.Chown (from_root path.entry) uid gid) result
+            (state self.new) }
     {
+        let path = from_root(path);
         done_of(self.call(now, &Call::Chown { path, uid, gid }))
     }
 
@@ -193,15 +223,19 @@ pub trait Files: Drop {
         atime: u32,
         mtime: u32,
     ) -> Result<(), CallError>
-        ensures { Gives words marks sizes opening done (state self.old) now (Call.Utime path.entry atime mtime) result (state self.new) }
+        ensures { Gives words marks sizes opening done (state self.old) now (Call.Utime (from_root path.entry) atime mtime) result
+            (state self.new) }
     {
+        let path = from_root(path);
         done_of(self.call(now, &Call::Utime { path, atime, mtime }))
     }
 
     /// Sets the size of a file, at most 2147483647 bytes; where it grows there is a hole, which reads as zeros.
     final fn truncate(&mut self, now: u32, path: &[u8], size: u32) -> Result<(), CallError>
-        ensures { Gives words marks sizes opening done (state self.old) now (Call.Truncate path.entry size) result (state self.new) }
+        ensures { Gives words marks sizes opening done (state self.old) now (Call.Truncate (from_root path.entry) size) result
+            (state self.new) }
     {
+        let path = from_root(path);
         done_of(self.call(now, &Call::Truncate { path, size }))
     }
 
@@ -228,15 +262,19 @@ pub trait Files: Drop {
 
     /// Makes a symbolic link at `path` with a target of 1 to 1023 bytes, none of them zero.
     final fn symlink(&mut self, now: u32, target: &[u8], path: &[u8]) -> Result<(), CallError>
-        ensures { Gives words marks sizes opening done (state self.old) now (Call.Symlink target.entry path.entry) result (state self.new) }
+        ensures { Gives words marks sizes opening done (state self.old) now (Call.Symlink target.entry (from_root path.entry)) result
+            (state self.new) }
     {
+        let path = from_root(path);
         done_of(self.call(now, &Call::Symlink { target, path }))
     }
 
     /// The target of the symbolic link that a path names.
     final fn readlink(&mut self, now: u32, path: &[u8]) -> Result<LinkTarget, CallError>
-        ensures { Gives words marks sizes opening followed (state self.old) now (Call.Readlink path.entry) result (state self.new) }
+        ensures { Gives words marks sizes opening followed (state self.old) now (Call.Readlink (from_root path.entry)) result
+            (state self.new) }
     {
+        let path = from_root(path);
         followed_of(self.call(now, &Call::Readlink { path }))
     }
 }

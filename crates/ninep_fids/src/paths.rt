@@ -1,17 +1,19 @@
 //! Paths of fids: each name behind a slash, so that the root's is empty.
 
 ghost use Rattle.std.specs.Prelude.{◌≡◌, ◌++◌, IfOk, IfSome, IfNone};
+ghost use Rattle.talks.specs.Plain.{from_root, plain_path};
 ghost use Rattle.ninep_fids.specs.Paths.{IsRest, IsElsewhere, is_rest, called, below, parent, checked, leads, stepped, is_here, is_above};
 
 use errno::Errno;
 use std::alloc::{AllocError, Global};
 use talks::refused::Refused;
+use tree::PathFrom;
 
-/// A path as a call has it.
-pub fn called(path: &[u8]) -> &[u8]
-    ensures { result.now ≡ called path.now }
+/// A path as a call has it: from the root.
+pub fn called(path: &[u8]) -> PathFrom<'_>
+    ensures { plain_path result ≡ from_root (called path.now) }
 {
-    if path.is_empty() { b"/" } else { path }
+    PathFrom::root(if path.is_empty() { b"/" } else { path })
 }
 
 /// The path of a name in a directory.

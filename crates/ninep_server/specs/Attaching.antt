@@ -6,7 +6,7 @@ use Rattle.tree.specs.declared.Call.TheVariants as call
 use Rattle.ninep_fids.specs.Knowledge.{Known, new_fid, user_of, file_at}
 use Rattle.talks.specs.Hearing.{attributes_in, session_in}
 use Rattle.ninep_fids.specs.Plans.{Plan, Asks, Changes, OrNoMemory, Begins, Attaches, Puts, refuses, with_it, calls}
-use Rattle.talks.specs.Plain.{at}
+use Rattle.talks.specs.Plain.{from_root}
 use Rattle.ninep_fids.specs.Nodes.{says, node_of, qid_of}
 use Rattle.talks.specs.declared.refused.Refused.TheVariants.{By}
 use Rattle.ninep_fids.specs.declared.users.User.{User}
@@ -24,7 +24,7 @@ begins most version =
 
 -- the root is looked at, and the fid stands for it
 abbrev pub looking_at_root : ℕ → User → Plan
-looking_at_root fid user = calls user.session (call.Lstat (at (47 ∷ []))) (λ h. with_it (attributes_in h)
+looking_at_root fid user = calls user.session (call.Lstat (from_root (47 ∷ []))) (λ h. with_it (attributes_in h)
     (λ a. OrNoMemory (Changes (Puts fid (file_at user [] (node_of a))) (says (answer.Attach (qid_of (node_of a)))))))
 
 -- a session for the user and the group of the same number

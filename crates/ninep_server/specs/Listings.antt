@@ -9,7 +9,7 @@ use Rattle.ninep_fids.specs.Paths.{called, parent}
 use Rattle.ninep_fids.specs.Knowledge.{Known, File, named, opened, file_listed}
 use Rattle.talks.specs.Hearing.{attributes_in, eio, names_heard}
 use Rattle.ninep_fids.specs.Plans.{Plan, Says, Changes, OrNoMemory, Becomes, reply, refuses, with_it, calls}
-use Rattle.talks.specs.Plain.{at}
+use Rattle.talks.specs.Plain.{from_root}
 use Rattle.talks.specs.declared.refused.Refused.TheVariants.{By}
 use Rattle.ninep_fids.specs.declared.users.User.{User}
 use Rattle.ninep_fids.specs.declared.fid.Node.{Node}
@@ -35,7 +35,7 @@ listing_names fid user path node fd offset limit above = calls user.session (cal
 
 -- before them the directory above, whose number isn't known
 abbrev pub listing : ℕ → User → List ℕ → Node → ℕ → ℕ → ℕ → Option ℕ → Plan
-listing fid user path node fd offset limit None = calls user.session (call.Lstat (at (called (parent path))))
+listing fid user path node fd offset limit None = calls user.session (call.Lstat (from_root (called (parent path))))
     (λ h. with_it (attributes_in h) (λ a. listing_names fid user path node fd offset limit a.inode))
 listing fid user path node fd offset limit (Some above) = listing_names fid user path node fd offset limit above
 

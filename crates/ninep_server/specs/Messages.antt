@@ -13,7 +13,7 @@ use Rattle.ninep_fids.specs.Paths.{called}
 use Rattle.ninep_fids.specs.Knowledge.{Known, File, found, named, opened}
 use Rattle.talks.specs.Hearing.{done_in, attributes_in, position_in, bytes_in, count_in, room_in, target_in}
 use Rattle.ninep_fids.specs.Plans.{Plan, Says, Changes, OrNoMemory, Drops, reply, body_said, refuses, closing, with_it, calls}
-use Rattle.talks.specs.Plain.{at}
+use Rattle.talks.specs.Plain.{at, from_root}
 use Rattle.ninep_fids.specs.Nodes.{says, said_of}
 use Rattle.talks.specs.declared.refused.Refused.TheVariants.{By, Stale, Unsupported}
 use Rattle.talks.specs.declared.heard.Heard.{Heard}
@@ -60,7 +60,7 @@ writing k fid offset bytes = with_it (opened k.fids fid) (λ file.
 -- Tgetattr: by the descriptor of an open fid, else by its path
 abbrev pub looking : ℕ → List ℕ → Option ℕ → Plan
 looking session path None =
-    calls session (call.Lstat (at (called path))) (λ h. with_it (attributes_in h) (λ a. says (answer.Getattr (attributes_told a))))
+    calls session (call.Lstat (from_root (called path))) (λ h. with_it (attributes_in h) (λ a. says (answer.Getattr (attributes_told a))))
 looking session path (Some fd) =
     calls session (call.Fstat fd) (λ h. with_it (attributes_in h) (λ a. says (answer.Getattr (attributes_told a))))
 
@@ -89,7 +89,7 @@ abbrev pub measuring : ℕ → Plan
 measuring session = calls session call.Statfs (λ h. with_it (room_in h) (λ room. says (answer.Statfs (room_told room))))
 
 abbrev pub reading_link : ℕ → List ℕ → Plan
-reading_link session path = calls session (call.Readlink (at (called path))) (λ h. with_it (target_in h)
+reading_link session path = calls session (call.Readlink (from_root (called path))) (λ h. with_it (target_in h)
     (λ target. OrNoMemory (Says (λ most. reply 23 (Text (take 1023 (target_of target)) ∷ []) most))))
 
 abbrev pub following : Known → ℕ → Plan

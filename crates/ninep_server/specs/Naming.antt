@@ -9,7 +9,7 @@ use Rattle.ninep_fids.specs.Knowledge.{Known, File, found, named}
 use Rattle.talks.specs.Hearing.{done_in, attributes_in}
 use Rattle.talks.specs.Flags.{is_set}
 use Rattle.ninep_fids.specs.Plans.{Plan, Changes, OrNoMemory, Drops, Renames, Unlinks, error, closing, with_it, calls}
-use Rattle.talks.specs.Plain.{at}
+use Rattle.talks.specs.Plain.{from_root}
 use Rattle.ninep_fids.specs.Nodes.{says, said_of}
 use Rattle.talks.specs.declared.refused.Refused.{Refused}
 use Rattle.talks.specs.declared.refused.Refused.TheVariants.{Stale}
@@ -21,7 +21,7 @@ use Rattle.ninep_fids.specs.Checks.{is_directory, named_for}
 -- Tlink: the file of a fid gets a further name in a directory
 abbrev pub linking : ℕ → List ℕ → List ℕ → Plan
 linking session old new =
-    calls session (call.Link (at (called old)) (at (called new))) (λ h. with_it (done_in h) (λ _. says answer.Link))
+    calls session (call.Link (from_root (called old)) (from_root (called new))) (λ h. with_it (done_in h) (λ _. says answer.Link))
 
 abbrev pub links : Known → ℕ → ℕ → List ℕ → Plan
 links k directory fid name = with_it (named k.fids directory) (λ parent. with_it (named k.fids fid) (λ file. with_it (checked name)
@@ -35,11 +35,11 @@ renamed old new a (Err refused) = Changes (Renames old new) (says a)
 
 -- the old name is looked at
 abbrev pub looking_back : ℕ → List ℕ → List ℕ → NinepAnswer → Plan
-looking_back session old new a = calls session (call.Lstat (at (called old))) (λ h. renamed old new a (attributes_in h))
+looking_back session old new a = calls session (call.Lstat (from_root (called old))) (λ h. renamed old new a (attributes_in h))
 
 -- a name becomes another one
 abbrev pub renaming : ℕ → List ℕ → List ℕ → NinepAnswer → Plan
-renaming session old new a = calls session (call.Rename (at (called old)) (at (called new)))
+renaming session old new a = calls session (call.Rename (from_root (called old)) (from_root (called new)))
     (λ h. with_it (done_in h) (λ _. looking_back session old new a))
 
 -- Trename: that of a fid's file
@@ -56,8 +56,8 @@ renames_at k old_directory old_name new_directory new_name =
 
 -- the call that takes a name away
 abbrev pub unlink_call : List ℕ → Bool → Call
-unlink_call path true = call.Rmdir (at (called path))
-unlink_call path false = call.Unlink (at (called path))
+unlink_call path true = call.Rmdir (from_root (called path))
+unlink_call path false = call.Unlink (from_root (called path))
 
 -- Tunlinkat: a directory's name is taken away where the message says so (its flag 0x200), else another one's
 abbrev pub unlinking : ℕ → List ℕ → Bool → Plan

@@ -11,7 +11,7 @@ use Rattle.ninep_fids.specs.Paths.{called, below, checked}
 use Rattle.ninep_fids.specs.Knowledge.{Known, file_open}
 use Rattle.talks.specs.Hearing.{done_in, attributes_in, descriptor_in}
 use Rattle.ninep_fids.specs.Plans.{Plan, Changes, OrNoMemory, Becomes, error, refuses, closing, with_it, calls}
-use Rattle.talks.specs.Plain.{at}
+use Rattle.talks.specs.Plain.{at, from_root}
 use Rattle.ninep_fids.specs.Nodes.{says, node_of, qid_of}
 use Rattle.talks.specs.declared.refused.Refused.{Refused}
 use Rattle.talks.specs.declared.refused.Refused.TheVariants.{By}
@@ -25,7 +25,7 @@ use Rattle.ninep_server.specs.declared.making.Made.{Made}
 use Rattle.ninep_server.specs.declared.making.Made.TheVariants as made
 
 abbrev pub opening : ℕ → User → List ℕ → Node → OpenFlags → Plan
-opening fid user path node flags = calls user.session (call.Open (at (called path)) flags 0) (λ h. with_it (descriptor_in h)
+opening fid user path node flags = calls user.session (call.Open (from_root (called path)) flags 0) (λ h. with_it (descriptor_in h)
     (λ fd. Changes (Becomes fid (file_open user path node fd)) (says (answer.Open (qid_of node)))))
 
 -- Tlopen
@@ -48,7 +48,7 @@ looking_at_file fid user path fd = calls user.session (call.Fstat fd) (λ h. or_
     (λ a. became fid user path (node_of a) fd))
 
 abbrev pub giving_group : ℕ → User → List ℕ → ℕ → ℕ → Plan
-giving_group fid user path fd gid = calls user.session (call.Chown (at (called path)) 0 gid)
+giving_group fid user path fd gid = calls user.session (call.Chown (from_root (called path)) 0 gid)
     (λ h. or_closes user.session fd (done_in h) (λ _. looking_at_file fid user path fd))
 
 abbrev pub made_file : ℕ → User → List ℕ → Option ℕ → ℕ → Plan
@@ -57,7 +57,7 @@ made_file fid user path (Some gid) fd = giving_group fid user path fd gid
 
 -- what has the name already is opened, and given no group
 abbrev pub opening_taken : ℕ → User → List ℕ → OpenFlags → Plan
-opening_taken fid user path flags = calls user.session (call.Open (at (called path)) flags 0)
+opening_taken fid user path flags = calls user.session (call.Open (from_root (called path)) flags 0)
     (λ h. with_it (descriptor_in h) (looking_at_file fid user path))
 
 -- the name is taken
@@ -76,7 +76,7 @@ made_or_not fid user path taken group (Err refused) = not_made fid user path tak
 
 -- a file is made at a new name, and opened
 abbrev pub making_file : ℕ → User → List ℕ → OpenFlags → ℕ → Option OpenFlags → Option ℕ → Plan
-making_file fid user path flags mode taken group = calls user.session (call.Open (at (called path)) flags mode)
+making_file fid user path flags mode taken group = calls user.session (call.Open (from_root (called path)) flags mode)
     (λ h. made_or_not fid user path taken group (descriptor_in h))
 
 -- the flags by which a name that is taken is opened: none where a message wants a new one alone (its flag 0x80)
@@ -91,19 +91,19 @@ creates k fid name flags mode gid = with_it (unopened k.fids fid) (λ directory.
 
 -- the call that makes a directory or a symbolic link
 abbrev pub making_call : List ℕ → Made → Call
-making_call path (made.Directory mode) = call.Mkdir (at (called path)) mode
-making_call path (made.Symlink target) = call.Symlink (at target.now) (at (called path))
+making_call path (made.Directory mode) = call.Mkdir (from_root (called path)) mode
+making_call path (made.Symlink target) = call.Symlink (at target.now) (from_root (called path))
 
 abbrev pub made_told : Made → Qid → NinepAnswer
 made_told (made.Directory mode) qid = answer.Mkdir qid
 made_told (made.Symlink target) qid = answer.Symlink qid
 
 abbrev pub looking_at_made : ℕ → List ℕ → Made → Plan
-looking_at_made session path what = calls session (call.Lstat (at (called path)))
+looking_at_made session path what = calls session (call.Lstat (from_root (called path)))
     (λ h. with_it (attributes_in h) (λ a. says (made_told what (qid_of (node_of a)))))
 
 abbrev pub giving_made_group : ℕ → List ℕ → Made → ℕ → Plan
-giving_made_group session path what gid = calls session (call.Chown (at (called path)) 0 gid)
+giving_made_group session path what gid = calls session (call.Chown (from_root (called path)) 0 gid)
     (λ h. with_it (done_in h) (λ _. looking_at_made session path what))
 
 abbrev pub was_made : ℕ → List ℕ → Made → Option ℕ → Plan

@@ -6,7 +6,7 @@ use Rattle.ninep_fids.specs.Paths.{called}
 use Rattle.ninep_fids.specs.Knowledge.{Known, named}
 use Rattle.talks.specs.Hearing.{done_in, attributes_in}
 use Rattle.ninep_fids.specs.Plans.{Plan, OrNoMemory, with_it, calls}
-use Rattle.talks.specs.Plain.{at}
+use Rattle.talks.specs.Plain.{from_root}
 use Rattle.ninep_fids.specs.Nodes.{says}
 use Rattle.ninep_fids.specs.declared.fid.Kind.TheVariants as kind
 use Rattle.ninep_fids.specs.declared.users.User.{User}
@@ -19,11 +19,11 @@ use Rattle.ninep_fids.specs.Checks.{changeable}
 abbrev pub changing : ℕ → List ℕ → List Change → Plan
 changing session path [] = says answer.Setattr
 changing session path (c ∷ changes) =
-    calls session (change_call (called path) c) (λ h. with_it (done_in h) (λ _. changing session path changes))
+    calls session (change_call (from_root (called path)) c) (λ h. with_it (done_in h) (λ _. changing session path changes))
 
 -- First it is looked at what the user may change: a refusal leaves all as it was, unless it is for something else than the message.
 abbrev pub looking_first : User → List ℕ → Wanted → Plan
-looking_first user path wanted = calls user.session (call.Lstat (at (called path))) (λ h. with_it (attributes_in h)
+looking_first user path wanted = calls user.session (call.Lstat (from_root (called path))) (λ h. with_it (attributes_in h)
     (λ a. with_it (changes_wanted wanted a) (λ c. with_it (may_change user.uid a c) (λ _. changing user.session path (in_order c)))))
 
 -- Tsetattr

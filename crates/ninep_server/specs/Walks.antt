@@ -9,7 +9,7 @@ use Rattle.ninep_fids.specs.Paths.{called, stepped}
 use Rattle.ninep_fids.specs.Knowledge.{Known, named, file_at}
 use Rattle.talks.specs.Hearing.{attributes_in}
 use Rattle.ninep_fids.specs.Plans.{Plan, Says, Changes, OrNoMemory, Puts, reply, refuses, with_it, calls}
-use Rattle.talks.specs.Plain.{at}
+use Rattle.talks.specs.Plain.{from_root}
 use Rattle.ninep_fids.specs.Nodes.{node_of, qid_of}
 use Rattle.ninep_fids.specs.Written.{walked}
 use Rattle.talks.specs.declared.refused.Refused.{Refused}
@@ -33,7 +33,7 @@ with_name qids (Err refused) next = stops qids refused
 
 -- what stands at a path is looked at, and it goes on from there
 abbrev pub looking_at : User → List ℕ → List Qid → (Node → List Qid → Plan) → Plan
-looking_at user path qids next = calls user.session (call.Lstat (at (called path))) (λ h. with_name qids (attributes_in h)
+looking_at user path qids next = calls user.session (call.Lstat (from_root (called path))) (λ h. with_name qids (attributes_in h)
     (λ a. OrNoMemory (next (node_of a) (qids ++ qid_of (node_of a) ∷ []))))
 
 -- From the node at a path, names lead on, one after the other. Behind the last one the fid is made.

@@ -11,7 +11,7 @@ use ninep_fids::users::{User, number_of};
 use talks::ask::Ask;
 use talks::heard::Heard;
 use talks::refused::Refused;
-use tree::Call;
+use tree::{Call, PathFrom};
 
 /// A connection begins, once all sessions of the one before have ended.
 #[derive(Drop)]
@@ -90,7 +90,9 @@ impl Attach {
             },
             Attach::Root { user, .. } => Ask::Call {
                 session: user.session,
-                call: Call::Lstat { path: b"/" },
+                call: Call::Lstat {
+                    path: PathFrom::root(b"/"),
+                },
             },
         }
     }

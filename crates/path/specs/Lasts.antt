@@ -3,8 +3,9 @@ use Rattle.std.specs.Prelude.{◌≡◌, ℕ, List, [], ◌∷◌, Result, Ok, E
 use Rattle.std.specs.List.{list_any}
 use Rattle.errno.specs.declared.Errno.{Errno}
 use Rattle.errno.specs.declared.Errno.TheVariants.{ENAMETOOLONG}
+use Rattle.tree.specs.declared.Start.{Start}
 use Rattle.tree.specs.Names.{Name, most_name}
-use Rattle.tree.specs.Walk.{last_part, parts_of}
+use Rattle.tree.specs.Walk.{Way, last_part, parts_of}
 
 -- the last of these parts, or the one before them
 abbrev pub last_after : Name → List Name → Name
@@ -19,9 +20,9 @@ is_long part = nat_lt most_name (length part)
 abbrev pub has_long : List Name → Bool
 has_long parts = list_any is_long parts
 
--- the parts, or the refusal of a long one
-abbrev pub short_parts : List Name → Result (List Name) Errno
-short_parts parts = if has_long parts then Err ENAMETOOLONG else Ok parts
+-- the way of some parts from a start, or the refusal of a long one
+abbrev pub short_parts : Start → List Name → Result Way Errno
+short_parts start parts = if has_long parts then Err ENAMETOOLONG else Ok (record { start = start; parts = parts })
 
 -- this is the last part of the path, and so many parts it has
 pub record IsRead (path last : List ℕ) (count : ℕ) : Type 0 where

@@ -2,11 +2,12 @@
 use Rattle.std.specs.Prelude.{◌≡◌, ◌++◌, ℕ, List, take, Option, None, Some, Result, Ok, Err, IfOk, IsTrue, is_some}
 use Rattle.errno.specs.declared.Errno.{Errno}
 use Rattle.layout.specs.declared.Geometry.{Geometry}
+use Rattle.tree.specs.declared.Start.{Start}
 use Rattle.tree.specs.declared.User.{User}
 use Rattle.tree.specs.Names.{Name, Names}
 use Rattle.tree.specs.Tree.{Tree, target_of}
 use Rattle.tree.specs.Refusals.{◌>>=◌}
-use Rattle.tree.specs.Walk.{enter, next, walk_from, follow_links, walk_parts}
+use Rattle.tree.specs.Walk.{Way, enter, next, walk_from, follow_links, first_node, walk_parts}
 use Rattle.path.specs.declared.step.Stand.{Stand}
 use Rattle.volume.specs.declared.Inode.{Inode}
 use Rattle.volume.specs.Entries.{is_directory_inode}
@@ -48,9 +49,14 @@ pub record StepsTo (t : Tree) (user : User) (here : ℕ) (part : Name) (r : Resu
   pub answer : r ≡ step t user here part
   pub there : IsThere t r
 
+-- where a walk begins, which is a node of the tree
+pub record Begins (t : Tree) (user : User) (start : Start) (r : Result ℕ Errno) : Type 0 where
+  pub answer : r ≡ first_node t user start
+  pub there : IsThere t r
+
 -- the walk's answer, which is a node of the tree
-pub record Walks (t : Tree) (user : User) (parts : List Name) (r : Result ℕ Errno) : Type 0 where
-  pub answer : r ≡ walk_parts t user parts
+pub record Walks (t : Tree) (user : User) (way : Way) (r : Result ℕ Errno) : Type 0 where
+  pub answer : r ≡ walk_parts t user way
   pub there : IsThere t r
 
 -- the target of a node, the first so many of these bytes, or that it has none

@@ -3,6 +3,7 @@
 #![tactic(auto)]
 
 mod access;
+mod first;
 mod names;
 mod parts;
 mod place;

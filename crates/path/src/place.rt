@@ -11,7 +11,7 @@ ghost use Rattle.path.specs.Stops.{Answers, IsStop, IfRefused};
 ghost use Rattle.path.specs.Places.{Finds, FindsPlace, last_leads_to};
 ghost use Rattle.path.specs.Walking.{IsDirectoryAt};
 
-use crate::step::{enter, named, walk};
+use crate::step::{enter, named, walk, walk_parts};
 use crate::stop::Stop;
 use crate::{NameCache, Path};
 use block_store::{Blocks, Cut};
@@ -78,7 +78,7 @@ pub fn find_place<'a, B: Blocks>(
     ensures stop { IfErr result (λ s. IsStop B.world blocks.new s) }
     ensures proper { IfErr result (λ s. IfRefused s (λ e. e ≢ Errno.EIO)) }
 {
-    let directory = walk(blocks, names, geometry, user, path.parent())?;
+    let directory = walk_parts(blocks, names, geometry, user, path.start(), path.parent())?;
     let inode = enter(blocks, geometry, user, directory)?;
     let there = there(blocks, names, geometry, directory, &inode, path)?;
     Ok(NamePlace {
@@ -105,7 +105,7 @@ pub fn look_up<'a, B: Blocks>(
     ensures proper { IfErr result (λ s. IfRefused s (λ e. e ≢ Errno.EIO)) }
 {
     if !path.has_last_name() {
-        return Ok(Found::There(walk(blocks, names, geometry, user, path.parts())?));
+        return Ok(Found::There(walk(blocks, names, geometry, user, path)?));
     }
     let place = find_place(blocks, names, geometry, user, path)?;
     match place.there {

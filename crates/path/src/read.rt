@@ -3,18 +3,20 @@
 ghost use Rattle.std.specs.Prelude.{◌≡◌, ◌≢◌, ◌==◌, Ok, Err, IfErr};
 ghost use Rattle.std.specs.List.{list_any};
 ghost use Rattle.tree.specs.Names.{dot, dot_dot, is_dots, same_name};
-ghost use Rattle.tree.specs.Walk.{all_but_last, has_last_name, last_part, parts_of, read_path};
+ghost use Rattle.tree.specs.Walk.{all_but_last, begins_with_slash, has_last_name, last_part, parts_of, read_path};
 ghost use Rattle.path.specs.Lasts.{short_parts};
 
 use crate::parts::{Parts, split_first};
 use errno::Errno;
 use std::marker::Model;
-use tree::{MAX_NAME, MAX_PATH};
+use tree::{MAX_NAME, MAX_PATH, PathFrom, Start};
 
-/// A path that was read: contracts see the list of its parts, each of 1 to 60 bytes without a slash. The parts are slices of the bytes
-/// that were read.
+/// A path that was read: contracts see where its walk begins, and the list of its parts, each of 1 to 60 bytes without a slash. The
+/// parts are slices of the bytes that were read.
 #[derive(Drop)]
 pub struct Path<'a> {
+    // Where its walk begins: at the root, if the bytes begin with a slash.
+    start: Start,
     bytes: &'a [u8],
     // The last part, or no bytes where there is none.
     last: &'a [u8],
@@ -23,14 +25,12 @@ pub struct Path<'a> {
 }
 
 impl<'a> Model for Path<'a> {
-    ghost use Rattle.std.specs.Prelude.{List};
-    ghost use Rattle.tree.specs.Names.{Name};
-    ghost use Rattle.tree.specs.Walk.{parts_of};
+    ghost use Rattle.tree.specs.Walk.{Way, parts_of};
     ghost use Rattle.path.specs.Lasts.{IsRead};
 
-    ghost Value = { List Name };
+    ghost Value = { Way };
 
-    ghost view = { λ p. parts_of p.bytes.now };
+    ghost view = { λ p. record { start = p.start; parts = parts_of p.bytes.now } };
 
     ghost invariant = { λ p. IsRead p.bytes.now p.last.now p.count };
 }
@@ -59,9 +59,19 @@ fn has_zero(bytes: &[u8]) -> bool
     bytes.iter().any(|c| *c == 0)
 }
 
-/// Reads the parts of a path that begins with a slash.
-fn read_parts<'a>(bytes: &'a [u8]) -> Result<Path<'a>, Errno>
-    ensures { result ≡ short_parts (parts_of bytes.now) }
+/// Whether a path is read from the root on, wherever it starts.
+fn begins_with_slash(bytes: &[u8]) -> bool
+    ensures { result ≡ begins_with_slash bytes.now }
+{
+    match bytes.first() {
+        Some(first) => *first == b'/',
+        None => false,
+    }
+}
+
+/// Reads the parts of a path whose walk begins here.
+fn read_parts<'a>(start: Start, bytes: &'a [u8]) -> Result<Path<'a>, Errno>
+    ensures { result ≡ short_parts start (parts_of bytes.now) }
 {
     let mut left = bytes;
     let mut last: &[u8] = &bytes[..0];
@@ -74,45 +84,62 @@ fn read_parts<'a>(bytes: &'a [u8]) -> Result<Path<'a>, Errno>
         count += 1;
         left = rest;
     }
-    Ok(Path { bytes, last, count })
+    Ok(Path {
+        start,
+        bytes,
+        last,
+        count,
+    })
 }
 
 impl<'a> Path<'a> {
-    /// Reads a path. In this order: ENOENT where it is empty, ENAMETOOLONG over 1024 bytes, EINVAL where it doesn't begin with `/` or
-    /// holds a zero byte, ENAMETOOLONG where a part has over 60 bytes. Slashes in a row count as one, and those at the end don't count.
-    pub fn parse(bytes: &'a [u8]) -> Result<Path<'a>, Errno>
-        ensures parsed { result ≡ read_path bytes.now }
+    /// Reads a path. In this order: ENOENT where one from the root is empty, ENAMETOOLONG over 1024 bytes, EINVAL where one from the
+    /// root doesn't begin with `/` or one holds a zero byte, ENAMETOOLONG where a part has over 60 bytes. Slashes in a row count as
+    /// one, and those at the end don't count. One that begins with `/` is read from the root on, wherever it starts.
+    pub fn parse(path: PathFrom<'a>) -> Result<Path<'a>, Errno>
+        ensures parsed { result ≡ read_path path.entry }
         ensures proper { IfErr result (λ e. e ≢ Errno.EIO) }
     {
-        let Some(first) = bytes.first() else {
+        let bytes = path.bytes;
+        let from_root = path.start == Start::Root;
+        let slash = begins_with_slash(bytes);
+        if from_root && bytes.is_empty() {
             return Err(Errno::ENOENT);
-        };
+        }
         if bytes.len() > MAX_PATH {
             return Err(Errno::ENAMETOOLONG);
         }
-        if *first != b'/' || has_zero(bytes) {
+        if (from_root && !slash) || has_zero(bytes) {
             return Err(Errno::EINVAL);
         }
-        read_parts(bytes)
+        let start = if slash { Start::Root } else { path.start };
+        read_parts(start, bytes)
+    }
+
+    /// Where its walk begins.
+    pub fn start(&self) -> Start
+        ensures { result ≡ self.now.start }
+    {
+        self.start
     }
 
     /// The parts, the first of them first.
     pub fn parts(&self) -> Parts<'a>
-        ensures { result ≡ self.now }
+        ensures { result ≡ self.now.parts }
     {
         Parts::new(self.bytes, self.count)
     }
 
     /// All parts but the last: those of the directory that holds what the path means.
     pub fn parent(&self) -> Parts<'a>
-        ensures { result ≡ all_but_last self.now }
+        ensures { result ≡ all_but_last self.now.parts }
     {
         Parts::new(self.bytes, self.count.saturating_sub(1))
     }
 
     /// The last part, or no bytes where there is none, as in `/`.
     pub fn last(&self) -> &'a [u8]
-        ensures { result.now ≡ last_part self.now }
+        ensures { result.now ≡ last_part self.now.parts }
     {
         self.last
     }

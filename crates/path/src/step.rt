@@ -13,18 +13,16 @@ ghost use Rattle.path.specs.Stops.{Answers, IsStop, IfRefused};
 ghost use Rattle.path.specs.Walking.{entries_in, Arrives, Enters, IsDirectoryAt, StepsTo, TellsTarget, Walks};
 
 use crate::stop::Stop;
-use crate::{NameCache, Parts, Wish, is_dot, is_dot_dot, may};
+use crate::first::{ROOT, first_node};
+use crate::{NameCache, Parts, Path, Wish, is_dot, is_dot_dot, may};
 use block_store::{Blocks, Cut};
 use directory::{find, parent, stands_at};
 use errno::Errno;
 use file::file_pages::reading::read_at;
 use inode::inode_table::load;
 use layout::Geometry;
-use tree::{MAX_TARGET, User};
+use tree::{MAX_TARGET, Start, User};
 use volume::Inode;
-
-/// The number of the root's inode.
-const ROOT: u32 = 1;
 
 /// How many symbolic links a walk follows.
 const MOST_LINKS: u32 = 8;
@@ -283,26 +281,45 @@ fn follow<B: Blocks>(
     lead(blocks, names, geometry, user, next, parts)
 }
 
-/// The inode to which parts of a path lead from the root: the tree's walk, with its refusals in their order. From each part but the
-/// last a directory is entered: ENOTDIR where it is a file, EACCES where the user may not search it, then ENOENT where the name is
-/// missing. Where the volume isn't sound, any inode may be answered, any refusal but EIO, or Unsound; each part is read once.
+/// Where parts of a path lead from its start.
+pub(crate) fn walk_parts<B: Blocks>(
+    blocks: &mut B,
+    names: &mut NameCache,
+    geometry: &Geometry,
+    user: User,
+    start: Start,
+    parts: Parts,
+) -> Result<u32, Stop>
+    requires on { IsOn B.world geometry.now blocks.old }
+    ensures reads { Reads B.world blocks.old blocks.new (λ d. (t : Tree) → Holds geometry.now d t
+        → Answers result (Walks t user (record { start = start; parts = parts.entry }))) }
+    ensures stop { IfErr result (λ s. IsStop B.world blocks.new s) }
+    ensures proper { IfErr result (λ s. IfRefused s (λ e. e ≢ Errno.EIO)) }
+{
+    let first = Stand {
+        here: first_node(blocks, geometry, user, start)?,
+        links: MOST_LINKS,
+    };
+    let end = lead(blocks, names, geometry, user, first, parts)?;
+    Ok(end.here)
+}
+
+/// The inode to which a path leads: the tree's walk, with its refusals in their order. From a start that is a node, EACCES for another
+/// user than 0, and ENOENT where no node has the number. Then from each part but the last a directory is entered: ENOTDIR where it is a
+/// file, EACCES where the user may not search it, then ENOENT where the name is missing. Where the volume isn't sound, any inode may be
+/// answered, any refusal but EIO, or Unsound; each part is read once.
 pub fn walk<B: Blocks>(
     blocks: &mut B,
     names: &mut NameCache,
     geometry: &Geometry,
     user: User,
-    parts: Parts,
+    path: &Path,
 ) -> Result<u32, Stop>
     requires on { IsOn B.world geometry.now blocks.old }
     ensures reads { Reads B.world blocks.old blocks.new (λ d. (t : Tree) → Holds geometry.now d t
-        → Answers result (Walks t user parts.entry)) }
+        → Answers result (Walks t user path.now)) }
     ensures stop { IfErr result (λ s. IsStop B.world blocks.new s) }
     ensures proper { IfErr result (λ s. IfRefused s (λ e. e ≢ Errno.EIO)) }
 {
-    let root = Stand {
-        here: ROOT,
-        links: MOST_LINKS,
-    };
-    let end = lead(blocks, names, geometry, user, root, parts)?;
-    Ok(end.here)
+    walk_parts(blocks, names, geometry, user, path.start(), path.parts())
 }

@@ -6,8 +6,12 @@ use Rattle.errno.specs.declared.Errno.TheVariants.{EIO, EBADF, ENOMEM}
 use Rattle.message.specs.declared.Kind.TheVariants.{Write}
 use Rattle.message.specs.declared.BlockRequest.{BlockRequest}
 use Rattle.layout.specs.declared.Geometry.{Geometry}
+use Rattle.tree.specs.declared.PathFrom.{PathFrom}
+use Rattle.tree.specs.declared.Start.TheVariants.{Root}
 use Rattle.tree.specs.declared.Who.{Who}
 use Rattle.tree.specs.declared.Whence.TheVariants.{Set}
+use Rattle.tree.specs.declared.Start.TheVariants.{Root}
+use Rattle.tree.specs.declared.PathFrom.{PathFrom}
 use Rattle.tree.specs.declared.Call.{Call}
 use Rattle.tree.specs.declared.Call.TheVariants as call
 use Rattle.tree.specs.Sums.{sum_below, some_below, least_below}
@@ -30,8 +34,12 @@ abbrev pub user_0 : Who
 user_0 = record { session = 0; uid = 0; gid = 0 }
 
 -- bytes, lent
-abbrev pub path : List ℕ → Bor (List ℕ)
-path bytes = record { ref_ptr = (0, 0); now = bytes }
+abbrev pub lent : List ℕ → Bor (List ℕ)
+lent bytes = record { ref_ptr = (0, 0); now = bytes }
+
+-- a path from the root
+abbrev pub path : List ℕ → PathFrom
+path bytes = record { start = Root; bytes = lent bytes }
 
 -- a root alone, made at 50
 abbrev pub fresh : Tree
@@ -106,7 +114,7 @@ early_mkdir = refl
 abbrev pub opened : Tree
 opened =
     let made = tree_after_call small fresh user_0 100 (call.Open (path (codes "/f")) (record { 0 = 11 }) 420) in
-    let filled = tree_after_call small made user_0 100 (call.Write 0 (path (codes "abc"))) in
+    let filled = tree_after_call small made user_0 100 (call.Write 0 (lent (codes "abc"))) in
     let sought = tree_after_call small filled user_0 100 (call.Seek 0 Set (pos 0)) in
     tree_after_call small sought user_0 100 (call.Open (path (codes "/")) (record { 0 = 1 }) 0)
 

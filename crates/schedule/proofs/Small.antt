@@ -7,6 +7,7 @@ use Rattle.message.specs.declared.Kind.TheVariants.{Read}
 use Rattle.tree.specs.declared.Who.{Who}
 use Rattle.tree.specs.declared.Call.{Call}
 use Rattle.tree.specs.declared.Call.TheVariants.{Stat}
+use Rattle.tree.specs.declared.Start.TheVariants.{Root}
 use Rattle.tree.specs.Answers.{Answer, node_is}
 use Rattle.tree.specs.Effects.{reply_to}
 use Rattle.tree.specs.Laws.{fresh_tree}
@@ -25,7 +26,7 @@ client session = record { session = session; uid = 0; gid = 0 }
 
 -- `stat /`
 abbrev pub stat_root : Call
-stat_root = Stat (record { ref_ptr = (0, 0); now = codes "/" })
+stat_root = Stat (record { start = Root; bytes = record { ref_ptr = (0, 0); now = codes "/" } })
 
 -- the call of session 0, which waits
 abbrev pub first_call : List Arrival

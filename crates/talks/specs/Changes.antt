@@ -6,9 +6,10 @@ use Rattle.errno.specs.declared.Errno.TheVariants.{EPERM, EINVAL, EFBIG}
 use Rattle.tree.specs.declared.Attributes.{Attributes}
 use Rattle.tree.specs.declared.Call.{Call}
 use Rattle.tree.specs.declared.Call.TheVariants as call
+use Rattle.tree.specs.declared.PathFrom.{PathFrom}
 use Rattle.talks.specs.Flags.{is_set}
 use Rattle.talks.specs.Refusals.{then_of}
-use Rattle.talks.specs.Plain.{at}
+use Rattle.talks.specs.Plain.{plain_path}
 use Rattle.talks.specs.declared.refused.Refused.{Refused}
 use Rattle.talks.specs.declared.refused.Refused.TheVariants.{By}
 use Rattle.talks.specs.declared.changes.Wanted.{Wanted}
@@ -73,8 +74,8 @@ in_order c =
     ++ (option_to_list (option_map (λ mode. change.Mode mode) c.mode)
     ++ option_to_list (option_map (λ (times : ℕ × ℕ). change.Times times.0 times.1) c.times)))
 
-abbrev pub change_call : List ℕ → Change → Call
-change_call path (change.Size size) = call.Truncate (at path) size
-change_call path (change.Owners uid gid) = call.Chown (at path) uid gid
-change_call path (change.Mode mode) = call.Chmod (at path) mode
-change_call path (change.Times atime mtime) = call.Utime (at path) atime mtime
+abbrev pub change_call : PathFrom → Change → Call
+change_call path (change.Size size) = call.Truncate (plain_path path) size
+change_call path (change.Owners uid gid) = call.Chown (plain_path path) uid gid
+change_call path (change.Mode mode) = call.Chmod (plain_path path) mode
+change_call path (change.Times atime mtime) = call.Utime (plain_path path) atime mtime

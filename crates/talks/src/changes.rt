@@ -8,7 +8,7 @@ ghost use Rattle.talks.specs.Changes.{may_change, in_order, change_call};
 use crate::flags::{has, mode_of};
 use crate::refused::Refused;
 use errno::Errno;
-use tree::{Attributes, Call, MAX_PERMISSIONS};
+use tree::{Attributes, Call, MAX_PERMISSIONS, PathFrom};
 
 /// The bits that say which attributes are changed, and whether times are given or are now.
 const MODE: u32 = 0x1;
@@ -116,8 +116,8 @@ pub enum Change {
 
 impl Change {
     /// The call that makes it.
-    pub fn call<'a>(&self, path: &'a [u8]) -> Call<'a>
-        ensures { plain_call result ≡ change_call path.now self.now }
+    pub fn call<'a>(&self, path: PathFrom<'a>) -> Call<'a>
+        ensures { plain_call result ≡ change_call path.entry self.now }
     {
         match *self {
             Change::Size(size) => Call::Truncate { path, size },

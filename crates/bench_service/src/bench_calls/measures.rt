@@ -13,7 +13,7 @@ use std::sync::Wait;
 use std::thread::Threads;
 use std::time::Instant;
 use std::{io, thread};
-use tree::Call;
+use tree::{Call, PathFrom};
 
 /// Measures calls in a session of user 0, and in eight.
 pub(crate) fn measure_all<
@@ -44,7 +44,7 @@ const CALLS: u32 = 40000;
 fn ask<N: ServiceParameters, R: Threads + Wait + Copy, L: Recorder<N>, S: FileServer<L>>(
     mut session: Session<N, Shared<N, R, L, S>>,
 ) -> u32 {
-    let done = repeat(&mut session, CALLS, &[Call::Stat { path: b"/" }]);
+    let done = repeat(&mut session, CALLS, &[Call::Stat { path: PathFrom::root(b"/") }]);
     session.end();
     done
 }

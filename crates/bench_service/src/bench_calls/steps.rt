@@ -1,7 +1,7 @@
 //! Calls, as rows write them down.
 
 use std::alloc::{AllocError, Global};
-use tree::{Call, OpenFlags, Whence};
+use tree::{Call, OpenFlags, PathFrom, Whence};
 
 /// A call, of descriptor 0 where it is one of a descriptor.
 #[derive(Clone, Copy)]
@@ -30,7 +30,7 @@ pub(crate) type Row = (Option<(&'static str, u32)>, &'static [Step]);
 /// Opens a path, which may be made.
 pub(crate) fn opened(path: &[u8]) -> Call<'_> {
     Call::Open {
-        path,
+        path: PathFrom::root(path),
         flags: OpenFlags::READ | OpenFlags::WRITE | OpenFlags::CREATE,
         mode: 0o644,
     }
@@ -39,7 +39,7 @@ pub(crate) fn opened(path: &[u8]) -> Call<'_> {
 /// Opens a path to read.
 fn opened_to_read(path: &[u8]) -> Call<'_> {
     Call::Open {
-        path,
+        path: PathFrom::root(path),
         flags: OpenFlags::READ,
         mode: 0,
     }
@@ -48,12 +48,12 @@ fn opened_to_read(path: &[u8]) -> Call<'_> {
 /// The call of a step, which writes from these bytes.
 fn call_of<'a>(step: Step, bytes: &'a [u8]) -> Call<'a> {
     match step {
-        Step::Stat(path) => Call::Stat { path },
+        Step::Stat(path) => Call::Stat { path: PathFrom::root(path) },
         Step::Open(path) => opened(path),
         Step::OpenToRead(path) => opened_to_read(path),
         Step::Close => Call::Close { fd: 0 },
-        Step::Unlink(path) => Call::Unlink { path },
-        Step::Mkdir(path) => Call::Mkdir { path, mode: 0o755 },
+        Step::Unlink(path) => Call::Unlink { path: PathFrom::root(path) },
+        Step::Mkdir(path) => Call::Mkdir { path: PathFrom::root(path), mode: 0o755 },
         Step::Write(count) => Call::Write {
             fd: 0,
             bytes: bytes.get(..count).unwrap_or(&[]),

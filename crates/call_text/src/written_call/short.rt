@@ -5,7 +5,7 @@ ghost use Rattle.std.specs.Option.{option_map};
 ghost use Rattle.call_text.specs.WrittenCalls.{call_of_none, call_of_one, call_of_two, count, meant};
 
 use crate::bytes::digits;
-use crate::words::{decimal, mode, path};
+use crate::words::{decimal, mode, path, target};
 use crate::written_call::call::WrittenCall;
 use tree::Call;
 
@@ -72,7 +72,7 @@ pub fn call_of_two<'t>(name: &[u8], first: &'t [u8], second: &'t [u8]) -> Option
         let (old, new) = (path(first)?, path(second)?);
         Some(WrittenCall::Whole(Call::Link { old, new }))
     } else if name == b"symlink".as_slice() {
-        let (target, path) = (path(first)?, path(second)?);
+        let (target, path) = (target(first)?, path(second)?);
         Some(WrittenCall::Whole(Call::Symlink { target, path }))
     } else if name == b"rename".as_slice() {
         let (old, new) = (path(first)?, path(second)?);

@@ -11,8 +11,8 @@ pub returns-then-user-ne0-clause-turns : goal.returns-then-user-ne0-clause-turns
 returns-then-user-ne0-clause-turns g c =
     let a = c.args in
     turns_as _ _ _ _ _
-    (λ d e p f. right_refused a.geometry.now a.user a.path.now (λ node. not (a.user.uid == 0)) (with_owner a.now a.uid a.gid) d c.in-Ok.number c.in-Ok.inode
-    (found_ok a.geometry.now d a.user a.path.now _ _ _ c.in-Ok.is p.1) e f p.0 (λ node is. ap not (ne_eqb a.user.uid 0 (search rules))))
+    (λ d e p f. right_refused a.geometry.now a.user a.path (λ node. not (a.user.uid == 0)) (with_owner a.now a.uid a.gid) d c.in-Ok.number c.in-Ok.inode
+    (found_ok a.geometry.now d a.user a.path _ _ _ c.in-Ok.is p.1) e f p.0 (λ node is. ap not (ne_eqb a.user.uid 0 (search rules))))
     c.in_ok-number.ensures.reads
 
 pub returns-in_err-store-in-Ok-clause-turns : goal.returns-in_err-store-in-Ok-clause-turns
@@ -20,21 +20,21 @@ returns-in_err-store-in-Ok-clause-turns g c =
     let a = c.args in
     turns_then _ g.met.B.Blocks.lawful _ _ _ _ _ _
     (λ d e h p q f. ends_exit _ _ _ _ _ _ c.from_residual-in_err-store-in-Ok.ensures.1
-    (λ t. is_number a.geometry.now a.user a.path.now (λ node. not (a.user.uid == 0)) (with_owner a.now a.uid a.gid) d c.in-Ok.number c.in-Ok.inode
-    (found_ok a.geometry.now d a.user a.path.now _ _ _ c.in-Ok.is p.1) f t) q)
+    (λ t. is_number a.geometry.now a.user a.path (λ node. not (a.user.uid == 0)) (with_owner a.now a.uid a.gid) d c.in-Ok.number c.in-Ok.inode
+    (found_ok a.geometry.now d a.user a.path _ _ _ c.in-Ok.is p.1) f t) q)
     c.in_ok-number.ensures.reads c.in_err-store-in-Ok.ensures.turns
 
 pub returns-in_ok-store-in-Ok-clause-turns : goal.returns-in_ok-store-in-Ok-clause-turns
 returns-in_ok-store-in-Ok-clause-turns g c =
     let a = c.args in
     turns_then _ g.met.B.Blocks.lawful _ _ _ _ _ _
-    (λ d x e p q f. chown_done a.geometry.now a.user a.path.now a.now a.uid a.gid d x e c.in-Ok.number c.in-Ok.inode f (let k = c.ranges.now.fits in omega (arith, k)) (let k = c.ranges.uid.fits in omega (arith, k)) (let k = c.ranges.gid.fits in omega (arith, k)) c.requires.on.geometry
-    (found_ok a.geometry.now d a.user a.path.now _ _ _ c.in-Ok.is p.1) p.0 (eq-eqb a.user.uid 0 (search rules)) q)
+    (λ d x e p q f. chown_done a.geometry.now a.user a.path a.now a.uid a.gid d x e c.in-Ok.number c.in-Ok.inode f (let k = c.ranges.now.fits in omega (arith, k)) (let k = c.ranges.uid.fits in omega (arith, k)) (let k = c.ranges.gid.fits in omega (arith, k)) c.requires.on.geometry
+    (found_ok a.geometry.now d a.user a.path _ _ _ c.in-Ok.is p.1) p.0 (eq-eqb a.user.uid 0 (search rules)) q)
     c.in_ok-number.ensures.reads c.in_ok-store-in-Ok.ensures.turns
 
 pub returns-in-Err-clause-turns : goal.returns-in-Err-clause-turns
 returns-in-Err-clause-turns g c =
     let a = c.args in
     turns_as _ _ _ _ _
-    (λ d e p f. walk_refused a.geometry.now a.user a.path.now (λ node. not (a.user.uid == 0)) (with_owner a.now a.uid a.gid) d e c.in-Err.errno f p.0 (found_err a.geometry.now d a.user a.path.now _ _ c.in-Err.is p.1))
+    (λ d e p f. walk_refused a.geometry.now a.user a.path (λ node. not (a.user.uid == 0)) (with_owner a.now a.uid a.gid) d e c.in-Err.errno f p.0 (found_err a.geometry.now d a.user a.path _ _ c.in-Err.is p.1))
     c.in_ok-number.ensures.reads

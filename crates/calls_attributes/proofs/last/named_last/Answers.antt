@@ -8,5 +8,5 @@ returns-in-Ok-clause-reads g c =
     let a = c.args in
     reads_as _ _ _ _ _
     (λ d p. ends_as _ _ _ _ _
-    (λ r x. last_read a.geometry.now d a.user a.path.now c.in-Ok.path (sym c.in-Ok.ensures.parsed) r x) (λ s. s) p)
+    (λ r x. last_read a.geometry.now d a.user a.path c.in-Ok.path (sym c.in-Ok.ensures.parsed) r x) (λ s. s) p)
     c.walk_to_last.ensures.reads

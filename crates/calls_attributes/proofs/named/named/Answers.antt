@@ -7,7 +7,7 @@ pub returns-in-Ok-walk-clause-reads : goal.returns-in-Ok-walk-clause-reads
 returns-in-Ok-walk-clause-reads g c =
     let a = c.args in
     turns_as _ _ _ _ _
-    (λ d e p. (p.0, walked_to a.geometry.now d a.user a.path.now c.parts.result (sym c.in-Ok.ensures.parsed ∙ ap (λ x. Ok x) (sym c.parts.ensures)) c.walk.result p.1 c.in-Ok-walk.number c.in-Ok-walk.is))
+    (λ d e p. (p.0, walked_to a.geometry.now d a.user a.path c.in-Ok.path (sym c.in-Ok.ensures.parsed) c.walk.result p.1 c.in-Ok-walk.number c.in-Ok-walk.is))
     c.walk.ensures.reads
 
 pub returns-in-Err-Refused-clause-reads : goal.returns-in-Err-Refused-clause-reads
@@ -16,7 +16,7 @@ returns-in-Err-Refused-clause-reads g c =
     turns_as _ _ _ _ _
     (λ d e p. (
       p.0,
-      walk_refused_for a.geometry.now d a.user a.path.now c.parts.result (sym c.in-Ok.ensures.parsed ∙ ap (λ x. Ok x) (sym c.parts.ensures)) c.walk.result p.1 c.in-Err-Refused.errno
+      walk_refused_for a.geometry.now d a.user a.path c.in-Ok.path (sym c.in-Ok.ensures.parsed) c.walk.result p.1 c.in-Err-Refused.errno
           (c.in-Err-Refused.is ∙ ap (λ x. Err x) c.in-Err-Refused.field-0-is),
     ))
     c.walk.ensures.reads
@@ -27,7 +27,7 @@ returns-in-Err-Halted-clause-reads g c =
     turns_as _ _ _ _ _
     (λ d e p. (
       p.0,
-      walk_halted a.geometry.now d a.user a.path.now c.parts.result (sym c.in-Ok.ensures.parsed ∙ ap (λ x. Ok x) (sym c.parts.ensures)) c.walk.result p.1 c.in-Err-Halted.halt _
+      walk_halted a.geometry.now d a.user a.path c.in-Ok.path (sym c.in-Ok.ensures.parsed) c.walk.result p.1 c.in-Err-Halted.halt _
           (c.in-Err-Halted.is ∙ ap (λ x. Err x) c.in-Err-Halted.field-0-is),
     ))
     c.walk.ensures.reads

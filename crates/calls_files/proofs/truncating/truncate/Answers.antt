@@ -9,7 +9,7 @@ use Rattle.calls_files.proofs.truncating.truncate.Goals as goal
 pub returns-then-size-gt-MAX_SIZE-clause-turns : goal.returns-then-size-gt-MAX_SIZE-clause-turns
 returns-then-size-gt-MAX_SIZE-clause-turns g c =
     let a = c.args in
-    turns_as _ _ _ _ _ (λ d e p f. truncate_big a.geometry.now a.user a.path.now a.now a.size d e f p c.if-size-gt-MAX_SIZE.true) (turns_none _ g.met.B.Blocks.lawful _ c.requires.on.ready)
+    turns_as _ _ _ _ _ (λ d e p f. truncate_big a.geometry.now a.user a.path a.now a.size d e f p c.if-size-gt-MAX_SIZE.true) (turns_none _ g.met.B.Blocks.lawful _ c.requires.on.ready)
 
 pub returns-in_err-number-clause-turns : goal.returns-in_err-number-clause-turns
 returns-in_err-number-clause-turns g c =
@@ -20,16 +20,16 @@ pub returns-then-is_directory-clause-turns : goal.returns-then-is_directory-clau
 returns-then-is_directory-clause-turns g c =
     let a = c.args in
     turns_as _ _ _ _ _
-    (λ d e p f. truncate_directory a.geometry.now a.user a.path.now a.now a.size c.if-size-gt-MAX_SIZE.false d c.in-Ok.number c.in-Ok.inode
-    (found_ok a.geometry.now d a.user a.path.now _ _ _ c.in-Ok.is p.1) e f p.0 (sym c.is_directory.ensures ∙ c.if-is_directory.true))
+    (λ d e p f. truncate_directory a.geometry.now a.user a.path a.now a.size c.if-size-gt-MAX_SIZE.false d c.in-Ok.number c.in-Ok.inode
+    (found_ok a.geometry.now d a.user a.path _ _ _ c.in-Ok.is p.1) e f p.0 (sym c.is_directory.ensures ∙ c.if-is_directory.true))
     c.in_ok-number.ensures.reads
 
 pub returns-then-not-may-clause-turns : goal.returns-then-not-may-clause-turns
 returns-then-not-may-clause-turns g c =
     let a = c.args in
     turns_as _ _ _ _ _
-    (λ d e p f. truncate_barred a.geometry.now a.user a.path.now a.now a.size c.if-size-gt-MAX_SIZE.false d c.in-Ok.number c.in-Ok.inode
-    (found_ok a.geometry.now d a.user a.path.now _ _ _ c.in-Ok.is p.1) (sym c.is_directory.ensures ∙ c.if-is_directory.false) c.may.result c.may.ensures e f p.0 c.if-not-may.true)
+    (λ d e p f. truncate_barred a.geometry.now a.user a.path a.now a.size c.if-size-gt-MAX_SIZE.false d c.in-Ok.number c.in-Ok.inode
+    (found_ok a.geometry.now d a.user a.path _ _ _ c.in-Ok.is p.1) (sym c.is_directory.ensures ∙ c.if-is_directory.false) c.may.result c.may.ensures e f p.0 c.if-not-may.true)
     c.in_ok-number.ensures.reads
 
 pub returns-in_err-set_size_at-in-Ok-clause-turns : goal.returns-in_err-set_size_at-in-Ok-clause-turns
@@ -37,16 +37,16 @@ returns-in_err-set_size_at-in-Ok-clause-turns g c =
     let a = c.args in
     turns_then _ g.met.B.Blocks.lawful _ _ _ _ _ _
     (λ d e h p q f. ends_exit _ _ _ _ _ _ c.from_residual-in_err-set_size_at-in-Ok.ensures.1
-    (λ t. may_change_found a.geometry.now a.user a.path.now a.now a.size c.if-size-gt-MAX_SIZE.false d c.in-Ok.number c.in-Ok.inode
-    (found_ok a.geometry.now d a.user a.path.now _ _ _ c.in-Ok.is p.1) e f c.requires.on.geometry p.0 t) q)
+    (λ t. may_change_found a.geometry.now a.user a.path a.now a.size c.if-size-gt-MAX_SIZE.false d c.in-Ok.number c.in-Ok.inode
+    (found_ok a.geometry.now d a.user a.path _ _ _ c.in-Ok.is p.1) e f c.requires.on.geometry p.0 t) q)
     c.in_ok-number.ensures.reads c.in_err-set_size_at-in-Ok.ensures.turns
 
 pub returns-in_ok-set_size_at-in-Ok-clause-turns : goal.returns-in_ok-set_size_at-in-Ok-clause-turns
 returns-in_ok-set_size_at-in-Ok-clause-turns g c =
     let a = c.args in
     turns_then _ g.met.B.Blocks.lawful _ _ _ _ _ _
-    (λ d x e p q f. truncate_done a.geometry.now a.user a.path.now a.now a.size c.if-size-gt-MAX_SIZE.false d c.in-Ok.number c.in-Ok.inode
-    (found_ok a.geometry.now d a.user a.path.now _ _ _ c.in-Ok.is p.1) (sym c.is_directory.ensures ∙ c.if-is_directory.false) c.may.result c.may.ensures x e f c.requires.on.geometry
+    (λ d x e p q f. truncate_done a.geometry.now a.user a.path a.now a.size c.if-size-gt-MAX_SIZE.false d c.in-Ok.number c.in-Ok.inode
+    (found_ok a.geometry.now d a.user a.path _ _ _ c.in-Ok.is p.1) (sym c.is_directory.ensures ∙ c.if-is_directory.false) c.may.result c.may.ensures x e f c.requires.on.geometry
     (let k = c.ranges.now.fits in omega (arith, k)) p.0 c.if-not-may.false q)
     c.in_ok-number.ensures.reads c.in_ok-set_size_at-in-Ok.ensures.turns
 
@@ -54,5 +54,5 @@ pub returns-in-Err-clause-turns : goal.returns-in-Err-clause-turns
 returns-in-Err-clause-turns g c =
     let a = c.args in
     turns_as _ _ _ _ _
-    (λ d e p f. truncate_unwalked a.geometry.now a.user a.path.now a.now a.size c.if-size-gt-MAX_SIZE.false d e c.in-Err.errno f p.0 (found_err a.geometry.now d a.user a.path.now _ _ c.in-Err.is p.1))
+    (λ d e p f. truncate_unwalked a.geometry.now a.user a.path a.now a.size c.if-size-gt-MAX_SIZE.false d e c.in-Err.errno f p.0 (found_err a.geometry.now d a.user a.path _ _ c.in-Err.is p.1))
     c.in_ok-number.ensures.reads

@@ -1,7 +1,6 @@
 use Rattle.std.proofs.Common.{◌<◌, ◌≤◌, ◌^◌, Err, sym, subst, arith, rules}
-use Rattle.std.proofs.lemmas.List.Elements.{All-from_get_or}
-use Rattle.std.specs.List.{All}
 use Rattle.errno.specs.declared.Errno.TheVariants.{EINVAL, EMLINK}
+use Rattle.tree.specs.IsCall.{IsBytes}
 use Rattle.tree.specs.Answers.{done}
 use Rattle.tree.specs.NameCalls.{mkdir}
 use Rattle.tree.specs.Tree.{Tree}
@@ -21,7 +20,7 @@ returns-then-mode-gt-MAX_PERMISSIONS-clause-turns g c =
     let v = a.geometry.now in
     let big : 511 < a.mode = search rules in
     turns_as _ _ _ _ _
-    (λ d e p f. meets_refused v (λ (t : Tree). mkdir v t a.user a.now a.path.now a.mode) (HasFiles f) (HasFiles f) d e p (λ t h. h) EINVAL
+    (λ d e p f. meets_refused v (λ (t : Tree). mkdir v t a.user a.now a.path a.mode) (HasFiles f) (HasFiles f) d e p (λ t h. h) EINVAL
     (λ t holds. bad_mode v c.requires.on.geometry a.user a.now a.mode a.path t big))
     (turns_none _ g.met.B.Blocks.lawful _ c.requires.on.ready)
 
@@ -31,8 +30,8 @@ returns-in_err-place-clause-turns g c =
     let v = a.geometry.now in
     let few : a.mode ≤ 511 = search rules in
     turns_as _ _ _ _ _
-    (λ d e p f. meets_exit v (λ (t : Tree). mkdir v t a.user a.now a.path.now a.mode) (λ x. done) (HasFiles f) (HasFiles f) d e p.0 (λ t h. h) _ _
-    (λ t. FindsNewPlace v d t a.user a.path.now) c.from_residual.ensures.1 (λ t holds files. p.1 t holds)
+    (λ d e p f. meets_exit v (λ (t : Tree). mkdir v t a.user a.now a.path a.mode) (λ x. done) (HasFiles f) (HasFiles f) d e p.0 (λ t h. h) _ _
+    (λ t. FindsNewPlace v d t a.user a.path) c.from_residual.ensures.1 (λ t holds files. p.1 t holds)
     (λ t x holds h. no_place v c.requires.on.geometry a.user a.now a.mode a.path few t x h))
     c.in_err-place.ensures.reads
 
@@ -43,7 +42,7 @@ returns-then-place-ge-MAX_LINKS-clause-turns g c =
     let few : a.mode ≤ 511 = search rules in
     let many : 32767 ≤ c.in_ok-place.place.inode.links = search rules in
     turns_as _ _ _ _ _
-    (λ d e p f. meets_refused v (λ (t : Tree). mkdir v t a.user a.now a.path.now a.mode) (HasFiles f) (HasFiles f) d e p.0 (λ t h. h) EMLINK
+    (λ d e p f. meets_refused v (λ (t : Tree). mkdir v t a.user a.now a.path a.mode) (HasFiles f) (HasFiles f) d e p.0 (λ t h. h) EMLINK
     (λ t holds. many_links v c.requires.on.geometry a.user a.now a.mode a.path few d t c.in_ok-place.place holds (p.1 t holds) many))
     c.in_ok-place.ensures.reads
 
@@ -55,9 +54,9 @@ returns-in_err-number-clause-turns g c =
     let few : a.mode ≤ 511 = search rules in
     let low : q.inode.links < 32767 = search rules in
     turns_as _ _ _ _ _
-    (λ d e p f. meets_exit v (λ (t : Tree). mkdir v t a.user a.now a.path.now a.mode) (λ x. done) (HasFiles f) (HasFiles f) d e p.0 (λ t h. h) _ _
-    (λ t r. (new : IsNewPlace v d t a.user a.path.now q) × FindsNumber v t q.directory new.parent q.name.now 1 r) c.from_residual-in_err-number.ensures.1
-    (λ t holds files. let new = p.1.0 t holds in answers_as (Err c.in_err-number.field-0.0) (λ r. FindsNumber v t q.directory new.parent q.name.now 1 r) (λ r. (x : IsNewPlace v d t a.user a.path.now q) × FindsNumber v t q.directory x.parent q.name.now 1 r) (λ r h. (new, h)) (p.1.1 t new.parent holds new.vacant))
+    (λ d e p f. meets_exit v (λ (t : Tree). mkdir v t a.user a.now a.path a.mode) (λ x. done) (HasFiles f) (HasFiles f) d e p.0 (λ t h. h) _ _
+    (λ t r. (new : IsNewPlace v d t a.user a.path q) × FindsNumber v t q.directory new.parent q.name.now 1 r) c.from_residual-in_err-number.ensures.1
+    (λ t holds files. let new = p.1.0 t holds in answers_as (Err c.in_err-number.field-0.0) (λ r. FindsNumber v t q.directory new.parent q.name.now 1 r) (λ r. (x : IsNewPlace v d t a.user a.path q) × FindsNumber v t q.directory x.parent q.name.now 1 r) (λ r h. (new, h)) (p.1.1 t new.parent holds new.vacant))
     (λ t x holds h. no_room v c.requires.on.geometry a.user a.now a.mode a.path few d t q holds h.0 low x h.1))
     (reads_both _ g.met.B.Blocks.lawful _ _ _ _ _ c.in_ok-place.ensures.reads c.in_err-number.ensures.reads)
 
@@ -70,7 +69,7 @@ returns-in_err-put_directory-clause-turns g c =
     let few : a.mode ≤ 511 = search rules in
     let low : q.inode.links < 32767 = search rules in
     turns_then _ g.met.B.Blocks.lawful _ _ _ _ _ _
-    (λ d e h p r f. meets_halted v (λ (t : Tree). mkdir v t a.user a.now a.path.now a.mode) (λ x. done) (HasFiles f) (HasFiles f) d h _ _ _ _
+    (λ d e h p r f. meets_halted v (λ (t : Tree). mkdir v t a.user a.now a.path a.mode) (λ x. done) (HasFiles f) (HasFiles f) d h _ _ _ _
     c.from_residual-in_err-put_directory.ensures.1 r
     (λ held. let new = p.1.0 held.tree held.holds in
     subst (λ (z : Disk). MayMakeDirectoryAt v z q n) (sym p.0)
@@ -89,7 +88,7 @@ returns-clause-turns g c =
     let small : a.now < 2 ^ 32 = (let k = c.ranges.now.fits in omega (arith, k)) in
     let uid : a.user.uid < 2 ^ 16 = search rules in
     let gid : a.user.gid < 2 ^ 16 = search rules in
-    let bytes : All (λ k. k < 256) a.path.now = All-from_get_or (λ k. k < 256) a.path.now 0 (λ i l. let k = c.type_inv.path i in omega (arith, k)) in
+    let bytes : IsBytes a.path.bytes.now = c.are_bytes.ensures in
     turns_then _ g.met.B.Blocks.lawful _ _ _ _ _ _
     (λ d e h p r f. directory_done v c.requires.on.geometry a.user a.now a.mode a.path few d h q n f small uid gid bytes low
     (λ t holds. let new = p.1.0 t holds in (new, p.1.1 t new.parent holds new.vacant))

@@ -15,7 +15,7 @@ returns-in-Err-Refused-clause-turns g c =
     let a = c.args in
     let v = a.geometry.now in
     turns_as _ _ _ _ _
-    (λ d e p f. subst (λ (s : Result (Unit {0}) Stop). MeetsOrStops v (λ (t : Tree). mkdir v t a.user a.now a.path.now a.mode) (λ x. done) s (HasFiles f) (HasFiles f) d e)
+    (λ d e p f. subst (λ (s : Result (Unit {0}) Stop). MeetsOrStops v (λ (t : Tree). mkdir v t a.user a.now a.path a.mode) (λ x. done) s (HasFiles f) (HasFiles f) d e)
     (c.in-Err-Refused.is ∙ ap (λ x. Err x) c.in-Err-Refused.field-0-is) (p f))
     c.make.ensures.turns
 
@@ -24,7 +24,7 @@ returns-in-Err-Halted-clause-turns g c =
     let a = c.args in
     let v = a.geometry.now in
     turns_as _ _ _ _ _
-    (λ d e p f. halted_ends {X = Unit {0}} v (λ (t : Tree). mkdir v t a.user a.now a.path.now a.mode) (λ x. done) (HasFiles f) (HasFiles f) d e c.in-Err-Halted.halt _
-    (subst (λ (s : Result (Unit {0}) Stop). MeetsOrStops v (λ (t : Tree). mkdir v t a.user a.now a.path.now a.mode) (λ x. done) s (HasFiles f) (HasFiles f) d e)
+    (λ d e p f. halted_ends {X = Unit {0}} v (λ (t : Tree). mkdir v t a.user a.now a.path a.mode) (λ x. done) (HasFiles f) (HasFiles f) d e c.in-Err-Halted.halt _
+    (subst (λ (s : Result (Unit {0}) Stop). MeetsOrStops v (λ (t : Tree). mkdir v t a.user a.now a.path a.mode) (λ x. done) s (HasFiles f) (HasFiles f) d e)
     (c.in-Err-Halted.is ∙ ap (λ x. Err x) c.in-Err-Halted.field-0-is) (p f)))
     c.make.ensures.turns

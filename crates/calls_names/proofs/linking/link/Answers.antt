@@ -1,7 +1,6 @@
 use Rattle.std.proofs.Common.{◌≡◌, ◌<◌, ◌^◌, sym, subst, arith}
 use Rattle.std.specs.Prelude.{IfOk, IsTrue, Ok}
-use Rattle.std.specs.List.{All}
-use Rattle.std.proofs.lemmas.List.Elements.{All-from_get_or}
+use Rattle.tree.specs.IsCall.{IsBytes}
 use Rattle.tree.specs.Names.{is_name}
 use Rattle.tree.specs.Walk.{read_path}
 use Rattle.block_store.proofs.Turns.{turns_as, turns_none, turns_then}
@@ -24,7 +23,7 @@ returns-in-Err-parse-clause-turns g c =
     let a = c.args in
     let v = a.geometry.now in
     let from = c.in-Ok.path in
-    let old_read : read_path a.old.now ≡ Ok from = sym c.in-Ok.ensures.parsed in
+    let old_read : read_path a.old ≡ Ok from = sym c.in-Ok.ensures.parsed in
     turns_as _ _ _ _ _ (λ d e p f. new_refused v a.user a.now a.old a.new f d from old_read e c.in-Err-parse.errno p (sym c.in-Err-parse.ensures.parsed)) (turns_none _ g.met.B.Blocks.lawful _ c.requires.on.ready)
 
 pub returns-in_err-number-clause-turns : goal.returns-in_err-number-clause-turns
@@ -38,9 +37,9 @@ returns-in-Err-2-clause-turns g c =
     let a = c.args in
     let v = a.geometry.now in
     let from = c.in-Ok.path in
-    let old_read : read_path a.old.now ≡ Ok from = sym c.in-Ok.ensures.parsed in
+    let old_read : read_path a.old ≡ Ok from = sym c.in-Ok.ensures.parsed in
     let to = c.in-Ok-parse.path in
-    let new_read : read_path a.new.now ≡ Ok to = sym c.in-Ok-parse.ensures.parsed in
+    let new_read : read_path a.new ≡ Ok to = sym c.in-Ok-parse.ensures.parsed in
     turns_as _ _ _ _ _ (λ d e p f. file_refused v a.user a.now a.old a.new f d from old_read to new_read e c.in-Err-2.errno p.0 (subst (λ r. FindsFile v d a.user from r) c.in-Err-2.is p.1)) c.in_ok-number.ensures.reads
 
 pub returns-in_err-free-clause-turns : goal.returns-in_err-free-clause-turns
@@ -55,9 +54,9 @@ returns-in-Err-3-clause-turns g c =
     let a = c.args in
     let v = a.geometry.now in
     let from = c.in-Ok.path in
-    let old_read : read_path a.old.now ≡ Ok from = sym c.in-Ok.ensures.parsed in
+    let old_read : read_path a.old ≡ Ok from = sym c.in-Ok.ensures.parsed in
     let to = c.in-Ok-parse.path in
-    let new_read : read_path a.new.now ≡ Ok to = sym c.in-Ok-parse.ensures.parsed in
+    let new_read : read_path a.new ≡ Ok to = sym c.in-Ok-parse.ensures.parsed in
     let n = c.in-Ok-2.number in
     turns_as _ _ _ _ _
     (λ d e p f. place_refused v a.user a.now a.old a.new f d from old_read to new_read n (subst (λ r. FindsFile v d a.user from r) c.in-Ok-2.is p.1.0) e c.in-Err-3.errno p.0 (subst (λ r. FindsFree v d a.user to r) c.in-Err-3.is p.1.1))
@@ -68,9 +67,9 @@ returns-in_err-has_room_for-clause-turns g c =
     let a = c.args in
     let v = a.geometry.now in
     let from = c.in-Ok.path in
-    let old_read : read_path a.old.now ≡ Ok from = sym c.in-Ok.ensures.parsed in
+    let old_read : read_path a.old ≡ Ok from = sym c.in-Ok.ensures.parsed in
     let to = c.in-Ok-parse.path in
-    let new_read : read_path a.new.now ≡ Ok to = sym c.in-Ok-parse.ensures.parsed in
+    let new_read : read_path a.new ≡ Ok to = sym c.in-Ok-parse.ensures.parsed in
     let n = c.in-Ok-2.number in
     let x = c.in-Ok-3.free in
     let ok = c.requires.on.geometry in
@@ -84,9 +83,9 @@ returns-then-not-branch-clause-turns g c =
     let a = c.args in
     let v = a.geometry.now in
     let from = c.in-Ok.path in
-    let old_read : read_path a.old.now ≡ Ok from = sym c.in-Ok.ensures.parsed in
+    let old_read : read_path a.old ≡ Ok from = sym c.in-Ok.ensures.parsed in
     let to = c.in-Ok-parse.path in
-    let new_read : read_path a.new.now ≡ Ok to = sym c.in-Ok-parse.ensures.parsed in
+    let new_read : read_path a.new ≡ Ok to = sym c.in-Ok-parse.ensures.parsed in
     let n = c.in-Ok-2.number in
     let x = c.in-Ok-3.free in
     let ok = c.requires.on.geometry in
@@ -100,9 +99,9 @@ returns-in_err-add_link-clause-turns g c =
     let a = c.args in
     let v = a.geometry.now in
     let from = c.in-Ok.path in
-    let old_read : read_path a.old.now ≡ Ok from = sym c.in-Ok.ensures.parsed in
+    let old_read : read_path a.old ≡ Ok from = sym c.in-Ok.ensures.parsed in
     let to = c.in-Ok-parse.path in
-    let new_read : read_path a.new.now ≡ Ok to = sym c.in-Ok-parse.ensures.parsed in
+    let new_read : read_path a.new ≡ Ok to = sym c.in-Ok-parse.ensures.parsed in
     let n = c.in-Ok-2.number in
     let x = c.in-Ok-3.free in
     let ok = c.requires.on.geometry in
@@ -116,10 +115,10 @@ insert-requires-clause-short g c =
     let a = c.args in
     let v = a.geometry.now in
     let to = c.in-Ok-parse.path in
-    let new_read : read_path a.new.now ≡ Ok to = sym c.in-Ok-parse.ensures.parsed in
+    let new_read : read_path a.new ≡ Ok to = sym c.in-Ok-parse.ensures.parsed in
     let x = c.in-Ok-3.free in
-    let bytes : All (λ k. k < 256) a.new.now = All-from_get_or (λ k. k < 256) a.new.now 0 (λ i l. let k = c.type_inv.new i in omega (arith, k)) in
-    let name : IsTrue (is_name x.name.now) = name_of a.new.now to x.name.now bytes new_read (subst (λ r. IfOk r (λ (y : Free). IsLast to y.name.now)) c.in-Ok-3.is c.in_ok-free.ensures.last) in
+    let bytes : IsBytes a.new.bytes.now = c.are_bytes.ensures in
+    let name : IsTrue (is_name x.name.now) = name_of a.new to x.name.now bytes new_read (subst (λ r. IfOk r (λ (y : Free). IsLast to y.name.now)) c.in-Ok-3.is c.in_ok-free.ensures.last) in
     name_short x.name.now name
 
 pub returns-in_err-insert-clause-turns : goal.returns-in_err-insert-clause-turns
@@ -127,15 +126,15 @@ returns-in_err-insert-clause-turns g c =
     let a = c.args in
     let v = a.geometry.now in
     let from = c.in-Ok.path in
-    let old_read : read_path a.old.now ≡ Ok from = sym c.in-Ok.ensures.parsed in
+    let old_read : read_path a.old ≡ Ok from = sym c.in-Ok.ensures.parsed in
     let to = c.in-Ok-parse.path in
-    let new_read : read_path a.new.now ≡ Ok to = sym c.in-Ok-parse.ensures.parsed in
+    let new_read : read_path a.new ≡ Ok to = sym c.in-Ok-parse.ensures.parsed in
     let n = c.in-Ok-2.number in
     let x = c.in-Ok-3.free in
     let ok = c.requires.on.geometry in
     let room = c.in_ok-has_room_for.field-0 in
-    let bytes : All (λ k. k < 256) a.new.now = All-from_get_or (λ k. k < 256) a.new.now 0 (λ i l. let k = c.type_inv.new i in omega (arith, k)) in
-    let name : IsTrue (is_name x.name.now) = name_of a.new.now to x.name.now bytes new_read (subst (λ r. IfOk r (λ (y : Free). IsLast to y.name.now)) c.in-Ok-3.is c.in_ok-free.ensures.last) in
+    let bytes : IsBytes a.new.bytes.now = c.are_bytes.ensures in
+    let name : IsTrue (is_name x.name.now) = name_of a.new to x.name.now bytes new_read (subst (λ r. IfOk r (λ (y : Free). IsLast to y.name.now)) c.in-Ok-3.is c.in_ok-free.ensures.last) in
     turns_three _ g.met.B.Blocks.lawful _ _ _ _ _ _ _ _
     (λ d m0 m e p q r f. ends_exit _ _ _ _ _ _ c.from_residual-in_err-insert.ensures.1
     (λ h. may_insert v a.user a.now a.old a.new f d from old_read to new_read n (subst (λ r. FindsFile v d a.user from r) c.in-Ok-2.is p.1.0.0) ok x (subst (λ r. FindsFree v d a.user to r) c.in-Ok-3.is p.1.0.1) room p.1.1 c.if-not-branch.false m0 m p.0 q name h) r)
@@ -146,15 +145,15 @@ returns-clause-turns g c =
     let a = c.args in
     let v = a.geometry.now in
     let from = c.in-Ok.path in
-    let old_read : read_path a.old.now ≡ Ok from = sym c.in-Ok.ensures.parsed in
+    let old_read : read_path a.old ≡ Ok from = sym c.in-Ok.ensures.parsed in
     let to = c.in-Ok-parse.path in
-    let new_read : read_path a.new.now ≡ Ok to = sym c.in-Ok-parse.ensures.parsed in
+    let new_read : read_path a.new ≡ Ok to = sym c.in-Ok-parse.ensures.parsed in
     let n = c.in-Ok-2.number in
     let x = c.in-Ok-3.free in
     let ok = c.requires.on.geometry in
     let room = c.in_ok-has_room_for.field-0 in
-    let bytes : All (λ k. k < 256) a.new.now = All-from_get_or (λ k. k < 256) a.new.now 0 (λ i l. let k = c.type_inv.new i in omega (arith, k)) in
-    let name : IsTrue (is_name x.name.now) = name_of a.new.now to x.name.now bytes new_read (subst (λ r. IfOk r (λ (y : Free). IsLast to y.name.now)) c.in-Ok-3.is c.in_ok-free.ensures.last) in
+    let bytes : IsBytes a.new.bytes.now = c.are_bytes.ensures in
+    let name : IsTrue (is_name x.name.now) = name_of a.new to x.name.now bytes new_read (subst (λ r. IfOk r (λ (y : Free). IsLast to y.name.now)) c.in-Ok-3.is c.in_ok-free.ensures.last) in
     let small : a.now < 2 ^ 32 = let k = c.ranges.now.fits in omega (arith, k) in
     turns_three _ g.met.B.Blocks.lawful _ _ _ _ _ _ _ _
     (λ d m0 m e p q r f. linked v a.user a.now a.old a.new f d from old_read to new_read n (subst (λ r. FindsFile v d a.user from r) c.in-Ok-2.is p.1.0.0) ok x (subst (λ r. FindsFree v d a.user to r) c.in-Ok-3.is p.1.0.1) room p.1.1 c.if-not-branch.false m0 m p.0 q name e r small bytes)

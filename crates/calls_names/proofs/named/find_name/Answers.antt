@@ -1,7 +1,6 @@
 use Rattle.std.proofs.Common.{◌≡◌, ◌<◌, ◌∙◌, true, sym, subst, arith}
-use Rattle.std.specs.List.{All}
-use Rattle.std.proofs.lemmas.List.Elements.{All-from_get_or}
 use Rattle.std.specs.Prelude.{Ok}
+use Rattle.tree.specs.IsCall.{IsBytes}
 use Rattle.tree.specs.Walk.{has_last_name, read_path}
 use Rattle.block_store.proofs.Turns.{reads_as, reads_then}
 use Rattle.block_store.proofs.Ending.{ends_exit}
@@ -13,33 +12,33 @@ pub returns-in-Err-2-clause-reads : goal.returns-in-Err-2-clause-reads
 returns-in-Err-2-clause-reads g c =
     let a = c.args in
     let v = a.geometry.now in
-    let parts = c.in-Ok.parts in
-    let read : read_path a.path.now ≡ Ok parts = sym c.in-Ok.ensures.parsed in
-    let last : has_last_name parts ≡ true = sym c.has_last_name.ensures ∙ c.if-not-has_last_name.false in
+    let way = c.in-Ok.parts in
+    let read : read_path a.path ≡ Ok way = sym c.in-Ok.ensures.parsed in
+    let last : has_last_name way ≡ true = sym c.has_last_name.ensures ∙ c.if-not-has_last_name.false in
     reads_as _ _ _ _ _
-    (λ d p. not_walked v d a.user a.path.now parts read last c.in-Err-2.errno (subst (λ r. MeansPlace v d a.user parts r) c.in-Err-2.is p))
+    (λ d p. not_walked v d a.user a.path way read last c.in-Err-2.errno (subst (λ r. MeansPlace v d a.user way r) c.in-Err-2.is p))
     c.in_ok-place.ensures.reads
 
 pub returns-in_default-clause-reads : goal.returns-in_default-clause-reads
 returns-in_default-clause-reads g c =
     let a = c.args in
     let v = a.geometry.now in
-    let parts = c.in-Ok.parts in
-    let read : read_path a.path.now ≡ Ok parts = sym c.in-Ok.ensures.parsed in
-    let last : has_last_name parts ≡ true = sym c.has_last_name.ensures ∙ c.if-not-has_last_name.false in
+    let way = c.in-Ok.parts in
+    let read : read_path a.path ≡ Ok way = sym c.in-Ok.ensures.parsed in
+    let last : has_last_name way ≡ true = sym c.has_last_name.ensures ∙ c.if-not-has_last_name.false in
     reads_as _ _ _ _ _
-    (λ d p. no_name v d a.user a.path.now parts read last c.in-Ok-2.place (subst (λ r. MeansPlace v d a.user parts r) c.in-Ok-2.is p) c.in_default.is)
+    (λ d p. no_name v d a.user a.path way read last c.in-Ok-2.place (subst (λ r. MeansPlace v d a.user way r) c.in-Ok-2.is p) c.in_default.is)
     c.in_ok-place.ensures.reads
 
 pub returns-then-not-may_write-clause-reads : goal.returns-then-not-may_write-clause-reads
 returns-then-not-may_write-clause-reads g c =
     let a = c.args in
     let v = a.geometry.now in
-    let parts = c.in-Ok.parts in
-    let read : read_path a.path.now ≡ Ok parts = sym c.in-Ok.ensures.parsed in
-    let last : has_last_name parts ≡ true = sym c.has_last_name.ensures ∙ c.if-not-has_last_name.false in
+    let way = c.in-Ok.parts in
+    let read : read_path a.path ≡ Ok way = sym c.in-Ok.ensures.parsed in
+    let last : has_last_name way ≡ true = sym c.has_last_name.ensures ∙ c.if-not-has_last_name.false in
     reads_as _ _ _ _ _
-    (λ d p. not_writable v d a.user a.path.now parts read last c.in-Ok-2.place (subst (λ r. MeansPlace v d a.user parts r) c.in-Ok-2.is p) c.in-Some.number c.in-Some.is
+    (λ d p. not_writable v d a.user a.path way read last c.in-Ok-2.place (subst (λ r. MeansPlace v d a.user way r) c.in-Ok-2.is p) c.in-Some.number c.in-Some.is
     c.may_write.result c.may_write.ensures c.if-not-may_write.true)
     c.in_ok-place.ensures.reads
 
@@ -47,24 +46,24 @@ pub returns-in_err-inode-clause-reads : goal.returns-in_err-inode-clause-reads
 returns-in_err-inode-clause-reads g c =
     let a = c.args in
     let v = a.geometry.now in
-    let parts = c.in-Ok.parts in
-    let read : read_path a.path.now ≡ Ok parts = sym c.in-Ok.ensures.parsed in
-    let last : has_last_name parts ≡ true = sym c.has_last_name.ensures ∙ c.if-not-has_last_name.false in
+    let way = c.in-Ok.parts in
+    let read : read_path a.path ≡ Ok way = sym c.in-Ok.ensures.parsed in
+    let last : has_last_name way ≡ true = sym c.has_last_name.ensures ∙ c.if-not-has_last_name.false in
     reads_then _ g.met.B.Blocks.lawful _ _ _ _ _ _
     (λ d p q. ends_exit _ _ _ _ _ _ c.from_residual-in_err-inode.ensures.1
-    (λ x. its_number v d a.user a.path.now parts read last c.in-Ok-2.place (subst (λ r. MeansPlace v d a.user parts r) c.in-Ok-2.is p) c.in-Some.number c.in-Some.is x) q)
+    (λ x. its_number v d a.user a.path way read last c.in-Ok-2.place (subst (λ r. MeansPlace v d a.user way r) c.in-Ok-2.is p) c.in-Some.number c.in-Some.is x) q)
     c.in_ok-place.ensures.reads c.in_err-inode.ensures.reads
 
 pub returns-clause-reads : goal.returns-clause-reads
 returns-clause-reads g c =
     let a = c.args in
-    let bytes : All (λ k. k < 256) a.path.now = All-from_get_or (λ k. k < 256) a.path.now 0 (λ i l. let k = c.type_inv.path i in omega (arith, k)) in
+    let bytes : IsBytes a.path.bytes.now = c.are_bytes.ensures in
     let v = a.geometry.now in
-    let parts = c.in-Ok.parts in
-    let read : read_path a.path.now ≡ Ok parts = sym c.in-Ok.ensures.parsed in
-    let last : has_last_name parts ≡ true = sym c.has_last_name.ensures ∙ c.if-not-has_last_name.false in
+    let way = c.in-Ok.parts in
+    let read : read_path a.path ≡ Ok way = sym c.in-Ok.ensures.parsed in
+    let last : has_last_name way ≡ true = sym c.has_last_name.ensures ∙ c.if-not-has_last_name.false in
     reads_then _ g.met.B.Blocks.lawful _ _ _ _ _ _
-    (λ d p q. name_found v d a.user a.path.now parts read last c.in-Ok-2.place (subst (λ r. MeansPlace v d a.user parts r) c.in-Ok-2.is p) c.in-Some.number c.in-Some.is
+    (λ d p q. name_found v d a.user a.path way read last c.in-Ok-2.place (subst (λ r. MeansPlace v d a.user way r) c.in-Ok-2.is p) c.in-Some.number c.in-Some.is
     c.may_write.result c.may_write.ensures c.if-not-may_write.false bytes c.in_ok-inode.inode q c.last.result c.last.ensures)
     c.in_ok-place.ensures.reads c.in_ok-inode.ensures.reads
 

@@ -1,5 +1,4 @@
-use Rattle.std.proofs.Common.{Err, List, Ok, sym, subst, ◌∙◌}
-use Rattle.tree.specs.Names.{Name}
+use Rattle.std.proofs.Common.{Err, Ok, sym, subst, ◌∙◌}
 use Rattle.volume.specs.Pieces.{pieces}
 use Rattle.block_store.proofs.Turns.{reads_as, reads_then}
 use Rattle.zone.proofs.ZoneInodes.{inode_is}
@@ -17,10 +16,10 @@ pub returns-in_err-number-clause-reads : goal.returns-in_err-number-clause-reads
 returns-in_err-number-clause-reads g c =
     let a = c.args in
     let v = a.geometry.now in
-    let parts = a.path.now in
+    let way = a.path.now in
     reads_as _ _ _ _ _
-    (λ d p t holds. answers_exit _ _ (Finds v d t a.user parts) (FindsToOpen v d t a.user a.as_is parts) c.from_residual.ensures.1
-    (λ errno is. look_refused t a.user a.as_is parts errno is) (p t holds.nodes))
+    (λ d p t holds. answers_exit _ _ (Finds v d t a.user way) (FindsToOpen v d t a.user a.as_is way) c.from_residual.ensures.1
+    (λ errno is. look_refused t a.user a.as_is way errno is) (p t holds.nodes))
     c.in_err-number.ensures.reads
 
 pub returns-in-Missing-clause-reads : goal.returns-in-Missing-clause-reads
@@ -66,10 +65,9 @@ returns-in_err-end-clause-reads g c =
     let v = a.geometry.now in
     reads_then _ g.met.B.Blocks.lawful _ _ _ _ _ _
     (λ d p q t holds. let looked = subst (λ (x : Found). Finds v d t a.user a.path.now (Ok x)) c.in-There.is (p.0 t holds.nodes) in
-    answers_exit _ _ (Walks t a.user c.parts.result) (FindsToOpen v d t a.user a.as_is a.path.now) c.from_residual-in_err-end.ensures.1
+    answers_exit _ _ (Walks t a.user a.path.now) (FindsToOpen v d t a.user a.as_is a.path.now) c.from_residual-in_err-end.ensures.1
     (λ errno w. walk_refused v d t a.user a.as_is a.path.now holds c.in-There.number looked.0 looked.1 c.if-as_is.false
-    c.in_ok-inode.inode p.1 (sym c.is_link.ensures ∙ c.if-not-is_link.false) errno
-    (subst (λ (ps : List Name). Walks t a.user ps (Err errno)) c.parts.ensures w))
+    c.in_ok-inode.inode p.1 (sym c.is_link.ensures ∙ c.if-not-is_link.false) errno w)
     (q t holds.nodes))
     (reads_both _ g.met.B.Blocks.lawful _ _ _ _ _ c.in_ok-number.ensures.reads c.in_ok-inode.ensures.reads) c.in_err-end.ensures.reads
 
@@ -82,5 +80,5 @@ returns-clause-reads g c =
     (λ d p q t holds. let looked = subst (λ (x : Found). Finds v d t a.user a.path.now (Ok x)) c.in-There.is (p.0 t holds.nodes) in
     walk_found v d t a.user a.as_is a.path.now holds c.in-There.number looked.0 looked.1 c.if-as_is.false c.in_ok-inode.inode p.1
     (sym c.is_link.ensures ∙ c.if-not-is_link.false) end
-    (subst (λ (ps : List Name). Walks t a.user ps (Ok end)) c.parts.ensures (q t holds.nodes)))
+    (q t holds.nodes))
     (reads_both _ g.met.B.Blocks.lawful _ _ _ _ _ c.in_ok-number.ensures.reads c.in_ok-inode.ensures.reads) c.in_ok-end.ensures.reads

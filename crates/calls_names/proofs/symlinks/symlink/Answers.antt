@@ -14,7 +14,7 @@ pub returns-in-Err-Refused-clause-turns : goal.returns-in-Err-Refused-clause-tur
 returns-in-Err-Refused-clause-turns g c =
     let a = c.args in
     let v = a.geometry.now in
-    let call = λ (t : Tree). symlink v t a.user a.now a.target.now a.path.now in
+    let call = λ (t : Tree). symlink v t a.user a.now a.target.now a.path in
     turns_as _ _ _ _ _
     (λ d e p f. subst (λ (s : Result (Unit {0}) Stop). MeetsOrStops v call (λ x. done) s (HasFiles f) (HasFiles f) d e)
     (c.in-Err-Refused.is ∙ ap (λ x. Err x) c.in-Err-Refused.field-0-is) (p f))
@@ -24,7 +24,7 @@ pub returns-in-Err-Halted-clause-turns : goal.returns-in-Err-Halted-clause-turns
 returns-in-Err-Halted-clause-turns g c =
     let a = c.args in
     let v = a.geometry.now in
-    let call = λ (t : Tree). symlink v t a.user a.now a.target.now a.path.now in
+    let call = λ (t : Tree). symlink v t a.user a.now a.target.now a.path in
     turns_as _ _ _ _ _
     (λ d e p f. halted_ends {X = Unit {0}} v call (λ x. done) (HasFiles f) (HasFiles f) d e c.in-Err-Halted.halt _
     (subst (λ (s : Result (Unit {0}) Stop). MeetsOrStops v call (λ x. done) s (HasFiles f) (HasFiles f) d e)

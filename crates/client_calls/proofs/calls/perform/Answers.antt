@@ -44,8 +44,8 @@ returns-in-Seek-clause-turns g c =
 pub returns-in-Stat-clause-turns : goal.returns-in-Stat-clause-turns
 returns-in-Stat-clause-turns g c =
     let a = c.args in let f = files_of a.opens.now in let w = c.in-Stat in let early = c.if-who-ge-MAX_SESSIONS.false in
-    turns_as _ _ _ _ _ (λ d e x. kind_meets a.geometry.now a.who a.now (Stat w.path) early (λ t. stat t c.user_of-user.result w.path.now)
-    (λ t. ap (λ (u : User). stat t u w.path.now) (sym c.user_of-user.ensures)) a.call.now w.is c.stat.result c.stat.new.reply f f d e (x f))
+    turns_as _ _ _ _ _ (λ d e x. kind_meets a.geometry.now a.who a.now (Stat w.path) early (λ t. stat t c.user_of-user.result w.path)
+    (λ t. ap (λ (u : User). stat t u w.path) (sym c.user_of-user.ensures)) a.call.now w.is c.stat.result c.stat.new.reply f f d e (x f))
     c.stat.ensures.turns
 
 pub returns-in-Fstat-clause-turns : goal.returns-in-Fstat-clause-turns
@@ -58,22 +58,22 @@ returns-in-Fstat-clause-turns g c =
 pub returns-in-Chmod-clause-turns : goal.returns-in-Chmod-clause-turns
 returns-in-Chmod-clause-turns g c =
     let a = c.args in let f = files_of a.opens.now in let w = c.in-Chmod in let early = c.if-who-ge-MAX_SESSIONS.false in
-    turns_as _ _ _ _ _ (λ d e x. kind_meets a.geometry.now a.who a.now (Chmod w.path w.mode) early (λ t. chmod t c.user_of-user.result a.now w.path.now w.mode)
-    (λ t. ap (λ (u : User). chmod t u a.now w.path.now w.mode) (sym c.user_of-user.ensures)) a.call.now w.is c.chmod.result c.chmod.new.reply f f d e (x f))
+    turns_as _ _ _ _ _ (λ d e x. kind_meets a.geometry.now a.who a.now (Chmod w.path w.mode) early (λ t. chmod t c.user_of-user.result a.now w.path w.mode)
+    (λ t. ap (λ (u : User). chmod t u a.now w.path w.mode) (sym c.user_of-user.ensures)) a.call.now w.is c.chmod.result c.chmod.new.reply f f d e (x f))
     c.chmod.ensures.turns
 
 pub returns-in-Chown-clause-turns : goal.returns-in-Chown-clause-turns
 returns-in-Chown-clause-turns g c =
     let a = c.args in let f = files_of a.opens.now in let w = c.in-Chown in let early = c.if-who-ge-MAX_SESSIONS.false in
-    turns_as _ _ _ _ _ (λ d e x. kind_meets a.geometry.now a.who a.now (Chown w.path w.uid w.gid) early (λ t. chown t c.user_of-user.result a.now w.path.now w.uid w.gid)
-    (λ t. ap (λ (u : User). chown t u a.now w.path.now w.uid w.gid) (sym c.user_of-user.ensures)) a.call.now w.is c.chown.result c.chown.new.reply f f d e (x f))
+    turns_as _ _ _ _ _ (λ d e x. kind_meets a.geometry.now a.who a.now (Chown w.path w.uid w.gid) early (λ t. chown t c.user_of-user.result a.now w.path w.uid w.gid)
+    (λ t. ap (λ (u : User). chown t u a.now w.path w.uid w.gid) (sym c.user_of-user.ensures)) a.call.now w.is c.chown.result c.chown.new.reply f f d e (x f))
     c.chown.ensures.turns
 
 pub returns-in-Utime-clause-turns : goal.returns-in-Utime-clause-turns
 returns-in-Utime-clause-turns g c =
     let a = c.args in let f = files_of a.opens.now in let w = c.in-Utime in let early = c.if-who-ge-MAX_SESSIONS.false in
-    turns_as _ _ _ _ _ (λ d e x. kind_meets a.geometry.now a.who a.now (Utime w.path w.atime w.mtime) early (λ t. utime t c.user_of-user.result a.now w.path.now w.atime w.mtime)
-    (λ t. ap (λ (u : User). utime t u a.now w.path.now w.atime w.mtime) (sym c.user_of-user.ensures)) a.call.now w.is c.utime.result c.utime.new.reply f f d e (x f))
+    turns_as _ _ _ _ _ (λ d e x. kind_meets a.geometry.now a.who a.now (Utime w.path w.atime w.mtime) early (λ t. utime t c.user_of-user.result a.now w.path w.atime w.mtime)
+    (λ t. ap (λ (u : User). utime t u a.now w.path w.atime w.mtime) (sym c.user_of-user.ensures)) a.call.now w.is c.utime.result c.utime.new.reply f f d e (x f))
     c.utime.ensures.turns
 
 pub returns-in-Readdir-clause-turns : goal.returns-in-Readdir-clause-turns
@@ -107,15 +107,15 @@ returns-in-Close-clause-turns g c =
 pub returns-in-Unlink-clause-turns : goal.returns-in-Unlink-clause-turns
 returns-in-Unlink-clause-turns g c =
     let a = c.args in let f = files_of a.opens.now in let w = c.in-Unlink in let early = c.if-who-ge-MAX_SESSIONS.false in
-    turns_as _ _ _ _ _ (λ d e x. kind_meets a.geometry.now a.who a.now (Unlink w.path) early (λ t. unlink t c.user_of-user.result a.now w.path.now)
-    (λ t. ap (λ (u : User). unlink t u a.now w.path.now) (sym c.user_of-user.ensures)) a.call.now w.is c.unlink.result c.unlink.new.reply f f d e x)
+    turns_as _ _ _ _ _ (λ d e x. kind_meets a.geometry.now a.who a.now (Unlink w.path) early (λ t. unlink t c.user_of-user.result a.now w.path)
+    (λ t. ap (λ (u : User). unlink t u a.now w.path) (sym c.user_of-user.ensures)) a.call.now w.is c.unlink.result c.unlink.new.reply f f d e x)
     c.unlink.ensures.turns
 
 pub returns-in-Rmdir-clause-turns : goal.returns-in-Rmdir-clause-turns
 returns-in-Rmdir-clause-turns g c =
     let a = c.args in let f = files_of a.opens.now in let w = c.in-Rmdir in let early = c.if-who-ge-MAX_SESSIONS.false in
-    turns_as _ _ _ _ _ (λ d e x. kind_meets a.geometry.now a.who a.now (Rmdir w.path) early (λ t. rmdir t c.user_of-user.result a.now w.path.now)
-    (λ t. ap (λ (u : User). rmdir t u a.now w.path.now) (sym c.user_of-user.ensures)) a.call.now w.is c.rmdir.result c.rmdir.new.reply f f d e x)
+    turns_as _ _ _ _ _ (λ d e x. kind_meets a.geometry.now a.who a.now (Rmdir w.path) early (λ t. rmdir t c.user_of-user.result a.now w.path)
+    (λ t. ap (λ (u : User). rmdir t u a.now w.path) (sym c.user_of-user.ensures)) a.call.now w.is c.rmdir.result c.rmdir.new.reply f f d e x)
     c.rmdir.ensures.turns
 
 pub returns-in-Write-clause-turns : goal.returns-in-Write-clause-turns
@@ -128,30 +128,30 @@ returns-in-Write-clause-turns g c =
 pub returns-in-Truncate-clause-turns : goal.returns-in-Truncate-clause-turns
 returns-in-Truncate-clause-turns g c =
     let a = c.args in let f = files_of a.opens.now in let w = c.in-Truncate in let early = c.if-who-ge-MAX_SESSIONS.false in
-    turns_as _ _ _ _ _ (λ d e x. kind_meets a.geometry.now a.who a.now (Truncate w.path w.size) early (λ t. truncate a.geometry.now t c.user_of-user.result a.now w.path.now w.size)
-    (λ t. ap (λ (u : User). truncate a.geometry.now t u a.now w.path.now w.size) (sym c.user_of-user.ensures)) a.call.now w.is c.truncate.result c.truncate.new.reply f f d e (x f))
+    turns_as _ _ _ _ _ (λ d e x. kind_meets a.geometry.now a.who a.now (Truncate w.path w.size) early (λ t. truncate a.geometry.now t c.user_of-user.result a.now w.path w.size)
+    (λ t. ap (λ (u : User). truncate a.geometry.now t u a.now w.path w.size) (sym c.user_of-user.ensures)) a.call.now w.is c.truncate.result c.truncate.new.reply f f d e (x f))
     c.truncate.ensures.turns
 
 pub returns-in-Link-clause-turns : goal.returns-in-Link-clause-turns
 returns-in-Link-clause-turns g c =
     let a = c.args in let f = files_of a.opens.now in let w = c.in-Link in let early = c.if-who-ge-MAX_SESSIONS.false in
-    turns_as _ _ _ _ _ (λ d e x. kind_meets a.geometry.now a.who a.now (Link w.old w.new) early (λ t. link a.geometry.now t c.user_of-user.result a.now w.old.now w.new.now)
-    (λ t. ap (λ (u : User). link a.geometry.now t u a.now w.old.now w.new.now) (sym c.user_of-user.ensures)) a.call.now w.is c.link.result c.link.new.reply f f d e (x f))
+    turns_as _ _ _ _ _ (λ d e x. kind_meets a.geometry.now a.who a.now (Link w.old w.new) early (λ t. link a.geometry.now t c.user_of-user.result a.now w.old w.new)
+    (λ t. ap (λ (u : User). link a.geometry.now t u a.now w.old w.new) (sym c.user_of-user.ensures)) a.call.now w.is c.link.result c.link.new.reply f f d e (x f))
     c.link.ensures.turns
 
 pub returns-in-Mkdir-clause-turns : goal.returns-in-Mkdir-clause-turns
 returns-in-Mkdir-clause-turns g c =
     let a = c.args in let f = files_of a.opens.now in let w = c.in-Mkdir in let early = c.if-who-ge-MAX_SESSIONS.false in
-    turns_as _ _ _ _ _ (λ d e x. kind_meets a.geometry.now a.who a.now (Mkdir w.path w.mode) early (λ t. mkdir a.geometry.now t c.user_of-user.result a.now w.path.now w.mode)
-    (λ t. ap (λ (u : User). mkdir a.geometry.now t u a.now w.path.now w.mode) (sym c.user_of-user.ensures)) a.call.now w.is c.mkdir.result c.mkdir.new.reply f f d e (x f))
+    turns_as _ _ _ _ _ (λ d e x. kind_meets a.geometry.now a.who a.now (Mkdir w.path w.mode) early (λ t. mkdir a.geometry.now t c.user_of-user.result a.now w.path w.mode)
+    (λ t. ap (λ (u : User). mkdir a.geometry.now t u a.now w.path w.mode) (sym c.user_of-user.ensures)) a.call.now w.is c.mkdir.result c.mkdir.new.reply f f d e (x f))
     c.mkdir.ensures.turns
 
 pub returns-in-Open-clause-turns : goal.returns-in-Open-clause-turns
 returns-in-Open-clause-turns g c =
     let a = c.args in let f = files_of a.opens.now in let w = c.in-Open in let early = c.if-who-ge-MAX_SESSIONS.false in
     turns_as _ _ _ _ _ (λ d e x. kind_meets a.geometry.now a.who a.now (Open w.path w.flags w.mode) early
-    (λ t. open_path a.geometry.now t c.user_of-user.result a.now a.who.session w.path.now w.flags.0 w.mode)
-    (λ t. ap (λ (u : User). open_path a.geometry.now t u a.now a.who.session w.path.now w.flags.0 w.mode) (sym c.user_of-user.ensures)) a.call.now w.is c.open.result c.open.new.reply f
+    (λ t. open_path a.geometry.now t c.user_of-user.result a.now a.who.session w.path w.flags.0 w.mode)
+    (λ t. ap (λ (u : User). open_path a.geometry.now t u a.now a.who.session w.path w.flags.0 w.mode) (sym c.user_of-user.ensures)) a.call.now w.is c.open.result c.open.new.reply f
     (files_of c.open.new.opens) d e x)
     c.open.ensures.turns
 
@@ -159,16 +159,16 @@ pub returns-in-Rename-clause-turns : goal.returns-in-Rename-clause-turns
 returns-in-Rename-clause-turns g c =
     let a = c.args in let f = files_of a.opens.now in let w = c.in-Rename in let early = c.if-who-ge-MAX_SESSIONS.false in
     turns_as _ _ _ _ _ (λ d e x. kind_meets a.geometry.now a.who a.now (Rename w.old w.new) early
-    (λ t. rename a.geometry.now t c.user_of-user.result a.now w.old.now w.new.now)
-    (λ t. ap (λ (u : User). rename a.geometry.now t u a.now w.old.now w.new.now) (sym c.user_of-user.ensures)) a.call.now w.is c.rename.result c.rename.new.reply f f d e x)
+    (λ t. rename a.geometry.now t c.user_of-user.result a.now w.old w.new)
+    (λ t. ap (λ (u : User). rename a.geometry.now t u a.now w.old w.new) (sym c.user_of-user.ensures)) a.call.now w.is c.rename.result c.rename.new.reply f f d e x)
     c.rename.ensures.turns
 
 pub returns-in-Symlink-clause-turns : goal.returns-in-Symlink-clause-turns
 returns-in-Symlink-clause-turns g c =
     let a = c.args in let f = files_of a.opens.now in let w = c.in-Symlink in let early = c.if-who-ge-MAX_SESSIONS.false in
     turns_as _ _ _ _ _ (λ d e x. kind_meets a.geometry.now a.who a.now (Symlink w.target w.path) early
-    (λ t. symlink a.geometry.now t c.user_of-user.result a.now w.target.now w.path.now)
-    (λ t. ap (λ (u : User). symlink a.geometry.now t u a.now w.target.now w.path.now) (sym c.user_of-user.ensures))
+    (λ t. symlink a.geometry.now t c.user_of-user.result a.now w.target.now w.path)
+    (λ t. ap (λ (u : User). symlink a.geometry.now t u a.now w.target.now w.path) (sym c.user_of-user.ensures))
     a.call.now w.is c.symlink.result c.symlink.new.reply f f d e (x f))
     c.symlink.ensures.turns
 
@@ -176,13 +176,13 @@ pub returns-in-Readlink-clause-turns : goal.returns-in-Readlink-clause-turns
 returns-in-Readlink-clause-turns g c =
     let a = c.args in let f = files_of a.opens.now in let w = c.in-Readlink in let early = c.if-who-ge-MAX_SESSIONS.false in
     turns_as _ _ _ _ _ (λ d e x. kind_meets a.geometry.now a.who a.now (Readlink w.path) early
-    (λ t. readlink t c.user_of-user.result w.path.now)
-    (λ t. ap (λ (u : User). readlink t u w.path.now) (sym c.user_of-user.ensures)) a.call.now w.is c.readlink.result c.readlink.new.reply f f d e (x f))
+    (λ t. readlink t c.user_of-user.result w.path)
+    (λ t. ap (λ (u : User). readlink t u w.path) (sym c.user_of-user.ensures)) a.call.now w.is c.readlink.result c.readlink.new.reply f f d e (x f))
     c.readlink.ensures.turns
 
 pub returns-in-Lstat-clause-turns : goal.returns-in-Lstat-clause-turns
 returns-in-Lstat-clause-turns g c =
     let a = c.args in let f = files_of a.opens.now in let w = c.in-Lstat in let early = c.if-who-ge-MAX_SESSIONS.false in
-    turns_as _ _ _ _ _ (λ d e x. kind_meets a.geometry.now a.who a.now (Lstat w.path) early (λ t. lstat t c.user_of-user.result w.path.now)
-    (λ t. ap (λ (u : User). lstat t u w.path.now) (sym c.user_of-user.ensures)) a.call.now w.is c.lstat.result c.lstat.new.reply f f d e (x f))
+    turns_as _ _ _ _ _ (λ d e x. kind_meets a.geometry.now a.who a.now (Lstat w.path) early (λ t. lstat t c.user_of-user.result w.path)
+    (λ t. ap (λ (u : User). lstat t u w.path) (sym c.user_of-user.ensures)) a.call.now w.is c.lstat.result c.lstat.new.reply f f d e (x f))
     c.lstat.ensures.turns
