@@ -133,9 +133,8 @@ start_missing es at b g = record {
 
 -- a call that has room doesn't fail
 pub where_room : {T E : Type 0} (r : Result T E) (P Q : Type 0) → (Q → ⊥) → OnErr r Q → OnOk r P → P
-where_room (Ok x) P Q no full is = is
-where_room (Err e) P Q no full is = absurd (no full)
-
+where_room (Ok x) P Q never full is = is
+where_room (Err e) P Q never full is = absurd (never full)
 
 pub insert_rises : (n : ℕ) (es : List Entry) (i : ℕ) (y : Entry) → RisesFrom n es → n ≤ y.block
     → ((j : ℕ) (e : Entry) → j < i → slice_get es j ≡ Some e → e.block < y.block)
@@ -167,9 +166,8 @@ insert_others (x ∷ xs) (suc i) y b ne = ap (λ (o : Option ℕ). cond (x.block
 
 -- what is there is removed
 pub is_removed : {T : Type 0} (r : Option T) (P Q : Type 0) → (IsSome r ↔ Q) → Q → OnSome r P → P
-is_removed None P Q there is items = absurd (there.1 is)
+is_removed None P Q there is items = let z : false ≡ true = there.1 is in absurd (let q : ⊥ = cc in q)
 is_removed (Some x) P Q there is items = items
-
 
 rises_from_less : (m n : ℕ) (es : List Entry) → m ≤ n → RisesFrom n es → RisesFrom m es
 rises_from_less m n [] le h = tt
