@@ -12,13 +12,13 @@ ghost use Rattle.cached_blocks.specs.contracts.Stored.{the_row};
 
 use block_store::{Blocks, Cut};
 use cache::{Cache, Frame};
-use flusher::flush_some;
+use flusher::{flush_some, make_way};
 use message::Incoming;
 use reissue::Link;
 use step_count::Steps;
 
 /// Blocks in the frames of a cache. A block without a frame is read when it is fetched, and a changed one is written when a Flush asks for
-/// it, when a sync does, or when its frame is needed for another block.
+/// it, when a sync does, or when its frame, or one that goes before it, is needed for another block.
 #[derive(Drop)]
 pub struct Stored<L> {
     cache: Cache<L>,
@@ -182,6 +182,7 @@ impl<L: Link> Blocks for Stored<L> {
     // it.
     #[inline(always)]
     fn fetch(&mut self, block: u32) -> Result<Frame, Cut> {
+        make_way(&mut self.cache, block);
         self.cache.fetch(block)
     }
 
@@ -194,6 +195,7 @@ impl<L: Link> Blocks for Stored<L> {
     }
 
     fn fresh(&mut self, block: u32) -> Result<Frame, Cut> {
+        make_way(&mut self.cache, block);
         self.cache.fresh(block)
     }
 

@@ -1,12 +1,14 @@
 -- What flushing and syncing do.
-use Rattle.std.specs.Prelude.{◌≡◌, ◌⊎◌, ℕ, zero, suc, ◌-◌, List, [], ◌∷◌, sum, Option, Some, None, Result, Ok, Err, false}
+use Rattle.std.specs.Prelude.{◌≡◌, ◌⊎◌, ℕ, zero, suc, ◌-◌, ◌<◌, ◌≤◌, length, List, [], ◌∷◌, sum, Option, Some, None, Result, Ok, Err, false}
 use Rattle.reissue.specs.Moves.{DiskState, Begun}
 use Rattle.reissue.specs.Entries.{pending_of}
 use Rattle.cache.specs.declared.slot.Slot.{Slot}
 use Rattle.block_store.specs.declared.Cut.{Cut}
-use Rattle.cache.specs.Edits.{AllClean, IssuesLowest}
+use Rattle.cache.specs.Edits.{AllClean, IssuesLowest, IssuesNext, NoneDirtyFrom}
+use Rattle.cache.specs.Order.{IsDue}
+use Rattle.cache.specs.declared.cache.Cache.{Cache}
 use Rattle.cache.specs.Frames.{CacheAgrees, view}
-use Rattle.cache.specs.Calls.{AbstractCache, IsStuck, Serves}
+use Rattle.cache.specs.Calls.{AbstractCache, held_by, IsLive, IsStuck, IsRefusing, Serves}
 use Rattle.cache.specs.Runs.{IssuesRun}
 
 -- so many writes at most are begun, each of the dirty frame that then has the lowest block
@@ -35,6 +37,26 @@ pub record WritesInRuns (most size : ℕ) (old new : ℕ → Option Slot) (pendi
 -- as many writes are begun as may be, or no further one can be before a message is taken
 abbrev pub BeginsAll : ℕ → (ℕ → Option Slot) → AbstractCache → Type 0
 BeginsAll most old new = WritesJust most old new.held ⊎ IsStuck new
+
+-- The writes of these frames are begun, the last one first: each of the dirty frame that then has the lowest block from one on.
+abbrev pub WritesFrom : ℕ → List ℕ → (ℕ → Option Slot) → (ℕ → Option Slot) → Type 0
+WritesFrom from [] old new = new ≡ old
+WritesFrom from (b ∷ blocks) old new = (mid : ℕ → Option Slot) × WritesFrom from blocks old mid × IssuesNext from b mid new
+
+-- So many at most are; fewer only where no frame from there on is dirty, a write is refused, or no message comes any more.
+pub record WritesNext (most from : ℕ) (old : ℕ → Option Slot) (new : AbstractCache) : Type 0 where
+  pub blocks : List ℕ
+  pub few : length blocks ≤ most
+  pub writes : WritesFrom from blocks old new.held
+  pub stopped : length blocks < most → IsLive new → NoneDirtyFrom from new.held ⊎ IsRefusing new
+
+-- Where the block has no frame, and the frame that goes next is to be written, so it is from its block on; else all stays.
+pub record MakesWay {L : Type 0} (block : ℕ) (old new : Cache L) (after : AbstractCache) : Type 0 where
+  pub due : Option ℕ
+  pub is : IsDue due old.slots.items.items old.slots.uses.numbers.items
+  pub begins : (from : ℕ) → due ≡ Some from → held_by old block ≡ None → WritesNext 16 from (held_by old) after
+  pub none : due ≡ None → new ≡ old
+  pub there : (s : Slot) → held_by old block ≡ Some s → new ≡ old
 
 -- no frame is dirty, and no write is open
 pub record IsIdle (c : AbstractCache) : Type 0 where

@@ -8,13 +8,14 @@ ghost use Rattle.reissue.specs.Transfers.{begun_in};
 ghost use Rattle.cache.specs.Takes.{NoReadBegun};
 ghost use Rattle.cache.specs.Edits.{AllClean, SomeUnclean};
 ghost use Rattle.cache.specs.declared.frame.Frame.{Frame};
-ghost use Rattle.flusher.specs.Flushing.{WritesLowest, WritesInRuns, BeginsAll, IsIdle, Syncs};
+ghost use Rattle.flusher.specs.Flushing.{WritesLowest, WritesInRuns, BeginsAll, WritesNext, MakesWay, IsIdle, Syncs};
 
 use block_store::Cut;
 use cache::Cache;
 use reissue::Link;
+use step_count::Steps;
 
-/// Of how many frames a flush begins the writes at most.
+/// Of how many frames a flush, and one that makes way, begins the writes at most.
 const MOST_FRAMES: u32 = 16;
 /// Of how many frames a sync begins the writes at most before it looks whether all is clean: sixteen requests, which are all that may be
 /// pending, have no more blocks, since each has eight sectors at most.
@@ -72,6 +73,57 @@ pub fn flush_some<L: Link>(cache: &mut Cache<L>)
     ensures reads { NoReadBegun (begun_in cache.old.transfers) (begun_in cache.new.transfers) }
 {
     begin_runs(cache, MOST_FRAMES);
+}
+
+/// Begins the writes of dirty frames, sixteen at most, the lowest block from this one on first. It waits for none: no message is taken. It
+/// stops early where none from there on is dirty, where the next one was refused since sixteen requests are pending or a byte of it is, or
+/// where no message comes any more. Whether a Flush is wanted stays as it is.
+#[inline(never)]
+fn begin_from<L: Link>(cache: &mut Cache<L>, from: u32)
+    requires ready { IsReady (caching L.Link cache.old) }
+    ensures keeps { Keeps (caching L.Link cache.old) (caching L.Link cache.new) }
+    ensures goes { LinkGoesOn L.Link cache.old cache.new }
+    ensures count { frame_count cache.new ≡ frame_count cache.old }
+    ensures posts { PostsAlone (caching L.Link cache.old) (caching L.Link cache.new) }
+    ensures begun { WritesNext 16 from (held_by cache.old) (caching L.Link cache.new) }
+    ensures left { messages_left (caching L.Link cache.new) ≤ messages_left (caching L.Link cache.old) }
+    ensures frames { (f : Frame) → IsFrame cache.old f → IsFrame cache.new f }
+    ensures flush { cache.new.flush ≡ cache.old.flush }
+    ensures uses { cache.new.slots.uses ≡ cache.old.slots.uses }
+    ensures reads { NoReadBegun (begun_in cache.old.transfers) (begun_in cache.new.transfers) }
+{
+    'frames: for _ in 0..MOST_FRAMES {
+        match cache.write_next(from) {
+            Some(_) => {}
+            None => return,
+        }
+    }
+}
+
+/// Makes way for a block that is to be given a frame and has none: where the frame that goes next has to be written first, and its write
+/// isn't under way, begins it and the writes of the dirty frames with the next higher blocks, sixteen at most, as `begin_from` does. So the
+/// frames that go then are clean soon. Else it changes nothing.
+#[inline]
+pub fn make_way<L: Link>(cache: &mut Cache<L>, block: u32)
+    requires ready { IsReady (caching L.Link cache.old) }
+    ensures keeps { Keeps (caching L.Link cache.old) (caching L.Link cache.new) }
+    ensures goes { LinkGoesOn L.Link cache.old cache.new }
+    ensures count { frame_count cache.new ≡ frame_count cache.old }
+    ensures posts { PostsAlone (caching L.Link cache.old) (caching L.Link cache.new) }
+    ensures way { MakesWay block cache.old cache.new (caching L.Link cache.new) }
+    ensures left { messages_left (caching L.Link cache.new) ≤ messages_left (caching L.Link cache.old) }
+    ensures frames { (f : Frame) → IsFrame cache.old f → IsFrame cache.new f }
+    ensures flush { cache.new.flush ≡ cache.old.flush }
+    ensures uses { cache.new.slots.uses ≡ cache.old.slots.uses }
+    ensures reads { NoReadBegun (begun_in cache.old.transfers) (begun_in cache.new.transfers) }
+{
+    let Some(from) = cache.due() else {
+        return;
+    };
+    match cache.find(block, &mut Steps::new()) {
+        Some(_) => {}
+        None => begin_from(cache, from),
+    }
 }
 
 /// Takes a message of a sync: only where no further write can be begun before it, and some frame isn't the disk's yet. The bytes of a read

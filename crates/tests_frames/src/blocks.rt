@@ -103,7 +103,7 @@ type Row = (
     &'static str,
 );
 
-static ROWS: [Row; 5] = [
+static ROWS: [Row; 6] = [
     // blocks are read, changed, cleared and written; then the link ends
     (
         false,
@@ -182,6 +182,57 @@ write 15 90112 4096 0
 write 16 94208 4096 0
 write 17 98304 4096 0
 write 18 102400 4096 0
+",
+    ),
+    // the frame that goes is dirty: sixteen writes are begun, and the next frame that goes is clean
+    (
+        false,
+        (
+            true,
+            &[
+                Some(0),
+                Some(0),
+                Some(0),
+                Some(0),
+                Some(0),
+                Some(0),
+                Some(0),
+                Some(0),
+                Some(0),
+                Some(0),
+                Some(0),
+                Some(0),
+                Some(0),
+                Some(0),
+                Some(0),
+                Some(0),
+                Some(7),
+                Some(8),
+            ],
+        ),
+        &[
+            (Step::Clear(10, 32), Ok(32)),
+            (Step::Read(50, 0), Ok(7)),
+            (Step::Read(51, 0), Ok(8)),
+        ],
+        "write 1 40960 4096 0
+write 2 45056 4096 0
+write 3 49152 4096 0
+write 4 53248 4096 0
+write 5 57344 4096 0
+write 6 61440 4096 0
+write 7 65536 4096 0
+write 8 69632 4096 0
+write 9 73728 4096 0
+write 10 77824 4096 0
+write 11 81920 4096 0
+write 12 86016 4096 0
+write 13 90112 4096 0
+write 14 94208 4096 0
+write 15 98304 4096 0
+write 16 102400 4096 0
+read 17 204800 4096
+read 18 208896 4096
 ",
     ),
     // a start that was handed over

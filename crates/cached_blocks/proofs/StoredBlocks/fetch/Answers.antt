@@ -1,3 +1,5 @@
+use Rattle.std.proofs.Common.{◌∙◌}
+use Rattle.cache.proofs.Placing.{keeps_then}
 use Rattle.cached_blocks.specs.World.{stored_caching, GoesOn}
 use Rattle.cached_blocks.proofs.Calls.{turns_kept}
 use Rattle.cached_blocks.proofs.StoredBlocks.fetch.Goals as goal
@@ -5,4 +7,5 @@ use Rattle.cached_blocks.proofs.StoredBlocks.fetch.Goals as goal
 pub returns-clause-turns : goal.returns-clause-turns
 returns-clause-turns g c =
     turns_kept (stored_caching g.L.Link) (GoesOn g.L.Link) _ _
-    (record { link = c.fetch.ensures.goes; frames = c.fetch.ensures.count }) c.fetch.ensures.keeps
+    (record { link = g.met.L.Link.joins _ _ _ c.make_way.ensures.goes c.fetch.ensures.goes; frames = c.fetch.ensures.count ∙ c.make_way.ensures.count })
+    (keeps_then _ _ _ c.make_way.ensures.keeps c.fetch.ensures.keeps)
