@@ -97,8 +97,8 @@ impl Files {
             0 => 1,
             1 => 3,
             2 => 9,
-            3 if self.age < 2 => 27,
-            4 if self.age < 2 => 81,
+            3 if self.age < 3 => 27,
+            4 if self.age < 3 => 81,
             _ => 0,
         }
     }
@@ -196,7 +196,7 @@ pub fn all_recover(alloc: Global, work: &mut Vec<Files>, wanted: &Wanted) -> Res
             return Ok(());
         };
         recovers(alloc, &files, wanted, work)?;
-        if files.age == 1 {
+        if files.age == 2 {
             recovers_not(alloc, &files, work)?;
         }
     }
