@@ -172,9 +172,8 @@ fn is_left<R: Wait + Clock + Copy>(
 fn stopped_while_held(rt: HostRuntime) -> Result<(), Fail> {
     let stage = stage_of(rt.alloc(), rt, 1024)?;
     let left = ended(&stage, &[], Ending::StoppedAtHang)?;
-    is_left(&stage, &left, 2)?;
     assert!(rt; !stage.notes.has_written(1));
-    Ok(())
+    is_left(&stage, &left, 2)
 }
 
 /// A service is let go while its first driver hangs, which is then let go: all threads end by themselves.

@@ -119,13 +119,21 @@ impl<R: Threads + Wait + Clock + Copy + Send + Sync + 'static> Program<R> for Co
     }
 }
 
+/// What is told of it on a stage.
+fn told_of<R: Threads + Wait + Clock + Copy + Send + Sync + 'static>(
+    stage: &Stage<R>,
+) -> Result<String, Fail> {
+    let copies = Copies {
+        alloc: stage.alloc,
+        copy: Vec::from_slice(stage.alloc, &stage.image)?,
+    };
+    let lines = stage.served(&[], copies)?;
+    Ok(lines.ok_or("no memory, or not stopped")?)
+}
+
 #[test]
 fn taken(rt: HostRuntime) -> Result<(), Fail> {
-    let alloc = rt.alloc();
-    let stage = Stage::new(alloc, rt, new_volume(alloc, 1024)?, Holds::Flusher)?;
-    let copy = Vec::from_slice(alloc, &stage.image)?;
-    let lines = stage
-        .served(&[], Copies { alloc, copy })?
-        .ok_or("no memory, or not stopped")?;
-    is_told(lines.as_str(), TOLD)
+    let image = new_volume(rt.alloc(), 1024)?;
+    let stage = Stage::new(rt.alloc(), rt, image, Holds::Flusher)?;
+    is_told(told_of(&stage)?.as_str(), TOLD)
 }
