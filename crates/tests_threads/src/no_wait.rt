@@ -14,6 +14,7 @@ use fixtures_sessions::watch::{Holds, Watch};
 use serve::service::{Service, Shared};
 use serve::session::Session;
 use std::alloc::Global;
+use std::process::Abort;
 use std::sync::{Arc, Wait};
 use std::test::*;
 use std::thread::{Threads, join};
@@ -125,14 +126,18 @@ fn board_waits_for_nobody(rt: HostRuntime) -> Result<(), Fail> {
     Ok(())
 }
 
+/// The marks of both, and the device.
+fn are_seen(rt: &impl Abort, (one, two, device): Looked) {
+    assert!(rt; one == two && one >= u64::from(MOUNT_READS) + 1);
+    assert_eq!(rt; device, Device::Live);
+}
+
 /// The marks at the start are the first driver's start and its answers to the mount's reads; of more drivers there are more.
 #[test]
 fn no_wait(rt: HostRuntime) -> Result<(), Fail> {
-    let alloc = rt.alloc();
-    let stage = Stage::new(alloc, rt, new_volume(alloc, 1024)?, Holds::Drivers)?;
-    let (lines, (one, two, device)) = looked(&stage)?;
-    is_told(lines.as_str(), ROOT)?;
-    assert!(rt; one == two && one >= u64::from(MOUNT_READS) + 1);
-    assert_eq!(rt; device, Device::Live);
-    Ok(())
+    let image = new_volume(rt.alloc(), 1024)?;
+    let stage = Stage::new(rt.alloc(), rt, image, Holds::Drivers)?;
+    let (lines, seen) = looked(&stage)?;
+    are_seen(&rt, seen);
+    is_told(lines.as_str(), ROOT)
 }
