@@ -15,7 +15,7 @@ use new_volume::mkfs;
 use std::alloc::Global;
 use std::test::Fail;
 use tests_texts::is_told;
-use tree::{Call, OpenFlags, Reply, Who};
+use tree::{Call, OpenFlags, PathFrom, Reply, Who};
 
 /// User 0, in session 3.
 const ROOT: Who = Who {
@@ -134,7 +134,7 @@ impl Volume {
     pub(crate) fn open(&mut self, path: &[u8]) -> Result<u32, Fail> {
         let flags = OpenFlags::from_bits_retain(11);
         match self.call(&Call::Open {
-            path,
+            path: PathFrom::root(path),
             flags,
             mode: 0o640,
         })? {
@@ -156,10 +156,21 @@ impl Volume {
     fn step(&mut self, step: &Step) -> Result<Reply, Fail> {
         let call = match *step {
             Step::Fills(path, pieces) => return Ok(Reply::Descriptor(self.fill(path, pieces)?)),
-            Step::Mkdir(path) => Call::Mkdir { path, mode: 0o755 },
-            Step::Link(old, new) => Call::Link { old, new },
-            Step::Symlink(target, path) => Call::Symlink { target, path },
-            Step::Unlink(path) => Call::Unlink { path },
+            Step::Mkdir(path) => Call::Mkdir {
+                path: PathFrom::root(path),
+                mode: 0o755,
+            },
+            Step::Link(old, new) => Call::Link {
+                old: PathFrom::root(old),
+                new: PathFrom::root(new),
+            },
+            Step::Symlink(target, path) => Call::Symlink {
+                target,
+                path: PathFrom::root(path),
+            },
+            Step::Unlink(path) => Call::Unlink {
+                path: PathFrom::root(path),
+            },
         };
         self.call(&call)
     }
@@ -175,7 +186,9 @@ impl Volume {
     /// Makes such a file and takes its name from it, while it is open.
     pub(crate) fn orphan(&mut self, path: &[u8], pieces: u32) -> Result<u32, Fail> {
         let fd = self.fill(path, pieces)?;
-        self.call(&Call::Unlink { path })?;
+        self.call(&Call::Unlink {
+            path: PathFrom::root(path),
+        })?;
         Ok(fd)
     }
 
