@@ -3,7 +3,7 @@
 use crate::volumes::Volume;
 use errno::Errno;
 use std::test::Fail;
-use tree::{Attributes, Call, LinkTarget, OpenFlags, Reply, Who};
+use tree::{Attributes, Call, LinkTarget, OpenFlags, PathFrom, Reply, Who};
 
 /// User 0.
 const ROOT: Who = Who {
@@ -113,6 +113,7 @@ type Row = (Who, Asks, &'static [u8], Told);
 
 /// The call.
 fn call_of<'a>(asks: &'a Asks, path: &'a [u8]) -> Call<'a> {
+    let path = PathFrom::root(path);
     match asks {
         Asks::Symlink(target) => Call::Symlink { target, path },
         Asks::Readlink => Call::Readlink { path },

@@ -4,7 +4,7 @@ use crate::volumes::{DONE, Open, Volume};
 use errno::Errno;
 use std::process::Abort;
 use std::test::Fail;
-use tree::{Call, Who};
+use tree::{Call, PathFrom, Who};
 
 /// User 0.
 const ROOT: Who = Who {
@@ -66,8 +66,8 @@ static UNCHANGED: [Step; 5] = [
 /// An empty path isn't renamed, and the bytes are those of a new volume, of which nothing is open.
 fn is_unchanged(rt: &impl Abort, volume: &mut Volume, before: &[u8]) {
     let rename = Call::Rename {
-        old: b"",
-        new: b"/x",
+        old: PathFrom::root(b""),
+        new: PathFrom::root(b"/x"),
     };
     assert_eq!(rt; volume.call(ROOT, &rename), Err(Errno::ENOENT));
     assert!(rt; volume.bytes() == before && volume.file(0).is_none());
