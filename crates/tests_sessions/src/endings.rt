@@ -18,7 +18,7 @@ use std::thread;
 use std::thread::Threads;
 use std::time::Clock;
 use tests_texts::is_told;
-use tree::Call;
+use tree::{Call, PathFrom};
 
 /// How a service ends.
 #[derive(Clone, Copy, PartialEq, Eq)]
@@ -33,11 +33,9 @@ enum Ending {
 
 /// Asks for the root, and then changes its permissions.
 fn change<C: Caller>(session: &mut C, lines: &mut String) {
-    told(session, 100, &Call::Stat { path: b"/" }, lines);
-    let chmod = Call::Chmod {
-        path: b"/",
-        mode: 0o700,
-    };
+    let path = PathFrom::root(b"/");
+    told(session, 100, &Call::Stat { path }, lines);
+    let chmod = Call::Chmod { path, mode: 0o700 };
     told(session, 100, &chmod, lines);
 }
 

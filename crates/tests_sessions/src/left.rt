@@ -17,7 +17,7 @@ use std::test::*;
 use std::thread::Threads;
 use std::time::Clock;
 use tests_texts::is_told;
-use tree::Call;
+use tree::{Call, PathFrom};
 
 /// A session makes a directory, the service is stopped, and once more when the session has ended.
 #[derive(Drop)]
@@ -40,7 +40,7 @@ impl<R: Threads + Wait + Clock + Copy + Send + Sync + 'static> Program<R> for St
         let mut lines = String::new(self.alloc);
         let mut session = service.session(0, 0).ok()?;
         let mkdir = Call::Mkdir {
-            path: b"/d",
+            path: PathFrom::root(b"/d"),
             mode: 0o755,
         };
         told(&mut session, 100, &mkdir, &mut lines);

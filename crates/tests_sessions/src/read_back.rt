@@ -17,7 +17,7 @@ use std::test::*;
 use std::thread::Threads;
 use std::time::Clock;
 use tests_texts::is_told;
-use tree::{Call, OpenFlags};
+use tree::{Call, OpenFlags, PathFrom};
 
 /// The flags of the first session's open: what it writes goes to the end of a file that it may make.
 fn rwac() -> OpenFlags {
@@ -31,7 +31,7 @@ const DIES_IN: u32 = MOUNT_READS + 4;
 /// Opens the file, by these flags.
 fn opening(flags: OpenFlags) -> Call<'static> {
     Call::Open {
-        path: b"/f",
+        path: PathFrom::root(b"/f"),
         flags,
         mode: 0o644,
     }
@@ -69,7 +69,8 @@ fn write_and_read<R: Clock + Copy, C: Caller>(
     one.meets(two);
     let is_equal = one.marks() == two.marks();
     told(two, 102, &Call::Read { fd: 0, count: 9 }, lines);
-    told(two, 102, &Call::Stat { path: b"/f" }, lines);
+    let path = PathFrom::root(b"/f");
+    told(two, 102, &Call::Stat { path }, lines);
     (is_equal, has_died)
 }
 

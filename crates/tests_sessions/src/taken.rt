@@ -16,7 +16,7 @@ use std::test::*;
 use std::thread::Threads;
 use std::time::Clock;
 use tests_texts::is_told;
-use tree::Call;
+use tree::{Call, PathFrom};
 
 /// What is to be told: a directory is made and synced, and what changed makes the copy the image; then nothing has changed. Another one is
 /// made and synced: the copy is behind. The changes are marked again, and taken again: the same units, which make the copy the image.
@@ -24,6 +24,7 @@ const TOLD: &str = "ok\nok\nsame\n0 units\nok\nok\nbehind\ntrue\nsame\n";
 
 /// Makes a directory, and syncs.
 fn made<C: Caller>(caller: &mut C, path: &[u8], lines: &mut String) {
+    let path = PathFrom::root(path);
     told(caller, 100, &Call::Mkdir { path, mode: 0o755 }, lines);
     told(caller, 100, &Call::Sync, lines);
 }
