@@ -18,7 +18,7 @@ use std::sync::{Arc, Wait};
 use std::test::*;
 use std::thread::Threads;
 use tests_texts::is_told;
-use tree::Call;
+use tree::{Call, PathFrom};
 
 /// Asks for the root.
 #[derive(Clone, Copy, Drop)]
@@ -39,7 +39,8 @@ impl<R: Threads + Wait + Copy + Send + Sync + 'static> Program<R> for Asks {
     {
         let mut lines = String::new(self.alloc);
         let mut session = service.session(0, 0).ok()?;
-        told(&mut session, 100, &Call::Stat { path: b"/" }, &mut lines);
+        let path = PathFrom::root(b"/");
+        told(&mut session, 100, &Call::Stat { path }, &mut lines);
         session.end();
         let image = service.stop().ok()?;
         Some((lines, image))

@@ -15,7 +15,7 @@ use std::test::*;
 use std::thread::Threads;
 use std::time::Clock;
 use tests_texts::is_told;
-use tree::Call;
+use tree::{Call, PathFrom};
 
 /// Who is held, and what is called meanwhile.
 #[derive(Clone, Copy)]
@@ -61,8 +61,9 @@ struct Came {
 
 /// Changes the root's permissions and has them written, twice. Its inode is at hand.
 fn changes<C: Caller>(session: &mut C, lines: &mut String) {
+    let path = PathFrom::root(b"/");
     for mode in [0o700, 0o755] {
-        told(session, 100, &Call::Chmod { path: b"/", mode }, lines);
+        told(session, 100, &Call::Chmod { path, mode }, lines);
         told(session, 100, &Call::Sync, lines);
     }
 }
@@ -74,7 +75,9 @@ fn calls<R: Clock + Copy, C: Caller>(
     session: &mut C,
     lines: &mut String,
 ) -> (bool, bool) {
-    let stat = Call::Stat { path: b"/" };
+    let stat = Call::Stat {
+        path: PathFrom::root(b"/"),
+    };
     match what {
         What::Read => {
             gate.hold();

@@ -21,7 +21,7 @@ use std::test::*;
 use std::thread;
 use std::thread::Threads;
 use std::time::{Clock, Duration};
-use tree::{Call, OpenFlags, Outcome, Reply};
+use tree::{Call, OpenFlags, Outcome, PathFrom, Reply};
 
 /// How many blocks the volume has.
 const BLOCKS: u32 = 512;
@@ -70,7 +70,7 @@ fn is_written(image: &[u8], opening: &[u8]) -> bool {
 /// Makes a file, and writes its pages. Whether each call was answered so.
 fn writes<C: Caller>(session: &mut C) -> bool {
     let open = Call::Open {
-        path: b"/f",
+        path: PathFrom::root(b"/f"),
         flags: OpenFlags::WRITE | OpenFlags::CREATE,
         mode: 0o644,
     };

@@ -20,7 +20,7 @@ use std::test::*;
 use std::thread::{Threads, join};
 use std::time::Clock;
 use tests_texts::is_told;
-use tree::Call;
+use tree::{Call, PathFrom};
 
 /// A beat, and how many marks there are, which driver was started last, and the greatest beat, by this seat.
 fn felt(board: &Board, seat: &mut Seat) -> (u64, u32, (u32, u32))
@@ -45,7 +45,8 @@ fn calls<N: ServiceParameters, R: Threads + Wait + Copy, L: Recorder<N>, S: File
     mut session: Session<N, Shared<N, R, L, S>>,
 ) -> String {
     let mut lines = String::new(alloc);
-    told(&mut session, 100, &Call::Stat { path: b"/" }, &mut lines);
+    let path = PathFrom::root(b"/");
+    told(&mut session, 100, &Call::Stat { path }, &mut lines);
     session.end();
     lines
 }
