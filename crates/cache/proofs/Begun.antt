@@ -12,7 +12,7 @@ use Rattle.cache.specs.declared.slot.Slot.{Slot}
 use Rattle.cache.specs.declared.state.State.{State}
 use Rattle.cache.specs.declared.state.State.TheVariants.{Clean, Dirty, Writing, Changed}
 use Rattle.cache.specs.Slots.{held, is_dirty, is_dirty_held, IsDistinct}
-use Rattle.cache.specs.Edits.{IsSetAt, IsAt, IsLowestDirty, IsLowestBlock, IsOutside, IsRunEnd, AreBegun, AreDirty, Leaves}
+use Rattle.cache.specs.Edits.{IsSetAt, IsAt, IsIssued, IsNextDirty, BeginsNext, IsLowestDirty, IsLowestBlock, IsOutside, IsRunEnd, AreBegun, AreDirty, Leaves}
 use Rattle.cache.proofs.Edits.{one_slot}
 use Rattle.cache.specs.Runs.{IsCopied, AreGathered, IssuesRun, BeginsRun}
 use Rattle.cache.proofs.Held.{held_at, held_set}
@@ -226,3 +226,26 @@ lowest_block_is items at s d h is =
     let here : held items h.block ≡ Some s = held_at items at h.block s d is block in
     let dirty : is_dirty_held (held items h.block) ≡ true = is_dirty_slot_held (held items h.block) s here (ap (λ (y : Slot). y.state) (sym same) ∙ h.dirty) in
     subst (λ (o : Option ℕ). IsLowestBlock o (held items)) (sym block) (dirty, h.lowest)
+
+-- the next dirty slot, whose write is begun
+pub begins_next : (items : List Slot) (from at : ℕ) (s : Slot) (held' : ℕ → Option Slot) → IsDistinct items → IsNextDirty items from at
+    → slice_get items at ≡ Some s → IsIssued items at held' → BeginsNext from s.block (held items) held'
+begins_next items from at s held' distinct next is issued =
+    subst (λ (o : Option ℕ). BeginsNext from o (held items) held') (sym (ap (λ (y : Slot). y.block) (sym same) ∙ next.block_is)) (record {
+      slot = issued.slot;
+      ticket = issued.ticket;
+      is = held_at items at next.block issued.slot distinct issued.is (ap (λ (y : Slot). y.block) (sym other) ∙ next.block_is);
+      dirty = issued.dirty;
+      reach = next.reach;
+      lowest = next.lowest;
+      all = issued.all ∙ ap (λ (b : ℕ). put (held items) b (Some (record issued.slot { state = Writing issued.ticket }))) block;
+    })
+  where
+    same : next.slot ≡ s
+    same = one_slot items at next.slot s next.is is
+
+    other : next.slot ≡ issued.slot
+    other = one_slot items at next.slot issued.slot next.is issued.is
+
+    block : issued.block ≡ next.block
+    block = let z : Some issued.block ≡ Some next.block = sym issued.block_is ∙ ap (λ (y : Slot). y.block) (sym other) ∙ next.block_is in cc

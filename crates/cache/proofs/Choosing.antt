@@ -12,7 +12,7 @@ use Rattle.cache.specs.declared.state.State.TheVariants.{Clean, Dirty, Writing, 
 use Rattle.cache.specs.Slots.{held, is_clean, is_dirty, dirtied, IsDistinct}
 use Rattle.cache.specs.Slots.{dirty_block, clean_block, lower_of, NoneDirtyBelow}
 use Rattle.cache.specs.Index.{place_there, IsRising, IsIndexOf, IsStartOf}
-use Rattle.cache.specs.Edits.{IsLowestDirty, IsLowestBlock, NoneDirty}
+use Rattle.cache.specs.Edits.{IsLowestDirty, IsLowestOf, IsLowestBlock, NoneDirty, NoneDirtyFrom, IsNextDirty, IsNextOf}
 use Rattle.cache.proofs.Edits.{one_slot}
 use Rattle.cache.proofs.Held.{place_of, held_at, in_range, get_set_same, get_set_other}
 use Rattle.cache.proofs.Entries.{entry_of, entry_there}
@@ -113,31 +113,33 @@ none_below_lowest items (Some block) from other d h e = record {
 
 -- ---- the search for a dirty slot
 
--- no slot of the entries below n is dirty
-pub record Searched (entries : List Entry) (items : List Slot) (n : ℕ) : Type 0 where
-  pub each : (j b : ℕ) (e : Entry) (s : Slot) → j < n → slice_get entries j ≡ Some e → slice_get items e.place ≡ Some s
+-- no slot of the entries below n is dirty, of those whose blocks aren't below this one, and no block of the others is
+pub record Searched (entries : List Entry) (items : List Slot) (from n : ℕ) : Type 0 where
+  pub each : (j b : ℕ) (e : Entry) (s : Slot) → j < n → from ≤ b → slice_get entries j ≡ Some e → slice_get items e.place ≡ Some s
       → dirty_block s ≡ Some b → ⊥
+  pub reach : (j : ℕ) (e : Entry) → n ≤ j → slice_get entries j ≡ Some e → from ≤ e.block
 
 -- where the search begins
 pub searched_start : (entries : List Entry) (items : List Slot) (at from : ℕ) → IsIndexOf entries items → IsRising entries
-    → NoneDirtyBelow items from → IsStartOf entries at from → Searched entries items at
-searched_start entries items at from x rising none start = record {
-  each = λ j b e s lt is here dirty.
+    → IsStartOf entries at from → Searched entries items from at
+searched_start entries items at from x rising start = record {
+  each = λ j b e s lt high is here dirty.
       let it = slot_by entries items j e x rising is in
       let same = one_slot items e.place it.slot s it.is here in
       let block : Some b ≡ Some e.block = sym (dirty_parts s b dirty).1 ∙ ap (λ (y : Slot). y.block) (sym same) ∙ it.block_is in
       let its : b ≡ e.block = cc in
       let low = start.below j e lt is in
-      let high = none.each e.place s b here dirty in
       omega (arith, its, low, high);
+  reach = start.above;
 }
 
 -- one more entry, whose slot isn't dirty
-pub searched_more : (entries : List Entry) (items : List Slot) (n at : ℕ) (s : Slot) → place_there (slice_get entries n) ≡ Some at
-    → slice_get items at ≡ Some s → is_dirty s.state ≡ false → Searched entries items n → Searched entries items (n + 1)
-searched_more entries items n at s place is not_so h = record {
-  each = λ j b f t lt jf there dirty. elim (cases_lt j n) [
-    | inl less ↦ h.each j b f t less jf there dirty
+pub searched_more : (entries : List Entry) (items : List Slot) (from n at : ℕ) (s : Slot) → place_there (slice_get entries n) ≡ Some at
+    → slice_get items at ≡ Some s → is_dirty s.state ≡ false → Searched entries items from n → Searched entries items from (n + 1)
+searched_more entries items from n at s place is not_so h = record {
+  reach = λ j e le is. h.reach j e (omega (arith, le)) is;
+  each = λ j b f t lt high jf there dirty. elim (cases_lt j n) [
+    | inl less ↦ h.each j b f t less high jf there dirty
     | inr ge ↦
         let e = entry_there (slice_get entries n) at place in
         let last : n ≡ j = omega (arith, lt, ge) in
@@ -152,14 +154,15 @@ searched_more entries items n at s place is not_so h = record {
 }
 
 -- a dirty slot of an entry behind those that were searched has no lower block
-not_below : (entries : List Entry) (items : List Slot) (n : ℕ) (e : Entry) → IsIndexOf entries items → IsRising entries
-    → slice_get entries n ≡ Some e → Searched entries items n → (b : ℕ) (t : Slot) → held items b ≡ Some t → t.state ≡ Dirty → e.block ≤ b
-not_below entries items n e x rising is h b t holds st =
+not_below : (entries : List Entry) (items : List Slot) (from n : ℕ) (e : Entry) → IsIndexOf entries items → IsRising entries
+    → slice_get entries n ≡ Some e → Searched entries items from n → (b : ℕ) (t : Slot) → from ≤ b → held items b ≡ Some t → t.state ≡ Dirty
+    → e.block ≤ b
+not_below entries items from n e x rising is h b t high holds st =
     let p = place_of items b t holds in
     let f = entry_of entries b p.index (at_of entries items x p.index b t p.is p.block) in
     let there : slice_get items f.1.place ≡ Some t = ap (slice_get items) f.4 ∙ p.is in
     elim (cases_lt f.0 n) [
-      | inl less ↦ absurd (h.each f.0 b f.1 t less f.2 there (has_dirty_block t b st p.block))
+      | inl less ↦ absurd (h.each f.0 b f.1 t less high f.2 there (has_dirty_block t b st p.block))
       | inr ge ↦ elim (cases_lt n f.0) [
         | inl behind ↦ let z = rising.apart n f.0 e f.1 behind is f.2 in omega (arith, z, f.3)
         | inr le ↦
@@ -180,10 +183,10 @@ slot_there entries items n at x rising place =
     in_range items at it.slot (ap (slice_get items) (sym e.2) ∙ it.is)
 
 -- the first dirty slot that is found
-pub lowest_found : (entries : List Entry) (items : List Slot) (n at : ℕ) (s : Slot) → IsIndexOf entries items → IsRising entries
-    → place_there (slice_get entries n) ≡ Some at → slice_get items at ≡ Some s → is_dirty s.state ≡ true → Searched entries items n
-    → IsLowestDirty items at
-lowest_found entries items n at s x rising place is dirty h =
+pub next_found : (entries : List Entry) (items : List Slot) (from n at : ℕ) (s : Slot) → IsIndexOf entries items → IsRising entries
+    → place_there (slice_get entries n) ≡ Some at → slice_get items at ≡ Some s → is_dirty s.state ≡ true → Searched entries items from n
+    → IsNextDirty items from at
+next_found entries items from n at s x rising place is dirty h =
     let e = entry_there (slice_get entries n) at place in
     let it = slot_by entries items n e.0 x rising e.1 in
     let same = one_slot items at it.slot s (ap (slice_get items) (sym e.2) ∙ it.is) is in
@@ -193,7 +196,8 @@ lowest_found entries items n at s x rising place is dirty h =
       is = is;
       block_is = ap (λ (y : Slot). y.block) (sym same) ∙ it.block_is;
       dirty = is_one s.state dirty;
-      lowest = not_below entries items n e.0 x rising e.1 h;
+      reach = h.reach n e.0 (omega arith) e.1;
+      lowest = not_below entries items from n e.0 x rising e.1 h;
     }
   where
     is_one : (x : State) → is_dirty x ≡ true → x ≡ Dirty
@@ -203,9 +207,9 @@ lowest_found entries items n at s x rising place is dirty h =
     is_one (Changed t) e = cc
 
 -- none is found
-pub none_found : (entries : List Entry) (items : List Slot) (n : ℕ) → IsIndexOf entries items → length entries ≤ n
-    → Searched entries items n → NoneDirty (held items)
-none_found entries items n x all h b s holds = by s.state refl
+pub none_found : (entries : List Entry) (items : List Slot) (from n : ℕ) → IsIndexOf entries items → length entries ≤ n
+    → Searched entries items from n → NoneDirtyFrom from (held items)
+none_found entries items from n x all h b s high holds = by s.state refl
   where
     by : (y : State) → s.state ≡ y → is_dirty s.state ≡ false
     by Clean e = ap is_dirty e
@@ -213,6 +217,30 @@ none_found entries items n x all h b s holds = by s.state refl
         let p = place_of items b s holds in
         let f = entry_of entries b p.index (at_of entries items x p.index b s p.is p.block) in
         let lt = slice_get_within entries f.0 f.1 f.2 in
-        absurd (h.each f.0 b f.1 s (omega (arith, lt, all)) f.2 (ap (slice_get items) f.4 ∙ p.is) (has_dirty_block s b e p.block))
+        absurd (h.each f.0 b f.1 s (omega (arith, lt, all)) high f.2 (ap (slice_get items) f.4 ∙ p.is) (has_dirty_block s b e p.block))
     by (Writing t) e = ap is_dirty e
     by (Changed t) e = ap is_dirty e
+
+-- where none below is dirty, the next one is the lowest
+pub lowest_of_next : (items : List Slot) (o : Option ℕ) (from : ℕ) → NoneDirtyBelow items from → IsNextOf o items from → IsLowestOf o items
+lowest_of_next items o from none h = by o h
+  where
+    high : (b : ℕ) (s : Slot) → held items b ≡ Some s → s.state ≡ Dirty → from ≤ b
+    high b s holds st = let p = place_of items b s holds in none.each p.index s b p.is (has_dirty_block s b st p.block)
+
+    no : (b : ℕ) (s : Slot) → held items b ≡ Some s → NoneDirtyFrom from (held items) → (y : State) → s.state ≡ y → is_dirty s.state ≡ false
+    no b s holds h Clean e = ap is_dirty e
+    no b s holds h Dirty e = h b s (high b s holds e) holds
+    no b s holds h (Writing t) e = ap is_dirty e
+    no b s holds h (Changed t) e = ap is_dirty e
+
+    by : (o : Option ℕ) → IsNextOf o items from → IsLowestOf o items
+    by None h = λ b s holds. no b s holds h s.state refl
+    by (Some at) h = record {
+      slot = h.slot;
+      block = h.block;
+      is = h.is;
+      block_is = h.block_is;
+      dirty = h.dirty;
+      lowest = λ b s holds st. h.lowest b s (high b s holds st) holds st;
+    }

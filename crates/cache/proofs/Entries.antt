@@ -2,7 +2,7 @@
 use Rattle.std.proofs.Common.{◌≡◌, ◌≢◌, ℕ, zero, suc, ◌+◌, ◌<◌, ◌≤◌, List, [], ◌∷◌, refl, sym, ap, ◌∙◌, arith}
 use Rattle.std.proofs.Common.{Bool, true, false, Option, Some, None}
 use mathlib.Core.Logic.{inl, inr}
-use Rattle.std.specs.Prelude.{slice_get, cond, insert, remove, ◌==◌}
+use Rattle.std.specs.Prelude.{slice_get, cond, insert, remove, ◌==◌, Result, Ok, Err, OnOk, OnErr, IsSome, OnSome, ◌↔◌}
 use Rattle.std.proofs.lemmas.Option.{slice_get_within}
 use Rattle.std.proofs.lemmas.Bool.{cond-true, cond-false, eq-eqb, eqb-true, ne_eqb, cases_lt}
 use Rattle.cache.specs.declared.index.Entry.{Entry}
@@ -131,6 +131,11 @@ start_missing es at b g = record {
 
 -- ---- an entry more
 
+-- a call that has room doesn't fail
+pub where_room : {T E : Type 0} (r : Result T E) (P Q : Type 0) → (Q → ⊥) → OnErr r Q → OnOk r P → P
+where_room (Ok x) P Q never full is = is
+where_room (Err e) P Q never full is = absurd (never full)
+
 pub insert_rises : (n : ℕ) (es : List Entry) (i : ℕ) (y : Entry) → RisesFrom n es → n ≤ y.block
     → ((j : ℕ) (e : Entry) → j < i → slice_get es j ≡ Some e → e.block < y.block)
     → ((j : ℕ) (e : Entry) → i ≤ j → slice_get es j ≡ Some e → y.block < e.block) → RisesFrom n (insert es i y)
@@ -158,6 +163,11 @@ insert_others (x ∷ xs) zero y b ne = place_later y (x ∷ xs) b (λ same. ne (
 insert_others (x ∷ xs) (suc i) y b ne = ap (λ (o : Option ℕ). cond (x.block == b) (Some x.place) o) (insert_others xs i y b ne)
 
 -- ---- an entry less
+
+-- what is there is removed
+pub is_removed : {T : Type 0} (r : Option T) (P Q : Type 0) → (IsSome r ↔ Q) → Q → OnSome r P → P
+is_removed None P Q there is items = let z : false ≡ true = there.1 is in absurd (let q : ⊥ = cc in q)
+is_removed (Some x) P Q there is items = items
 
 rises_from_less : (m n : ℕ) (es : List Entry) → m ≤ n → RisesFrom n es → RisesFrom m es
 rises_from_less m n [] le h = tt

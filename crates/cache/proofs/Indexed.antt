@@ -72,6 +72,10 @@ has_no_place entries items b x h = by (place_in entries b) refl
 pub few_set : (items : List Slot) (i : ℕ) (t : Slot) → length items ≤ 4096 → length (set items i t) ≤ 4096
 few_set items i t few = let same = length-set items i t in omega (arith, same, few)
 
+-- so many places are enough for as many slots
+pub room_set : (items : List Slot) (i n : ℕ) (t : Slot) → length items ≤ n → length (set items i t) ≤ n
+room_set items i n t le = let same = length-set items i t in omega (arith, same, le)
+
 -- a slot is set twice
 set_set : (items : List Slot) (i : ℕ) (s t : Slot) → set (set items i s) i t ≡ set items i t
 set_set [] i s t = refl

@@ -153,6 +153,40 @@ abbrev pub IsLowestOf : Option ℕ → List Slot → Type 0
 IsLowestOf None items = NoneDirty (held items)
 IsLowestOf (Some at) items = IsLowestDirty items at
 
+-- no slot of a block from this one on is dirty
+abbrev pub NoneDirtyFrom : ℕ → (ℕ → Option Slot) → Type 0
+NoneDirtyFrom from held = (b : ℕ) (s : Slot) → from ≤ b → held b ≡ Some s → is_dirty s.state ≡ false
+
+-- a dirty slot stands there whose block is this one or a higher one, and no dirty slot of such a block has a lower one
+pub record IsNextDirty (items : List Slot) (from i : ℕ) : Type 0 where
+  pub slot : Slot
+  pub block : ℕ
+  pub is : slice_get items i ≡ Some slot
+  pub block_is : slot.block ≡ Some block
+  pub dirty : slot.state ≡ Dirty
+  pub reach : from ≤ block
+  pub lowest : (b : ℕ) (s : Slot) → from ≤ b → held items b ≡ Some s → s.state ≡ Dirty → block ≤ b
+
+-- where the dirty slot with the lowest block from this one on stands, or that there is none
+abbrev pub IsNextOf : Option ℕ → List Slot → ℕ → Type 0
+IsNextOf None items from = NoneDirtyFrom from (held items)
+IsNextOf (Some at) items from = IsNextDirty items from at
+
+-- the write of the dirty slot with the lowest block from this one on is begun, and the slots of other blocks stay
+pub record IssuesNext (from block : ℕ) (old new : ℕ → Option Slot) : Type 0 where
+  pub slot : Slot
+  pub ticket : ℕ
+  pub is : old block ≡ Some slot
+  pub dirty : slot.state ≡ Dirty
+  pub reach : from ≤ block
+  pub lowest : (b : ℕ) (s : Slot) → from ≤ b → old b ≡ Some s → s.state ≡ Dirty → block ≤ b
+  pub all : new ≡ put old block (Some (record slot { state = Writing ticket }))
+
+-- so it is of this block, or nothing is begun
+abbrev pub BeginsNext : ℕ → Option ℕ → (ℕ → Option Slot) → (ℕ → Option Slot) → Type 0
+BeginsNext from None old new = new ≡ old
+BeginsNext from (Some block) old new = IssuesNext from block old new
+
 -- the write of the dirty slot with the lowest block is begun, and the slots of other blocks stay
 pub record IssuesLowest (old new : ℕ → Option Slot) : Type 0 where
   pub slot : Slot

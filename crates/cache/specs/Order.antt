@@ -2,7 +2,7 @@
 use Rattle.std.specs.Prelude.{◌≡◌, ◌⊎◌, ℕ, ◌+◌, ◌^◌, ◌<◌, ◌≤◌, List, length, slice_get, slice_index, Option, Some, None, is_some}
 use Rattle.std.specs.Prelude.{if◌then◌else◌}
 use Rattle.cache.specs.declared.slot.Slot.{Slot}
-use Rattle.cache.specs.Slots.{is_clean, is_unclean_slot}
+use Rattle.cache.specs.Slots.{is_clean, is_unclean_slot, dirty_block}
 
 -- which slots are looked among, the one used longest ago first: the free ones, those that aren't unclean, all
 pub data Among : Type 0 where
@@ -46,6 +46,14 @@ pub record IsVictim (items : List Slot) (numbers : List ℕ) (at : ℕ) : Type 0
   pub chosen : IsFirstOf Free items numbers at
       ⊎ (IsNone Free items numbers × (IsFirstOf Clean items numbers at
       ⊎ (IsNone Clean items numbers × IsFirstOf All items numbers at)))
+
+-- the block of the slot that goes next, where its bytes were changed and no write of them is under way
+pub record IsDue (due : Option ℕ) (items : List Slot) (numbers : List ℕ) : Type 0 where
+  pub at : ℕ
+  pub slot : Slot
+  pub goes : IsVictim items numbers at
+  pub is : slice_get items at ≡ Some slot
+  pub due_is : due ≡ dirty_block slot
 
 -- a slot's eviction rank by the number of its last use, which is below 2 ^ 62: a lower one goes first
 abbrev pub eviction_rank : Slot → ℕ → ℕ

@@ -2,7 +2,7 @@
 
 ghost use Rattle.std.specs.Prelude.{◌≡◌, ◌<◌, ◌≤◌, ◌+◌, ◌*◌, ◌-◌, ◌^◌, ℕ, List, [], Option, Some, None, Result, Ok, Err, Bool, true, false};
 ghost use Rattle.std.specs.Prelude.{IsTrue, IsErrOf, ◌↔◌, length, take, slice_get, slice_index, IfOk, IfErr, OnOk, OnErr, IfSome, not, ◌≢◌};
-ghost use Rattle.std.specs.Prelude.{MatchBool};
+ghost use Rattle.std.specs.Prelude.{MatchBool, ◌⊎◌};
 ghost use Rattle.std.specs.Bool.{OnTrue, OnFalse};
 ghost use Rattle.std.specs.Borrow.{Lends, sem};
 ghost use Rattle.layout.specs.Places.{is_block_size};
@@ -50,7 +50,8 @@ pub struct Cache<L> {
 impl<L: Link> Cache<L> {
     ghost use Rattle.cache.specs.Slots.{held, is_dirty_slot, is_unclean_slot};
     ghost use Rattle.cache.specs.Edits.{AllClean, SomeUnclean, IsIssued, IsWritten, IsSlotAt, IsFreeAt, IsAt, Leaves};
-    ghost use Rattle.cache.specs.Edits.{AllStay, StayBut, IsChangedAt, AreDirty};
+    ghost use Rattle.cache.specs.Edits.{AllStay, StayBut, IsChangedAt, AreDirty, NoneDirtyFrom, BeginsNext};
+    ghost use Rattle.cache.specs.Order.{IsDue};
     ghost use Rattle.cache.specs.Frames.{frames_of, view, with_bytes};
     ghost use Rattle.cache.specs.Calls.{caching, held_by, frame_count, IsReady, IsIdle, IsLive, IsWhyCut, IsFrame, IsFrameOf, IsMade, IsStuck};
     ghost use Rattle.cache.specs.Calls.{IsRefusing, PostsAlone, messages_left, Does, Keeps, HandsOver, Blanks, Rewrites, LinkGoesOn};
@@ -545,6 +546,47 @@ impl<L: Link> Cache<L> {
             }
             None => {}
         }
+    }
+
+    /// The block that has to be written before one without a frame is given a frame, where its write isn't under way yet: that of the frame
+    /// that goes next.
+    #[inline]
+    pub fn due(&self) -> Option<u32>
+        ensures { IsDue result self.now.slots.items.items self.now.slots.uses.numbers.items }
+    {
+        self.slots.due()
+    }
+
+    /// Begins the write of the dirty frame with the lowest block from this one on, and says which it is. None where no such frame is dirty,
+    /// or the write was refused since sixteen requests are pending or a byte of it is, or where no message comes any more; then nothing is
+    /// changed. No message is taken.
+    pub fn write_next(&mut self, from: u32) -> Option<u32>
+        requires ready { IsReady (caching L.Link self.old) }
+        ensures keeps { Keeps (caching L.Link self.old) (caching L.Link self.new) }
+        ensures goes { LinkGoesOn L.Link self.old self.new }
+        ensures count { frame_count self.new ≡ frame_count self.old }
+        ensures posts { PostsAlone (caching L.Link self.old) (caching L.Link self.new) }
+        ensures left { messages_left (caching L.Link self.new) ≤ messages_left (caching L.Link self.old) }
+        ensures issued { BeginsNext from result (held_by self.old) (held_by self.new) }
+        ensures stopped { result ≡ None → IsLive (caching L.Link self.new)
+            → NoneDirtyFrom from (held_by self.new) ⊎ IsRefusing (caching L.Link self.new) }
+        ensures frames { (f : FrameValue) → IsFrame self.old f → IsFrame self.new f }
+        ensures flush { self.new.flush ≡ self.old.flush }
+        ensures refused { result ≡ None → self.new ≡ self.old }
+        ensures uses { self.new.slots.uses ≡ self.old.slots.uses }
+        ensures reads { NoReadBegun (begun_in self.old.transfers) (begun_in self.new.transfers) }
+    {
+        if self.live().is_err() {
+            return None;
+        }
+        let Some(at) = self.slots.next_dirty(from) else {
+            return None;
+        };
+        let block = self.slots.get(at).block;
+        if !self.issue(at) {
+            return None;
+        }
+        block
     }
 
     /// Begins the writes of a run in one request: of the dirty frame with the lowest block, and of as many as are dirty side by side from it

@@ -1,23 +1,24 @@
 //! An index of places by their blocks.
 
 ghost use Rattle.std.specs.Prelude.{◌≡◌, ◌≢◌, ◌<◌, ◌≤◌, ◌+◌, ◌^◌, ℕ, IfOk, IfErr, [], Some, None, length, slice_get};
-ghost use Rattle.std.specs.Vec.{vec_capacity};
+ghost use Rattle.std.specs.VecDeque.{deque_capacity};
 ghost use Rattle.cache.specs.Index.{place_in, place_there, IsRising, IsEntryOf, IsGapFor, IsStartOf};
 
 use std::alloc::{AllocError, Global};
+use std::collections::VecDeque;
 use step_count::Steps;
 
-/// A block and its place.
+/// A block and its place: 8 bytes, since an entry more or less moves those on its shorter side.
 #[derive(Clone, Copy)]
 pub(crate) struct Entry {
     block: u32,
-    place: usize,
+    place: u32,
 }
 
 /// The places of blocks, sorted by block. Their memory is taken when they are made. A step is an entry that is compared.
 #[derive(Drop)]
 pub(crate) struct Index {
-    entries: Vec<Entry>,
+    entries: VecDeque<Entry>,
     ghost rising: { IsRising entries.items },
 }
 
@@ -25,10 +26,10 @@ impl Index {
     /// An index of no block, with room for so many.
     pub(crate) fn new(alloc: Global, count: usize) -> Result<Index, AllocError>
         ensures none { IfOk result (λ i. i.entries.items ≡ []) }
-        ensures room { IfOk result (λ i. vec_capacity i.entries ≡ count) }
+        ensures room { IfOk result (λ i. deque_capacity i.entries ≡ count) }
     {
         Ok(Index {
-            entries: Vec::with_capacity(alloc, count)?,
+            entries: VecDeque::with_capacity(alloc, count)?,
         })
     }
 
@@ -62,7 +63,7 @@ impl Index {
         ensures cost { (k : ℕ) → length self.now.entries.items < 2 ^ k → steps.new ≤ steps.old + k }
     {
         match self.look(block, steps) {
-            Ok(at) => Some(self.entries[at].place),
+            Ok(at) => Some(self.entries[at].place as usize),
             Err(_) => None,
         }
     }
@@ -90,17 +91,17 @@ impl Index {
         requires { at < length self.now.entries.items }
         ensures { place_there (slice_get self.now.entries.items at) ≡ Some result }
     {
-        self.entries[at].place
+        self.entries[at].place as usize
     }
 
     /// Gives a block that has none its place.
-    pub(crate) fn insert(&mut self, block: u32, place: usize)
+    pub(crate) fn insert(&mut self, block: u32, place: u32)
         requires missing { place_in self.old.entries.items block ≡ None }
-        requires room { length self.old.entries.items < vec_capacity self.old.entries }
+        requires room { length self.old.entries.items < deque_capacity self.old.entries }
         ensures this { place_in self.new.entries.items block ≡ Some place }
         ensures others { (b : ℕ) → b ≢ block → place_in self.new.entries.items b ≡ place_in self.old.entries.items b }
         ensures count { length self.new.entries.items ≡ length self.old.entries.items + 1 }
-        ensures room { vec_capacity self.new.entries ≡ vec_capacity self.old.entries }
+        ensures room { deque_capacity self.old.entries ≤ deque_capacity self.new.entries }
     {
         let at = match self.look(block, &mut Steps::new()) {
             Ok(_) => unreachable!(),
@@ -118,7 +119,7 @@ impl Index {
         ensures this { place_in self.new.entries.items block ≡ None }
         ensures others { (b : ℕ) → b ≢ block → place_in self.new.entries.items b ≡ place_in self.old.entries.items b }
         ensures count { length self.new.entries.items + 1 ≡ length self.old.entries.items }
-        ensures room { vec_capacity self.new.entries ≡ vec_capacity self.old.entries }
+        ensures room { deque_capacity self.new.entries ≡ deque_capacity self.old.entries }
     {
         let at = match self.look(block, &mut Steps::new()) {
             Ok(at) => at,

@@ -2,7 +2,7 @@
 
 ghost use Rattle.std.specs.Prelude.{◌≡◌, ◌⊎◌, ◌<◌, ◌≤◌, ◌+◌, ◌*◌, ◌^◌, ℕ, true, IfOk, Some, None, slice_get, slice_index, length};
 ghost use Rattle.std.specs.Bool.{OnTrue, OnFalse};
-ghost use Rattle.std.specs.Vec.{vec_capacity};
+ghost use Rattle.std.specs.VecDeque.{deque_capacity};
 ghost use Rattle.cache.specs.Slots.{held, is_dirty_held, lower_of, IsDistinct, NoneDirtyBelow, AreOpenWithin};
 ghost use Rattle.cache.specs.Index.{IsIndexOf};
 ghost use Rattle.cache.specs.Uses.{IsUsedLast};
@@ -38,7 +38,7 @@ pub struct Slots {
     pub ghost some: { 0 < length items.items },
     pub ghost few: { length items.items ≤ 4096 },
     pub ghost indexed: { IsIndexOf index.entries.items items.items },
-    pub ghost room: { vec_capacity index.entries ≡ length items.items },
+    pub ghost room: { length items.items ≤ deque_capacity index.entries },
     pub ghost paired: { length uses.numbers.items ≡ length items.items },
     pub ghost ranked: { IsRanked items.items uses.numbers.items winners.keys.items },
     pub ghost skipped: { NoneDirtyBelow items.items search_from },
@@ -87,8 +87,8 @@ fn use_now(uses: &mut Uses, winners: &mut Tournament, items: &[Slot], at: usize)
 }
 
 impl Slots {
-    ghost use Rattle.cache.specs.Order.{IsVictim};
-    ghost use Rattle.cache.specs.Edits.{IsSetAt, IsFilledAt, IsBlankedAt, IsChangedAt, IsAt, IsPlaceOf, IsWritten, AllStay, AllClean};
+    ghost use Rattle.cache.specs.Order.{IsVictim, IsDue};
+    ghost use Rattle.cache.specs.Edits.{IsSetAt, IsFilledAt, IsBlankedAt, IsChangedAt, IsAt, IsPlaceOf, IsNextOf, IsWritten, AllStay, AllClean};
     ghost use Rattle.cache.specs.Edits.{SomeUnclean, IsLowestOf, IsLowestBlock, IsRunEnd, AreDirty, AreBegun, Leaves, after_write};
     ghost use Rattle.cache.specs.Runs.{IsCopied, AreGathered};
 
@@ -135,6 +135,14 @@ impl Slots {
         self.winners.first()
     }
 
+    /// The block of the slot that goes next, where its bytes were changed and no write of them is under way.
+    #[inline]
+    pub fn due(&self) -> Option<u32>
+        ensures { IsDue result self.now.items.items self.now.uses.numbers.items }
+    {
+        self.get(self.victim()).dirty_block()
+    }
+
     /// Whether the bytes of each slot with a block are the disk's.
     pub fn is_clean(&self) -> bool
         ensures clean { OnTrue result (AllClean (held self.now.items.items)) }
@@ -147,7 +155,14 @@ impl Slots {
     pub fn lowest_dirty(&self) -> Option<usize>
         ensures { IsLowestOf result self.now.items.items }
     {
-        for nth in self.index.start(self.search_from)..self.index.len() {
+        self.next_dirty(self.search_from)
+    }
+
+    /// The dirty slot with the lowest block of those from this one on.
+    pub fn next_dirty(&self, from: u32) -> Option<usize>
+        ensures { IsNextOf result self.now.items.items from }
+    {
+        for nth in self.index.start(from)..self.index.len() {
             let at = self.index.place(nth);
             if self.get(at).state.is_dirty() {
                 return Some(at);
@@ -371,7 +386,7 @@ impl Slots {
         ensures count { length self.new.items.items ≡ length self.old.items.items }
     {
         self.vacate(at);
-        self.index.insert(block, at);
+        self.index.insert(block, at as u32);
         let slot = &mut self.items[at];
         slot.hold(block, &mut self.spare, state);
         self.search_from = lowered(self.search_from, slot.dirty_block());

@@ -1,9 +1,8 @@
 use Rattle.std.proofs.Common.{◌≡◌, List, None, Some, sym, ◌∙◌, subst, ap, arith}
-use Rattle.std.specs.Prelude.{insert, is_ok}
-use Rattle.std.proofs.lemmas.Bool.{cond-true}
+use Rattle.std.specs.Prelude.{insert}
 use Rattle.cache.specs.declared.index.Entry.{Entry}
 use Rattle.cache.specs.Index.{place_in, IsRising}
-use Rattle.cache.proofs.Entries.{rises, rising, place_at, insert_rises, insert_this, insert_others}
+use Rattle.cache.proofs.Entries.{rises, rising, place_at, insert_rises, insert_this, insert_others, where_room}
 use Rattle.cache.proofs.index.Index.insert.Goals as goal
 
 pub unreachable-requires : goal.unreachable-requires
@@ -20,7 +19,7 @@ invariant_of-self c =
     let y : Entry = record { block = c.args.block; place = c.args.place } in
     let ok = c.args.self.now.entries.ok in
     let gap = c.in-Err.ensures.missing in
-    let is = c.insert.ensures.items ∙ cond-true (is_ok c.insert.result) (insert es c.in-Err.at y) es (c.insert.ensures.succeeds (omega (arith, ok, c.requires.room))) in
+    let is = where_room c.insert.result _ _ (λ full. omega (arith, ok, c.requires.room, full)) c.insert.ensures.full c.insert.ensures.items in
     record {
       rising = subst (λ (l : List Entry). IsRising l) (sym is)
           (rising (insert es c.in-Err.at y) (insert_rises 0 es c.in-Err.at y (rises es c.args.self.now.rising) (omega arith) gap.below gap.above));

@@ -5,7 +5,7 @@ use Rattle.std.proofs.lemmas.List.{length-set}
 use Rattle.cache.specs.Slots.{lower_of}
 use Rattle.cache.proofs.Held.{distinct_kept}
 use Rattle.cache.proofs.Choosing.{none_below_changed}
-use Rattle.cache.proofs.Indexed.{few_set, index_kept}
+use Rattle.cache.proofs.Indexed.{few_set, index_kept, room_set}
 use Rattle.cache.specs.declared.slot.Slot.{Slot}
 use Rattle.cache.specs.Order.{IsRanked, IsRankedBut}
 use Rattle.cache.proofs.Turns.{but_set}
@@ -30,7 +30,7 @@ invariant_of-self c =
       some = lt-length-set items c.args.at _ s.some;
       few = few_set items c.args.at _ s.few;
       indexed = index_kept _ items c.args.at c.index_mut-slot.result.now _ s.indexed at c.clear.ensures.block;
-      room = s.room ∙ sym (length-set items c.args.at _);
+      room = room_set items c.args.at _ _ s.room;
       paired = c.use_now.ensures.used.count ∙ s.paired ∙ sym (length-set items c.args.at _);
       ranked = subst (λ (l : List Slot). IsRanked l c.use_now.new.uses.numbers.items c.use_now.new.winners.keys.items) c.deref.ensures.value
           c.use_now.ensures.ranked;

@@ -5,7 +5,7 @@ use Rattle.std.proofs.lemmas.List.{length-set}
 use Rattle.cache.specs.Slots.{lower_of}
 use Rattle.cache.proofs.Held.{distinct_kept}
 use Rattle.cache.proofs.Choosing.{none_below_changed}
-use Rattle.cache.proofs.Indexed.{few_set, index_kept}
+use Rattle.cache.proofs.Indexed.{few_set, index_kept, room_set}
 use Rattle.cache.proofs.Turns.{rank_changed}
 use Rattle.cache.proofs.Open.{open_changed}
 use Rattle.cache.proofs.table.Slots.change.Goals as goal
@@ -22,7 +22,7 @@ invariant_of-self c =
       some = lt-length-set items c.args.at _ s.some;
       few = few_set items c.args.at _ s.few;
       indexed = index_kept _ items c.args.at c.index_mut-slot.result.now _ s.indexed at c.change.ensures.block;
-      room = s.room ∙ sym (length-set items c.args.at _);
+      room = room_set items c.args.at _ _ s.room;
       paired = s.paired ∙ sym (length-set items c.args.at _);
       ranked = rank_changed items s.uses.numbers.items s.winners.keys.items _ c.args.at _ c.number.result c.index_mut-slot.result.now _ s.ranked at
           c.number.ensures.number c.eviction_rank-key.ensures c.set.ensures;

@@ -48,7 +48,7 @@ invariant_of-self c =
       few = few_set v.items.items c.args.at _ v.few;
       indexed = index_filled v.index.entries.items c.insert.new.self.entries.items v.items.items c.args.at c.args.block f.slot _ v.indexed f.is f.none
           c.hold.ensures.block free i.this i.others i.count;
-      room = i.room ∙ v.room ∙ sym (length-set v.items.items c.args.at _);
+      room = let n = length-set v.items.items c.args.at c.hold.new.self in omega (arith, i.room, v.room, n);
       paired = c.use_now.ensures.used.count ∙ v.paired ∙ sym (length-set v.items.items c.args.at _);
       ranked = subst (λ (l : List Slot). IsRanked l c.use_now.new.uses.numbers.items c.use_now.new.winners.keys.items) c.deref.ensures.value
           c.use_now.ensures.ranked;

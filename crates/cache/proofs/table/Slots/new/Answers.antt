@@ -29,7 +29,7 @@ invariant_of-result c =
       some = omega (arith, count, c.requires.some);
       few = omega (arith, count, c.requires.few);
       indexed = subst (λ (l : List Entry). IsIndexOf l items) (sym index.none) (index_none items i.free);
-      room = index.room ∙ sym count;
+      room = omega (arith, index.room, count);
       paired = c.in_ok-uses.ensures ∙ sym count;
       ranked = subst (λ (l : List Slot). IsRanked l c.in_ok-uses.uses.numbers.items c.rank_all.new.winners.keys.items) c.deref.ensures.value
           c.rank_all.ensures;

@@ -1,4 +1,4 @@
-use Rattle.std.proofs.Common.{◌<◌, length, refl, sym, ◌∙◌, arith}
+use Rattle.std.proofs.Common.{◌<◌, length, refl, sym, ◌∙◌, None, arith}
 use Rattle.std.proofs.lemmas.Option.{slice_get_read}
 use Rattle.std.proofs.Math.Seq.{lt-length-set}
 use Rattle.std.proofs.lemmas.List.{length-set}
@@ -30,7 +30,7 @@ invariant_of-self-2 c =
       few = few_set s.items.items c.args.at _ s.few;
       indexed = index_vacated s.index.entries.items c.remove.new.self.entries.items s.items.items c.args.at c.in-Some.block c.index_mut-slot.result.now _
           s.indexed at c.in-Some.is refl e.this e.others e.count;
-      room = e.room ∙ s.room ∙ sym (length-set s.items.items c.args.at _);
+      room = let n = length-set s.items.items c.args.at (record c.index_mut-slot.result.now { block = None }) in omega (arith, e.room, s.room, n);
       paired = s.paired ∙ sym (length-set s.items.items c.args.at _);
       ranked = rank_changed s.items.items s.uses.numbers.items s.winners.keys.items _ c.args.at _ c.number.result c.index_mut-slot.result.now _ s.ranked at
           c.number.ensures.number c.eviction_rank-key.ensures c.set.ensures;
