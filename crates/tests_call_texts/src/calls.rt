@@ -2,15 +2,24 @@
 use bitflags::Flags;
 use call_text::call::read_call;
 use call_text::written_call::call::WrittenCall;
-use tree::{Call, OpenFlags, Whence};
+use tree::{Call, OpenFlags, PathFrom, Start, Whence};
 
 /// The path of most calls.
-const PATH: &[u8] = b"/f";
+const PATH: PathFrom<'static> = PathFrom {
+    start: Start::Root,
+    bytes: b"/f",
+};
 
 /// The paths of calls that have two.
-const OLD: &[u8] = b"/d/e";
+const OLD: PathFrom<'static> = PathFrom {
+    start: Start::Root,
+    bytes: b"/d/e",
+};
 
-const NEW: &[u8] = b"/g";
+const NEW: PathFrom<'static> = PathFrom {
+    start: Start::Root,
+    bytes: b"/g",
+};
 
 /// The greatest descriptor.
 const LAST: u32 = 4294967295;
@@ -245,7 +254,7 @@ fn misread(rows: &[(&[u8], Call<'_>)]) -> Option<usize> {
 fn misopened(rows: &[(&[u8], u8)]) -> Option<usize> {
     for (number, (words, bits)) in rows.iter().enumerate() {
         let open = Call::Open {
-            path: b"/",
+            path: PathFrom::root(b"/"),
             flags: OpenFlags::from_bits_retain(*bits),
             mode: 0o644,
         };

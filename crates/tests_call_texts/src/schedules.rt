@@ -3,7 +3,7 @@ use schedule::Event;
 use schedule_text::reading::{ScheduleRefusal, read_schedule};
 use std::alloc::Global;
 use std::test::Fail;
-use tree::{Call, Who};
+use tree::{Call, PathFrom, Start, Who};
 
 /// Whether two events are one.
 fn is_same(read: &Event<'_>, event: &Event<'_>) -> bool {
@@ -43,6 +43,12 @@ const ROOT: Who = Who {
     gid: 0,
 };
 
+/// The path of a call.
+const TOP: PathFrom<'static> = PathFrom {
+    start: Start::Root,
+    bytes: b"/",
+};
+
 /// Schedules, and the events of their lines.
 static SCHEDULES: [(&[u8], &[Event<'static>]); 15] = [
     // each kind of line
@@ -58,7 +64,7 @@ static SCHEDULES: [(&[u8], &[Event<'static>]); 15] = [
     // calls that arrive, also with bytes that are decoded
     (
         b"call 255 65535 7 100 stat /\n",
-        &[Event::Arrive(WHO, 100, Call::Stat { path: b"/" })],
+        &[Event::Arrive(WHO, 100, Call::Stat { path: TOP })],
     ),
     (
         b"call 255 65535 7 100 write 0 00ff1a\n",

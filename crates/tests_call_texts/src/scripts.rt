@@ -3,10 +3,35 @@ use call_text::scripts::reading::{ScriptRefusal, read_script};
 use call_text::scripts::timed::TimedCall;
 use std::alloc::Global;
 use std::test::Fail;
-use tree::Call;
+use tree::{Call, PathFrom, Start};
 
 /// The path of most calls.
-const PATH: &[u8] = b"/f";
+const PATH: PathFrom<'static> = PathFrom {
+    start: Start::Root,
+    bytes: b"/f",
+};
+
+/// The root, and a name that is a byte of none.
+const TOP: PathFrom<'static> = PathFrom {
+    start: Start::Root,
+    bytes: b"/",
+};
+
+const RETURN: PathFrom<'static> = PathFrom {
+    start: Start::Root,
+    bytes: b"/\r",
+};
+
+/// The paths of a rename.
+const OLD: PathFrom<'static> = PathFrom {
+    start: Start::Root,
+    bytes: b"/d/e",
+};
+
+const NEW: PathFrom<'static> = PathFrom {
+    start: Start::Root,
+    bytes: b"/g",
+};
 
 /// A time, and the call at it.
 type Timed = (u32, Call<'static>);
@@ -18,7 +43,7 @@ static SCRIPTS: [(&[u8], (u16, u16), &[Timed]); 8] = [
     (
         b"user 0 0\n1 stat /\r\n",
         (0, 0),
-        &[(1, Call::Stat { path: b"/\r" })],
+        &[(1, Call::Stat { path: RETURN })],
     ),
     (
         b"user 0 0\n100 stat /f\n",
@@ -29,13 +54,7 @@ static SCRIPTS: [(&[u8], (u16, u16), &[Timed]); 8] = [
         b"user 65535 007\n4294967295 rename /d/e /g\n0 sync\n",
         (65535, 7),
         &[
-            (
-                4294967295,
-                Call::Rename {
-                    old: b"/d/e",
-                    new: b"/g",
-                },
-            ),
+            (4294967295, Call::Rename { old: OLD, new: NEW }),
             (0, Call::Sync),
         ],
     ),
@@ -84,7 +103,7 @@ static SCRIPTS: [(&[u8], (u16, u16), &[Timed]); 8] = [
                     bytes: b"aaa",
                 },
             ),
-            (2, Call::Stat { path: b"/" }),
+            (2, Call::Stat { path: TOP }),
             (
                 3,
                 Call::Write {

@@ -11,7 +11,7 @@ use std::alloc::Global;
 use std::io::{self, ErrorKind, Write};
 use std::test::Fail;
 use tests_texts::{are_told, is_told, row_is_told};
-use tree::{Attributes, Call, Reply, Who};
+use tree::{Attributes, Call, PathFrom, Reply, Who};
 
 /// Driver 1 of this generation.
 fn driver(generation: u32) -> Endpoint {
@@ -79,7 +79,8 @@ fn is_written(
 fn a_death(alloc: Global) -> Result<(), Fail> {
     let (posted, sent) = (request(1, Kind::Read, 1024), reply(Ok(1024)));
     let (asked, answer) = (RequestRef::of(&posted), ReplyRef::of(&sent));
-    let (call, root) = (Call::Stat { path: b"/" }, Reply::Inode(ROOT));
+    let path = PathFrom::root(b"/");
+    let (call, root) = (Call::Stat { path }, Reply::Inode(ROOT));
     let marks = [
         MarkRef::Started(driver(1)),
         MarkRef::Issued(asked, driver(1)),

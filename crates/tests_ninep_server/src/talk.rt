@@ -9,7 +9,9 @@ use std::collections::VecDeque;
 use std::fmt::Write;
 use std::test::Fail;
 use talks::sessions::{EnterRefusal, Sessions};
-use tree::{Attributes, Call, Entry, LinkTarget, MAX_TARGET, Outcome, Reply, Statfs};
+use tree::{
+    Attributes, Call, Entry, LinkTarget, MAX_TARGET, Outcome, PathFrom, Reply, Start, Statfs,
+};
 
 /// Sessions that answer what is written down, and note what they are asked. Where nothing is written down, a call is cut.
 #[derive(Drop)]
@@ -27,20 +29,28 @@ fn put(out: &mut String, word: &[u8]) {
     }
 }
 
+/// A path behind other words, and the node that it starts at, if it isn't the root.
+fn put_from(out: &mut String, path: PathFrom<'_>) {
+    if let Start::Inode(number) = path.start {
+        let _ = write!(out, " inode {number}");
+    }
+    put(out, path.bytes);
+}
+
 /// A call of one path, and its numbers.
-fn put_path(out: &mut String, name: &[u8], path: &[u8], numbers: &[u32]) {
+fn put_path(out: &mut String, name: &[u8], path: PathFrom<'_>, numbers: &[u32]) {
     put(out, name);
-    put(out, path);
+    put_from(out, path);
     for number in numbers {
         let _ = write!(out, " {number}");
     }
 }
 
 /// A call of two paths.
-fn put_paths(out: &mut String, name: &[u8], first: &[u8], second: &[u8]) {
+fn put_paths(out: &mut String, name: &[u8], first: PathFrom<'_>, second: PathFrom<'_>) {
     put(out, name);
-    put(out, first);
-    put(out, second);
+    put_from(out, first);
+    put_from(out, second);
 }
 
 /// The words of a call.
@@ -67,7 +77,11 @@ fn put_call(out: &mut String, call: &Call<'_>) {
         Call::Utime { path, atime, mtime } => put_path(out, b"utime", path, &[atime, mtime]),
         Call::Link { old, new } => put_paths(out, b"link", old, new),
         Call::Rename { old, new } => put_paths(out, b"rename", old, new),
-        Call::Symlink { target, path } => put_paths(out, b"symlink", target, path),
+        Call::Symlink { target, path } => {
+            put(out, b"symlink");
+            put(out, target);
+            put_from(out, path);
+        }
         Call::Write { fd, bytes } => {
             let _ = write!(out, " write {fd}");
             put(out, bytes);

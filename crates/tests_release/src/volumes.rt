@@ -14,7 +14,8 @@ use layout::{Geometry, LayoutRefusal};
 use new_volume::mkfs;
 use std::alloc::Global;
 use std::test::Fail;
-use tree::{Call, OpenFlags, Reply, Who};
+use tests_texts::is_told;
+use tree::{Call, OpenFlags, PathFrom, Reply, Who};
 
 /// User 0, in session 3.
 const ROOT: Who = Who {
@@ -56,12 +57,32 @@ fn sizes(image: &[u8]) -> Result<Geometry, LayoutRefusal>
 }
 
 /// What the check says of a volume, as `clean` or `finding 16 at 3`.
-pub(crate) fn verdict(alloc: Global, volume: &[u8]) -> Result<String, Fail> {
+fn verdict(alloc: Global, volume: &[u8]) -> Result<String, Fail> {
     match check(alloc, volume) {
         Ok(Verdict::Clean(_)) => Ok(String::from_str(alloc, "clean")?),
         Ok(Verdict::Found(finding)) => Ok(format!(in alloc; "{finding}")?),
         Err(_) => Err(Fail::from("no memory for a check")),
     }
+}
+
+/// It is an error where the check says something else.
+pub(crate) fn is_said(alloc: Global, volume: &[u8], wanted: &str) -> Result<(), Fail> {
+    let said = verdict(alloc, volume)?;
+    is_told(said.as_str(), wanted)
+}
+
+/// A step at a volume.
+pub(crate) enum Step {
+    /// A file of so many pieces of 4096 bytes is made, and stays open.
+    Fills(&'static [u8], u32),
+    /// A directory is made.
+    Mkdir(&'static [u8]),
+    /// A file gets one more name.
+    Link(&'static [u8], &'static [u8]),
+    /// A link with this target is made.
+    Symlink(&'static [u8], &'static [u8]),
+    /// A name is taken from a file.
+    Unlink(&'static [u8]),
 }
 
 /// A volume in memory, and what is open.
@@ -113,7 +134,7 @@ impl Volume {
     pub(crate) fn open(&mut self, path: &[u8]) -> Result<u32, Fail> {
         let flags = OpenFlags::from_bits_retain(11);
         match self.call(&Call::Open {
-            path,
+            path: PathFrom::root(path),
             flags,
             mode: 0o640,
         })? {
@@ -131,10 +152,43 @@ impl Volume {
         Ok(fd)
     }
 
+    /// Does a step.
+    fn step(&mut self, step: &Step) -> Result<Reply, Fail> {
+        let call = match *step {
+            Step::Fills(path, pieces) => return Ok(Reply::Descriptor(self.fill(path, pieces)?)),
+            Step::Mkdir(path) => Call::Mkdir {
+                path: PathFrom::root(path),
+                mode: 0o755,
+            },
+            Step::Link(old, new) => Call::Link {
+                old: PathFrom::root(old),
+                new: PathFrom::root(new),
+            },
+            Step::Symlink(target, path) => Call::Symlink {
+                target,
+                path: PathFrom::root(path),
+            },
+            Step::Unlink(path) => Call::Unlink {
+                path: PathFrom::root(path),
+            },
+        };
+        self.call(&call)
+    }
+
+    /// Does these steps.
+    pub(crate) fn does(&mut self, steps: &[Step]) -> Result<(), Fail> {
+        for step in steps {
+            self.step(step)?;
+        }
+        Ok(())
+    }
+
     /// Makes such a file and takes its name from it, while it is open.
     pub(crate) fn orphan(&mut self, path: &[u8], pieces: u32) -> Result<u32, Fail> {
         let fd = self.fill(path, pieces)?;
-        self.call(&Call::Unlink { path })?;
+        self.call(&Call::Unlink {
+            path: PathFrom::root(path),
+        })?;
         Ok(fd)
     }
 

@@ -3,7 +3,7 @@
 use crate::volumes::Volume;
 use errno::Errno;
 use std::test::Fail;
-use tree::{Attributes, Call, LinkTarget, Reply, Who};
+use tree::{Attributes, Call, LinkTarget, OpenFlags, PathFrom, Reply, Who};
 
 /// User 0.
 const ROOT: Who = Who {
@@ -27,18 +27,6 @@ const TOO_LONG: [u8; 1024] = [b'/'; 1024];
 
 /// So many bytes, all of them zero.
 const ZEROS: [u8; 1024] = [0; 1024];
-
-/// Targets and paths that symlink refuses: the target's length, then its zero bytes, and then the path.
-static REFUSED: [(&[u8], &[u8], Errno); 8] = [
-    (b"", b"f", Errno::ENOENT),
-    (b"", b"/f", Errno::ENOENT),
-    (&TOO_LONG, b"", Errno::ENAMETOOLONG),
-    (&ZEROS, b"f", Errno::ENAMETOOLONG),
-    (b"\0", b"", Errno::EINVAL),
-    (b"d\0", b"/f", Errno::EINVAL),
-    (&LONGEST, b"", Errno::ENOENT),
-    (&LONGEST, b"/f", Errno::EEXIST),
-];
 
 /// What stat tells of the directory `d`.
 const DIRECTORY: Attributes = Attributes {
@@ -92,59 +80,175 @@ const TOP: Attributes = Attributes {
     ctime: 60,
 };
 
-/// The target of one byte.
-fn one_byte(byte: u8) -> LinkTarget {
-    let mut bytes = [0; 1023];
-    bytes[0] = byte;
-    LinkTarget { bytes, length: 1 }
+/// What is asked of a path.
+enum Asks {
+    /// A link with this target is made.
+    Symlink(&'static [u8]),
+    /// The target of a link.
+    Readlink,
+    /// The attributes of what is there.
+    Lstat,
+    /// The attributes of what a link leads to.
+    Stat,
+    /// It is opened for reading.
+    Open,
 }
+
+/// What is answered.
+enum Told {
+    /// It was done.
+    Done,
+    /// It is refused.
+    Refused(Errno),
+    /// A target, behind which zeros stand.
+    Target(&'static [u8]),
+    /// Attributes.
+    Inode(Attributes),
+    /// A descriptor.
+    Descriptor(u32),
+}
+
+/// Who asks, what is asked, of which path, and what is answered.
+type Row = (Who, Asks, &'static [u8], Told);
+
+/// The call.
+fn call_of<'a>(asks: &'a Asks, path: &'a [u8]) -> Call<'a> {
+    let path = PathFrom::root(path);
+    match asks {
+        Asks::Symlink(target) => Call::Symlink { target, path },
+        Asks::Readlink => Call::Readlink { path },
+        Asks::Lstat => Call::Lstat { path },
+        Asks::Stat => Call::Stat { path },
+        Asks::Open => Call::Open {
+            path,
+            flags: OpenFlags::READ,
+            mode: 0,
+        },
+    }
+}
+
+/// A target of these bytes, with zeros behind them.
+fn target_of(given: &[u8]) -> LinkTarget {
+    let mut bytes = [0; 1023];
+    for (place, byte) in bytes.iter_mut().zip(given) {
+        *place = *byte;
+    }
+    LinkTarget {
+        bytes,
+        length: given.len(),
+    }
+}
+
+/// The reply.
+fn reply_of(told: &Told) -> Reply {
+    match told {
+        Told::Done => Reply::Done,
+        Told::Refused(errno) => Reply::Refused(*errno),
+        Told::Target(bytes) => Reply::Target(target_of(bytes)),
+        Told::Inode(attributes) => Reply::Inode(*attributes),
+        Told::Descriptor(fd) => Reply::Descriptor(*fd),
+    }
+}
+
+/// Whether a row comes out.
+fn is_told(volume: &mut Volume, (who, asks, path, told): &Row) -> bool {
+    volume.reply(*who, &call_of(asks, path)) == reply_of(told)
+}
+
+/// Rows come out, one after the other.
+fn are_told(volume: &mut Volume, rows: &[Row]) -> Result<(), Fail> {
+    for (number, row) in rows.iter().enumerate() {
+        if !is_told(volume, row) {
+            return Err(Fail::new(format_args!("row {number}")));
+        }
+    }
+    Ok(())
+}
+
+/// Targets and paths that symlink refuses: the target's length, then its zero bytes, and then the path. No link has an empty path.
+static REFUSED: [Row; 10] = [
+    (ROOT, Asks::Symlink(b""), b"f", Told::Refused(Errno::ENOENT)),
+    (
+        ROOT,
+        Asks::Symlink(b""),
+        b"/f",
+        Told::Refused(Errno::ENOENT),
+    ),
+    (
+        ROOT,
+        Asks::Symlink(&TOO_LONG),
+        b"",
+        Told::Refused(Errno::ENAMETOOLONG),
+    ),
+    (
+        ROOT,
+        Asks::Symlink(&ZEROS),
+        b"f",
+        Told::Refused(Errno::ENAMETOOLONG),
+    ),
+    (
+        ROOT,
+        Asks::Symlink(b"\0"),
+        b"",
+        Told::Refused(Errno::EINVAL),
+    ),
+    (
+        ROOT,
+        Asks::Symlink(b"d\0"),
+        b"/f",
+        Told::Refused(Errno::EINVAL),
+    ),
+    (
+        ROOT,
+        Asks::Symlink(&LONGEST),
+        b"",
+        Told::Refused(Errno::ENOENT),
+    ),
+    (
+        ROOT,
+        Asks::Symlink(&LONGEST),
+        b"/f",
+        Told::Refused(Errno::EEXIST),
+    ),
+    (ROOT, Asks::Readlink, b"", Told::Refused(Errno::ENOENT)),
+    (ROOT, Asks::Lstat, b"", Told::Refused(Errno::ENOENT)),
+];
 
 #[test]
 fn targets_have_1_to_1023_bytes(rt: HostRuntime) -> Result<(), Fail> {
     let mut volume = Volume::new(rt.alloc())?;
     let before = Vec::from_slice(rt.alloc(), volume.bytes())?;
-    for (number, (target, path, errno)) in REFUSED.iter().enumerate() {
-        let call = Call::Symlink { target, path };
-        assert!(rt;
-            volume.reply(ROOT, &call) == Reply::Refused(*errno),
-            "{number}"
-        );
-    }
-    for call in [Call::Readlink { path: b"" }, Call::Lstat { path: b"" }] {
-        assert!(rt; volume.reply(ROOT, &call) == Reply::Refused(Errno::ENOENT));
-    }
+    are_told(&mut volume, &REFUSED)?;
     assert!(rt; volume.bytes() == before.as_slice());
     Ok(())
 }
 
+static KEPT: [Row; 6] = [
+    (ROOT, Asks::Symlink(&LONGEST), b"/l", Told::Done),
+    (ROOT, Asks::Readlink, b"/l", Told::Target(&LONGEST)),
+    (ROOT, Asks::Lstat, b"/l", Told::Inode(LONG_LINK)),
+    (ROOT, Asks::Stat, b"/l", Told::Inode(TOP)),
+    // the target of one byte has zeros behind it
+    (ROOT, Asks::Symlink(b"."), b"/d/o", Told::Done),
+    (ROOT, Asks::Readlink, b"/d/o", Told::Target(b".")),
+];
+
 #[test]
 fn the_longest_target_is_kept_and_followed(rt: HostRuntime) -> Result<(), Fail> {
     let mut volume = Volume::new(rt.alloc())?;
-    let (target, path) = (LONGEST.as_slice(), b"/l".as_slice());
-    let kept = LinkTarget {
-        bytes: LONGEST,
-        length: 1023,
-    };
-    assert!(rt; volume.reply(ROOT, &Call::Symlink { target, path }) == Reply::Done);
-    assert!(rt; volume.reply(ROOT, &Call::Readlink { path }) == Reply::Target(kept));
-    assert!(rt; volume.reply(ROOT, &Call::Lstat { path }) == Reply::Inode(LONG_LINK));
-    assert!(rt; volume.reply(ROOT, &Call::Stat { path }) == Reply::Inode(TOP));
-    // the target of one byte has zeros behind it
-    let path = b"/d/o".as_slice();
-    let dot = Call::Symlink { target: b".", path };
-    assert!(rt; volume.reply(ROOT, &dot) == Reply::Done);
-    assert!(rt; volume.reply(ROOT, &Call::Readlink { path }) == Reply::Target(one_byte(b'.')));
-    Ok(())
+    are_told(&mut volume, &KEPT)
 }
+
+static LED: [Row; 5] = [
+    (OTHER, Asks::Lstat, b"/l", Told::Inode(LINK)),
+    (OTHER, Asks::Stat, b"/l", Told::Inode(DIRECTORY)),
+    (OTHER, Asks::Readlink, b"/l", Told::Target(b"d")),
+    (OTHER, Asks::Open, b"/l", Told::Descriptor(0)),
+    (OTHER, Asks::Open, b"/l/..", Told::Descriptor(1)),
+];
 
 #[test]
 fn the_bits_of_a_link_are_not_asked(rt: HostRuntime) -> Result<(), Fail> {
     let mut volume = Volume::with_link(rt.alloc())?;
-    let path = b"/l".as_slice();
-    assert!(rt; volume.reply(OTHER, &Call::Lstat { path }) == Reply::Inode(LINK));
-    assert!(rt; volume.reply(OTHER, &Call::Stat { path }) == Reply::Inode(DIRECTORY));
-    assert!(rt; volume.reply(OTHER, &Call::Readlink { path }) == Reply::Target(one_byte(b'd')));
-    assert!(rt; volume.open((0, (9, 9), b"/l", 1, 0)) == Ok(0));
-    assert!(rt; volume.open((0, (9, 9), b"/l/..", 1, 0)) == Ok(1));
-    Ok(())
+    are_told(&mut volume, &LED)
 }

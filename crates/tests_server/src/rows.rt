@@ -4,7 +4,7 @@ use crate::volumes::{DONE, Open, Volume};
 use errno::Errno;
 use std::process::Abort;
 use std::test::Fail;
-use tree::{Call, Who};
+use tree::{Call, PathFrom, Who};
 
 /// User 0.
 const ROOT: Who = Who {
@@ -13,75 +13,101 @@ const ROOT: Who = Who {
     gid: 0,
 };
 
-/// Each is opened, or refused so.
-fn look(rt: &impl Abort, volume: &mut Volume, rows: &[(Open<'_>, Result<u32, Errno>)]) {
-    for (open, expected) in rows {
-        assert_eq!(rt; volume.open(*open), *expected);
-    }
+/// A step at a volume.
+enum Step {
+    /// It is opened, or refused so.
+    Opens(Open<'static>, Result<u32, Errno>),
+    /// Each session of these opens `/f` for reading under all of its descriptors.
+    Fills(&'static [u8]),
+    /// User 0 closes a descriptor of session 0.
+    Closes(u32),
 }
 
-/// Each session of these opens `/f` for reading under all of its descriptors.
-fn fill(rt: &impl Abort, volume: &mut Volume, sessions: &[u8]) {
-    for session in sessions {
-        for fd in 0..32u32 {
-            look(rt, volume, &[((*session, (0, 0), b"/f", 1, 0), Ok(fd))]);
+/// An open comes to this.
+fn opens(rt: &impl Abort, volume: &mut Volume, open: Open<'_>, expected: Result<u32, Errno>) {
+    assert_eq!(rt; volume.open(open), expected);
+}
+
+/// A step comes out.
+fn does(rt: &impl Abort, volume: &mut Volume, step: &Step) {
+    match step {
+        Step::Opens(open, expected) => opens(rt, volume, *open, *expected),
+        Step::Fills(sessions) => {
+            for session in *sessions {
+                for fd in 0..32u32 {
+                    opens(rt, volume, (*session, (0, 0), b"/f", 1, 0), Ok(fd));
+                }
+            }
+        }
+        Step::Closes(fd) => {
+            assert_eq!(rt; volume.call(ROOT, &Call::Close { fd: *fd }), Ok(DONE));
         }
     }
 }
 
-#[test]
-fn empty_paths_and_other_flags_change_nothing(rt: HostRuntime) -> Result<(), Fail> {
+/// Steps come out, one after the other, on a new volume.
+fn do_all(rt: &(impl Abort + AllocGlobal), steps: &[Step]) -> Result<Volume, Fail> {
     let mut volume = Volume::new(rt.alloc())?;
-    let before = Vec::from_slice(rt.alloc(), volume.bytes())?;
-    let rows: [(Open<'_>, Result<u32, Errno>); 5] = [
-        // flags and modes, before the path
-        ((0, (0, 9), b"", 0, 0), Err(Errno::EINVAL)),
-        ((0, (0, 9), b"", 8, 0), Err(Errno::EINVAL)),
-        ((0, (0, 9), b"/f", 65, 0), Err(Errno::EINVAL)),
-        ((0, (0, 9), b"", 1, 0o1000), Err(Errno::EINVAL)),
-        ((0, (0, 9), b"", 9, 0o777), Err(Errno::ENOENT)),
-    ];
-    look(&rt, &mut volume, &rows);
+    for step in steps {
+        does(rt, &mut volume, step);
+    }
+    Ok(volume)
+}
+
+/// Flags and modes, before the path.
+static UNCHANGED: [Step; 5] = [
+    Step::Opens((0, (0, 9), b"", 0, 0), Err(Errno::EINVAL)),
+    Step::Opens((0, (0, 9), b"", 8, 0), Err(Errno::EINVAL)),
+    Step::Opens((0, (0, 9), b"/f", 65, 0), Err(Errno::EINVAL)),
+    Step::Opens((0, (0, 9), b"", 1, 0o1000), Err(Errno::EINVAL)),
+    Step::Opens((0, (0, 9), b"", 9, 0o777), Err(Errno::ENOENT)),
+];
+
+/// An empty path isn't renamed, and the bytes are those of a new volume, of which nothing is open.
+fn is_unchanged(rt: &impl Abort, volume: &mut Volume, before: &[u8]) {
     let rename = Call::Rename {
-        old: b"",
-        new: b"/x",
+        old: PathFrom::root(b""),
+        new: PathFrom::root(b"/x"),
     };
     assert_eq!(rt; volume.call(ROOT, &rename), Err(Errno::ENOENT));
-    assert!(rt; volume.bytes() == before.as_slice() && volume.file(0).is_none());
+    assert!(rt; volume.bytes() == before && volume.file(0).is_none());
+}
+
+#[test]
+fn empty_paths_and_other_flags_change_nothing(rt: HostRuntime) -> Result<(), Fail> {
+    let before = Volume::new(rt.alloc())?;
+    let mut volume = do_all(&rt, &UNCHANGED)?;
+    is_unchanged(&rt, &mut volume, before.bytes());
     Ok(())
 }
+
+static LOWEST: [Step; 9] = [
+    Step::Fills(&[0]),
+    // before the path, after the flags
+    Step::Opens((0, (0, 0), b"/f", 1, 0), Err(Errno::EMFILE)),
+    Step::Opens((0, (0, 0), b"", 1, 0), Err(Errno::EMFILE)),
+    Step::Opens((0, (0, 0), b"", 0, 0), Err(Errno::EINVAL)),
+    // another session has others
+    Step::Opens((1, (0, 0), b"/f", 1, 0), Ok(0)),
+    // the lowest that is free again is taken
+    Step::Closes(7),
+    Step::Closes(3),
+    Step::Opens((0, (0, 0), b"/d", 1, 0), Ok(3)),
+    Step::Opens((0, (0, 0), b"/d", 1, 0), Ok(7)),
+];
+
+static FULL: [Step; 3] = [
+    Step::Fills(&[1, 2, 3, 4]),
+    Step::Opens((0, (0, 0), b"", 1, 0), Err(Errno::ENFILE)),
+    // a session without a descriptor is told that first
+    Step::Opens((4, (0, 0), b"", 1, 0), Err(Errno::EMFILE)),
+];
 
 /// 32 in a session, and 128 in all.
 #[test]
 fn descriptors_and_open_files(rt: HostRuntime) -> Result<(), Fail> {
-    let mut volume = Volume::new(rt.alloc())?;
-    fill(&rt, &mut volume, &[0]);
-    let rows: [(Open<'_>, Result<u32, Errno>); 4] = [
-        // before the path, after the flags
-        ((0, (0, 0), b"/f", 1, 0), Err(Errno::EMFILE)),
-        ((0, (0, 0), b"", 1, 0), Err(Errno::EMFILE)),
-        ((0, (0, 0), b"", 0, 0), Err(Errno::EINVAL)),
-        // another session has others
-        ((1, (0, 0), b"/f", 1, 0), Ok(0)),
-    ];
-    look(&rt, &mut volume, &rows);
-    // the lowest that is free again is taken
-    for fd in [7, 3] {
-        assert_eq!(rt; volume.call(ROOT, &Call::Close { fd }), Ok(DONE));
-    }
-    let again: [(Open<'_>, Result<u32, Errno>); 2] = [
-        ((0, (0, 0), b"/d", 1, 0), Ok(3)),
-        ((0, (0, 0), b"/d", 1, 0), Ok(7)),
-    ];
-    look(&rt, &mut volume, &again);
-    let mut volume = Volume::new(rt.alloc())?;
-    fill(&rt, &mut volume, &[1, 2, 3, 4]);
-    let full: [(Open<'_>, Result<u32, Errno>); 2] = [
-        ((0, (0, 0), b"", 1, 0), Err(Errno::ENFILE)),
-        // a session without a descriptor is told that first
-        ((4, (0, 0), b"", 1, 0), Err(Errno::EMFILE)),
-    ];
-    look(&rt, &mut volume, &full);
+    let _ = do_all(&rt, &LOWEST)?;
+    let _ = do_all(&rt, &FULL)?;
     Ok(())
 }
 

@@ -14,7 +14,7 @@ use reply_text::text::OutcomeText;
 use std::alloc::{AllocError, Global};
 use std::test::Fail;
 use tests_texts::{are_told, is_told};
-use tree::{Call, OpenFlags, Reply, Who};
+use tree::{Call, OpenFlags, PathFrom, Reply, Start, Who};
 use vfs::Server;
 use vfs::unmounting::UnmountRefusal;
 
@@ -36,14 +36,20 @@ enum Then {
     Ends,
 }
 
+/// The root.
+const TOP: PathFrom<'static> = PathFrom {
+    start: Start::Root,
+    bytes: b"/",
+};
+
 /// Looks at the root.
-const STAT: Step = Step::Call(100, Call::Stat { path: b"/" });
+const STAT: Step = Step::Call(100, Call::Stat { path: TOP });
 
 /// Makes a root that only its owner may use.
 const CHMOD: Step = Step::Call(
     100,
     Call::Chmod {
-        path: b"/",
+        path: TOP,
         mode: 0o700,
     },
 );
@@ -52,7 +58,7 @@ const CHMOD: Step = Step::Call(
 const OPEN: Step = Step::Call(
     101,
     Call::Open {
-        path: b"/",
+        path: TOP,
         flags: OpenFlags::READ,
         mode: 0,
     },

@@ -12,7 +12,7 @@ use descriptors::Descriptors;
 use errno::Errno;
 use layout::Geometry;
 use std::alloc::{AllocError, Global};
-use tree::{Call, OpenFlags, Reply, Who};
+use tree::{Call, OpenFlags, PathFrom, Reply, Who};
 
 /// Does a call at 60.
 fn done<B: Blocks>(
@@ -178,6 +178,7 @@ impl Volume {
     ) -> Result<u32, Errno> {
         let flags = OpenFlags::from_bits_retain(bits);
         let who = Who { session, uid, gid };
+        let path = PathFrom::root(path);
         self.call(who, &Call::Open { path, flags, mode })
     }
 

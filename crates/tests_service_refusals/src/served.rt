@@ -15,6 +15,7 @@ use std::alloc::Global;
 use std::sync::{Arc, Wait};
 use std::test::Fail;
 use std::thread::Threads;
+use std::time::Clock;
 
 /// Asks for a session with the first request refused, then with the second, until none is.
 #[derive(Drop)]
@@ -65,17 +66,28 @@ impl Asks {
     }
 }
 
-#[test]
-fn sessions_that_are_asked_for(rt: HostRuntime) -> Result<(), Fail> {
-    let alloc = rt.alloc();
-    let image = new_volume(alloc, 1024)?;
+/// What comes of a program over a service on the volume in an image.
+fn served<R: Threads + Wait + Clock + Copy + Send + Sync + 'static, P: Program<R>>(
+    alloc: Global,
+    rt: R,
+    image: Vec<u8>,
+    program: P,
+) -> Result<P::Output, Fail> {
     let supply = drivers_for(alloc, 0, false, table_in(&image))?;
     let gate = Arc::new(alloc, Ticking::new(rt, 5))?;
-    match serve(alloc, rt, image, &patient(), supply, gate, Asks(alloc)) {
-        Ok(true) => Ok(()),
-        Ok(false) => Err(Fail::from("a session")),
+    match serve(alloc, rt, image, &patient(), supply, gate, program) {
+        Ok(came) => Ok(came),
         Err(_) => Err(Fail::from("not served")),
     }
+}
+
+#[test]
+fn sessions_that_are_asked_for(rt: HostRuntime) -> Result<(), Fail> {
+    let image = new_volume(rt.alloc(), 1024)?;
+    if served(rt.alloc(), rt, image, Asks(rt.alloc()))? {
+        return Ok(());
+    }
+    Err(Fail::from("a session"))
 }
 
 /// Stops the service while no request is granted.
@@ -104,15 +116,11 @@ impl<R: Threads + Wait + Copy + Send + Sync + 'static> Program<R> for Stops {
 /// A stop takes no memory for the image: it leaves what was handed in, since no call was made.
 #[test]
 fn a_service_that_is_stopped(rt: HostRuntime) -> Result<(), Fail> {
-    let alloc = rt.alloc();
-    let image = new_volume(alloc, 1024)?;
-    let handed = Vec::from_slice(alloc, &image)?;
-    let supply = drivers_for(alloc, 0, false, table_in(&image))?;
-    let gate = Arc::new(alloc, Ticking::new(rt, 5))?;
-    match serve(alloc, rt, handed, &patient(), supply, gate, Stops(alloc)) {
-        Ok(Some(left)) if left.as_slice() == image.as_slice() => Ok(()),
-        Ok(Some(_)) => Err(Fail::from("another image")),
-        Ok(None) => Err(Fail::from("not stopped")),
-        Err(_) => Err(Fail::from("not served")),
+    let image = new_volume(rt.alloc(), 1024)?;
+    let handed = Vec::from_slice(rt.alloc(), &image)?;
+    let left = served(rt.alloc(), rt, handed, Stops(rt.alloc()))?;
+    if left.as_deref() == Some(image.as_slice()) {
+        return Ok(());
     }
+    Err(Fail::from("not stopped, or another image"))
 }

@@ -111,14 +111,19 @@ fn asked_of<R: Threads + Wait + Copy + Send + Sync + 'static>(
     )
 }
 
+/// The lines that come of it, and the image as it was.
+fn is_right(image: &[u8], left: Option<&[u8]>, lines: &str) -> Result<(), Fail> {
+    is_told(lines, "cut\nSome(Stopped)\n")?;
+    if left == Some(image) {
+        return Ok(());
+    }
+    Err(Fail::from("another image"))
+}
+
 #[test]
 fn a_stopped_service_makes_no_session(rt: HostRuntime) -> Result<(), Fail> {
     let image = new_volume(rt.alloc(), 1024)?;
     let mut lines = String::new(rt.alloc());
     let left = asked_of(rt.alloc(), rt, &image, &mut lines)?;
-    is_told(lines.as_str(), "cut\nSome(Stopped)\n")?;
-    if left.as_deref() == Some(image.as_slice()) {
-        return Ok(());
-    }
-    Err(Fail::from("another image"))
+    is_right(&image, left.as_deref(), lines.as_str())
 }

@@ -18,7 +18,7 @@ use std::thread;
 use std::thread::Threads;
 use std::time::Clock;
 use tests_texts::is_told;
-use tree::Call;
+use tree::{Call, PathFrom};
 
 /// How a service ends.
 #[derive(Clone, Copy, PartialEq, Eq)]
@@ -33,11 +33,9 @@ enum Ending {
 
 /// Asks for the root, and then changes its permissions.
 fn change<C: Caller>(session: &mut C, lines: &mut String) {
-    told(session, 100, &Call::Stat { path: b"/" }, lines);
-    let chmod = Call::Chmod {
-        path: b"/",
-        mode: 0o700,
-    };
+    let path = PathFrom::root(b"/");
+    told(session, 100, &Call::Stat { path }, lines);
+    let chmod = Call::Chmod { path, mode: 0o700 };
     told(session, 100, &chmod, lines);
 }
 
@@ -172,9 +170,8 @@ fn is_left<R: Wait + Clock + Copy>(
 fn stopped_while_held(rt: HostRuntime) -> Result<(), Fail> {
     let stage = stage_of(rt.alloc(), rt, 1024)?;
     let left = ended(&stage, &[], Ending::StoppedAtHang)?;
-    is_left(&stage, &left, 2)?;
     assert!(rt; !stage.notes.has_written(1));
-    Ok(())
+    is_left(&stage, &left, 2)
 }
 
 /// A service is let go while its first driver hangs, which is then let go: all threads end by themselves.

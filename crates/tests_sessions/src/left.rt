@@ -17,7 +17,7 @@ use std::test::*;
 use std::thread::Threads;
 use std::time::Clock;
 use tests_texts::is_told;
-use tree::Call;
+use tree::{Call, PathFrom};
 
 /// A session makes a directory, the service is stopped, and once more when the session has ended.
 #[derive(Drop)]
@@ -40,7 +40,7 @@ impl<R: Threads + Wait + Clock + Copy + Send + Sync + 'static> Program<R> for St
         let mut lines = String::new(self.alloc);
         let mut session = service.session(0, 0).ok()?;
         let mkdir = Call::Mkdir {
-            path: b"/d",
+            path: PathFrom::root(b"/d"),
             mode: 0o755,
         };
         told(&mut session, 100, &mkdir, &mut lines);
@@ -53,16 +53,31 @@ impl<R: Threads + Wait + Clock + Copy + Send + Sync + 'static> Program<R> for St
     }
 }
 
+/// What comes of it over the volume in an image.
+fn came_of<R: Threads + Wait + Clock + Copy + Send + Sync + 'static>(
+    alloc: Global,
+    rt: R,
+    image: &[u8],
+) -> Result<(String, Vec<u8>), Fail> {
+    let stage = Stage::new(alloc, rt, Vec::from_slice(alloc, image)?, Holds::Flusher)?;
+    let came = stage.served(&[], StopsTwice { alloc })?;
+    Ok(came.ok_or("not refused, or not stopped")?)
+}
+
+/// The volume that is left is sound, and another one than it was.
+fn is_sound(alloc: Global, image: &[u8], left: &[u8]) -> Result<(), Fail> {
+    if matches!(check(alloc, left), Ok(Verdict::Clean(_))) && left != image {
+        return Ok(());
+    }
+    Err(Fail::from("not clean, or nothing was written"))
+}
+
 /// A stop with a session is refused, and the service goes on; once the session has ended it gives a sound volume, to which the directory
 /// was written.
 #[test]
 fn left(rt: HostRuntime) -> Result<(), Fail> {
-    let alloc = rt.alloc();
-    let stage = Stage::new(alloc, rt, new_volume(alloc, 1024)?, Holds::Flusher)?;
-    let came = stage.served(&[], StopsTwice { alloc })?;
-    let (lines, left) = came.ok_or("not refused, or not stopped")?;
+    let image = new_volume(rt.alloc(), 1024)?;
+    let (lines, left) = came_of(rt.alloc(), rt, &image)?;
     is_told(lines.as_str(), "ok\n")?;
-    assert!(rt; matches!(check(alloc, &left), Ok(Verdict::Clean(_))));
-    assert!(rt; left.as_slice() != stage.image.as_slice());
-    Ok(())
+    is_sound(rt.alloc(), &image, &left)
 }

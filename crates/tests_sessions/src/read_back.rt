@@ -17,7 +17,7 @@ use std::test::*;
 use std::thread::Threads;
 use std::time::Clock;
 use tests_texts::is_told;
-use tree::{Call, OpenFlags};
+use tree::{Call, OpenFlags, PathFrom};
 
 /// The flags of the first session's open: what it writes goes to the end of a file that it may make.
 fn rwac() -> OpenFlags {
@@ -31,7 +31,7 @@ const DIES_IN: u32 = MOUNT_READS + 4;
 /// Opens the file, by these flags.
 fn opening(flags: OpenFlags) -> Call<'static> {
     Call::Open {
-        path: b"/f",
+        path: PathFrom::root(b"/f"),
         flags,
         mode: 0o644,
     }
@@ -69,7 +69,8 @@ fn write_and_read<R: Clock + Copy, C: Caller>(
     one.meets(two);
     let is_equal = one.marks() == two.marks();
     told(two, 102, &Call::Read { fd: 0, count: 9 }, lines);
-    told(two, 102, &Call::Stat { path: b"/f" }, lines);
+    let path = PathFrom::root(b"/f");
+    told(two, 102, &Call::Stat { path }, lines);
     (is_equal, has_died)
 }
 
@@ -178,24 +179,33 @@ fn came_of<R: Threads + Wait + Clock + Copy + Send + Sync + 'static>(
     Ok(stage.served(&[DEATH], program)?.ok_or("not stopped")?)
 }
 
+/// The lines of both sessions.
+const LINES: &str = "fd 0
+fd 0
+wrote 1
+bytes 61
+inode 2 mode 0100644 links 1 uid 0 gid 0 size 1 times 100 101 101
+";
+
+/// So it came, with a sound volume.
+fn is_right(alloc: Global, came: &Came) -> Result<(), Fail> {
+    is_told(came.lines.as_str(), LINES)?;
+    let is_clean = matches!(check(alloc, &came.image), Ok(Verdict::Clean(_)));
+    if came.is_equal && came.has_died && is_clean {
+        return Ok(());
+    }
+    Err(Fail::from("not equal, not died, or not clean"))
+}
+
 /// What the first session writes while the first driver dies, the second one reads. The image that is left is a sound volume, and the one
 /// handed in, changed by what the drivers wrote; a further service reads the file there.
 #[test]
 fn read_back(rt: HostRuntime) -> Result<(), Fail> {
     let alloc = rt.alloc();
-    let stage = Stage::new(alloc, rt, new_volume(alloc, 1024)?, Holds::Flusher)?;
+    let image = new_volume(alloc, 1024)?;
+    let stage = Stage::new(alloc, rt, image, Holds::Flusher)?;
     let came = came_of(&stage)?;
-    is_told(
-        came.lines.as_str(),
-        "fd 0
-fd 0
-wrote 1
-bytes 61
-inode 2 mode 0100644 links 1 uid 0 gid 0 size 1 times 100 101 101
-",
-    )?;
-    assert!(rt; came.is_equal && came.has_died);
-    assert!(rt; matches!(check(alloc, &came.image), Ok(Verdict::Clean(_))));
+    is_right(alloc, &came)?;
     stage.check_left(&came.image)?;
     is_read(alloc, rt, came.image)
 }

@@ -8,7 +8,13 @@ use std::sync::Wait;
 use std::test::Fail;
 use std::thread::Threads;
 use tests_texts::is_told;
-use tree::Call;
+use tree::{Call, PathFrom, Start};
+
+/// The directory.
+const DIRECTORY: PathFrom<'static> = PathFrom {
+    start: Start::Root,
+    bytes: b"/d",
+};
 
 /// What is done, whether the driver dies in its first request after those of the mount, the lines that come of it, and whether a service
 /// was stopped and its image stays as it was.
@@ -45,7 +51,7 @@ Live Live
     (
         What::Stops(
             Call::Mkdir {
-                path: b"/d",
+                path: DIRECTORY,
                 mode: 0o755,
             },
             true,
@@ -57,7 +63,7 @@ Live Live
     (
         What::Stops(
             Call::Mkdir {
-                path: b"/d",
+                path: DIRECTORY,
                 mode: 0o755,
             },
             false,
@@ -70,7 +76,7 @@ Live Live
 
 /// Another service finds what was made, and leaves the image as it is.
 static AGAIN: [Row; 1] = [(
-    What::Stops(Call::Stat { path: b"/d" }, true),
+    What::Stops(Call::Stat { path: DIRECTORY }, true),
     false,
     "inode 2 mode 0040755 links 2 uid 0 gid 0 size 128 times 100 100 100\nsynced\n",
     true,

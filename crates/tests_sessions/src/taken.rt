@@ -16,7 +16,7 @@ use std::test::*;
 use std::thread::Threads;
 use std::time::Clock;
 use tests_texts::is_told;
-use tree::Call;
+use tree::{Call, PathFrom};
 
 /// What is to be told: a directory is made and synced, and what changed makes the copy the image; then nothing has changed. Another one is
 /// made and synced: the copy is behind. The changes are marked again, and taken again: the same units, which make the copy the image.
@@ -24,6 +24,7 @@ const TOLD: &str = "ok\nok\nsame\n0 units\nok\nok\nbehind\ntrue\nsame\n";
 
 /// Makes a directory, and syncs.
 fn made<C: Caller>(caller: &mut C, path: &[u8], lines: &mut String) {
+    let path = PathFrom::root(path);
     told(caller, 100, &Call::Mkdir { path, mode: 0o755 }, lines);
     told(caller, 100, &Call::Sync, lines);
 }
@@ -119,13 +120,21 @@ impl<R: Threads + Wait + Clock + Copy + Send + Sync + 'static> Program<R> for Co
     }
 }
 
+/// What is told of it on a stage.
+fn told_of<R: Threads + Wait + Clock + Copy + Send + Sync + 'static>(
+    stage: &Stage<R>,
+) -> Result<String, Fail> {
+    let copies = Copies {
+        alloc: stage.alloc,
+        copy: Vec::from_slice(stage.alloc, &stage.image)?,
+    };
+    let lines = stage.served(&[], copies)?;
+    Ok(lines.ok_or("no memory, or not stopped")?)
+}
+
 #[test]
 fn taken(rt: HostRuntime) -> Result<(), Fail> {
-    let alloc = rt.alloc();
-    let stage = Stage::new(alloc, rt, new_volume(alloc, 1024)?, Holds::Flusher)?;
-    let copy = Vec::from_slice(alloc, &stage.image)?;
-    let lines = stage
-        .served(&[], Copies { alloc, copy })?
-        .ok_or("no memory, or not stopped")?;
-    is_told(lines.as_str(), TOLD)
+    let image = new_volume(rt.alloc(), 1024)?;
+    let stage = Stage::new(rt.alloc(), rt, image, Holds::Flusher)?;
+    is_told(told_of(&stage)?.as_str(), TOLD)
 }

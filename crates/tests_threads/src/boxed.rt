@@ -18,7 +18,7 @@ use std::sync::{Arc, Wait};
 use std::test::*;
 use std::thread::Threads;
 use tests_texts::is_told;
-use tree::Call;
+use tree::{Call, PathFrom};
 
 /// Asks for the root.
 #[derive(Clone, Copy, Drop)]
@@ -39,7 +39,8 @@ impl<R: Threads + Wait + Copy + Send + Sync + 'static> Program<R> for Asks {
     {
         let mut lines = String::new(self.alloc);
         let mut session = service.session(0, 0).ok()?;
-        told(&mut session, 100, &Call::Stat { path: b"/" }, &mut lines);
+        let path = PathFrom::root(b"/");
+        told(&mut session, 100, &Call::Stat { path }, &mut lines);
         session.end();
         let image = service.stop().ok()?;
         Some((lines, image))
@@ -62,25 +63,25 @@ fn drivers(alloc: Global) -> Result<Vec<Driver>, AllocError> {
     Ok(drivers)
 }
 
+/// What comes of it over the volume in an image.
+fn came_of<R: Threads + Wait + Copy + Send + Sync + 'static>(
+    alloc: Global,
+    rt: R,
+    image: &[u8],
+) -> Result<(String, Vec<u8>), Fail> {
+    let drivers = drivers(alloc)?;
+    let gate = Arc::new(alloc, Yielding)?;
+    let image = Vec::from_slice(alloc, image)?;
+    match serve(alloc, rt, image, &patient(), drivers, gate, Asks { alloc }) {
+        Ok(Some(came)) => Ok(came),
+        _ => Err(Fail::from("not started, or not stopped")),
+    }
+}
+
 #[test]
 fn drivers_in_boxes(rt: HostRuntime) -> Result<(), Fail> {
-    let alloc = rt.alloc();
-    let image = new_volume(alloc, 1024)?;
-    let handed = Vec::from_slice(alloc, &image)?;
-    let gate = Arc::new(alloc, Yielding)?;
-    let came = serve(
-        alloc,
-        rt,
-        handed,
-        &patient(),
-        drivers(alloc)?,
-        gate,
-        Asks { alloc },
-    );
-    let Ok(Some((lines, left))) = came else {
-        return Err(Fail::from("not started, or not stopped"));
-    };
-    is_told(lines.as_str(), ROOT)?;
+    let image = new_volume(rt.alloc(), 1024)?;
+    let (lines, left) = came_of(rt.alloc(), rt, &image)?;
     assert!(rt; left.as_slice() == image.as_slice());
-    Ok(())
+    is_told(lines.as_str(), ROOT)
 }

@@ -10,13 +10,12 @@ use fixtures_sessions::watch::{Holds, Watch};
 use serve::service::Service;
 use service_start::program::Program;
 use std::alloc::Global;
-use std::process::Abort;
 use std::sync::{Arc, Wait};
 use std::test::*;
 use std::thread::Threads;
 use std::time::Clock;
 use tests_texts::is_told;
-use tree::Call;
+use tree::{Call, PathFrom};
 
 /// Who is held, and what is called meanwhile.
 #[derive(Clone, Copy)]
@@ -62,8 +61,9 @@ struct Came {
 
 /// Changes the root's permissions and has them written, twice. Its inode is at hand.
 fn changes<C: Caller>(session: &mut C, lines: &mut String) {
+    let path = PathFrom::root(b"/");
     for mode in [0o700, 0o755] {
-        told(session, 100, &Call::Chmod { path: b"/", mode }, lines);
+        told(session, 100, &Call::Chmod { path, mode }, lines);
         told(session, 100, &Call::Sync, lines);
     }
 }
@@ -75,7 +75,9 @@ fn calls<R: Clock + Copy, C: Caller>(
     session: &mut C,
     lines: &mut String,
 ) -> (bool, bool) {
-    let stat = Call::Stat { path: b"/" };
+    let stat = Call::Stat {
+        path: PathFrom::root(b"/"),
+    };
     match what {
         What::Read => {
             gate.hold();
@@ -156,19 +158,30 @@ fn came_of<R: Threads + Wait + Clock + Copy + Send + Sync + 'static>(
     Ok(stage.served(&[], program)?.ok_or("not stopped")?)
 }
 
+/// These lines, and an image that is the volume changed by what drivers but the first wrote.
+fn is_right<R: Wait + Clock + Copy>(
+    stage: &Stage<R>,
+    came: &Came,
+    lines: &str,
+) -> Result<(), Fail> {
+    is_told(came.lines.as_str(), lines)?;
+    if came.is_early || !came.has_passed || stage.notes.has_written(1) {
+        return Err(Fail::from("early, not passed, or written by the first driver"));
+    }
+    stage.check_left(&came.image)
+}
+
 /// What comes of it over the small volume: these lines, and an image that is the volume changed by what drivers but the first wrote.
-fn comes_out<R: Threads + Wait + Abort + Clock + Copy + Send + Sync + 'static>(
+fn comes_out<R: Threads + Wait + Clock + Copy + Send + Sync + 'static>(
     alloc: Global,
     rt: R,
     what: What,
     lines: &str,
 ) -> Result<(), Fail> {
-    let stage = Stage::new(alloc, rt, new_volume(alloc, 1024)?, what.holds())?;
+    let image = new_volume(alloc, 1024)?;
+    let stage = Stage::new(alloc, rt, image, what.holds())?;
     let came = came_of(&stage, what)?;
-    is_told(came.lines.as_str(), lines)?;
-    assert!(rt; !came.is_early && came.has_passed);
-    assert!(rt; !stage.notes.has_written(1));
-    stage.check_left(&came.image)
+    is_right(&stage, &came, lines)
 }
 
 /// The first driver is held before its first step after the start until a later one has answered. The step that it takes then writes

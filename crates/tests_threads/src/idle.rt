@@ -14,15 +14,14 @@ use serve::service::Service;
 use serve::stopping::StopRefusal;
 use service_start::program::Program;
 use service_start::start::serve;
-use std::alloc::Global;
-use std::process::Abort;
+use std::alloc::{AllocError, Global};
 use std::sync::atomic::{AtomicBool, Ordering};
 use std::sync::{Arc, Wait};
 use std::test::*;
 use std::thread;
 use std::thread::Threads;
 use std::time::{Clock, Duration};
-use tree::{Call, OpenFlags, Outcome, Reply};
+use tree::{Call, OpenFlags, Outcome, PathFrom, Reply};
 
 /// How many blocks the volume has.
 const BLOCKS: u32 = 512;
@@ -71,7 +70,7 @@ fn is_written(image: &[u8], opening: &[u8]) -> bool {
 /// Makes a file, and writes its pages. Whether each call was answered so.
 fn writes<C: Caller>(session: &mut C) -> bool {
     let open = Call::Open {
-        path: b"/f",
+        path: PathFrom::root(b"/f"),
         flags: OpenFlags::WRITE | OpenFlags::CREATE,
         mode: 0o644,
     };
@@ -190,23 +189,31 @@ impl<R: Threads + Wait + Clock + Copy + Send + Sync + 'static> Program<R> for Id
     }
 }
 
+/// It, on a stage.
+fn idle_on<R: Wait + Clock + Copy>(
+    stage: &Stage<R>,
+    is_stopped: bool,
+) -> Result<Idle<R>, AllocError> {
+    let gate = Late {
+        ticking: Ticking::new(stage.rt, PACE),
+        let_go: AtomicBool::new(false),
+    };
+    Ok(Idle {
+        alloc: stage.alloc,
+        rt: stage.rt,
+        gate: Arc::new(stage.alloc, gate)?,
+        opening: Vec::from_slice(stage.alloc, &stage.image)?,
+        is_stopped,
+    })
+}
+
 /// What comes of it on a stage.
 fn came_of<R: Threads + Wait + Clock + Copy + Send + Sync + 'static>(
     stage: &Stage<R>,
     is_stopped: bool,
 ) -> Result<Came, Fail> {
-    let gate = Late {
-        ticking: Ticking::new(stage.rt, PACE),
-        let_go: AtomicBool::new(false),
-    };
-    let gate = Arc::new(stage.alloc, gate)?;
-    let program = Idle {
-        alloc: stage.alloc,
-        rt: stage.rt,
-        gate: Arc::try_clone(&gate)?,
-        opening: Vec::from_slice(stage.alloc, &stage.image)?,
-        is_stopped,
-    };
+    let program = idle_on(stage, is_stopped)?;
+    let gate = Arc::try_clone(&program.gate)?;
     let setup = Setup {
         frames: FRAMES,
         ..patient()
@@ -214,13 +221,22 @@ fn came_of<R: Threads + Wait + Clock + Copy + Send + Sync + 'static>(
     let supply = stage.supply(&[])?;
     let image = Vec::from_slice(stage.alloc, &stage.image)?;
     match serve(stage.alloc, stage.rt, image, &setup, supply, gate, program) {
-        Ok(came) => Ok(came.ok_or("not stopped")?),
-        Err(refusal) => Err(Fail::new(format_args!("{refusal}"))),
+        Ok(Some(came)) => Ok(came),
+        _ => Err(Fail::from("not started, or not stopped")),
     }
 }
 
+/// Each call was answered, all was written to the idle service's media, and no more.
+fn is_right<R: Wait + Clock + Copy>(stage: &Stage<R>, came: &Came) -> Result<(), Fail> {
+    let is_idle = is_written(&came.idle, &stage.image);
+    if !came.is_answered || !is_idle || came.left.as_slice() != came.idle.as_slice() {
+        return Err(Fail::from("not answered, not written, or written later"));
+    }
+    stage.check_left(&came.left)
+}
+
 /// All that was changed is on the media of the idle service, and a last sync writes nothing more.
-fn is_written_back<R: Threads + Wait + Abort + Clock + Copy + Send + Sync + 'static>(
+fn is_written_back<R: Threads + Wait + Clock + Copy + Send + Sync + 'static>(
     alloc: Global,
     rt: R,
     is_stopped: bool,
@@ -228,10 +244,7 @@ fn is_written_back<R: Threads + Wait + Abort + Clock + Copy + Send + Sync + 'sta
     let image = mkfs(alloc, BLOCKS, BLOCK as u32, 32, 50)?;
     let stage = Stage::new(alloc, rt, image, Holds::Flusher)?;
     let came = came_of(&stage, is_stopped)?;
-    assert!(rt; came.is_answered);
-    assert!(rt; is_written(&came.idle, &stage.image));
-    assert!(rt; came.left.as_slice() == came.idle.as_slice());
-    stage.check_left(&came.left)
+    is_right(&stage, &came)
 }
 
 /// Two hundred pages and what leads to them are written by the flusher alone.

@@ -17,7 +17,7 @@ use std::test::*;
 use std::thread;
 use std::thread::Threads;
 use std::time::Clock;
-use tree::{Call, OpenFlags, Outcome, Reply};
+use tree::{Call, OpenFlags, Outcome, PathFrom, Reply};
 
 /// How many sessions there are.
 const SESSIONS: u8 = 64;
@@ -52,8 +52,9 @@ fn byte(number: u8, piece: u8) -> u8 {
 
 /// Opens a session's file.
 fn opened<C: Caller>(session: &mut C, number: u8, flags: OpenFlags) -> bool {
+    let name = path(number);
     let open = Call::Open {
-        path: &path(number),
+        path: PathFrom::root(&name),
         flags,
         mode: 0o644,
     };

@@ -14,12 +14,13 @@ use fixtures_sessions::watch::{Holds, Watch};
 use serve::service::{Service, Shared};
 use serve::session::Session;
 use std::alloc::Global;
+use std::process::Abort;
 use std::sync::{Arc, Wait};
 use std::test::*;
 use std::thread::{Threads, join};
 use std::time::Clock;
 use tests_texts::is_told;
-use tree::Call;
+use tree::{Call, PathFrom};
 
 /// A beat, and how many marks there are, which driver was started last, and the greatest beat, by this seat.
 fn felt(board: &Board, seat: &mut Seat) -> (u64, u32, (u32, u32))
@@ -44,7 +45,8 @@ fn calls<N: ServiceParameters, R: Threads + Wait + Copy, L: Recorder<N>, S: File
     mut session: Session<N, Shared<N, R, L, S>>,
 ) -> String {
     let mut lines = String::new(alloc);
-    told(&mut session, 100, &Call::Stat { path: b"/" }, &mut lines);
+    let path = PathFrom::root(b"/");
+    told(&mut session, 100, &Call::Stat { path }, &mut lines);
     session.end();
     lines
 }
@@ -125,14 +127,18 @@ fn board_waits_for_nobody(rt: HostRuntime) -> Result<(), Fail> {
     Ok(())
 }
 
+/// The marks of both, and the device.
+fn are_seen(rt: &impl Abort, (one, two, device): Looked) {
+    assert!(rt; one == two && one >= u64::from(MOUNT_READS) + 1);
+    assert_eq!(rt; device, Device::Live);
+}
+
 /// The marks at the start are the first driver's start and its answers to the mount's reads; of more drivers there are more.
 #[test]
 fn no_wait(rt: HostRuntime) -> Result<(), Fail> {
-    let alloc = rt.alloc();
-    let stage = Stage::new(alloc, rt, new_volume(alloc, 1024)?, Holds::Drivers)?;
-    let (lines, (one, two, device)) = looked(&stage)?;
-    is_told(lines.as_str(), ROOT)?;
-    assert!(rt; one == two && one >= u64::from(MOUNT_READS) + 1);
-    assert_eq!(rt; device, Device::Live);
-    Ok(())
+    let image = new_volume(rt.alloc(), 1024)?;
+    let stage = Stage::new(rt.alloc(), rt, image, Holds::Drivers)?;
+    let (lines, seen) = looked(&stage)?;
+    are_seen(&rt, seen);
+    is_told(lines.as_str(), ROOT)
 }

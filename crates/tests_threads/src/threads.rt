@@ -13,17 +13,20 @@ inode 1 mode 0040755 links 2 uid 0 gid 0 size 128 times 50 50 50
 inode 1 mode 0040755 links 2 uid 0 gid 0 size 128 times 50 50 50
 ";
 
-#[test]
-fn two_threads_call(rt: HostRuntime) -> Result<(), Fail> {
-    let alloc = rt.alloc();
-    let stage = Stage::new(alloc, rt, new_volume(alloc, 1024)?, Holds::Flusher)?;
-    let (came, left) = at_once(&stage, &[], What::Ask)?;
-    let (one, two) = match came {
-        Came::Asked(one, two) => (one, two),
-        _other => return Err(Fail::from("not asked")),
+/// Both were answered so.
+fn are_told(came: &Came) -> Result<(), Fail> {
+    let Came::Asked(one, two) = came else {
+        return Err(Fail::from("not asked"));
     };
     is_told(one.as_str(), LINES)?;
-    is_told(two.as_str(), LINES)?;
+    is_told(two.as_str(), LINES)
+}
+
+#[test]
+fn two_threads_call(rt: HostRuntime) -> Result<(), Fail> {
+    let image = new_volume(rt.alloc(), 1024)?;
+    let stage = Stage::new(rt.alloc(), rt, image, Holds::Flusher)?;
+    let (came, left) = at_once(&stage, &[], What::Ask)?;
     assert!(rt; left.as_slice() == stage.image.as_slice());
-    Ok(())
+    are_told(&came)
 }

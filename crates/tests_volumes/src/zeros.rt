@@ -69,18 +69,22 @@ fn with_ones(alloc: Global, length: usize, places: &[usize]) -> Result<Vec<u8>, 
     Ok(bytes)
 }
 
+/// What a file of zeros holds once these bytes were put.
+fn held(alloc: Global, bytes: &[u8]) -> Result<Held, Fail> {
+    let mut held = Held {
+        bytes: Vec::from_elem(alloc, 0, 300005)?,
+        put: 0,
+    };
+    put_all(&mut held, bytes)?;
+    Ok(held)
+}
+
 #[test]
 fn zeros_are_not_put(rt: HostRuntime) -> Result<(), Fail> {
     for (length, places, put) in &PUT {
-        let bytes = with_ones(rt.alloc(), *length, places)?;
-        let mut held = Held {
-            bytes: Vec::from_elem(rt.alloc(), 0, 300005)?,
-            put: 0,
-        };
-        put_all(&mut held, &bytes)?;
-        if held.bytes != with_ones(rt.alloc(), 300005, places)? || held.put != *put {
-            return Err(Fail::new(format_args!("{length} bytes, {} put", held.put)));
-        }
+        let held = held(rt.alloc(), &with_ones(rt.alloc(), *length, places)?)?;
+        let wanted = with_ones(rt.alloc(), 300005, places)?;
+        assert!(rt; held.bytes == wanted && held.put == *put, "{length} bytes");
     }
     Ok(())
 }

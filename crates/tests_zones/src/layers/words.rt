@@ -6,7 +6,7 @@ use crate::layers::images::image_of;
 use block_store::memory::Memory;
 use block_store::words::{clear, read_byte, read_bytes, read_u32, write_bytes, write_u32};
 use block_store::{Blocks, Cut};
-use std::alloc::Global;
+use std::alloc::{AllocError, Global};
 use std::test::Fail;
 
 /// Reads and writes in block 1, and clears it: a byte, a number that was written, half of it, and five bytes.
@@ -25,18 +25,16 @@ fn words<B: Blocks>(blocks: &mut B) -> Result<(u8, u32, u32, [u8; 5]), Cut>
     Ok((byte, whole, half, into))
 }
 
-/// Bytes come and go.
-fn come_and_go(alloc: Global) -> Result<(), Fail> {
+/// Whether bytes come and go so.
+fn come_and_go(alloc: Global) -> Result<bool, AllocError> {
     let parts: &[(usize, &[u8], usize)] = &[(1024, b"\x09", 0), (2047, b"\x07\x05", 0)];
     let mut blocks = Memory::new(1024, image_of(alloc, &(3072, parts))?);
     let left = image_of(alloc, &(3072, &[(2048, b"\x05", 0)]))?;
     let came = words(&mut blocks);
-    if came == Ok((7, 0x0403_0201, 0x0201_0000, [0, 1, 2, 3, 7]))
-        && blocks.image() == left.as_slice()
-    {
-        return Ok(());
-    }
-    Err(Fail::from("words"))
+    Ok(
+        came == Ok((7, 0x0403_0201, 0x0201_0000, [0, 1, 2, 3, 7]))
+            && blocks.image() == left.as_slice(),
+    )
 }
 
 /// Whether this call was cut off.
@@ -58,7 +56,7 @@ fn ends_with_the_last<B: Blocks>(blocks: &mut B, into: &mut [u8; 3]) -> bool
 
 #[test]
 fn words_are_read_and_written(rt: HostRuntime) -> Result<(), Fail> {
-    come_and_go(rt.alloc())?;
+    assert!(rt; come_and_go(rt.alloc())?);
     let mut blocks = Memory::new(1024, image_of(rt.alloc(), &(3072, &[]))?);
     let mut into = [8u8; 3];
     assert!(rt; ends_with_the_last(&mut blocks, &mut into) && into == [8, 8, 8]);
