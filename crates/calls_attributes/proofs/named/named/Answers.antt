@@ -1,4 +1,4 @@
-use Rattle.std.proofs.Common.{sym, ap, ◌∙◌, Ok, Err}
+use Rattle.std.proofs.Common.{sym, ap, ◌∙◌, Err}
 use Rattle.block_store.proofs.Turns.{turns_as}
 use Rattle.calls_attributes.proofs.Naming.{walked_to, walk_refused_for, walk_halted}
 use Rattle.calls_attributes.proofs.named.named.Goals as goal
