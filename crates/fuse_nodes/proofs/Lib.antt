@@ -1,3 +1,6 @@
 pub mod TableLaws
 pub mod ChangeLaws
 pub mod SoundLaws
+pub mod FileKinds
+pub mod Removals
+pub mod Staying

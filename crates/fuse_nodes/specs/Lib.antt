@@ -4,3 +4,4 @@ pub mod Names
 pub mod Changes
 pub mod Handles
 pub mod Laws
+pub mod Files
