@@ -1,165 +1,173 @@
 -- Each moment of a put.
-use Rattle.std.proofs.Common.{◌≡◌, ◌⊎◌, inl, inr, ⊎_elim, ℕ, ◌^◌, ◌<◌, List, [], ◌∷◌, ◌++◌, length, arith, refl, sym, ◌∙◌, subst, Option, Some, None, Result, Ok, Err, OnOk, OnErr}
+use Rattle.std.proofs.Common.{◌≡◌, ◌⊎◌, inl, inr, ⊎_elim, ℕ, ◌+◌, ◌<◌, List, [], ◌∷◌, ◌++◌, length, map, arith, refl, sym, ◌∙◌, ap, subst, Option, Some, None, Result, Ok, Err, OnOk, OnErr, false}
 use Rattle.std.specs.List.{zip}
-use Rattle.stable.specs.Disk.{Contents, Changes, put, Disk, Step, Event, run}
+use Rattle.stable.specs.declared.Which.TheVariants.{Log, Image}
+use Rattle.stable.specs.Disk.{Contents, Changes, Step, Write, Sync, put, Disk, Held, Event, Did, done, run}
 use Rattle.stable.specs.Runs.{Known, now, Happens, Follows, Knows, EachMoment}
 use Rattle.redo.specs.Record.{recovered}
-use Rattle.redo.specs.Plans.{commit_plan}
-use Rattle.redo.specs.UnderWay.{Fits, IsAtRest, IsUnderWay}
-use Rattle.redo.specs.Laws.{IsImage, FindsEither, RestsWithEither}
+use Rattle.redo.specs.Plans.{log_plan, recover_plan}
+use Rattle.redo.specs.UnderWay.{AnyHow, IsAtRest, IsEither, IsUnderWay, IsUnderWayBy, IsCurrent}
+use Rattle.redo.specs.Laws.{IsImage, FindsEither, IsRecoverable, RestsWithEither}
 use Rattle.redo.proofs.Left.{happens-nil}
 use Rattle.redo.proofs.Units.{put_agrees}
-use Rattle.redo.proofs.Moments.{Reaches, at_moment, run_all}
-use Rattle.redo.proofs.Calls.{each_moment, holds_after, known_now}
-use Rattle.redo.proofs.CommitLaws.{committed, finds_either}
-use Rattle.image_file.specs.Puts.{put_plan, FindsBetween}
+use Rattle.redo.proofs.Moments.{run-append}
+use Rattle.redo.proofs.CommitLaws.{finds_either, image_as, image_either, rest_current}
+use Rattle.redo.proofs.RecoverLaws.{current_recoverable, rest_as}
+use Rattle.image_file.specs.Images.{IsImageSound, ShowsImage}
+use Rattle.image_file.specs.Puts.{put_plan, long_plan, FindsBetween, CurrentWithEither}
 use Rattle.image_file.proofs.Calls.{each_as, each_then, known_still}
 
--- changes that there are are put by a commit
-pub plan_of_some : (name : ℕ) (numbers : List ℕ) (units : List (List ℕ)) → 0 < length numbers → length numbers ≡ length units
-    → commit_plan name (zip numbers units) ≡ put_plan name (zip numbers units)
-plan_of_some name [] units some same = absurd (omega (arith, some))
-plan_of_some name (n ∷ numbers) [] some same = absurd (omega (arith, same))
-plan_of_some name (n ∷ numbers) (u ∷ units) some same = refl
+pub knows_as : (P Q : Disk → Type 0) → ((d : Disk) → P d → Q d) → (o : Option Known) → Knows P o → Knows Q o
+knows_as P Q to None h = absurd h
+knows_as P Q to (Some k) h = to (now k) h
 
-pub plan_of_none : (name : ℕ) (numbers : List ℕ) (units : List (List ℕ)) → length numbers ≡ 0 → put_plan name (zip numbers units) ≡ []
-plan_of_none name [] units none = refl
-plan_of_none name (n ∷ numbers) units none = absurd (omega (arith, none))
+knows_both : (P Q R : Disk → Type 0) → ((d : Disk) → P d → Q d → R d) → (o : Option Known) → Knows P o → Knows Q o → Knows R o
+knows_both P Q R to None h i = absurd h
+knows_both P Q R to (Some k) h i = to (now k) h i
 
-pub put_reaches : (name : ℕ) (changes : Changes) (image : Contents) (d : Disk) → IsAtRest image d
-    → Reaches (IsUnderWay name changes image (put changes image)) d (put_plan name changes) (IsAtRest (put changes image))
-put_reaches name [] image d rest = record { along = inl (inl rest); ends = rest }
-put_reaches name (w ∷ ws) image d rest = committed name (w ∷ ws) image d rest
+-- plans of changes that there are
+pub plan_of_some : (name at : ℕ) (numbers : List ℕ) (units : List (List ℕ)) → 0 < length numbers → length numbers ≡ length units → log_plan name at (zip numbers units) ≡ put_plan name at (zip numbers units)
+plan_of_some name at [] units some same = absurd (omega (arith, some))
+plan_of_some name at (n ∷ numbers) [] some same = absurd (omega (arith, same))
+plan_of_some name at (n ∷ numbers) (u ∷ units) some same = refl
 
-module _ {E : Type 0} (name : ℕ) (changes : Changes) (old new : Option Known) (r : Result (Unit {0}) E) where
-  pub put_moments : Follows {T = Unit {0}} {E = E} (put_plan name changes) old new r → (image : Contents) → Knows (IsAtRest image) old
-      → EachMoment (IsUnderWay name changes image (put changes image)) old new
-  put_moments follows image rest =
-      let P : Disk → Type 0 = IsUnderWay name changes image (put changes image) in
-      each_moment {T = Unit {0}} {E = E} P (λ k. put_plan name changes) old new r
-      (λ k is events moment. at_moment P (now k) (put_plan name changes) events (put_reaches name changes image (now k) (known_now (IsAtRest image) old k rest is)).along moment)
-      (λ k is. follows)
+pub long_of_some : (name : ℕ) (log : Contents) (numbers : List ℕ) (units : List (List ℕ)) → 0 < length numbers → length numbers ≡ length units
+    → recover_plan name log ++ log_plan name 0 (zip numbers units) ≡ long_plan name log (zip numbers units)
+long_of_some name log [] units some same = absurd (omega (arith, some))
+long_of_some name log (n ∷ numbers) [] some same = absurd (omega (arith, same))
+long_of_some name log (n ∷ numbers) (u ∷ units) some same = refl
 
-  pub put_rests : Follows {T = Unit {0}} {E = E} (put_plan name changes) old new r → (image : Contents) → Knows (IsAtRest image) old
-      → OnOk r (Knows (IsAtRest (put changes image)) new)
-  put_rests follows image rest =
-      holds_after {T = Unit {0}} {E = E} (IsAtRest image) (IsAtRest (put changes image)) (λ k. put_plan name changes) old new r rest
-      (λ k is at. subst (IsAtRest (put changes image)) (sym (run_all (put_plan name changes) (now k))) (put_reaches name changes image (now k) at).ends) (λ k is. follows)
+-- no changes
+pub none_zip : (numbers : List ℕ) (units : List (List ℕ)) → length numbers ≡ 0 → zip numbers units ≡ []
+none_zip [] units none = refl
+none_zip (n ∷ numbers) units none = absurd (omega (arith, none))
 
-as_image : (r : Option Contents) (x y : Contents) → ((n : ℕ) → x n ≡ y n) → IsImage r x → IsImage r y
-as_image None x y same h = h
-as_image (Some found) x y same h = λ n. h n ∙ same n
+-- an image among two that are one
+wide_either : (z x y : Contents) → IsEither z x x → IsEither z x y
+wide_either z x y either = inl (⊎_elim (λ is. is) (λ is. is) either)
 
--- an image that is the one before or the one after, unit for unit
-abbrev pub IsEither : Contents → Contents → Contents → Type 0
-IsEither found before after = ((n : ℕ) → found n ≡ before n) ⊎ ((n : ℕ) → found n ≡ after n)
+wide : (name : ℕ) (x y : Contents) (d : Disk) → IsUnderWay name x x d → IsUnderWay name x y d
+wide name x y d (inl (image, records, either, l)) = inl (image, records, wide_either image x y either, l)
+wide name x y d (inr (a, b, first, others, is_a, is_b, w)) = inr (a, b, first, others, wide_either a x y is_a, wide_either b x y is_b, w)
+
+pub widely : (name : ℕ) (x y : Contents) (a b : Option Known) → EachMoment (IsUnderWay name x x) a b → EachMoment (IsUnderWay name x y) a b
+widely name x y a b h = each_as (IsUnderWay name x x) (IsUnderWay name x y) a b (wide name x y) h
+
+pub all_find : (name : ℕ) (x y : Contents) (a b : Option Known) → EachMoment (IsUnderWay name x y) a b → EachMoment (FindsEither name x y) a b
+all_find name x y a b h = each_as (IsUnderWay name x y) (FindsEither name x y) a b (finds_either AnyHow name x y) h
+
+-- what the log says can be recovered, and what was recovered is what it said
+pub to_recover_it : (name at : ℕ) (image : Contents) (o : Option Known) → Knows (IsCurrent name at image) o → Knows (IsRecoverable name image image) o
+to_recover_it name at image o h = knows_as (IsCurrent name at image) (IsRecoverable name image image) (current_recoverable name at image) o h
+
+rested : (image : Contents) (d : Disk) → RestsWithEither image image d → IsAtRest image d
+rested image d (found, rest, either) = rest_as found image (⊎_elim (λ is. is) (λ is. is) either) d rest
+
+pub rests_it : (image : Contents) (o : Option Known) → Knows (RestsWithEither image image) o → Knows (IsAtRest image) o
+rests_it image o h = knows_as (RestsWithEither image image) (IsAtRest image) (rested image) o h
+
+pub current_at : (name at : ℕ) (image : Contents) (o : Option Known) → at ≡ 0 → Knows (IsAtRest image) o → Knows (IsCurrent name at image) o
+current_at name at image o is h = subst (λ (k : ℕ). Knows (IsCurrent name k image) o) (sym is) (knows_as (IsAtRest image) (IsCurrent name 0 image) (rest_current name image) o h)
+
+-- nothing happens
+first_current : (name at : ℕ) (image after : Contents) (k : Known) (first later : List Event) → [] ≡ first ++ later → IsCurrent name at image (now k) → IsUnderWay name image after (run first (now k))
+first_current name at image after k [] later parts c = inl (image, c.records, inl (λ n. refl), c.logged)
+first_current name at image after k (e ∷ first) later parts c = cc
+
+pub nothing_moves : (name at : ℕ) (image after : Contents) (a b : Option Known) → Happens [] a b → Knows (IsCurrent name at image) a → EachMoment (IsUnderWay name image after) a b
+nothing_moves name at image after None b h c = tt
+nothing_moves name at image after (Some k) b h c = ([], h, λ first later parts. first_current name at image after k first later parts c)
+
+pub none_current : (name at : ℕ) (image : Contents) (ws : Changes) (o : Option Known) → ws ≡ [] → Knows (IsCurrent name at image) o → Knows (IsCurrent name at (put ws image)) o
+none_current name at image ws o none c = subst (λ (l : Changes). Knows (IsCurrent name at (put l image)) o) (sym none) c
 
 put_either : (changes : Changes) (found before after : Contents) → IsEither found before after → IsEither (put changes found) (put changes before) (put changes after)
 put_either changes found before after either = ⊎_elim
     (λ is. inl (λ n. put_agrees changes found before n (inl (is n)))) (λ is. inr (λ n. put_agrees changes found after n (inl (is n)))) either
 
-image_either : (r : Option Contents) (found before after : Contents) → IsEither found before after → IsImage r found → IsImage r before ⊎ IsImage r after
-image_either r found before after either h = ⊎_elim (λ is. inl (as_image r found before is h)) (λ is. inr (as_image r found after is h)) either
-
-module _ (name : ℕ) (small : name < 2 ^ 64) (before after : Contents) where
+module _ (name : ℕ) (before after : Contents) (changes : Changes) where
   -- a recovery is under way
-  between_first : (failed changes : Changes) → Fits failed → (d : Disk) → IsUnderWay name failed before after d → FindsBetween name changes before after d
-  between_first failed changes fits d h log left leaves = inl (finds_either name small failed fits before after d h log left leaves)
+  between_first : (d : Disk) → IsUnderWay name before after d → FindsBetween name changes before after d
+  between_first d h log left leaves = inl (finds_either AnyHow name before after d h log left leaves)
 
   -- a put is under way on what it found
-  between_second : (changes : Changes) (found : Contents) → IsEither found before after → (d : Disk) → FindsEither name found (put changes found) d → FindsBetween name changes before after d
-  between_second changes found either d h log left leaves =
+  between_second : (found : Contents) → IsEither found before after → (d : Disk) → IsUnderWay name found (put changes found) d → FindsBetween name changes before after d
+  between_second found either d h log left leaves =
       let r : Option Contents = recovered name log left in
       ⊎_elim (λ is. inl (image_either r found before after either is))
       (λ is. inr (image_either r (put changes found) (put changes before) (put changes after) (put_either changes found before after either) is))
-      (h log left leaves)
+      (finds_either AnyHow name found (put changes found) d h log left leaves)
 
   -- a recovery that stopped
-  pub stopped_between : (failed changes : Changes) → Fits failed → (a b : Option Known) → EachMoment (IsUnderWay name failed before after) a b → EachMoment (FindsBetween name changes before after) a b
-  stopped_between failed changes fits a b h = each_as (IsUnderWay name failed before after) (FindsBetween name changes before after) a b (between_first failed changes fits) h
+  pub stopped_between : (a b : Option Known) → EachMoment (IsUnderWay name before after) a b → EachMoment (FindsBetween name changes before after) a b
+  stopped_between a b h = each_as (IsUnderWay name before after) (FindsBetween name changes before after) a b between_first h
 
-  abbrev PutsFrom : Changes → Option Known → Option Known → Type 0
-  PutsFrom changes b c = (image : Contents) → Knows (IsAtRest image) b → EachMoment (FindsEither name image (put changes image)) b c
+  abbrev PutsFrom : Option Known → Option Known → Type 0
+  PutsFrom b c = (image : Contents) → Knows (IsAtRest image) b → EachMoment (IsUnderWay name image (put changes image)) b c
 
-  second_half : (changes : Changes) (b c : Option Known) → Knows (RestsWithEither before after) b → PutsFrom changes b c → EachMoment (FindsBetween name changes before after) b c
-  second_half changes None c rests puts = tt
-  second_half changes (Some k) c rests puts =
-      each_as (FindsEither name rests.0 (put changes rests.0)) (FindsBetween name changes before after) (Some k) c
-      (between_second changes rests.0 rests.2) (puts rests.0 rests.1)
+  second_half : (b c : Option Known) → Knows (RestsWithEither before after) b → PutsFrom b c → EachMoment (FindsBetween name changes before after) b c
+  second_half None c rests puts = tt
+  second_half (Some k) c rests puts =
+      each_as (IsUnderWay name rests.0 (put changes rests.0)) (FindsBetween name changes before after) (Some k) c
+      (between_second rests.0 rests.2) (puts rests.0 rests.1)
 
   -- a recovery, and a put
-  pub both_between : (failed changes : Changes) → Fits failed → (a b c : Option Known) → EachMoment (IsUnderWay name failed before after) a b
-      → Knows (RestsWithEither before after) b → PutsFrom changes b c → EachMoment (FindsBetween name changes before after) a c
-  both_between failed changes fits a b c h rests puts =
-      each_then (FindsBetween name changes before after) a b c (stopped_between failed changes fits a b h) (second_half changes b c rests puts)
+  pub both_between : (a b c : Option Known) → EachMoment (IsUnderWay name before after) a b → Knows (RestsWithEither before after) b → PutsFrom b c → EachMoment (FindsBetween name changes before after) a c
+  both_between a b c h rests puts = each_then (FindsBetween name changes before after) a b c (stopped_between a b h) (second_half b c rests puts)
 
-with_found : (changes : Changes) (before after found : Contents) (c : Option Known) → Knows (IsAtRest (put changes found)) c → IsEither found before after
-    → Knows (RestsWithEither (put changes before) (put changes after)) c
-with_found changes before after found None known either = absurd known
-with_found changes before after found (Some k) known either = (put changes found, known, put_either changes found before after either)
+  with_found : (at : ℕ) (found : Contents) (c : Option Known) → Knows (IsCurrent name at (put changes found)) c → IsEither found before after → Knows (CurrentWithEither name at (put changes before) (put changes after)) c
+  with_found at found c h either = knows_as (IsCurrent name at (put changes found)) (CurrentWithEither name at (put changes before) (put changes after)) (λ d is. (put changes found, is, put_either changes found before after either)) c h
 
--- what is put on the one image or the other
-pub rests_between : {T E : Type 0} (changes : Changes) (before after : Contents) (b c : Option Known) (r : Result T E) → Knows (RestsWithEither before after) b
-    → ((image : Contents) → Knows (IsAtRest image) b → OnOk r (Knows (IsAtRest (put changes image)) c))
-    → OnOk r (Knows (RestsWithEither (put changes before) (put changes after)) c)
-rests_between changes before after None c r rests puts = absurd rests
-rests_between changes before after (Some k) c (Err e) rests puts = tt
-rests_between changes before after (Some k) c (Ok v) rests puts = with_found changes before after rests.0 c (puts rests.0 rests.1) rests.2
+  -- what is put on the one image or the other
+  pub current_between : {T E : Type 0} (at : ℕ) (b c : Option Known) (r : Result T E) → Knows (RestsWithEither before after) b
+      → ((image : Contents) → Knows (IsAtRest image) b → OnOk r (Knows (IsCurrent name at (put changes image)) c))
+      → OnOk r (Knows (CurrentWithEither name at (put changes before) (put changes after)) c)
+  current_between at None c r rests puts = absurd rests
+  current_between at (Some k) c (Err e) rests puts = tt
+  current_between at (Some k) c (Ok v) rests puts = with_found at rests.0 c (puts rests.0 rests.1) rests.2
 
--- an image that is another one, unit for unit
-rest_as : (x y : Contents) → ((n : ℕ) → x n ≡ y n) → (d : Disk) → IsAtRest x d → IsAtRest y d
-rest_as x y same d rest = record { gate = rest.gate; image_is = λ n. let k = rest.image_is n in record { sure = k.sure; is = k.is ∙ same n } }
+-- no step that is done makes the image file fail
+image_sound : (steps : List Step) (d : Disk) → (run (map Did steps) d).image.failed ≡ d.image.failed
+image_sound [] d = refl
+image_sound (Write Log at units ∷ steps) d = image_sound steps (done d (Write Log at units))
+image_sound (Write Image at units ∷ steps) d = image_sound steps (done d (Write Image at units))
+image_sound (Sync Log ∷ steps) d = image_sound steps (done d (Sync Log))
+image_sound (Sync Image ∷ steps) d = image_sound steps (done d (Sync Image))
 
-pub rests_as : (x y : Contents) → ((n : ℕ) → x n ≡ y n) → (o : Option Known) → Knows (IsAtRest x) o → Knows (IsAtRest y) o
-rests_as x y same None known = absurd known
-rests_as x y same (Some k) known = rest_as x y same (now k) known
+still_sound : (plan : Known → List Step) (name at : ℕ) (image : Contents) (a b : Option Known) → Knows (IsCurrent name at image) a
+    → ((k : Known) → a ≡ Some k → (now k).log.failed ≡ false → Happens (map Did (plan k)) a b) → Knows IsImageSound a → Knows IsImageSound b
+still_sound plan name at image None b c h sound = absurd c
+still_sound plan name at image (Some k) b c h sound =
+    subst (Knows IsImageSound) (sym (h k refl c.sound))
+    (subst IsImageSound (sym (run-append k.events (map Did (plan k)) k.first)) (image_sound (plan k) (now k) ∙ sound))
 
-pub finds_as : (name : ℕ) (before x y : Contents) → ((n : ℕ) → x n ≡ y n) → (d : Disk) → FindsEither name before x d → FindsEither name before y d
-finds_as name before x y same d h log left leaves = ⊎_elim (λ is. inl is) (λ is. inr (as_image (recovered name log left) x y same is)) (h log left leaves)
+shows_rest : (image : Contents) (d : Disk) → IsAtRest image d → IsImageSound d → ShowsImage image d
+shows_rest image d rest sound = record { sound = sound; shows = λ n. let k = rest.image_is n in k.is }
 
-first_rests : (name : ℕ) (first later : List Event) (image : Contents) (k : Known) → [] ≡ first ++ later → IsAtRest image (now k) → IsUnderWay name [] image image (run first (now k))
-first_rests name [] later image k parts rest = inl (inl rest)
-first_rests name (e ∷ first) later image k parts rest = cc
+-- a settled image file shows the image
+pub settled_shows : (plan : Known → List Step) (name at : ℕ) (image : Contents) (a b : Option Known) → Knows (IsCurrent name at image) a
+    → ((k : Known) → a ≡ Some k → (now k).log.failed ≡ false → Happens (map Did (plan k)) a b) → Knows IsImageSound a → Knows (IsAtRest image) b → Knows (ShowsImage image) b
+settled_shows plan name at image a b c h sound rest =
+    knows_both (IsAtRest image) IsImageSound (ShowsImage image) (shows_rest image) b rest (still_sound plan name at image a b c h sound)
 
--- changes in numbers and units of 32 bits, put where they are changes
-pub follows_put : {T E : Type 0} (name : ℕ) (numbers : List ℕ) (units : List (List ℕ)) (old new : Option Known) (r : Result T E) → 0 < length numbers → length numbers ≡ length units
-    → Follows {T = T} {E = E} (commit_plan name (zip numbers units)) old new r → Follows {T = T} {E = E} (put_plan name (zip numbers units)) old new r
-follows_put {T} {E} name numbers units old new r some same h = subst (λ (l : List Step). Follows {T = T} {E = E} l old new r) (plan_of_some name numbers units some same) h
+-- a whole image is put: what changes make is that image
+module _ (name : ℕ) (before after mid : Contents) (same : (n : ℕ) → mid n ≡ after n) where
+  put_finds : (d : Disk) → IsUnderWay name before mid d → FindsEither name before after d
+  put_finds d h log left leaves = ⊎_elim (λ is. inl is) (λ is. inr (image_as (recovered name log left) mid after same is)) (finds_either AnyHow name before mid d h log left leaves)
 
--- no changes, and all at rest
-pub none_moments : (name : ℕ) (numbers : List ℕ) (units : List (List ℕ)) (o : Option Known) → length numbers ≡ 0 → (image : Contents) → Knows (IsAtRest image) o
-    → EachMoment (IsUnderWay name (zip numbers units) image (put (zip numbers units) image)) o o
-none_moments name [] units None none image rest = tt
-none_moments name [] units (Some k) none image rest = ([], happens-nil (Some k), λ first later parts. first_rests name first later image k parts rest)
-none_moments name (n ∷ numbers) units o none image rest = absurd (omega (arith, none))
+  pub image_puts : (a b : Option Known) → EachMoment (IsUnderWay name before mid) a b → EachMoment (FindsEither name before after) a b
+  image_puts a b h = each_as (IsUnderWay name before mid) (FindsEither name before after) a b put_finds h
 
-nothing_fits : Fits []
-nothing_fits = record { few = omega arith; numbers = tt }
+  last_finds : (d : Disk) → IsUnderWay name mid mid d → FindsEither name before after d
+  last_finds d h log left leaves =
+      let to : IsImage (recovered name log left) mid → IsImage (recovered name log left) before ⊎ IsImage (recovered name log left) after = λ is. inr (image_as (recovered name log left) mid after same is) in
+      ⊎_elim to to (finds_either AnyHow name mid mid d h log left leaves)
 
--- at rest, a recovery finds the image
-rest_finds : (name : ℕ) → name < 2 ^ 64 → (before after : Contents) (d : Disk) → IsAtRest before d → FindsEither name before after d
-rest_finds name small before after d rest = finds_either name small [] nothing_fits before after d (inl (inl rest))
+  pub image_settles : (a b : Option Known) → EachMoment (IsUnderWay name mid mid) a b → EachMoment (FindsEither name before after) a b
+  image_settles a b h = each_as (IsUnderWay name mid mid) (FindsEither name before after) a b last_finds h
 
-still_finds : (name : ℕ) → name < 2 ^ 64 → (before after : Contents) (k : Known) (first later : List Event) → [] ≡ first ++ later → IsAtRest before (now k) → FindsEither name before after (run first (now k))
-still_finds name small before after k [] later parts rest = rest_finds name small before after (now k) rest
-still_finds name small before after k (e ∷ first) later parts rest = cc
-
--- nothing happens at rest
-pub nothing_finds : (name : ℕ) → name < 2 ^ 64 → (before after : Contents) (a b : Option Known) → Happens [] a b → Knows (IsAtRest before) a → EachMoment (FindsEither name before after) a b
-nothing_finds name small before after None b h rest = tt
-nothing_finds name small before after (Some k) b h rest = ([], h, λ first later parts. still_finds name small before after k first later parts rest)
-
--- units are put that make an image
-pub image_moments : (name : ℕ) → name < 2 ^ 64 → (before after : Contents) (changes : Changes) (a b c : Option Known) → Happens [] a b → ((n : ℕ) → put changes before n ≡ after n)
-    → Knows (IsAtRest before) a → ((image : Contents) → Knows (IsAtRest image) b → EachMoment (FindsEither name image (put changes image)) b c) → EachMoment (FindsEither name before after) a c
-image_moments name small before after changes a b c h makes rest puts =
-    each_then (FindsEither name before after) a b c (nothing_finds name small before after a b h rest)
-    (each_as (FindsEither name before (put changes before)) (FindsEither name before after) b c (finds_as name before (put changes before) after makes) (puts before (known_still (IsAtRest before) a b h rest)))
-
-pub image_rests : {T E : Type 0} (before after : Contents) (changes : Changes) (a b c : Option Known) (r : Result T E) → Happens [] a b → ((n : ℕ) → put changes before n ≡ after n)
-    → Knows (IsAtRest before) a → ((image : Contents) → Knows (IsAtRest image) b → OnOk r (Knows (IsAtRest (put changes image)) c)) → OnOk r (Knows (IsAtRest after) c)
-image_rests before after changes a b c (Err e) h makes rest puts = tt
-image_rests before after changes a b c (Ok v) h makes rest puts = rests_as (put changes before) after makes c (puts before (known_still (IsAtRest before) a b h rest))
+  pub image_rests : (o : Option Known) → Knows (RestsWithEither mid mid) o → Knows (IsAtRest after) o
+  image_rests o h = knows_as (RestsWithEither mid mid) (IsAtRest after) (λ d r. rest_as mid after same d (rested mid d r)) o h
 
 -- a fact of one value is one of another that is the same
 pub at_first : {K : Type 0} (m s : K) → m ≡ s → (P : K → Type 0) → P m → P s
@@ -168,3 +176,7 @@ at_first m s same P h = subst P same h
 pub on_err : {T E : Type 0} (r : Result T E) (P : Type 0) → P → OnErr r P
 on_err (Ok v) P h = tt
 on_err (Err e) P h = h
+
+pub on_ok : {T E : Type 0} (r : Result T E) (P Q : Type 0) → (P → Q) → OnOk r P → OnOk r Q
+on_ok (Ok v) P Q to h = to h
+on_ok (Err e) P Q to h = tt

@@ -12,7 +12,11 @@ with_units count image c n = if nat_lt n count then unit_of image n else c n
 abbrev pub with_image : List ℕ → Contents → Contents
 with_image image c = with_units (units_in image) image c
 
--- nothing asked of the image file has failed, and this is what it shows
+-- nothing asked of the image file has failed
+abbrev pub IsImageSound : Disk → Type 0
+IsImageSound d = d.image.failed ≡ false
+
+-- the same, and this is what it shows
 pub record ShowsImage (image : ℕ → List ℕ) (d : Disk) : Type 0 where
   pub sound : d.image.failed ≡ false
   pub shows : (n : ℕ) → d.image.shows n ≡ image n

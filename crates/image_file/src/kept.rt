@@ -1,31 +1,33 @@
 //! An image file that is kept current through its log.
 
-ghost use Rattle.std.specs.Prelude.{◌≡◌, ◌≢◌, ◌<◌, ◌^◌, ℕ, List, length, map, is_ok, IfOk, OnOk, OnErr, Some, Err, true, false};
+ghost use Rattle.std.specs.Prelude.{◌≡◌, ◌≢◌, ◌<◌, ◌≤◌, ◌^◌, ℕ, List, length, map, IfOk, OnOk, OnErr, Some, Err, true, false};
 ghost use Rattle.stable.specs.Disk.{put, Did};
 ghost use Rattle.stable.specs.Runs.{Known, now, Knows, EachMoment, Happens, Follows};
 ghost use Rattle.changes.specs.Units.{puts_of};
-ghost use Rattle.redo.specs.Record.{standing, Foreign};
-ghost use Rattle.redo.specs.Plans.{recover_plan};
-ghost use Rattle.redo.specs.UnderWay.{Fits, IsAtRest, IsUnderWay};
+ghost use Rattle.redo.specs.Record.{most, standing, Foreign};
+ghost use Rattle.redo.specs.Plans.{log_plan, recover_plan};
+ghost use Rattle.redo.specs.UnderWay.{IsAtRest, IsCurrent, IsUnderWay};
 ghost use Rattle.redo.specs.Laws.{FindsEither, IsRecoverable, RestsWithEither};
-ghost use Rattle.image_file.specs.Images.{ShowsImage, with_image};
-ghost use Rattle.image_file.specs.Puts.{FindsBetween, IsForeign, put_plan};
+ghost use Rattle.image_file.specs.Images.{IsImageSound, with_image};
+ghost use Rattle.image_file.specs.Puts.{CurrentWithEither, FindsBetween, IsForeign, long_plan, put_plan};
 
 use crate::differing::differing;
 use crate::refusal::OpenRefusal;
 use changes::Changes;
-use redo::{Recovered, commit, recover};
+use redo::{MOST, Recovered, log, recover};
 use stable::Storage;
 use std::alloc::Global;
 use std::io;
 
 /// An image file that is kept current through its log: at each moment a crash leaves the image of the last put that was answered ok, or of
-/// the put under way, whole.
+/// the put under way, whole. The image file alone may be an older one until it is settled.
 #[derive(Drop)]
 pub struct Kept<S> {
     alloc: Global,
     storage: S,
     name: u64,
+    // The unit of the log where the next record goes.
+    at: u64,
     // Whether the last put failed: the log may ask for it still.
     unsettled: bool,
     ghost small: { name < 2 ^ 64 },
@@ -39,11 +41,9 @@ fn start<S: Storage>(alloc: Global, storage: &mut S, name: u64) -> Result<(), Op
         → OnOk result (standing name (now k).log.shows ≢ Foreign) }
     ensures foreign { (k : Known) → S.known storage.old ≡ Some k → (now k).log.failed ≡ false
         → result ≡ Err OpenRefusal.Foreign → IsForeign name k (S.known storage.new) }
-    ensures any_moment { (changes : List (ℕ × List ℕ)) (before after : ℕ → List ℕ) → Fits changes
-        → Knows (IsRecoverable name changes before after) (S.known storage.old)
-        → EachMoment (IsUnderWay name changes before after) (S.known storage.old) (S.known storage.new) }
-    ensures ok { (changes : List (ℕ × List ℕ)) (before after : ℕ → List ℕ) → Fits changes
-        → Knows (IsRecoverable name changes before after) (S.known storage.old)
+    ensures any_moment { (before after : ℕ → List ℕ) → Knows (IsRecoverable name before after) (S.known storage.old)
+        → EachMoment (IsUnderWay name before after) (S.known storage.old) (S.known storage.new) }
+    ensures ok { (before after : ℕ → List ℕ) → Knows (IsRecoverable name before after) (S.known storage.old)
         → OnOk result (Knows (RestsWithEither before after) (S.known storage.new)) }
 {
     match recover(alloc, storage, name)? {
@@ -58,15 +58,14 @@ impl<S: Storage + Drop> Kept<S> {
     ///
     /// Foreign where the log asks for changes of an image of another name: then nothing was written.
     pub fn open(alloc: Global, storage: S, name: u64) -> Result<Kept<S>, OpenRefusal>
-        ensures settled { IfOk result (λ kept. (kept.name ≡ name) × (kept.unsettled ≡ false)) }
+        ensures settled { IfOk result (λ kept. (kept.name ≡ name) × (kept.at ≡ 0) × (kept.unsettled ≡ false)) }
         ensures own { (k : Known) → S.known storage ≡ Some k → (now k).log.failed ≡ false
             → OnOk result (standing name (now k).log.shows ≢ Foreign) }
         ensures foreign { (k : Known) → S.known storage ≡ Some k → (now k).log.failed ≡ false
             → result ≡ Err OpenRefusal.Foreign → standing name (now k).log.shows ≡ Foreign }
         ensures follows { (k : Known) → S.known storage ≡ Some k → (now k).log.failed ≡ false
             → IfOk result (λ kept. Happens (map Did (recover_plan name (now k).log.shows)) (S.known storage) (S.known kept.storage)) }
-        ensures ok { (changes : List (ℕ × List ℕ)) (before after : ℕ → List ℕ) → Fits changes
-            → Knows (IsRecoverable name changes before after) (S.known storage)
+        ensures ok { (before after : ℕ → List ℕ) → Knows (IsRecoverable name before after) (S.known storage)
             → IfOk result (λ kept. Knows (RestsWithEither before after) (S.known kept.storage)) }
     {
         let mut storage = storage;
@@ -75,6 +74,7 @@ impl<S: Storage + Drop> Kept<S> {
             alloc,
             storage,
             name,
+            at: 0,
             unsettled: false,
         })
     }
@@ -87,24 +87,26 @@ impl<S: Storage + Drop> Kept<S> {
         storage
     }
 
-    /// Where the last put failed, does what the log asks for.
-    fn settle(&mut self) -> io::Result<()>
+    /// Settles what was put: the image file alone is then the image, and the log asks for nothing. At each moment a crash leaves the image.
+    /// Where the last put failed, the image is the one before it or the one after it.
+    ///
+    /// After an error it is as after one of `put`.
+    pub fn settle(&mut self) -> io::Result<()>
         ensures name { self.new.name ≡ self.old.name }
-        ensures still { self.old.unsettled ≡ false → (self.new ≡ self.old) × (is_ok result ≡ true) }
         ensures settled { OnOk result (self.new.unsettled ≡ false) }
+        ensures place { OnOk result (self.new.at ≡ 0) }
         ensures unsettled { OnErr result (self.new.unsettled ≡ true) }
-        ensures any_moment { (changes : List (ℕ × List ℕ)) (before after : ℕ → List ℕ) → self.old.unsettled ≡ true → Fits changes
-            → Knows (IsRecoverable self.old.name changes before after) (S.known self.old.storage)
-            → EachMoment (IsUnderWay self.old.name changes before after) (S.known self.old.storage) (S.known self.new.storage) }
-        ensures ok { (changes : List (ℕ × List ℕ)) (before after : ℕ → List ℕ) → self.old.unsettled ≡ true → Fits changes
-            → Knows (IsRecoverable self.old.name changes before after) (S.known self.old.storage)
+        ensures follows { (k : Known) → S.known self.old.storage ≡ Some k → (now k).log.failed ≡ false
+            → Follows (recover_plan self.old.name (now k).log.shows) (S.known self.old.storage) (S.known self.new.storage) result }
+        ensures any_moment { (before after : ℕ → List ℕ) → Knows (IsRecoverable self.old.name before after) (S.known self.old.storage)
+            → EachMoment (IsUnderWay self.old.name before after) (S.known self.old.storage) (S.known self.new.storage) }
+        ensures ok { (before after : ℕ → List ℕ) → Knows (IsRecoverable self.old.name before after) (S.known self.old.storage)
             → OnOk result (Knows (RestsWithEither before after) (S.known self.new.storage)) }
     {
-        if !self.unsettled {
-            return Ok(());
-        }
+        self.unsettled = true;
         match start(self.alloc, &mut self.storage, self.name) {
             Ok(()) => {
+                self.at = 0;
                 self.unsettled = false;
                 Ok(())
             }
@@ -113,39 +115,66 @@ impl<S: Storage + Drop> Kept<S> {
         }
     }
 
+    /// Logs changes, where the log has room.
+    fn append(&mut self, changes: &Changes) -> io::Result<()>
+        requires { self.old.at < most }
+        ensures name { self.new.name ≡ self.old.name }
+        ensures settled { OnOk result (self.new.unsettled ≡ false) }
+        ensures unsettled { OnErr result (self.new.unsettled ≡ true) }
+        ensures follows { Follows (log_plan self.old.name self.old.at (puts_of changes.now))
+            (S.known self.old.storage) (S.known self.new.storage) result }
+        ensures any_moment { (image : ℕ → List ℕ) → Knows (IsCurrent self.old.name self.old.at image) (S.known self.old.storage)
+            → EachMoment (IsUnderWay self.old.name image (put (puts_of changes.now) image))
+            (S.known self.old.storage) (S.known self.new.storage) }
+        ensures ok { (image : ℕ → List ℕ) → Knows (IsCurrent self.old.name self.old.at image) (S.known self.old.storage)
+            → OnOk result (Knows (IsCurrent self.old.name self.new.at (put (puts_of changes.now) image)) (S.known self.new.storage)) }
+    {
+        self.unsettled = true;
+        let next = log(
+            &mut self.storage,
+            self.name,
+            self.at,
+            &changes.numbers,
+            &changes.units,
+        )?;
+        self.at = next;
+        self.unsettled = false;
+        Ok(())
+    }
+
     /// Puts changes, where no put has failed.
     fn put_settled(&mut self, changes: &Changes) -> io::Result<()>
         requires { self.old.unsettled ≡ false }
         ensures name { self.new.name ≡ self.old.name }
         ensures settled { OnOk result (self.new.unsettled ≡ false) }
         ensures unsettled { OnErr result (self.new.unsettled ≡ true) }
-        ensures follows { Follows (put_plan self.old.name (puts_of changes.now))
+        ensures follows { self.old.at < most → Follows (put_plan self.old.name self.old.at (puts_of changes.now))
             (S.known self.old.storage) (S.known self.new.storage) result }
-        ensures any_moment { (image : ℕ → List ℕ) → Knows (IsAtRest image) (S.known self.old.storage)
-            → EachMoment (IsUnderWay self.old.name (puts_of changes.now) image (put (puts_of changes.now) image))
+        ensures follows_long { most ≤ self.old.at → (k : Known) → S.known self.old.storage ≡ Some k → (now k).log.failed ≡ false
+            → Follows (long_plan self.old.name (now k).log.shows (puts_of changes.now))
+            (S.known self.old.storage) (S.known self.new.storage) result }
+        ensures any_moment { (image : ℕ → List ℕ) → Knows (IsCurrent self.old.name self.old.at image) (S.known self.old.storage)
+            → EachMoment (IsUnderWay self.old.name image (put (puts_of changes.now) image))
             (S.known self.old.storage) (S.known self.new.storage) }
-        ensures finds { (image : ℕ → List ℕ) → Knows (IsAtRest image) (S.known self.old.storage)
-            → EachMoment (FindsEither self.old.name image (put (puts_of changes.now) image))
-            (S.known self.old.storage) (S.known self.new.storage) }
-        ensures ok { (image : ℕ → List ℕ) → Knows (IsAtRest image) (S.known self.old.storage)
-            → OnOk result (Knows (IsAtRest (put (puts_of changes.now) image)) (S.known self.new.storage)) }
+        ensures ok { (image : ℕ → List ℕ) → Knows (IsCurrent self.old.name self.old.at image) (S.known self.old.storage)
+            → OnOk result (Knows (IsCurrent self.old.name self.new.at (put (puts_of changes.now) image)) (S.known self.new.storage)) }
     {
         if changes.numbers.is_empty() {
             return Ok(());
         }
-        self.unsettled = true;
-        commit(
-            &mut self.storage,
-            self.name,
-            &changes.numbers,
-            &changes.units,
-        )?;
-        self.unsettled = false;
-        Ok(())
+        let has_room = self.at < MOST;
+        if has_room {
+            return self.append(changes);
+        }
+        self.settle()?;
+        self.append(changes)
     }
 
     /// Puts changed units of the image, whole or not at all: at each moment a crash leaves the image before or the image after; once it is
     /// `Ok`, the image after. Where there are none, nothing is asked of the files.
+    ///
+    /// It waits for two syncs. Once the log is long, what it says is settled first, by three more: that goes to the image file, which is an
+    /// older image until then.
     ///
     /// After an error the image is the one before or the one after, and the next put first does what the log asks for: where that fails, it
     /// fails too. The units of a put that failed are to be in the next one (`mark_again` of a service marks them), since their bytes may
@@ -154,46 +183,60 @@ impl<S: Storage + Drop> Kept<S> {
         ensures name { self.new.name ≡ self.old.name }
         ensures settled { OnOk result (self.new.unsettled ≡ false) }
         ensures unsettled { OnErr result (self.new.unsettled ≡ true) }
-        ensures follows { self.old.unsettled ≡ false
-            → Follows (put_plan self.old.name (puts_of changes.now)) (S.known self.old.storage) (S.known self.new.storage) result }
-        ensures any_moment { (image : ℕ → List ℕ) → self.old.unsettled ≡ false → Knows (IsAtRest image) (S.known self.old.storage)
+        ensures follows { self.old.unsettled ≡ false → self.old.at < most
+            → Follows (put_plan self.old.name self.old.at (puts_of changes.now))
+            (S.known self.old.storage) (S.known self.new.storage) result }
+        ensures follows_long { self.old.unsettled ≡ false → most ≤ self.old.at
+            → (k : Known) → S.known self.old.storage ≡ Some k → (now k).log.failed ≡ false
+            → Follows (long_plan self.old.name (now k).log.shows (puts_of changes.now))
+            (S.known self.old.storage) (S.known self.new.storage) result }
+        ensures any_moment { (image : ℕ → List ℕ) → self.old.unsettled ≡ false
+            → Knows (IsCurrent self.old.name self.old.at image) (S.known self.old.storage)
             → EachMoment (FindsEither self.old.name image (put (puts_of changes.now) image))
             (S.known self.old.storage) (S.known self.new.storage) }
-        ensures ok { (image : ℕ → List ℕ) → self.old.unsettled ≡ false → Knows (IsAtRest image) (S.known self.old.storage)
-            → OnOk result (Knows (IsAtRest (put (puts_of changes.now) image)) (S.known self.new.storage)) }
-        ensures failed { (image : ℕ → List ℕ) → self.old.unsettled ≡ false → Knows (IsAtRest image) (S.known self.old.storage)
-            → OnErr result (Knows (IsUnderWay self.old.name (puts_of changes.now) image (put (puts_of changes.now) image))
-            (S.known self.new.storage)) }
-        ensures again_any_moment { (failed : List (ℕ × List ℕ)) (before after : ℕ → List ℕ) → self.old.unsettled ≡ true → Fits failed
-            → Knows (IsRecoverable self.old.name failed before after) (S.known self.old.storage)
+        ensures ok { (image : ℕ → List ℕ) → self.old.unsettled ≡ false
+            → Knows (IsCurrent self.old.name self.old.at image) (S.known self.old.storage)
+            → OnOk result (Knows (IsCurrent self.old.name self.new.at (put (puts_of changes.now) image)) (S.known self.new.storage)) }
+        ensures failed { (image : ℕ → List ℕ) → self.old.unsettled ≡ false
+            → Knows (IsCurrent self.old.name self.old.at image) (S.known self.old.storage)
+            → OnErr result (Knows (IsUnderWay self.old.name image (put (puts_of changes.now) image)) (S.known self.new.storage)) }
+        ensures again_any_moment { (before after : ℕ → List ℕ) → self.old.unsettled ≡ true
+            → Knows (IsRecoverable self.old.name before after) (S.known self.old.storage)
             → EachMoment (FindsBetween self.old.name (puts_of changes.now) before after)
             (S.known self.old.storage) (S.known self.new.storage) }
-        ensures again_ok { (failed : List (ℕ × List ℕ)) (before after : ℕ → List ℕ) → self.old.unsettled ≡ true → Fits failed
-            → Knows (IsRecoverable self.old.name failed before after) (S.known self.old.storage)
-            → OnOk result (Knows (RestsWithEither (put (puts_of changes.now) before) (put (puts_of changes.now) after))
-            (S.known self.new.storage)) }
+        ensures again_ok { (before after : ℕ → List ℕ) → self.old.unsettled ≡ true
+            → Knows (IsRecoverable self.old.name before after) (S.known self.old.storage)
+            → OnOk result (Knows (CurrentWithEither self.old.name self.new.at (put (puts_of changes.now) before)
+            (put (puts_of changes.now) after)) (S.known self.new.storage)) }
     {
+        let failed = self.unsettled;
+        if !failed {
+            return self.put_settled(changes);
+        }
         self.settle()?;
         self.put_settled(changes)
     }
 
-    /// Puts the units of an image that the file doesn't show, whatever changed before: once it is `Ok`, the file is the image, unit for
-    /// unit. Behind the image's units the file stays as it is. It takes memory for the units that differ.
+    /// Puts the units of an image that the file doesn't show, whatever changed before, and settles them: once it is `Ok`, the file is the
+    /// image, unit for unit. Behind the image's units the file stays as it is. It takes memory for the units that differ.
     ///
     /// InvalidInput where the image has 2^32 units or more. After an error it is as after one of `put`.
     pub fn put_image(&mut self, image: &[u8]) -> io::Result<()>
         ensures name { self.new.name ≡ self.old.name }
         ensures settled { OnOk result (self.new.unsettled ≡ false) }
-        ensures any_moment { (before : ℕ → List ℕ) → self.old.unsettled ≡ false → Knows (IsAtRest before) (S.known self.old.storage)
-            → Knows (ShowsImage before) (S.known self.old.storage)
+        ensures any_moment { (before : ℕ → List ℕ) → self.old.unsettled ≡ false
+            → Knows (IsCurrent self.old.name self.old.at before) (S.known self.old.storage)
+            → Knows IsImageSound (S.known self.old.storage)
             → EachMoment (FindsEither self.old.name before (with_image image.now before))
             (S.known self.old.storage) (S.known self.new.storage) }
-        ensures ok { (before : ℕ → List ℕ) → self.old.unsettled ≡ false → Knows (IsAtRest before) (S.known self.old.storage)
-            → Knows (ShowsImage before) (S.known self.old.storage)
+        ensures ok { (before : ℕ → List ℕ) → self.old.unsettled ≡ false
+            → Knows (IsCurrent self.old.name self.old.at before) (S.known self.old.storage)
+            → Knows IsImageSound (S.known self.old.storage)
             → OnOk result (Knows (IsAtRest (with_image image.now before)) (S.known self.new.storage)) }
     {
         self.settle()?;
         let changes = differing(self.alloc, &mut self.storage, image)?;
-        self.put_settled(&changes)
+        self.put_settled(&changes)?;
+        self.settle()
     }
 }

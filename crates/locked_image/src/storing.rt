@@ -11,8 +11,8 @@ const HEAD: [u8; 8] = *b"MFSREDO1";
 
 /// The two files, open. The image keeps its length in bytes; behind the end of each file zeros are read.
 ///
-/// Once a write of the log's first unit, its gate, or any sync has failed, each later call is refused: what the system then shows of a file
-/// may not be what is on the disk. The program has to be started again.
+/// Once a write of a gate of the log or any sync has failed, each later call is refused: what the system then shows of a file may not be
+/// what is on the disk. The program has to be started again.
 #[derive(Drop)]
 pub struct ImageFiles {
     log: File,
@@ -20,6 +20,9 @@ pub struct ImageFiles {
     image: Option<File>,
     // How many bytes the image has.
     length: u64,
+    // The unit of the log that was written last. A gate is the one write that doesn't go behind it: a record is written upward, and then its
+    // gate, in front of it; and the first gate is closed.
+    last: u64,
     is_doubtful: bool,
 }
 
@@ -59,6 +62,7 @@ impl ImageFiles {
             log,
             image,
             length,
+            last: 0,
             is_doubtful: false,
         })
     }
@@ -100,8 +104,11 @@ impl Storage for ImageFiles {
 
     fn write(&mut self, file: Which, first: u64, units: &[[u8; UNIT]]) -> io::Result<()> {
         let written = self.write_at(file, place_of(first)?, units.as_flattened());
-        if written.is_err() && first == 0 && matches!(file, Which::Log) {
-            self.is_doubtful = true;
+        if matches!(file, Which::Log) {
+            if written.is_err() && first <= self.last {
+                self.is_doubtful = true;
+            }
+            self.last = first;
         }
         written
     }

@@ -1,17 +1,16 @@
 -- What a commit's plan writes, and how often it syncs.
-use Rattle.std.proofs.Common.{◌≡◌, ℕ, suc, ◌+◌, Bool, if◌then◌else◌, List, [], ◌∷◌, ◌++◌, length, map, refl, sym, ◌∙◌, ap, arith, length-append}
+use Rattle.std.proofs.Common.{◌≡◌, ℕ, suc, ◌+◌, List, [], ◌∷◌, ◌++◌, length, map, refl, sym, ◌∙◌, ap, arith, length-append}
 use Rattle.std.proofs.lemmas.List.{length-map}
-use Rattle.std.proofs.lemmas.Bool.Decides.{Decides-eqb}
 use Rattle.stable.specs.declared.Which.{Which}
 use Rattle.stable.specs.declared.Which.TheVariants.{Log, Image}
 use Rattle.stable.specs.Disk.{Changes, Step, Write, Sync, numbered}
-use Rattle.redo.specs.Record.{head, closed, body, directory, directory_units}
-use Rattle.redo.specs.Runs.{Run, singly, spread, joined, join}
+use Rattle.redo.specs.Record.{head, closed, body, directory, directory_units, first_data, record_units}
+use Rattle.redo.specs.Runs.{Run, singly, spread}
 use Rattle.redo.specs.Plans.{run_write, to_write, to_gate}
-use Rattle.redo.specs.Costs.{writes, units_written, syncs, Costs, NeighboursAreOneRun}
-use Rattle.redo.proofs.Units.{spread_joined}
-use Rattle.redo.proofs.Spelled.{length-directory}
-use Rattle.redo.proofs.CommitLaws.{body_runs, body_runs_are, body_spread}
+use Rattle.redo.specs.Costs.{writes, units_written, syncs, Costs}
+use Rattle.redo.proofs.Units.{spread_singly}
+use Rattle.redo.proofs.Spelled.{length-directory, length-body}
+use Rattle.redo.proofs.CommitLaws.{body_runs, body_runs_are, body_spread, behind}
 
 writes-append : (xs ys : List Step) → writes (xs ++ ys) ≡ writes xs + writes ys
 writes-append [] ys = omega arith
@@ -47,71 +46,58 @@ run_units file (r ∷ runs) =
     ∙ ap (λ (k : ℕ). k + length (spread runs)) (sym (length-numbered r.1 r.0))
     ∙ sym (length-append (numbered r.0 r.1) (spread runs))
 
-length-body : (name : ℕ) (changes : Changes) → length (body name changes) ≡ 1 + directory_units (length changes) + length changes
-length-body name changes =
-    let ns : List ℕ = map (λ (w : ℕ × List ℕ). w.0) changes in
-    let dirs : List (List ℕ) = directory (directory_units (length changes)) ns in
-    let units : List (List ℕ) = map (λ (w : ℕ × List ℕ). w.1) changes in
-    let one : length (head name (length changes) ∷ dirs) ≡ 1 + directory_units (length changes) = omega (arith, length-directory (directory_units (length changes)) ns) in
-    length-append (head name (length changes) ∷ dirs) units
-    ∙ ap (λ (k : ℕ). k + length units) one
-    ∙ ap (λ (k : ℕ). 1 + directory_units (length changes) + k) (length-map changes (λ (w : ℕ × List ℕ). w.1))
-
-module _ (name : ℕ) (changes : Changes) where
+module _ (name at : ℕ) (changes : Changes) where
   abbrev runs : List Run
-  runs = body_runs name (map (λ (w : ℕ × List ℕ). w.0) changes) (map (λ (w : ℕ × List ℕ). w.1) changes)
+  runs = body_runs name at (map (λ (w : ℕ × List ℕ). w.0) changes) (map (λ (w : ℕ × List ℕ). w.1) changes)
 
   abbrev rest : List Step
   rest = Sync Log ∷ []
 
-  are : to_write name changes ≡ map (run_write Log) runs ++ rest
-  are = ap (λ (l : List Step). l ++ rest) (body_runs_are name (map (λ (w : ℕ × List ℕ). w.0) changes) (map (λ (w : ℕ × List ℕ). w.1) changes))
+  are : to_write name at changes ≡ map (run_write Log) runs ++ rest
+  are = ap (λ (l : List Step). l ++ rest) (body_runs_are name at (map (λ (w : ℕ × List ℕ). w.0) changes) (map (λ (w : ℕ × List ℕ). w.1) changes))
 
-  count_runs : length runs ≡ directory_units (length changes) + 2
+  count_runs : length runs ≡ directory_units (length changes) + 3
   count_runs =
       let ns : List ℕ = map (λ (w : ℕ × List ℕ). w.0) changes in
       let units : List (List ℕ) = map (λ (w : ℕ × List ℕ). w.1) changes in
       let dirs : List (List ℕ) = directory (directory_units (length ns)) ns in
       let counted : length ns ≡ length changes = length-map changes (λ (w : ℕ × List ℕ). w.0) in
-      let made : length (singly (numbered 2 dirs)) ≡ directory_units (length changes) = length-map (numbered 2 dirs) (λ (w : ℕ × List ℕ). (w.0, w.1 ∷ [])) ∙ length-numbered dirs 2 ∙ length-directory (directory_units (length ns)) ns ∙ ap directory_units counted in
-      ap suc (length-append (singly (numbered 2 dirs)) ((2 + directory_units (length ns), units) ∷ []) ∙ ap (λ (k : ℕ). k + 1) made)
-      ∙ (let e : suc (directory_units (length changes) + 1) ≡ directory_units (length changes) + 2 = omega arith in e)
+      let made : length (singly (numbered (at + 2) dirs)) ≡ directory_units (length changes) = length-map (numbered (at + 2) dirs) (λ (w : ℕ × List ℕ). (w.0, w.1 ∷ [])) ∙ length-numbered dirs (at + 2) ∙ length-directory (directory_units (length ns)) ns ∙ ap directory_units counted in
+      ap suc (length-append (singly (numbered (at + 2) dirs)) ((at + first_data (length ns), units) ∷ (at + record_units (length ns), closed ∷ []) ∷ []) ∙ ap (λ (k : ℕ). k + 2) made)
+      ∙ (let e : suc (directory_units (length changes) + 2) ≡ directory_units (length changes) + 3 = omega arith in e)
 
-  write_writes : writes (to_write name changes) ≡ directory_units (length changes) + 2
-  write_writes = ap writes are ∙ writes-append (map (run_write Log) runs) rest ∙ ap (λ (k : ℕ). k + 0) (run_writes Log runs ∙ count_runs) ∙ (let e : directory_units (length changes) + 2 + 0 ≡ directory_units (length changes) + 2 = omega arith in e)
+  write_writes : writes (to_write name at changes) ≡ directory_units (length changes) + 3
+  write_writes = ap writes are ∙ writes-append (map (run_write Log) runs) rest ∙ ap (λ (k : ℕ). k + 0) (run_writes Log runs ∙ count_runs) ∙ (let e : directory_units (length changes) + 3 + 0 ≡ directory_units (length changes) + 3 = omega arith in e)
 
-  write_units : units_written (to_write name changes) ≡ 1 + directory_units (length changes) + length changes
+  long : length (behind name at changes) ≡ 2 + directory_units (length changes) + length changes
+  long =
+      length-numbered (body name changes ++ closed ∷ []) (at + 1)
+      ∙ length-append (body name changes) (closed ∷ [])
+      ∙ ap (λ (k : ℕ). k + 1) (length-body name changes)
+      ∙ (let e : 1 + directory_units (length changes) + length changes + 1 ≡ 2 + directory_units (length changes) + length changes = omega arith in e)
+
+  write_units : units_written (to_write name at changes) ≡ 2 + directory_units (length changes) + length changes
   write_units =
       ap units_written are
       ∙ units-append (map (run_write Log) runs) rest
-      ∙ ap (λ (k : ℕ). k + 0) (run_units Log runs ∙ ap length (body_spread name changes) ∙ length-numbered (body name changes) 1 ∙ length-body name changes)
-      ∙ (let e : 1 + directory_units (length changes) + length changes + 0 ≡ 1 + directory_units (length changes) + length changes = omega arith in e)
+      ∙ ap (λ (k : ℕ). k + 0) (run_units Log runs ∙ ap length (body_spread name at changes) ∙ long)
+      ∙ (let e : 2 + directory_units (length changes) + length changes + 0 ≡ 2 + directory_units (length changes) + length changes = omega arith in e)
 
-  write_syncs : syncs (to_write name changes) ≡ 1
+  write_syncs : syncs (to_write name at changes) ≡ 1
   write_syncs = ap syncs are ∙ syncs-append (map (run_write Log) runs) rest ∙ ap (λ (k : ℕ). k + 1) (run_syncs Log runs)
 
-  pub costs : Costs name changes
+  pub costs : Costs name at changes
   costs =
       let d : ℕ = directory_units (length changes) in
       let n : ℕ = length changes in
-      let gate : List Step = to_gate (head name n) in
-      let image : List Step = map (run_write Image) (joined changes) in
-      let last : List Step = Sync Image ∷ to_gate closed in
+      let gate : List Step = to_gate at (head name n) in
+      let image : List Step = map (run_write Image) (singly changes) in
+      let last : List Step = Sync Image ∷ to_gate 0 closed in
       record {
-        log_units = units-append (to_write name changes) gate ∙ ap (λ (k : ℕ). k + 1) write_units ∙ (let e : 1 + d + n + 1 ≡ n + d + 2 = omega arith in e);
-        log_writes = writes-append (to_write name changes) gate ∙ ap (λ (k : ℕ). k + 1) write_writes ∙ (let e : d + 2 + 1 ≡ d + 3 = omega arith in e);
-        log_syncs = syncs-append (to_write name changes) gate ∙ ap (λ (k : ℕ). k + 1) write_syncs;
-        settle_units = units-append image last ∙ ap (λ (k : ℕ). k + 1) (run_units Image (joined changes) ∙ ap length (spread_joined changes));
-        settle_writes = writes-append image last ∙ ap (λ (k : ℕ). k + 1) (run_writes Image (joined changes));
-        settle_syncs = syncs-append image last ∙ ap (λ (k : ℕ). k + 2) (run_syncs Image (joined changes));
+        log_units = units-append (to_write name at changes) gate ∙ ap (λ (k : ℕ). k + 1) write_units ∙ (let e : 2 + d + n + 1 ≡ n + d + 3 = omega arith in e);
+        log_writes = writes-append (to_write name at changes) gate ∙ ap (λ (k : ℕ). k + 1) write_writes ∙ (let e : d + 3 + 1 ≡ d + 4 = omega arith in e);
+        log_syncs = syncs-append (to_write name at changes) gate ∙ ap (λ (k : ℕ). k + 1) write_syncs;
+        settle_units = units-append image last ∙ ap (λ (k : ℕ). k + 1) (run_units Image (singly changes) ∙ ap length (spread_singly changes));
+        settle_writes = writes-append image last ∙ ap (λ (k : ℕ). k + 1) (run_writes Image (singly changes) ∙ length-map changes (λ (w : ℕ × List ℕ). (w.0, w.1 ∷ [])));
+        settle_syncs = ap (λ (k : ℕ). 1 + k) (syncs-append image last ∙ ap (λ (k : ℕ). k + 2) (run_syncs Image (singly changes)));
       }
-
-one_run : (at : ℕ) (u : List ℕ) (units : List (List ℕ)) → joined (numbered at (u ∷ units)) ≡ (at, u ∷ units) ∷ []
-one_run at u [] = refl
-one_run at u (v ∷ units) =
-    ap (join (at, u)) (one_run (at + 1) v units)
-    ∙ ap (λ (b : Bool). if b then (at, u ∷ v ∷ units) ∷ [] else (at, u ∷ []) ∷ (at + 1, v ∷ units) ∷ []) ((Decides-eqb (at + 1) (at + 1)).1 refl)
-
-pub neighbours : NeighboursAreOneRun
-neighbours at [] some = absurd (omega arith)
-neighbours at (u ∷ units) some = ap length (one_run at u units)

@@ -1,5 +1,6 @@
 pub mod Units
 pub mod Spelled
+pub mod Records
 pub mod Left
 pub mod Moments
 pub mod CommitLaws

@@ -2,14 +2,15 @@
 use Rattle.std.proofs.Common.{◌≡◌, ℕ, ◌+◌, ◌-◌, ◌<◌, ◌≤◌, zero, suc, List, [], ◌∷◌, ◌++◌, length, map, drop, get_or, sym, ◌∙◌, ap, subst, arith, append_assoc, Option, Some, None, add-one}
 use Rattle.std.specs.List.{zip, flat_map}
 use Rattle.std.proofs.lemmas.Grind.{flat_map-append}
-use Rattle.std.proofs.lemmas.List.{append-nil}
+use Rattle.std.proofs.lemmas.List.{append-nil, map-append}
 use Rattle.stable.specs.declared.Which.TheVariants.{Log, Image}
-use Rattle.stable.specs.Disk.{Contents, Changes, Write, Sync, Event, Did, Disk, run}
+use Rattle.stable.specs.Disk.{Contents, Changes, Step, Write, Sync, Event, Did, Disk, run, done}
 use Rattle.stable.specs.Runs.{Known, now, Happens, Knows, Reads, ShowsLog}
 use Rattle.redo.specs.Record.{numbers_in, window}
-use Rattle.redo.specs.Runs.{singly}
+use Rattle.redo.specs.Runs.{Run, singly}
 use Rattle.redo.specs.Plans.{run_write}
 use Rattle.redo.proofs.Writing.{one_less}
+use Rattle.redo.proofs.Left.{Left, left_as}
 use Rattle.redo.proofs.Moments.{run-append}
 
 pub shows_after : (log : Contents) (es : List Event) (a b : Option Known) → ((d : Disk) → ShowsLog log d → ShowsLog log (run es d)) → Happens es a b → Knows (ShowsLog log) a → Knows (ShowsLog log) b
@@ -29,6 +30,25 @@ shows_synced log a b h k = shows_after log (Did (Sync Log) ∷ []) a b (λ d s. 
 pub reads_log : (log : Contents) (a : Option Known) (n : ℕ) (bytes : List ℕ) → Knows (ShowsLog log) a → Reads a Log n bytes → bytes ≡ log n
 reads_log log None n bytes k r = absurd k
 reads_log log (Some a) n bytes k r = r k.0 ∙ k.1 n
+
+-- the log while runs go to the image
+runs_show : (log : Contents) (runs : List Run) (d : Disk) → ShowsLog log d → ShowsLog log (run (map Did (map (run_write Image) runs)) d)
+runs_show log [] d s = s
+runs_show log (r ∷ runs) d s = runs_show log runs (done d (Write Image r.0 r.1)) s
+
+pub shows_runs : (log : Contents) (runs : List Run) (a b : Option Known) → Happens (map Did (map (run_write Image) runs)) a b → Knows (ShowsLog log) a → Knows (ShowsLog log) b
+shows_runs log runs a b h k = shows_after log (map Did (map (run_write Image) runs)) a b (runs_show log runs) h k
+
+-- the next record's changes in front
+pub record_left : (plan : List Step) (a b : Option Known) (whole says rest : Changes) (tail : List Step) → whole ≡ says ++ rest → Left plan a b (map (run_write Image) (singly whole) ++ tail)
+    → Left plan a b (map (run_write Image) (singly says) ++ (map (run_write Image) (singly rest) ++ tail))
+record_left plan a b whole says rest tail is h =
+    left_as plan _ _ a b
+    (ap (λ (l : Changes). map (run_write Image) (singly l) ++ tail) is
+    ∙ ap (λ (l : List Run). map (run_write Image) l ++ tail) (map-append (λ (w : ℕ × List ℕ). (w.0, w.1 ∷ [])) says rest)
+    ∙ ap (λ (l : List Step). l ++ tail) (map-append (run_write Image) (singly says) (singly rest))
+    ∙ append_assoc (map (run_write Image) (singly says)) (map (run_write Image) (singly rest)) tail)
+    h
 
 -- one unit of the directory more
 window_more : (c : Contents) (at k : ℕ) → window c at (suc k) ≡ window c at k ++ c (at + k) ∷ []

@@ -1,18 +1,19 @@
 -- Each moment of a recovery.
-use Rattle.std.proofs.Common.{◌≡◌, ◌⊎◌, inl, inr, ⊎_elim, ℕ, ◌^◌, ◌<◌, List, [], ◌∷◌, length, refl, sym, ◌∙◌, ap, subst, Bool, true, false, Some, if◌then◌else◌}
+use Rattle.std.proofs.Common.{◌≡◌, ◌⊎◌, inl, inr, ⊎_elim, ℕ, ◌+◌, ◌<◌, ◌≤◌, List, [], ◌∷◌, ◌++◌, length, refl, sym, ◌∙◌, ap, subst, arith, Bool, true, false, Some, if◌then◌else◌}
 use Rattle.std.specs.Str.{bytes_eq}
+use Rattle.std.proofs.lemmas.Bool.{cases_eq}
 use Rattle.std.proofs.lemmas.Slice.Eq.{bytes_eq-Decides}
 use Rattle.stable.specs.declared.Which.TheVariants.{Log}
 use Rattle.stable.specs.Disk.{Contents, Changes, Step, Sync, put, Held, Kept, Written, Stale, kept, FileState, Keeps, Disk, Leaves, MayLeave, Reopens, Opens, on_disk, restarted, done}
-use Rattle.redo.specs.Record.{head, closed, recovered, redone, standing, Standing}
+use Rattle.redo.specs.Record.{closed, recovered, redone, record_standing, from, standing, Standing}
 use Rattle.redo.specs.Runs.{singly}
 use Rattle.redo.specs.Plans.{to_gate, to_recover, recover_plan}
-use Rattle.redo.specs.UnderWay.{Fits, IsSure, IsAtRest, IsLogged, IsUnderWay}
-use Rattle.redo.specs.Laws.{IsRecoverable, RecoveryIsSafe, RecoveriesAreSafe, CrashesAreSafe}
+use Rattle.redo.specs.UnderWay.{AnyHow, changes_of, place, AreRecords, IsSure, IsAtRest, IsLogged, IsWritten, IsEither, IsUnderWay, IsUnderWayBy, IsCurrent}
+use Rattle.redo.specs.Laws.{IsImage, Finds, FindsEither, IsRecoverable, RecoveryIsSafe, RecoveriesAreSafe, CrashesAreSafe, SettlingIsSafe}
 use Rattle.redo.proofs.Units.{spread_singly}
-use Rattle.redo.proofs.Spelled.{said, standing_closed, standing_opened, standing_other}
+use Rattle.redo.proofs.Records.{stand_of, stands_so, found_so}
 use Rattle.redo.proofs.Moments.{Along, Reaches, run_all, at_moment, Moves, along, all_moves}
-use Rattle.redo.proofs.CommitLaws.{remade, finds_either, gate_written, settled}
+use Rattle.redo.proofs.CommitLaws.{remade, shut_nothing, logged_still, written_still, shut_still, logged_finds, finds_either, sound_still, gate_other, first_left, left_all, few_first, far, gate_written, made_sure, settled}
 
 bool_cases : (b : Bool) → (b ≡ true) ⊎ (b ≡ false)
 bool_cases true = inl refl
@@ -21,126 +22,154 @@ bool_cases false = inr refl
 shows_left : (f : FileState) → MayLeave f f.shows
 shows_left f n sure = refl
 
-module _ (name : ℕ) (small : name < 2 ^ 64) (changes : Changes) (fits : Fits changes) (before after : Contents) where
+-- where as much is kept, it stands so
+pub as_much : (G H : Held → Type 0) (name : ℕ) (before after : Contents) (d e : Disk) → Moves [] [] d e → ((n : ℕ) → G (d.log.held n) → H (e.log.held n)) → IsUnderWayBy G name before after d → IsUnderWayBy H name before after e
+as_much G H name before after d e m held (inl (image, records, either, l)) =
+    inl (image, records, either, logged_still name records image [] [] d e m (λ n lt t. t) (λ n t. absurd t) (shut_still (place records) [] [] d e m (λ n le t. t) l.shut) l)
+as_much G H name before after d e m held (inr (x, y, first, others, is_x, is_y, w)) =
+    inr (x, y, first, others, is_x, is_y, written_still G H name first others x y [] d e m (λ n other t. t) (held (place first) w.gate) w)
+
+opens_moves : (d e : Disk) → Reopens d e → Moves [] [] d e
+opens_moves d e o = record {
+  log_keeps = λ n v none k. let s = o.log_opens.still n k.sure in record { sure = s.sure; is = s.is ∙ k.is };
+  image_keeps = λ n v none k. let s = o.image_opens.still n k.sure in record { sure = s.sure; is = s.is ∙ k.is };
+}
+
+left_opens : (f : FileState) (left : Contents) → MayLeave f left → Opens f (on_disk left)
+left_opens f left leaves = record { sound = refl; still = λ n sure. record { sure = refl; is = leaves n sure } }
+
+sure_as : (f : FileState) (x y : Contents) → ((n : ℕ) → x n ≡ y n) → IsSure f x → IsSure f y
+sure_as f x y same sure n = let k = sure n in record { sure = k.sure; is = k.is ∙ same n }
+
+pub rest_as : (x y : Contents) → ((n : ℕ) → x n ≡ y n) → (d : Disk) → IsAtRest x d → IsAtRest y d
+rest_as x y same d rest = record { gate = rest.gate; image_is = sure_as d.image x y same rest.image_is; sound = rest.sound }
+
+either_as : (x y before after : Contents) → ((n : ℕ) → y n ≡ x n) → IsEither x before after → IsEither y before after
+either_as x y before after same either = ⊎_elim (λ is. inl (λ n. same n ∙ is n)) (λ is. inr (λ n. same n ∙ is n)) either
+
+abbrev IsKept : Held → Type 0
+IsKept held = held ≡ Kept
+
+module _ (name : ℕ) (before after : Contents) where
   abbrev P : Disk → Type 0
-  P = IsUnderWay name changes before after
-
-  -- where as much is kept, it stands so
-  pub as_much : (d e : Disk) → Moves [] [] d e → P d → P e
-  as_much d e m (inl (inl rest)) = inl (inl (record { gate = m.log_keeps 0 closed (λ t. t) rest.gate; image_is = λ n. m.image_keeps n (before n) (λ t. t) (rest.image_is n) }))
-  as_much d e m (inl (inr rest)) = inl (inr (record { gate = m.log_keeps 0 closed (λ t. t) rest.gate; image_is = λ n. m.image_keeps n (after n) (λ t. t) (rest.image_is n) }))
-  as_much d e m (inr w) = inr (
-    record {
-      said = λ n t. let k = w.0.said n t in m.log_keeps n _ (λ t. t) k;
-      made = w.0.made;
-      rest = λ n. ⊎_elim (λ k. inl (m.image_keeps n (after n) (λ t. t) k)) (λ t. inr t) (w.0.rest n);
-    },
-    ⊎_elim (λ gate. inl (m.log_keeps 0 (head name (length changes)) (λ t. t) gate))
-        (λ image. inr (⊎_elim (λ is. inl (λ n. m.image_keeps n (before n) (λ t. t) (is n))) (λ is. inr (λ n. m.image_keeps n (after n) (λ t. t) (is n))) image)) (w.1),
-  )
-
-  opens_moves : (d e : Disk) → Reopens d e → Moves [] [] d e
-  opens_moves d e o = record {
-    log_keeps = λ n v none k. let s = o.log_opens.still n k.sure in record { sure = s.sure; is = s.is ∙ k.is };
-    image_keeps = λ n v none k. let s = o.image_opens.still n k.sure in record { sure = s.sure; is = s.is ∙ k.is };
-  }
-
-  left_opens : (f : FileState) (left : Contents) → MayLeave f left → Opens f (on_disk left)
-  left_opens f left leaves = record { sound = refl; still = λ n sure. record { sure = refl; is = leaves n sure } }
+  P = IsUnderWay name before after
 
   -- what is done once the log was synced, and what it finds
   record Rest (d : Disk) : Type 0 where
     found : Contents
     found_is : recovered name d.log.shows d.image.shows ≡ Some found
-    either : ((n : ℕ) → found n ≡ before n) ⊎ ((n : ℕ) → found n ≡ after n)
+    either : IsEither found before after
     reaches : Reaches P d (to_recover (standing name d.log.shows) (d.log.shows 0)) (IsAtRest found)
 
-  -- an image that is sure is sure to be what it shows
-  sure_shown : (f : FileState) (x : Contents) → IsSure f x → IsSure f f.shows
-  sure_shown f x sure n = let k = sure n in record { sure = k.sure; is = refl }
+  -- by the steps of a log that stands so
+  rest_by : (d : Disk) (s : Standing) → standing name d.log.shows ≡ s → (x : Contents) → IsEither x before after → (found : Contents) → redone s d.image.shows ≡ Some found → ((n : ℕ) → found n ≡ x n)
+      → Reaches P d (to_recover s (d.log.shows 0)) (IsAtRest x) → Rest d
+  rest_by d s is x either found found_is same reaches = record {
+    found = found;
+    found_is = ap (λ (t : Standing). redone t d.image.shows) is ∙ found_is;
+    either = either_as x found before after same either;
+    reaches = subst (λ (t : Standing). Reaches P d (to_recover t (d.log.shows 0)) (IsAtRest found)) (sym is) (record { along = reaches.along; ends = rest_as x found (λ n. sym (same n)) _ reaches.ends });
+  }
 
-  shown_is : (f : FileState) (x : Contents) → IsSure f x → (n : ℕ) → f.shows n ≡ x n
-  shown_is f x sure n = let k = sure n in k.is
+  -- the gate isn't open, and the image is sure
+  none_by : (d : Disk) → P d → standing name d.log.shows ≡ stand_of [] → (x : Contents) → IsEither x before after → IsSure d.image x → Reaches P d (to_recover (stand_of []) (d.log.shows 0)) (IsAtRest x) → Rest d
+  none_by d here is x either sure reaches = rest_by d (stand_of []) is x either d.image.shows refl (λ n. let k = sure n in k.is) reaches
 
-  sure_as : (f : FileState) (x y : Contents) → ((n : ℕ) → x n ≡ y n) → IsSure f x → IsSure f y
-  sure_as f x y same sure n = let k = sure n in record { sure = k.sure; is = k.is ∙ same n }
+  nothing_to_do : (d : Disk) → P d → d.log.failed ≡ false → Keeps d.log 0 closed → (x : Contents) → IsSure d.image x → Reaches P d (to_recover (stand_of []) (d.log.shows 0)) (IsAtRest x)
+  nothing_to_do d here sound gate x sure =
+      subst (λ (l : List Step). Reaches P d l (IsAtRest x)) (sym (ap (λ (b : Bool). if b then [] else to_gate 0 closed) ((bytes_eq-Decides (d.log.shows 0) closed).1 gate.is)))
+      (record { along = here; ends = record { gate = gate; image_is = sure; sound = sound } })
 
-  -- the gate is closed already
-  nothing_to_do : (d : Disk) → P d → Keeps d.log 0 closed → (x : Contents) → IsSure d.image x → ((n : ℕ) → x n ≡ before n) ⊎ ((n : ℕ) → x n ≡ after n) → Rest d
-  nothing_to_do d here gate x sure side =
-      let none = standing_closed name d.log.shows gate.is in
-      let steps : [] ≡ to_recover (standing name d.log.shows) (d.log.shows 0) =
-      sym (ap (λ (s : Standing). to_recover s (d.log.shows 0)) none ∙ ap (λ (b : Bool). if b then [] else to_gate closed) ((bytes_eq-Decides (d.log.shows 0) closed).1 gate.is)) in
-      let same = shown_is d.image x sure in
-      record {
-        found = d.image.shows;
-        found_is = ap (λ (s : Standing). redone s d.image.shows) none;
-        either = ⊎_elim (λ is. inl (λ n. same n ∙ is n)) (λ is. inr (λ n. same n ∙ is n)) side;
-        reaches = subst (λ (l : List Step). Reaches P d l (IsAtRest d.image.shows)) steps (record { along = here; ends = record { gate = gate; image_is = sure_shown d.image x sure } });
-      }
+  -- the log is sure to say its records
+  rests_logged : (d : Disk) → d.log.failed ≡ false → (records : List Changes) (image : Contents) → IsEither image before after → IsLogged name records image d → Rest d
+  rests_logged d sound [] image either l =
+      let here : P d = inl (image, [], either, l) in
+      let none = shut_nothing name 0 d.log d.log.shows l.shut (shows_left d.log) in
+      let sure = made_sure name before after image d.image l.makes in
+      let gate : Keeps d.log 0 closed = elim l.shut [
+        | inl keeps ↦ keeps
+        | inr other ↦ absurd (let some : 0 < 0 = other.2 in omega arith)
+      ] in
+      none_by d here (stands_so [] name d.log.shows tt none l.few) image either sure (nothing_to_do d here sound gate image sure)
+  rests_logged d sound (c ∷ records) image either l =
+      let all : List Changes = c ∷ records in
+      let are : AreRecords name d.log.shows 0 all = l.says d.log.shows (λ n lt. let k = l.sure n lt in k.is) in
+      let none = shut_nothing name (place all) d.log d.log.shows l.shut (shows_left d.log) in
+      rest_by d (stand_of all) (stands_so all name d.log.shows are none l.few) image either (put (changes_of all) d.image.shows) refl (remade (changes_of all) image d.image d.image.shows l.makes (shows_left d.image))
+      (settled name before after all image either (singly (changes_of all)) (spread_singly (changes_of all)) d sound (omega arith) l)
 
-  -- the gate isn't open
-  shuts : (d : Disk) → P d → d.log.held 0 ≡ Kept → IsLogged name changes after d → bytes_eq (d.log.shows 0) (d.log.shows 1) ≡ false
-      → (x : Contents) → IsSure d.image x → ((n : ℕ) → x n ≡ before n) ⊎ ((n : ℕ) → x n ≡ after n) → Rest d
-  shuts d here gate_kept logged other x sure side =
-      let none = standing_other name d.log.shows other in
-      let same = shown_is d.image x sure in
-      let found_side : ((n : ℕ) → d.image.shows n ≡ before n) ⊎ ((n : ℕ) → d.image.shows n ≡ after n) = ⊎_elim (λ is. inl (λ n. same n ∙ is n)) (λ is. inr (λ n. same n ∙ is n)) side in
-      elim (bool_cases (bytes_eq (d.log.shows 0) closed)) [
-        | inl is ↦ nothing_to_do d here (record { sure = gate_kept; is = (bytes_eq-Decides (d.log.shows 0) closed).0 is }) x sure side
-        | inr not_closed ↦
-            let steps : to_gate closed ≡ to_recover (standing name d.log.shows) (d.log.shows 0) =
-            sym (ap (λ (s : Standing). to_recover s (d.log.shows 0)) none ∙ ap (λ (b : Bool). if b then [] else to_gate closed) not_closed) in
-            let r = gate_written name changes before after d.image.shows (λ f s. ⊎_elim (λ is. inl (sure_as f d.image.shows before is s)) (λ is. inr (sure_as f d.image.shows after is s)) found_side) closed d logged (sure_shown d.image x sure) in
-            record {
-              found = d.image.shows;
-              found_is = ap (λ (s : Standing). redone s d.image.shows) none;
-              either = found_side;
-              reaches = subst (λ (l : List Step). Reaches P d l (IsAtRest d.image.shows)) steps (record { along = r.along; ends = record { gate = r.ends.2; image_is = r.ends.1 } });
-            }
-      ]
-
-  -- the gate is open
-  redoes : (d : Disk) → d.log.held 0 ≡ Kept → IsLogged name changes after d → d.log.shows 0 ≡ head name (length changes) → Rest d
-  redoes d gate_kept logged gate =
-      let is_open = standing_opened name changes d.log.shows small fits.few (said name changes d.log d.log.shows fits logged.said (shows_left d.log)) gate in
-      let redo = remade name changes after d d.image.shows logged (shows_left d.image) in
-      let r = settled name changes before after (singly changes) (spread_singly changes) d (logged, record { sure = gate_kept; is = gate }) in
-      record {
-        found = put changes d.image.shows;
-        found_is = ap (λ (s : Standing). redone s d.image.shows) is_open;
-        either = inr redo;
-        reaches = subst (λ (l : List Step). Reaches P d l (IsAtRest (put changes d.image.shows))) (sym (ap (λ (s : Standing). to_recover s (d.log.shows 0)) is_open))
-            (record { along = r.along; ends = record { gate = r.ends.gate; image_is = sure_as _ after (put changes d.image.shows) (λ n. sym (redo n)) r.ends.image_is } });
-      }
-
-  goes_on : (d : Disk) → d.log.held 0 ≡ Kept → P d → Rest d
-  goes_on d gate_kept (inl (inl rest)) = nothing_to_do d (inl (inl rest)) rest.gate before rest.image_is (inl (λ n. refl))
-  goes_on d gate_kept (inl (inr rest)) = nothing_to_do d (inl (inr rest)) rest.gate after rest.image_is (inr (λ n. refl))
-  goes_on d gate_kept (inr w) =
-      let says = said name changes d.log d.log.shows fits w.0.said (shows_left d.log) in
-      elim (bool_cases (bytes_eq (d.log.shows 0) (d.log.shows 1))) [
-        | inl same ↦ redoes d gate_kept w.0 ((bytes_eq-Decides (d.log.shows 0) (d.log.shows 1)).0 same ∙ says.head_is)
-        | inr other ↦ elim (w.1) [
-          | inr sure ↦ elim sure [
-            | inl is ↦ shuts d (inr w) gate_kept w.0 other before is (inl (λ n. refl))
-            | inr is ↦ shuts d (inr w) gate_kept w.0 other after is (inr (λ n. refl))
-          ]
-          | inl gate ↦ let same : bytes_eq (d.log.shows 0) (d.log.shows 1) ≡ true = (bytes_eq-Decides (d.log.shows 0) (d.log.shows 1)).1 (gate.is ∙ sym says.head_is) in cc
+  module _ (d : Disk) (sound : d.log.failed ≡ false) (others : List Changes) (x y : Contents) (is_x : IsEither x before after) (is_y : IsEither y before after) where
+    -- the first gate isn't open
+    shuts : (w : IsWritten IsKept name [] others x y d) → P d → bytes_eq (d.log.shows 0) (d.log.shows (0 + 1)) ≡ false → Rest d
+    shuts w here other =
+        let none = gate_other name [] others x y d w d.log.shows other in
+        let sure = made_sure name before after x d.image w.makes_before in
+        let is = stands_so [] name d.log.shows tt none (few_first name [] others x y d w) in
+        let still : IsWritten AnyHow name [] others x y d = written_still IsKept AnyHow name [] others x y [] d d (record { log_keeps = λ n v none k. k; image_keeps = λ n v none k. k }) (λ n other t. t) tt w in
+        let r = gate_written name before after [] others x y is_x is_y closed d still in
+        elim (bool_cases (bytes_eq (d.log.shows 0) closed)) [
+          | inl same ↦ none_by d here is x is_x sure (nothing_to_do d here sound (record { sure = w.gate; is = (bytes_eq-Decides (d.log.shows 0) closed).0 same }) x sure)
+          | inr not_closed ↦ none_by d here is x is_x sure
+              (subst (λ (l : List Step). Reaches P d l (IsAtRest x)) (sym (ap (λ (b : Bool). if b then [] else to_gate 0 closed) not_closed))
+              (record { along = r.along; ends = record { gate = r.ends.2; image_is = made_sure name before after x _ r.ends.0.makes_before; sound = sound_still (to_gate 0 closed) d ∙ sound } }))
         ]
-      ]
+
+    shown : (f : FileState) (n : ℕ) → f.held n ≡ Kept → Keeps f n (f.shows n)
+    shown f n sure = record { sure = sure; is = refl }
+
+    -- a later one isn't open
+    first_says : (c : Changes) (more : List Changes) (w : IsWritten IsKept name (c ∷ more) others x y d) → bytes_eq (d.log.shows (place (c ∷ more))) (d.log.shows (place (c ∷ more) + 1)) ≡ false → IsLogged name (c ∷ more) x d
+    first_says c more w other =
+        let first : List Changes = c ∷ more in
+        let g : ℕ = place first in
+        let behind = w.sure (g + 1) (omega (arith, far name first others x y d w)) (λ same. omega arith) in
+        record {
+          log = w.log;
+          says = w.says_first;
+          few = few_first name first others x y d w;
+          sure = λ n lt. w.sure n (omega (arith, far name first others x y d w)) (λ same. omega arith);
+          shut = inr (d.log.shows g, d.log.shows (g + 1), omega arith, shown d.log g w.gate, shown d.log (g + 1) behind.sure, other);
+          makes = w.makes_before;
+        }
+
+    -- it is open
+    all_says : (first : List Changes) (w : IsWritten IsKept name first others x y d) → bytes_eq (d.log.shows (place first)) (d.log.shows (place first + 1)) ≡ true → IsLogged name (first ++ others) y d
+    all_says first w same = record {
+      log = w.log;
+      says = w.says;
+      few = w.few;
+      sure = λ n lt. elim (cases_eq n (place first)) [
+        | inr other ↦ w.sure n lt other
+        | inl here ↦ subst (λ (k : ℕ). Keeps d.log k (w.log k)) (sym here)
+            (record { sure = w.gate; is = left_all name first others x y d w d.log.shows (shows_left d.log) same (place first) (omega (arith, far name first others x y d w)) })
+      ];
+      shut = w.shut;
+      makes = w.makes_after;
+    }
+
+    rests_written : (first : List Changes) → IsWritten IsKept name first others x y d → P d → (b : Bool) → bytes_eq (d.log.shows (place first)) (d.log.shows (place first + 1)) ≡ b → Rest d
+    rests_written first w here true is = rests_logged d sound (first ++ others) y is_y (all_says first w is)
+    rests_written [] w here false is = shuts w here is
+    rests_written (c ∷ more) w here false is = rests_logged d sound (c ∷ more) x is_x (first_says c more w is)
+
+  goes_on : (d : Disk) → d.log.failed ≡ false → IsUnderWayBy IsKept name before after d → P d → Rest d
+  goes_on d sound (inl (image, records, either, l)) here = rests_logged d sound records image either l
+  goes_on d sound (inr (x, y, first, others, is_x, is_y, w)) here =
+      rests_written d sound others x y is_x is_y first w here (bytes_eq (d.log.shows (place first)) (d.log.shows (place first + 1))) refl
 
   not_stale : (h : Held) → (h ≡ Stale → ⊥) → kept h ≡ Kept
   not_stale Kept none = refl
   not_stale Written none = refl
   not_stale Stale none = absurd (none refl)
 
-  recovers : (d : Disk) → IsRecoverable name changes before after d → RecoveryIsSafe name changes before after d
+  recovers : (d : Disk) → IsRecoverable name before after d → RecoveryIsSafe name before after d
   recovers d h =
       let d1 : Disk = done d (Sync Log) in
-      let here1 : P d1 = as_much d d1 (all_moves [] [] d (Sync Log ∷ []) (tt, tt)) h.under_way in
-      let rest = goes_on d1 (not_stale (d.log.held 0) h.gate) here1 in
-      let first = along P [] [] d (Sync Log ∷ []) (tt, tt) (λ e m. as_much d e m h.under_way) in
+      let first_moves = all_moves [] [] d (Sync Log ∷ []) (tt, tt) in
+      let stands : (e : Disk) → Moves [] [] d e → P e = λ e m. as_much (λ h. h ≡ Stale → ⊥) AnyHow name before after d e m (λ n g. tt) h.under_way in
+      let sure : IsUnderWayBy IsKept name before after d1 = as_much (λ h. h ≡ Stale → ⊥) IsKept name before after d d1 first_moves (λ n g. not_stale (d.log.held n) g) h.under_way in
+      let rest = goes_on d1 h.sound sure (stands d1 first_moves) in
+      let first = along P [] [] d (Sync Log ∷ []) (tt, tt) stands in
       let whole : Along P d (recover_plan name d.log.shows) = (first.0, first.1, rest.reaches.along) in
       record {
         found = rest.found;
@@ -150,19 +179,36 @@ module _ (name : ℕ) (small : name < 2 ^ 64) (changes : Changes) (fits : Fits c
         rest = subst (IsAtRest rest.found) (sym (run_all (recover_plan name d.log.shows) d)) rest.reaches.ends;
       }
 
-  survives : (d : Disk) → P d → (log left : Contents) → Leaves d log left → IsRecoverable name changes before after (restarted log left)
+  survives : (d : Disk) → P d → (log left : Contents) → Leaves d log left → IsRecoverable name before after (restarted log left)
   survives d here log left leaves = record {
-    under_way = as_much d (restarted log left) (opens_moves d (restarted log left) (record { log_opens = left_opens d.log log leaves.log_left; image_opens = left_opens d.image left leaves.image_left })) here;
-    gate = λ stale. cc;
+    under_way = as_much AnyHow (λ h. h ≡ Stale → ⊥) name before after d (restarted log left)
+        (opens_moves d (restarted log left) (record { log_opens = left_opens d.log log leaves.log_left; image_opens = left_opens d.image left leaves.image_left })) (λ n g stale. cc) here;
     sound = refl;
   }
 
 pub recoveries_are_safe : RecoveriesAreSafe
-recoveries_are_safe name small changes fits before after d h = recovers name small changes fits before after d h
+recoveries_are_safe name before after d h = recovers name before after d h
 
 pub crashes_are_safe : CrashesAreSafe
-crashes_are_safe name small changes fits before after d here = record {
-  finds = finds_either name small changes fits before after d here;
-  again = λ e o. as_much name small changes fits before after d e (opens_moves name small changes fits before after d e o) here;
-  recoverable = survives name small changes fits before after d here;
+crashes_are_safe name before after d here = record {
+  finds = finds_either AnyHow name before after d here;
+  again = λ e o. as_much AnyHow AnyHow name before after d e (opens_moves d e o) (λ n g. tt) here;
+  recoverable = survives name before after d here;
 }
+
+-- what is said of one image or the other, where they are one
+either_one : (A : Type 0) → A ⊎ A → A
+either_one A (inl a) = a
+either_one A (inr a) = a
+
+pub current_recoverable : (name at : ℕ) (image : Contents) (d : Disk) → IsCurrent name at image d → IsRecoverable name image image d
+current_recoverable name at image d c = record { under_way = inl (image, c.records, inl (λ n. refl), c.logged); sound = c.sound }
+
+pub settling_is_safe : (name at : ℕ) (image : Contents) (d : Disk) → IsCurrent name at image d → SettlingIsSafe name image d
+settling_is_safe name at image d c =
+    let safe = recovers name image image d (current_recoverable name at image d c) in
+    record {
+      finds = logged_finds name c.records image d c.logged;
+      each_moment = λ events moment log left leaves. either_one (IsImage (recovered name log left) image) (finds_either AnyHow name image image _ (safe.each_moment events moment) log left leaves);
+      rest = rest_as safe.found image (either_one ((n : ℕ) → safe.found n ≡ image n) safe.either) _ safe.rest;
+    }

@@ -1,4 +1,4 @@
--- A log that was written says what was written.
+-- A record that was written says what was written.
 use Rattle.std.proofs.Common.{◌≡◌, ◌⊎◌, inl, inr, ℕ, zero, suc, ◌+◌, ◌-◌, ◌*◌, ◌/◌, ◌^◌, ◌<◌, ◌≤◌, List, [], ◌∷◌, ◌++◌, length, map, take, drop, replicate, refl, sym, ◌∙◌, ap, arith, append_assoc, length-append, Bool, true, false, ◌&&◌, if◌then◌else◌, codes}
 use Rattle.std.specs.Int.{to_be_bytes, from_be_bytes, w32, w64}
 use Rattle.std.specs.List.{flat_map, zip, AllByRecursion}
@@ -9,10 +9,10 @@ use Rattle.std.proofs.lemmas.Bool.Decides.{Decides-eqb}
 use Rattle.std.proofs.lemmas.Slice.Eq.{bytes_eq-Decides}
 use Rattle.std.proofs.lemmas.List.{take_at, drop_at, take_all, append-nil, length-map, length-drop, length-take-le, take-append-drop}
 use Rattle.std.proofs.Math.Seq.{take-append-add, take-append_seam}
-use Rattle.stable.specs.Disk.{Contents, Changes, set, put, numbered, FileState, MayLeave}
-use Rattle.redo.specs.Record.{head, closed, name_in, count_in, is_head, directory_units, numbers_unit, directory, numbers_in, window, numbers_of, body, changes_in, standing, standing_open, Standing, Nothing, Redo, Foreign}
-use Rattle.redo.specs.UnderWay.{Fits, IsSaid}
-use Rattle.redo.proofs.Units.{set_same, put_agrees, touches_or_not, put_other, not_below, window_same, window_first, window_rest}
+use Rattle.stable.specs.Disk.{Contents, Changes, set, put, numbered, Touches}
+use Rattle.redo.specs.Record.{head, closed, name_in, count_in, is_head, directory_units, numbers_unit, directory, numbers_in, window, numbers_of, body, changes_in, from, record_units, record_standing, record_open, Standing, Nothing, Redo, Foreign}
+use Rattle.redo.specs.UnderWay.{Fits, IsRecord}
+use Rattle.redo.proofs.Units.{set_same, put_agrees, put_append_other, put_shift, touched, not_past, not_below, put_other, window_same, window_first, window_rest}
 
 -- a log's units behind the gate are those of these changes
 pub record Says (name : ℕ) (changes : List (ℕ × List ℕ)) (log : ℕ → List ℕ) : Type 0 where
@@ -131,41 +131,29 @@ is_head-head name count n c =
 not_head-closed : is_head closed ≡ false
 not_head-closed = refl
 
-either_way : (b c : Bool) (s : Standing) → ((if b && c then s else Nothing) ≡ Nothing) ⊎ ((if b && c then s else Nothing) ≡ s)
-either_way true true s = inr refl
-either_way true false s = inl refl
-either_way false c s = inl refl
-
 one_way : (b c : Bool) (s : Standing) → (b ≡ true → c ≡ false) → (if b && c then s else Nothing) ≡ Nothing
 one_way true c s h = ap (λ (v : Bool). if v then s else Nothing) (h refl)
 one_way false c s h = refl
 
 -- a closed gate asks for nothing, whatever stands behind it
-pub standing_closed : (name : ℕ) (log : Contents) → log 0 ≡ closed → standing name log ≡ Nothing
+pub standing_closed : (name : ℕ) (log : Contents) → log 0 ≡ closed → record_standing name log ≡ Nothing
 standing_closed name log is =
-    one_way (bytes_eq (log 0) (log 1)) (is_head (log 1)) (standing_open name log)
+    one_way (bytes_eq (log 0) (log 1)) (is_head (log 1)) (record_open name log)
     (λ same. ap is_head (sym ((bytes_eq-Decides (log 0) (log 1)).0 same) ∙ is) ∙ not_head-closed)
 
-standing_open-says : (name : ℕ) (changes : Changes) (log : Contents) → name < 2 ^ 64 → length changes < 2 ^ 32 → Says name changes log → standing_open name log ≡ Redo changes
-standing_open-says name changes log n c says =
+record_open-says : (name : ℕ) (changes : Changes) (log : Contents) → name < 2 ^ 64 → length changes < 2 ^ 32 → Says name changes log → record_open name log ≡ Redo changes
+record_open-says name changes log n c says =
     let is_name : name_in (log 1) ≡ name = ap name_in says.head_is ∙ name_in-head name (length changes) n in
     let is_count : count_in (log 1) ≡ length changes = ap count_in says.head_is ∙ count_in-head name (length changes) c in
     ap (λ (b : Bool). if b then Redo (changes_in log (count_in (log 1))) else Foreign) ((Decides-eqb (name_in (log 1)) name).1 is_name)
     ∙ ap (λ (k : ℕ). Redo (changes_in log k)) is_count
     ∙ ap (λ (l : Changes). Redo l) says.changes_are
 
--- whatever stands in the gate, such a log asks for nothing or for the changes
-pub standing_says : (name : ℕ) (changes : Changes) (log : Contents) → name < 2 ^ 64 → length changes < 2 ^ 32 → Says name changes log → (standing name log ≡ Nothing) ⊎ (standing name log ≡ Redo changes)
-standing_says name changes log n c says = elim (either_way (bytes_eq (log 0) (log 1)) (is_head (log 1)) (standing_open name log)) [
-  | inl none ↦ inl none
-  | inr open_gate ↦ inr (open_gate ∙ standing_open-says name changes log n c says)
-]
-
-pub standing_opened : (name : ℕ) (changes : Changes) (log : Contents) → name < 2 ^ 64 → length changes < 2 ^ 32 → Says name changes log → log 0 ≡ head name (length changes) → standing name log ≡ Redo changes
+pub standing_opened : (name : ℕ) (changes : Changes) (log : Contents) → name < 2 ^ 64 → length changes < 2 ^ 32 → Says name changes log → log 0 ≡ head name (length changes) → record_standing name log ≡ Redo changes
 standing_opened name changes log n c says gate =
-    ap (λ (b : Bool). if b && is_head (log 1) then standing_open name log else Nothing) ((bytes_eq-Decides (log 0) (log 1)).1 (gate ∙ sym says.head_is))
-    ∙ ap (λ (b : Bool). if b then standing_open name log else Nothing) (ap is_head says.head_is ∙ is_head-head name (length changes) n c)
-    ∙ standing_open-says name changes log n c says
+    ap (λ (b : Bool). if b && is_head (log 1) then record_open name log else Nothing) ((bytes_eq-Decides (log 0) (log 1)).1 (gate ∙ sym says.head_is))
+    ∙ ap (λ (b : Bool). if b then record_open name log else Nothing) (ap is_head says.head_is ∙ is_head-head name (length changes) n c)
+    ∙ record_open-says name changes log n c says
 
 -- what a commit puts behind the gate says its changes
 pub spelled : (name : ℕ) (changes : Changes) (before log : Contents) → Fits changes → ((n : ℕ) → 1 ≤ n → log n ≡ put (numbered 1 (body name changes)) before n) → Says name changes log
@@ -199,15 +187,52 @@ spelled name changes before log fits same =
     }
 
 -- where the gate isn't the head, a log asks for nothing
-pub standing_other : (name : ℕ) (log : Contents) → bytes_eq (log 0) (log 1) ≡ false → standing name log ≡ Nothing
-standing_other name log other = ap (λ (b : Bool). if b && is_head (log 1) then standing_open name log else Nothing) other
+pub standing_other : (name : ℕ) (log : Contents) → bytes_eq (log 0) (log 1) ≡ false → record_standing name log ≡ Nothing
+standing_other name log other = ap (λ (b : Bool). if b && is_head (log 1) then record_open name log else Nothing) other
 
--- a log that is sure to say changes shows them, and a crash leaves them
-pub said : (name : ℕ) (changes : Changes) (f : FileState) (log : Contents) → Fits changes → IsSaid name changes f → MayLeave f log → Says name changes log
-said name changes f log fits is leaves =
-    let units : Changes = numbered 1 (body name changes) in
-    spelled name changes log log fits
-    (λ n le. elim (touches_or_not units n) [
-      | inl touched ↦ let keeps = is n touched in leaves n keeps.sure ∙ keeps.is ∙ put_agrees units (λ (k : ℕ). []) log n (inr touched)
-      | inr none ↦ sym (put_other units log n none)
-    ])
+pub length-body : (name : ℕ) (changes : Changes) → length (body name changes) ≡ 1 + directory_units (length changes) + length changes
+length-body name changes =
+    let ns : List ℕ = map (λ (w : ℕ × List ℕ). w.0) changes in
+    let dirs : List (List ℕ) = directory (directory_units (length changes)) ns in
+    let units : List (List ℕ) = map (λ (w : ℕ × List ℕ). w.1) changes in
+    let one : length (head name (length changes) ∷ dirs) ≡ 1 + directory_units (length changes) = omega (arith, length-directory (directory_units (length changes)) ns) in
+    length-append (head name (length changes) ∷ dirs) units
+    ∙ ap (λ (k : ℕ). k + length units) one
+    ∙ ap (λ (k : ℕ). 1 + directory_units (length changes) + k) (length-map changes (λ (w : ℕ × List ℕ). w.1))
+
+-- a gate that is open stands before its head
+open_is : (b c : Bool) (s : Standing) (changes : Changes) → (if b && c then s else Nothing) ≡ Redo changes → b ≡ true
+open_is true c s changes is = refl
+open_is false c s changes is = cc
+
+pub open_same : (name : ℕ) (changes : Changes) (log : Contents) → record_standing name log ≡ Redo changes → log 0 ≡ log 1
+open_same name changes log is = (bytes_eq-Decides (log 0) (log 1)).0 (open_is (bytes_eq (log 0) (log 1)) (is_head (log 1)) (record_open name log) changes is)
+
+module _ (name : ℕ) (changes : Changes) (other base : Contents) (at : ℕ) where
+  abbrev us : List (List ℕ)
+  us = body name changes
+
+  -- the units of a record, in front of the gate behind it
+  in_front : (n : ℕ) → n < 1 + length us → put (numbered (at + 1) (us ++ closed ∷ [])) base (at + n) ≡ put (numbered 1 us) (from at base) n
+  in_front n lt =
+      put_append_other us closed (at + 1) (at + n) base (omega arith)
+      ∙ put_shift us at 1 n base
+
+  same_behind : ((n : ℕ) → 1 ≤ n → n < record_units (length changes) → other (at + n) ≡ put (numbered (at + 1) (us ++ closed ∷ [])) base (at + n))
+      → (n : ℕ) → 1 ≤ n → from at other n ≡ put (numbered 1 us) (from at other) n
+  same_behind is n le = elim (cases_lt n (1 + length us)) [
+    | inl lt ↦
+        is n le (omega (arith, length-body name changes))
+        ∙ in_front n lt
+        ∙ put_agrees (numbered 1 us) (from at base) (from at other) n (inr (touched us 1 n le lt))
+    | inr past ↦ sym (put_other (numbered 1 us) (from at other) n (λ t. not_past us 1 n past t))
+  ]
+
+  -- a record that was written is open, and says its changes
+  pub record_written : name < 2 ^ 64 → Fits changes → other at ≡ head name (length changes)
+      → ((n : ℕ) → 1 ≤ n → n < record_units (length changes) → other (at + n) ≡ put (numbered (at + 1) (us ++ closed ∷ [])) base (at + n))
+      → IsRecord name other at changes
+  record_written small fits gate is =
+      let says = spelled name changes (from at other) (from at other) fits (same_behind is) in
+      let here : from at other 0 ≡ head name (length changes) = ap other (let e : at + 0 ≡ at = omega arith in e) ∙ gate in
+      (standing_opened name changes (from at other) small fits.few says here, ap count_in says.head_is ∙ count_in-head name (length changes) fits.few)

@@ -3,8 +3,8 @@ use Rattle.std.proofs.Common.{◌≡◌, ◌⊎◌, inl, inr, ℕ, zero, suc, �
 use Rattle.std.proofs.lemmas.Bool.{cases_eq}
 use Rattle.std.proofs.lemmas.Bool.Decides.{nat_tests}
 use Rattle.stable.specs.Disk.{Contents, Changes, set, put, numbered, Touches, Held, Written, Stale, FileState, hold, mark, Keeps, file_written, file_spoilt, file_synced, file_unsynced, kept, lost}
-use Rattle.redo.specs.Record.{window}
-use Rattle.redo.specs.Runs.{Run, spread, singly, join, joined}
+use Rattle.redo.specs.Record.{window, from}
+use Rattle.redo.specs.Runs.{Run, spread, singly}
 
 pub set_same : (c : Contents) (w : ℕ × List ℕ) (n : ℕ) → n ≡ w.0 → set c w n ≡ w.1
 set_same c w n is = grind (arith, nat_tests)
@@ -39,15 +39,56 @@ pub put-append : (xs ys : Changes) (c : Contents) → put (xs ++ ys) c ≡ put y
 put-append [] ys c = refl
 put-append (x ∷ xs) ys c = put-append xs ys (set c x)
 
+-- changes from one unit on touch as many units as there are
+pub touched : (units : List (List ℕ)) (at n : ℕ) → at ≤ n → n < at + length units → Touches (numbered at units) n
+touched [] at n le lt = absurd (omega arith)
+touched (u ∷ units) at n le lt = elim (cases_eq at n) [
+  | inl here ↦ inl here
+  | inr other ↦ inr (touched units (at + 1) n (omega arith) (omega arith))
+]
+
 -- changes from one unit on touch none below it
 pub not_below : (units : List (List ℕ)) (at n : ℕ) → n < at → Touches (numbered at units) n → ⊥
 not_below [] at n lt h = h
 not_below (u ∷ units) at n lt (inl here) = omega arith
 not_below (u ∷ units) at n lt (inr later) = not_below units (at + 1) n (omega arith) later
 
+set_shift : (at k n : ℕ) (u : List ℕ) (c : Contents) → from at (set c (at + k, u)) n ≡ set (from at c) (k, u) n
+set_shift at k n u c = elim (cases_eq n k) [
+  | inl same ↦ set_same c (at + k, u) (at + n) (omega arith) ∙ sym (set_same (from at c) (k, u) n same)
+  | inr other ↦ set_other c (at + k, u) (at + n) (λ is. other (omega arith)) ∙ sym (set_other (from at c) (k, u) n other)
+]
+
+-- units that are put, counted from another one
+pub put_shift : (units : List (List ℕ)) (at k n : ℕ) (c : Contents) → put (numbered (at + k) units) c (at + n) ≡ put (numbered k units) (from at c) n
+put_shift [] at k n c = refl
+put_shift (u ∷ units) at k n c =
+    ap (λ (p : ℕ). put (numbered p units) (set c (at + k, u)) (at + n)) (let e : at + k + 1 ≡ at + (k + 1) = omega arith in e)
+    ∙ put_shift units at (k + 1) n (set c (at + k, u))
+    ∙ put_agrees (numbered (k + 1) units) (from at (set c (at + k, u))) (set (from at c) (k, u)) n (inl (set_shift at k n u c))
+
 pub numbered-append : (xs ys : List (List ℕ)) (at : ℕ) → numbered at (xs ++ ys) ≡ numbered at xs ++ numbered (at + length xs) ys
 numbered-append [] ys at = ap (λ k. numbered k ys) (omega arith)
 numbered-append (x ∷ xs) ys at = ap (λ (l : Changes). (at, x) ∷ l) (numbered-append xs ys (at + 1) ∙ ap (λ k. numbered (at + 1) xs ++ numbered k ys) (omega arith))
+
+-- nor any behind them
+pub not_past : (units : List (List ℕ)) (at n : ℕ) → at + length units ≤ n → Touches (numbered at units) n → ⊥
+not_past [] at n le h = h
+not_past (u ∷ units) at n le (inl here) = omega arith
+not_past (u ∷ units) at n le (inr later) = not_past units (at + 1) n (omega arith) later
+
+-- one unit more, behind them
+pub put_append_other : (units : List (List ℕ)) (u : List ℕ) (at n : ℕ) (c : Contents) → n < at + length units → put (numbered at (units ++ u ∷ [])) c n ≡ put (numbered at units) c n
+put_append_other units u at n c lt =
+    ap (λ (l : Changes). put l c n) (numbered-append units (u ∷ []) at)
+    ∙ ap (λ (d : Contents). d n) (put-append (numbered at units) (numbered (at + length units) (u ∷ [])) c)
+    ∙ put_other (numbered (at + length units) (u ∷ [])) (put (numbered at units) c) n (not_below (u ∷ []) (at + length units) n lt)
+
+pub put_append_last : (units : List (List ℕ)) (u : List ℕ) (at n : ℕ) (c : Contents) → n ≡ at + length units → put (numbered at (units ++ u ∷ [])) c n ≡ u
+put_append_last units u at n c is =
+    ap (λ (l : Changes). put l c n) (numbered-append units (u ∷ []) at)
+    ∙ ap (λ (d : Contents). d n) (put-append (numbered at units) (numbered (at + length units) (u ∷ [])) c)
+    ∙ set_same (put (numbered at units) c) (at + length units, u) n is
 
 -- a window shows the units in it alone
 pub window_same : (c d : Contents) (at k : ℕ) → ((n : ℕ) → at ≤ n → n < at + k → c n ≡ d n) → window c at k ≡ window d at k
@@ -172,17 +213,3 @@ spread_singly (w ∷ ws) = ap (λ (l : Changes). w ∷ l) (spread_singly ws)
 pub spread-append : (xs ys : List Run) → spread (xs ++ ys) ≡ spread xs ++ spread ys
 spread-append [] ys = refl
 spread-append (x ∷ xs) ys = ap (λ (l : Changes). numbered x.0 x.1 ++ l) (spread-append xs ys) ∙ sym (append_assoc (numbered x.0 x.1) (spread xs) (spread ys))
-
-by_neighbour : (w : ℕ × List ℕ) (r : Run) (runs : List Run) (b : Bool) → ((r.0 == w.0 + 1) ≡ b)
-    → spread (if b then (w.0, w.1 ∷ r.1) ∷ runs else (w.0, w.1 ∷ []) ∷ r ∷ runs) ≡ w ∷ spread (r ∷ runs)
-by_neighbour w r runs true is = let e : r.0 ≡ w.0 + 1 = grind (arith, nat_tests) in ap (λ (k : ℕ). w ∷ (numbered k r.1 ++ spread runs)) (sym e)
-by_neighbour w r runs false is = refl
-
-spread_join : (w : ℕ × List ℕ) (runs : List Run) → spread (join w runs) ≡ w ∷ spread runs
-spread_join w [] = refl
-spread_join w (r ∷ runs) = by_neighbour w r runs (r.0 == w.0 + 1) refl
-
--- runs are the changes that they were joined of
-pub spread_joined : (ws : Changes) → spread (joined ws) ≡ ws
-spread_joined [] = refl
-spread_joined (w ∷ ws) = spread_join w (joined ws) ∙ ap (λ (l : Changes). w ∷ l) (spread_joined ws)

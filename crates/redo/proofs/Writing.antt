@@ -1,15 +1,15 @@
 -- The next step of each loop that writes, and the parts of the plans.
-use Rattle.std.proofs.Common.{◌≡◌, inl, inr, length-append, ℕ, suc, ◌+◌, ◌-◌, ◌*◌, ◌/◌, ◌^◌, ◌<◌, ◌≤◌, ◌==◌, Bool, true, false, if◌then◌else◌, min, List, [], ◌∷◌, ◌++◌, length, map, take, drop, get_or, replicate, refl, sym, ◌∙◌, ap, subst, arith, add-one, append_assoc, codes}
+use Rattle.std.proofs.Common.{◌≡◌, inl, inr, length-append, ℕ, suc, ◌+◌, ◌-◌, ◌*◌, ◌/◌, ◌^◌, ◌<◌, ◌≤◌, min, List, [], ◌∷◌, ◌++◌, length, map, take, drop, get_or, replicate, refl, sym, ◌∙◌, ap, subst, arith, add-one, append_assoc, codes}
 use Rattle.std.specs.Int.{to_be_bytes, w32, w64}
 use Rattle.std.specs.List.{flat_map, zip, AllByRecursion}
 use Rattle.std.proofs.Math.Seq.{drop-cons, drop-append-add}
 use Rattle.std.proofs.lemmas.List.{take_all, drop_all, length-drop, length-take-le, take_at, append-nil, drop-replicate}
 use Rattle.std.proofs.lemmas.Grind.{take_at_read, flat_map-append}
 use Rattle.std.proofs.lemmas.Bool.{cases_lt}
-use Rattle.stable.specs.declared.Which.TheVariants.{Log, Image}
+use Rattle.stable.specs.declared.Which.TheVariants.{Log}
 use Rattle.stable.specs.Disk.{Write, Sync, numbered}
 use Rattle.redo.specs.Record.{directory, numbers_unit, head}
-use Rattle.redo.specs.Runs.{Run, run_length, followers, join, joined, singly}
+use Rattle.redo.specs.Runs.{singly}
 use Rattle.redo.specs.Plans.{run_write, directory_writes, body_writes, to_gate, log_plan}
 use Rattle.redo.specs.UnderWay.{Fits}
 
@@ -118,39 +118,6 @@ number_next ns unit bytes i lt few is_bytes is =
     ∙ ap (λ (l : List ℕ). front ++ bytes ++ l) rest_is
     ∙ ap (λ (l : List ℕ). l ++ replicate (4096 - 4 * (i + 1)) 0) (sym more)
 
-by_next : (n m : ℕ) (ns u : List ℕ) (units : List (List ℕ)) (b : Bool)
-    → joined (zip (m ∷ ns) units) ≡ (m, take (suc (followers m ns)) units) ∷ joined (zip (drop (suc (followers m ns)) (m ∷ ns)) (drop (suc (followers m ns)) units))
-    → (if b then (n, u ∷ take (suc (followers m ns)) units) ∷ joined (zip (drop (suc (followers m ns)) (m ∷ ns)) (drop (suc (followers m ns)) units)) else (n, u ∷ []) ∷ (m, take (suc (followers m ns)) units) ∷ joined (zip (drop (suc (followers m ns)) (m ∷ ns)) (drop (suc (followers m ns)) units)))
-    ≡ (n, u ∷ take (if b then suc (followers m ns) else 0) units) ∷ joined (zip (drop (if b then suc (followers m ns) else 0) (m ∷ ns)) (drop (if b then suc (followers m ns) else 0) units))
-by_next n m ns u units true is = refl
-by_next n m ns u units false is = ap (λ (l : List Run). (n, u ∷ []) ∷ l) (sym is)
-
--- the first run, and those behind it
-pub first_run : (n : ℕ) (ns : List ℕ) (units : List (List ℕ)) → length (n ∷ ns) ≡ length units
-    → joined (zip (n ∷ ns) units) ≡ (n, take (run_length (n ∷ ns)) units) ∷ joined (zip (drop (run_length (n ∷ ns)) (n ∷ ns)) (drop (run_length (n ∷ ns)) units))
-first_run n ns [] is = cc
-first_run n [] (u ∷ []) is = refl
-first_run n [] (u ∷ v ∷ units) is = absurd (omega arith)
-first_run n (m ∷ ns) (u ∷ []) is = absurd (omega arith)
-first_run n (m ∷ ns) (u ∷ v ∷ units) is =
-    ap (λ (l : List Run). join (n, u) l) (first_run m ns (v ∷ units) (omega arith))
-    ∙ by_next n m ns u (v ∷ units) (m == n + 1) (first_run m ns (v ∷ units) (omega arith))
-
--- the same, of the run that the code found
-pub first_write : (ns later : List ℕ) (units front rest : List (List ℕ)) (n count : ℕ) → 0 < length ns → n ≡ get_or ns 0 0 → length ns ≡ length units → count ≡ run_length ns
-    → front ≡ take count units → rest ≡ drop count units → later ≡ drop count ns
-    → map (run_write Image) (joined (zip ns units)) ≡ Write Image n front ∷ map (run_write Image) (joined (zip later rest))
-first_write ns later units front rest n count some is_first is counted is_front is_rest is_later =
-    let after : List ℕ = drop (0 + 1) ns in
-    let parts : ns ≡ n ∷ after = one_less ns 0 some ∙ ap (λ (k : ℕ). k ∷ after) (sym is_first) in
-    let whole : (ns : List ℕ) → ns ≡ n ∷ after → length ns ≡ length units → joined (zip ns units) ≡ (n, take (run_length ns) units) ∷ joined (zip (drop (run_length ns) ns) (drop (run_length ns) units)) =
-    λ ns parts is. subst (λ (l : List ℕ). joined (zip l units) ≡ (n, take (run_length l) units) ∷ joined (zip (drop (run_length l) l) (drop (run_length l) units))) (sym parts) (first_run n after units (ap length (sym parts) ∙ is)) in
-    ap (map (run_write Image)) (whole ns parts is)
-    ∙ ap (λ (k : ℕ). Write Image n (take k units) ∷ map (run_write Image) (joined (zip (drop k ns) (drop k units)))) (sym counted)
-    ∙ ap (λ (l : List (List ℕ)). Write Image n l ∷ map (run_write Image) (joined (zip (drop count ns) (drop count units)))) (sym is_front)
-    ∙ ap (λ (l : List (List ℕ)). Write Image n front ∷ map (run_write Image) (joined (zip (drop count ns) l))) (sym is_rest)
-    ∙ ap (λ (l : List ℕ). Write Image n front ∷ map (run_write Image) (joined (zip l rest))) (sym is_later)
-
 firsts : (ns : List ℕ) (units : List (List ℕ)) → length ns ≡ length units → map (λ (w : ℕ × List ℕ). w.0) (zip ns units) ≡ ns
 firsts [] units is = refl
 firsts (n ∷ ns) [] is = cc
@@ -176,10 +143,10 @@ pub changes_fit : (ns : List ℕ) (units : List (List ℕ)) → length ns ≡ le
 changes_fit ns units is few fit = record { few = omega (arith, length-changes ns units is); numbers = numbers_fit ns units fit }
 
 -- the parts of what is logged
-pub log_parts : (name : ℕ) (ns : List ℕ) (units : List (List ℕ)) → length ns ≡ length units
-    → log_plan name (zip ns units) ≡ body_writes name ns units ++ (Sync Log ∷ to_gate (head name (length ns)))
-log_parts name ns units is =
-    ap (λ (l : List ℕ). (body_writes name l (map (λ (w : ℕ × List ℕ). w.1) (zip ns units)) ++ Sync Log ∷ []) ++ to_gate (head name (length (zip ns units)))) (firsts ns units is)
-    ∙ ap (λ (l : List (List ℕ)). (body_writes name ns l ++ Sync Log ∷ []) ++ to_gate (head name (length (zip ns units)))) (seconds ns units is)
-    ∙ ap (λ (k : ℕ). (body_writes name ns units ++ Sync Log ∷ []) ++ to_gate (head name k)) (length-changes ns units is)
-    ∙ append_assoc (body_writes name ns units) (Sync Log ∷ []) (to_gate (head name (length ns)))
+pub log_parts : (name at : ℕ) (ns : List ℕ) (units : List (List ℕ)) → length ns ≡ length units
+    → log_plan name at (zip ns units) ≡ body_writes name at ns units ++ (Sync Log ∷ to_gate at (head name (length ns)))
+log_parts name at ns units is =
+    ap (λ (l : List ℕ). (body_writes name at l (map (λ (w : ℕ × List ℕ). w.1) (zip ns units)) ++ Sync Log ∷ []) ++ to_gate at (head name (length (zip ns units)))) (firsts ns units is)
+    ∙ ap (λ (l : List (List ℕ)). (body_writes name at ns l ++ Sync Log ∷ []) ++ to_gate at (head name (length (zip ns units)))) (seconds ns units is)
+    ∙ ap (λ (k : ℕ). (body_writes name at ns units ++ Sync Log ∷ []) ++ to_gate at (head name k)) (length-changes ns units is)
+    ∙ append_assoc (body_writes name at ns units) (Sync Log ∷ []) (to_gate at (head name (length ns)))

@@ -14,7 +14,7 @@ abbrev pub asks_of : ℕ → List ℕ → List ℕ → Asked
 asks_of name gate first =
     if bytes_eq gate first && is_head first then (if name_in first == name then Changes (count_in first) else Another) else NothingMore
 
--- how a log stands that asks so
+-- how a record stands that asks so
 abbrev pub stands : Asked → Contents → Standing
 stands NothingMore log = Nothing
 stands (Changes count) log = Redo (changes_in log count)

@@ -1,9 +1,13 @@
 -- What a commit costs.
-use Rattle.std.specs.Prelude.{◌≡◌, ◌<◌, ℕ, ◌+◌, List, [], ◌∷◌, length}
-use Rattle.stable.specs.Disk.{Step, Write, Sync, numbered}
-use Rattle.redo.specs.Record.{directory_units}
-use Rattle.redo.specs.Runs.{joined}
-use Rattle.redo.specs.Plans.{log_plan, settle_plan}
+use Rattle.std.specs.Prelude.{◌≡◌, ℕ, ◌+◌, List, [], ◌∷◌, length}
+use Rattle.stable.specs.declared.Which.TheVariants.{Log}
+use Rattle.stable.specs.Disk.{Changes, Step, Write, Sync}
+use Rattle.redo.specs.Record.{directory_units, Redo}
+use Rattle.redo.specs.Plans.{log_plan, to_recover}
+
+-- what a recovery does where the log says these changes
+abbrev pub settle_steps : Changes → List Step
+settle_steps changes = Sync Log ∷ to_recover (Redo changes) []
 
 -- how many writes are asked for
 abbrev pub writes : List Step → ℕ
@@ -23,16 +27,13 @@ syncs [] = 0
 syncs (Write file at units ∷ steps) = syncs steps
 syncs (Sync file ∷ steps) = 1 + syncs steps
 
--- Each changed unit is written twice, their numbers take a unit for 1024 of them, and there are three units more. Two syncs come before the
--- promise, and two behind it. The log takes a write for each unit of the directory and three more, the image a write for each run and one
--- more; units that are all neighbours are one run.
-pub record Costs (name : ℕ) (changes : List (ℕ × List ℕ)) : Type 0 where
-  pub log_units : units_written (log_plan name changes) ≡ length changes + directory_units (length changes) + 2
-  pub log_writes : writes (log_plan name changes) ≡ directory_units (length changes) + 3
-  pub log_syncs : syncs (log_plan name changes) ≡ 2
-  pub settle_units : units_written (settle_plan changes) ≡ length changes + 1
-  pub settle_writes : writes (settle_plan changes) ≡ length (joined changes) + 1
-  pub settle_syncs : syncs (settle_plan changes) ≡ 2
-
-abbrev pub NeighboursAreOneRun : Type 0
-NeighboursAreOneRun = (at : ℕ) (units : List (List ℕ)) → 0 < length units → length (joined (numbered at units)) ≡ 1
+-- Logging: each changed unit is written, their numbers take a unit for 1024 of them, and there are three units more: the gate, the head and
+-- the gate behind. That takes a write for each unit of the directory and four more, and two syncs. Settling: a write for each unit and one
+-- for the gate, and three syncs.
+pub record Costs (name at : ℕ) (changes : List (ℕ × List ℕ)) : Type 0 where
+  pub log_units : units_written (log_plan name at changes) ≡ length changes + directory_units (length changes) + 3
+  pub log_writes : writes (log_plan name at changes) ≡ directory_units (length changes) + 4
+  pub log_syncs : syncs (log_plan name at changes) ≡ 2
+  pub settle_units : units_written (settle_steps changes) ≡ length changes + 1
+  pub settle_writes : writes (settle_steps changes) ≡ length changes + 1
+  pub settle_syncs : syncs (settle_steps changes) ≡ 3

@@ -1,52 +1,45 @@
 -- What is done to the two files, step by step.
-use Rattle.std.specs.Prelude.{ℕ, List, [], ◌∷◌, ◌++◌, length, map, if◌then◌else◌}
+use Rattle.std.specs.Prelude.{ℕ, ◌+◌, List, [], ◌∷◌, ◌++◌, length, map, if◌then◌else◌}
 use Rattle.stable.specs.declared.Which.{Which}
 use Rattle.stable.specs.declared.Which.TheVariants.{Log, Image}
 use Rattle.std.specs.Str.{bytes_eq}
 use Rattle.stable.specs.Disk.{Contents, Changes, Step, Write, Sync, numbered}
-use Rattle.redo.specs.Record.{head, closed, directory_units, directory, first_data, standing, Standing, Nothing, Redo, Foreign}
-use Rattle.redo.specs.Runs.{Run, joined, singly}
+use Rattle.redo.specs.Record.{head, closed, directory_units, directory, first_data, record_units, standing, Standing, Nothing, Redo, Foreign}
+use Rattle.redo.specs.Runs.{Run, singly}
 
 -- a run is written by one call
 abbrev pub run_write : Which → Run → Step
 run_write file r = Write file r.0 r.1
 
--- numbers are written to the log's directory, from a unit of the log on
+-- numbers are written to the log, from a unit on
 abbrev pub directory_writes : ℕ → List ℕ → List Step
 directory_writes at ns = map (run_write Log) (singly (numbered at (directory (directory_units (length ns)) ns)))
 
--- what is written to the log behind its gate: the head, each unit of the directory, all bytes
-abbrev pub body_writes : ℕ → List ℕ → List (List ℕ) → List Step
-body_writes name ns units =
-    Write Log 1 (head name (length ns) ∷ []) ∷ directory_writes 2 ns ++ Write Log (first_data (length ns)) units ∷ []
+-- what is written to the log behind the gate at this place: the head, each unit of the directory, all bytes, and the next gate, closed
+abbrev pub body_writes : ℕ → ℕ → List ℕ → List (List ℕ) → List Step
+body_writes name at ns units =
+    Write Log (at + 1) (head name (length ns) ∷ []) ∷ directory_writes (at + 2) ns
+    ++ Write Log (at + first_data (length ns)) units ∷ Write Log (at + record_units (length ns)) (closed ∷ []) ∷ []
 
--- the log is written behind its closed gate
-abbrev pub to_write : ℕ → Changes → List Step
-to_write name changes = body_writes name (map (λ w. w.0) changes) (map (λ w. w.1) changes) ++ Sync Log ∷ []
+-- a record is written behind its closed gate
+abbrev pub to_write : ℕ → ℕ → Changes → List Step
+to_write name at changes = body_writes name at (map (λ w. w.0) changes) (map (λ w. w.1) changes) ++ Sync Log ∷ []
 
--- these bytes are written to the gate
-abbrev pub to_gate : List ℕ → List Step
-to_gate bytes = Write Log 0 (bytes ∷ []) ∷ Sync Log ∷ []
+-- these bytes are written to the gate at this place
+abbrev pub to_gate : ℕ → List ℕ → List Step
+to_gate at bytes = Write Log at (bytes ∷ []) ∷ Sync Log ∷ []
 
--- Changes are logged: the log is on the disk before its gate is opened.
-abbrev pub log_plan : ℕ → Changes → List Step
-log_plan name changes = to_write name changes ++ to_gate (head name (length changes))
+-- Changes are logged in the record at this place: it is on the disk, and the closed gate behind it, before its own gate is opened.
+abbrev pub log_plan : ℕ → ℕ → Changes → List Step
+log_plan name at changes = to_write name at changes ++ to_gate at (head name (length changes))
 
--- runs go to the image, and then the gate is closed
+-- runs go to the image, and are on the disk before the first gate is closed
 abbrev pub to_image : List Run → List Step
-to_image runs = map (run_write Image) runs ++ Sync Image ∷ to_gate closed
-
--- Logged changes are settled: the image is on the disk before the gate is closed.
-abbrev pub settle_plan : Changes → List Step
-settle_plan changes = to_image (joined changes)
-
--- A commit: changes are logged, and settled.
-abbrev pub commit_plan : ℕ → Changes → List Step
-commit_plan name changes = log_plan name changes ++ settle_plan changes
+to_image runs = map (run_write Image) runs ++ Sync Image ∷ to_gate 0 closed
 
 -- What is to be done by how the log stands. A gate that is closed is left alone: a crash while it is written may leave anything in it.
 abbrev pub to_recover : Standing → List ℕ → List Step
-to_recover Nothing gate = if bytes_eq gate closed then [] else to_gate closed
+to_recover Nothing gate = if bytes_eq gate closed then [] else to_gate 0 closed
 to_recover (Redo changes) gate = to_image (singly changes)
 to_recover Foreign gate = []
 

@@ -5,8 +5,9 @@ use Rattle.std.specs.List.{flat_map, zip}
 use Rattle.std.specs.Str.{bytes_eq}
 use Rattle.stable.specs.Disk.{Contents, Changes, put}
 
--- The log: unit 0 is its gate, unit 1 its head, and then its directory, the changed units' numbers in four bytes each, 1024 in a unit, and
--- then those units' bytes. The gate is open where its bytes are those of the head.
+-- The log: records from unit 0 on, one behind the other, and a closed gate behind the last one. A record: its first unit is its gate, the
+-- second its head, and then its directory, the changed units' numbers in four bytes each, 1024 in a unit, and then those units' bytes. The
+-- gate is open where its bytes are those of the head.
 
 -- a head: the name of the image that it is for, and how many units have changed
 abbrev pub head : ℕ → ℕ → List ℕ
@@ -48,7 +49,11 @@ abbrev pub numbers_in : List ℕ → List ℕ
 numbers_in (a ∷ b ∷ c ∷ d ∷ rest) = from_be_bytes w32 (a ∷ b ∷ c ∷ d ∷ []) ∷ numbers_in rest
 numbers_in _ = []
 
--- the units of a log behind its gate, for these changes
+-- how many units a record of so many changes has
+abbrev pub record_units : ℕ → ℕ
+record_units count = first_data count + count
+
+-- the units of a record behind its gate, for these changes
 abbrev pub body : ℕ → Changes → List (List ℕ)
 body name changes =
     head name (length changes) ∷ directory (directory_units (length changes)) (map (λ w. w.0) changes) ++ map (λ w. w.1) changes
@@ -58,25 +63,65 @@ abbrev pub window : Contents → ℕ → ℕ → List (List ℕ)
 window c at zero = []
 window c at (suc k) = c at ∷ window c (at + 1) k
 
--- the numbers that a log's directory holds
+-- the numbers that a record's directory holds
 abbrev pub numbers_of : Contents → ℕ → List ℕ
 numbers_of log count = take count (flat_map numbers_in (window log 2 (directory_units count)))
 
--- the changes that a log says
+-- the changes that a record says
 abbrev pub changes_in : Contents → ℕ → Changes
 changes_in log count = zip (numbers_of log count) (window log (first_data count) count)
 
--- how a log stands: it asks for nothing, it says changes to be done, or it is for another image
+-- It asks for nothing, it says changes to be done, or it is for another image.
 pub data Standing : Type 0 where
   Nothing : Standing
   Redo : List (ℕ × List ℕ) → Standing
   Foreign : Standing
 
-abbrev pub standing_open : ℕ → Contents → Standing
-standing_open name log = if name_in (log 1) == name then Redo (changes_in log (count_in (log 1))) else Foreign
+abbrev pub record_open : ℕ → Contents → Standing
+record_open name log = if name_in (log 1) == name then Redo (changes_in log (count_in (log 1))) else Foreign
 
+-- how a log stands by its first record alone
+abbrev pub record_standing : ℕ → Contents → Standing
+record_standing name log = if bytes_eq (log 0) (log 1) && is_head (log 1) then record_open name log else Nothing
+
+-- the units of a log from one on
+abbrev pub from : ℕ → Contents → Contents
+from at log n = log (at + n)
+
+-- where the record behind the one at this place begins
+abbrev pub next_place : Contents → ℕ → ℕ
+next_place log at = at + record_units (count_in (log (at + 1)))
+
+-- a record's changes, and those behind it; none where it isn't open for this image
+abbrev pub with_rest : Standing → Changes → Changes
+with_rest Nothing rest = []
+with_rest (Redo changes) rest = changes ++ rest
+with_rest Foreign rest = []
+
+-- the changes of a record that is open for this image
+abbrev pub says_of : Standing → Changes
+says_of Nothing = []
+says_of (Redo changes) = changes
+says_of Foreign = []
+
+-- what records say from a place on, so many at most: those up to the first gate that isn't open
+unfoldable pub said_from : ℕ → ℕ → Contents → ℕ → Changes
+said_from zero name log at = []
+said_from (suc k) name log at = with_rest (record_standing name (from at log)) (said_from k name log (next_place log at))
+
+-- the most records that a log has
+abbrev pub most : ℕ
+most = 4096
+
+-- how a log stands, by its first record and what all say
+abbrev pub all_said : Standing → Changes → Standing
+all_said Nothing said = Nothing
+all_said (Redo changes) said = Redo said
+all_said Foreign said = Foreign
+
+-- how a log stands
 abbrev pub standing : ℕ → Contents → Standing
-standing name log = if bytes_eq (log 0) (log 1) && is_head (log 1) then standing_open name log else Nothing
+standing name log = all_said (record_standing name (from 0 log)) (said_from most name log 0)
 
 -- the image that is to be found, by how the log stands; none where the log is for another one
 abbrev pub redone : Standing → Contents → Option Contents

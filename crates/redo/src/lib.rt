@@ -1,4 +1,5 @@
-//! A redo log beside an image file: a commit changes some units of the image, and a crash leaves the image before it or after it.
+//! A redo log beside an image file: a commit changes some units of the image, and a crash leaves the image before it or after it. The image
+//! file itself has the changes later, once they are settled.
 #![tactic(auto)]
 
 mod committing;
@@ -8,13 +9,13 @@ mod recovering;
 
 ghost use Rattle.std.specs.Prelude.{ℕ, List};
 ghost use Rattle.redo.specs.Laws.{CommitsAreSafe, RecoveriesAreSafe, CrashesAreSafe, RunsAreSafe};
-ghost use Rattle.redo.specs.Costs.{Costs, NeighboursAreOneRun};
+ghost use Rattle.redo.specs.Costs.{Costs};
 
-pub use committing::{commit, log, settle};
+pub use committing::log;
 pub use log_reading::{Logged, read_log};
-pub use recovering::{Recovered, recover};
+pub use recovering::{MOST, Recovered, recover};
 
-/// At each moment of a commit's logging a crash leaves the image before or the image after; at each moment of its settling, the image
+/// At each moment of a commit a crash leaves the image before or the image after; behind it, and at each moment of its settling, the image
 /// after.
 pub fn commits_survive()
     ensures { CommitsAreSafe }
@@ -32,14 +33,13 @@ pub fn crashes_are_survived()
     ensures { CrashesAreSafe }
 {}
 
-/// After any number of commits, at each moment of the next one, a crash leaves the image of the last one that was answered ok or of the
-/// next one.
+/// After any number of commits and settlings, at each moment of the next commit, a crash leaves the image of the last one that was answered
+/// ok or of the next one; at each moment of a settling, that of the last one.
 pub fn runs_survive()
     ensures { RunsAreSafe }
 {}
 
-/// What a commit writes, by how many calls, and how many syncs it waits for.
+/// What a commit and its settling write, by how many calls, and how many syncs they wait for.
 pub fn commits_are_counted()
-    ensures costs { (name : ℕ) (changes : List (ℕ × List ℕ)) → Costs name changes }
-    ensures neighbours { NeighboursAreOneRun }
+    ensures { (name at : ℕ) (changes : List (ℕ × List ℕ)) → Costs name at changes }
 {}

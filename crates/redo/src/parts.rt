@@ -1,12 +1,10 @@
-//! The parts of a commit.
+//! The parts of a record.
 
-ghost use Rattle.std.specs.Prelude.{◌≡◌, ◌≤◌, ◌<◌, ◌+◌, ◌^◌, ◌++◌, length, take, drop, map};
-ghost use Rattle.std.specs.List.{zip};
-ghost use Rattle.stable.specs.declared.Which.TheVariants.{Image};
+ghost use Rattle.std.specs.Prelude.{◌≡◌, ◌≤◌, ◌<◌, ◌+◌, ◌^◌, ◌++◌, length, take, drop};
 ghost use Rattle.stable.specs.Runs.{Follows};
-ghost use Rattle.redo.specs.Record.{numbers_unit as numbers_unit_of, head as head_of};
-ghost use Rattle.redo.specs.Runs.{joined, run_length as run_length_of};
-ghost use Rattle.redo.specs.Plans.{directory_writes, run_write};
+ghost use Rattle.redo.specs.Record.{numbers_unit as numbers_unit_of, head as head_of, first_data as first_data_of};
+ghost use Rattle.redo.specs.Record.{record_units as record_units_of};
+ghost use Rattle.redo.specs.Plans.{directory_writes};
 
 use stable::{Storage, UNIT, Which};
 use std::io;
@@ -22,7 +20,7 @@ fn put_bytes(unit: &mut [u8; UNIT], at: usize, bytes: &[u8])
     unit[at..at + bytes.len()].copy_from_slice(bytes);
 }
 
-/// The head of a log (own): the letters MFSREDO1, the name of the image and the number of changed units, the most significant byte first.
+/// The head of a record (own): the letters MFSREDO1, the name of the image and the number of changed units, the most significant byte first.
 pub(crate) fn head(name: u64, count: u32) -> [u8; UNIT]
     ensures { result ≡ head_of name count }
 {
@@ -45,58 +43,37 @@ fn numbers_unit(numbers: &[u32]) -> [u8; UNIT]
     unit
 }
 
-/// Writes the numbers of units to the log's directory.
-pub(crate) fn write_directory<S: Storage>(storage: &mut S, numbers: &[u32]) -> io::Result<()>
-    requires { length numbers.now < 2 ^ 32 }
-    ensures { Follows (directory_writes 2 numbers.now) (S.known storage.old) (S.known storage.new) result }
+/// Which unit of a record has the bytes of the first of so many changes.
+pub(crate) fn first_data(count: u32) -> u64
+    ensures { result ≡ first_data_of count }
+{
+    2 + (u64::from(count) + 1023) / 1024
+}
+
+/// How many units a record of so many changes has.
+pub(crate) fn record_units(count: u32) -> u64
+    ensures { result ≡ record_units_of count }
+{
+    first_data(count) + u64::from(count)
+}
+
+/// Writes the numbers of units to the log, from a unit on.
+pub(crate) fn write_directory<S: Storage>(
+    storage: &mut S,
+    first: u64,
+    numbers: &[u32],
+) -> io::Result<()>
+    requires few { length numbers.now < 2 ^ 32 }
+    requires room { first < 2 ^ 32 }
+    ensures { Follows (directory_writes first numbers.now) (S.known storage.old) (S.known storage.new) result }
 {
     let mut rest = numbers;
-    let mut at: u64 = 2;
+    let mut at = first;
     while !rest.is_empty() {
-        let (first, after) = rest.split_at(rest.len().min(NUMBERS));
-        storage.write(Which::Log, at, &[numbers_unit(first)])?;
+        let (front, after) = rest.split_at(rest.len().min(NUMBERS));
+        storage.write(Which::Log, at, &[numbers_unit(front)])?;
         rest = after;
         at += 1;
-    }
-    Ok(())
-}
-
-/// How many of the first numbers are neighbours: each one more than the one before it.
-fn run_length(numbers: &[u32]) -> usize
-    ensures is { result ≡ run_length_of numbers.now }
-    ensures few { result ≤ length numbers.now }
-{
-    let mut rest = numbers;
-    let mut length = 0;
-    while let [first, after @ ..] = rest {
-        length += 1;
-        rest = match after {
-            [next, ..] if u64::from(*next) == u64::from(*first) + 1 => after,
-            _ => &[],
-        };
-    }
-    length
-}
-
-/// Writes units to their places in the image, neighbours by one call.
-pub(crate) fn write_runs<S: Storage>(
-    storage: &mut S,
-    numbers: &[u32],
-    units: &[[u8; UNIT]],
-) -> io::Result<()>
-    requires { length numbers.now ≡ length units.now }
-    ensures { Follows (map (run_write Image) (joined (zip numbers.now units.now))) (S.known storage.old) (S.known storage.new) result }
-{
-    let mut numbers = numbers;
-    let mut units = units;
-    while let [first, ..] = numbers {
-        let first = *first as u64;
-        let count = run_length(numbers);
-        let (_, later) = numbers.split_at(count);
-        let (run, rest) = units.split_at(count);
-        storage.write(Which::Image, first, run)?;
-        numbers = later;
-        units = rest;
     }
     Ok(())
 }

@@ -1,8 +1,8 @@
-//! Commits that are cut off.
+//! Commits that are cut off, and what settles them.
 use crate::crashes::{
     Files, NAME, Wanted, all_recover, found_after, found_after_failure, is_image,
 };
-use redo::{commit, recover};
+use redo::{log, recover};
 use stable::UNIT;
 use stable::memory::Memory;
 use std::alloc::{AllocError, Global};
@@ -47,7 +47,7 @@ fn image_after(
     Ok(image)
 }
 
-/// What a commit of these units did up to the step that fails, and whether it was ok.
+/// What a commit of these units did, and a recovery that settles it, up to the step that fails, and whether both were ok.
 fn committed(
     alloc: Global,
     files: &Files,
@@ -59,7 +59,8 @@ fn committed(
     if units.len() != numbers.len() || numbers.len() > 2000 {
         return Err(Fail::from("too many units"));
     }
-    let is_ok = commit(&mut memory, NAME, numbers, &units).is_ok();
+    let is_ok = log(&mut memory, NAME, 0, numbers, &units).is_ok()
+        && recover(alloc, &mut memory, NAME).is_ok();
     Ok((memory, is_ok))
 }
 
@@ -68,7 +69,7 @@ fn committed(
 fn cut(alloc: Global, numbers: &[u32], count: usize, fails_at: usize) -> Result<String, Fail> {
     let before = image_before(alloc, count)?;
     let after = image_after(&before, alloc, numbers)?;
-    let mut files = Files::new(alloc, numbers.len().saturating_add(3), &before)?;
+    let mut files = Files::new(alloc, numbers.len().saturating_add(4), &before)?;
     files.age = if numbers.len() == 2 { 0 } else { 1 };
     let (memory, is_ok) = committed(alloc, &files, numbers, fails_at)?;
     let mut work = Vec::new(alloc);
@@ -81,23 +82,23 @@ fn cut(alloc: Global, numbers: &[u32], count: usize, fails_at: usize) -> Result<
     Ok(format!(in alloc; "{} {is_ok}", memory.history().len())?)
 }
 
-// Two neighbours: three writes to the log, two of the gate, one of the image, and four syncs.
+// Two units: four writes to the log, one of the gate, and two syncs; then two writes of the image, one of the gate, and three syncs.
 #[test]
 fn small_commits_survive(rt: HostRuntime) -> Result<(), Fail> {
-    for fails_at in 0..11 {
+    for fails_at in 0..14 {
         let given = cut(rt.alloc(), &[0, 1], 2, fails_at)?;
-        let steps = if fails_at < 10 { fails_at + 1 } else { 10 };
-        let wanted = format!(in rt.alloc(); "{steps} {}", fails_at == 10)?;
+        let steps = if fails_at < 13 { fails_at + 1 } else { 13 };
+        let wanted = format!(in rt.alloc(); "{steps} {}", fails_at == 13)?;
         is_told(given.as_str(), wanted.as_str())?;
     }
     Ok(())
 }
 
-// Units that aren't neighbours are a write each, and a unit that comes twice is one of its own.
+// Units are a write each, and a unit that comes twice is one of its own.
 #[test]
 fn scattered_commits_survive(rt: HostRuntime) -> Result<(), Fail> {
-    is_told(cut(rt.alloc(), &[2, 0, 2], 3, 100)?.as_str(), "12 true")?;
-    is_told(cut(rt.alloc(), &[], 1, 100)?.as_str(), "8 true")
+    is_told(cut(rt.alloc(), &[2, 0, 2], 3, 100)?.as_str(), "14 true")?;
+    is_told(cut(rt.alloc(), &[], 1, 100)?.as_str(), "10 true")
 }
 
 // 1025 numbers take two units of the log's directory.
@@ -111,11 +112,11 @@ fn large_commits_survive(rt: HostRuntime) -> Result<(), Fail> {
     let before = image_before(alloc, 1030)?;
     let after = image_after(&before, alloc, &numbers)?;
     let files = Files::new(alloc, 1030, &before)?;
-    let (memory, is_ok) = committed(alloc, &files, &numbers, 100)?;
-    let promised = memory.history().get(..7).unwrap_or(&[]);
+    let (memory, is_ok) = committed(alloc, &files, &numbers, 5000)?;
+    let promised = memory.history().get(..8).unwrap_or(&[]);
     let mut opened = files.after(promised)?.open(alloc, usize::MAX)?;
     let answer = recover(alloc, &mut opened, NAME)?;
     let is_after = is_image(&mut files.after(opened.history())?.open(alloc, 0)?, &after)?;
     let given = format!(in alloc; "{} {is_ok} {answer:?} {is_after}", memory.history().len())?;
-    is_told(given.as_str(), "11 true Redone true")
+    is_told(given.as_str(), "1037 true Redone true")
 }

@@ -86,12 +86,9 @@ impl Files {
         ))
     }
 
-    /// Whether a sync or a write of the gate has failed.
+    /// Whether a write of the log, which may be a gate's, or a sync of one has failed.
     fn has_stale_gate(&self) -> bool {
-        match self.log.first() {
-            Some(gate) => gate.held == Held::Stale,
-            None => false,
-        }
+        self.log.iter().any(|unit| unit.held == Held::Stale)
     }
 
     /// In how many ways a crash may leave them, if those are few; else none. More are taken of the first crash than of later ones.

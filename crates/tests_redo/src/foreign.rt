@@ -11,7 +11,7 @@ fn recovered_as(rt: &HostRuntime, name: u64) -> Result<String, Fail> {
     let alloc = rt.alloc();
     let files = Files::new(alloc, 8, &[[7; UNIT]; 2])?;
     let mut memory = files.open(alloc, usize::MAX)?;
-    log(&mut memory, NAME, &[1], &[[9; UNIT]])?;
+    log(&mut memory, NAME, 0, &[1], &[[9; UNIT]])?;
     let mut opened = files.after(memory.history())?.open(alloc, usize::MAX)?;
     let answer = recover(alloc, &mut opened, name)?;
     let mut writes: u32 = 0;

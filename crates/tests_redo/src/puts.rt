@@ -32,7 +32,7 @@ fn changes_of(alloc: Global, numbers: &[u32], bytes: &[u8]) -> Result<Changes, F
 
 /// An image file of three units, 1, 2 and 3, whose step of this number fails.
 fn opened(alloc: Global, fails_at: usize) -> Result<(Files, Kept<Memory>), Fail> {
-    let files = Files::new(alloc, 8, &image_of(alloc, &[1, 2, 3])?)?;
+    let files = Files::new(alloc, 16, &image_of(alloc, &[1, 2, 3])?)?;
     match Kept::open(alloc, files.open(alloc, fails_at)?, NAME) {
         Ok(kept) => Ok((files, kept)),
         Err(refusal) => Err(Fail::new(format_args!("not opened: {refusal}"))),
@@ -58,14 +58,14 @@ fn cut(alloc: Global, fails_at: usize) -> Result<bool, Fail> {
     Ok(is_ok)
 }
 
-// A start syncs the log, and a put of one unit has ten steps.
+// A start syncs the log, and a put of one unit has seven steps: four writes to the log, a sync, the gate, and a sync.
 #[test]
 fn puts_survive(rt: HostRuntime) -> Result<(), Fail> {
-    for fails_at in 1..12 {
+    for fails_at in 1..9 {
         let is_ok = cut(rt.alloc(), fails_at)?;
         is_told(
             format!(in rt.alloc(); "{fails_at} {is_ok}")?.as_str(),
-            format!(in rt.alloc(); "{fails_at} {}", fails_at == 11)?.as_str(),
+            format!(in rt.alloc(); "{fails_at} {}", fails_at == 8)?.as_str(),
         )?;
     }
     Ok(())
@@ -86,15 +86,74 @@ fn no_changes_ask_nothing(rt: HostRuntime) -> Result<(), Fail> {
     is_told(stands(&rt, kept, &[1, 2, 3])?.as_str(), "1 true")
 }
 
-// The write of the image fails, and the put after it does first what the log asks for: a sync, a write, a sync, and the gate's two.
+// Puts one behind another: the third one is cut off after each step.
+#[test]
+fn puts_behind_puts_survive(rt: HostRuntime) -> Result<(), Fail> {
+    let alloc = rt.alloc();
+    let (files, mut kept) = opened(alloc, usize::MAX)?;
+    kept.put(&changes_of(alloc, &[0, 1], &[7, 8])?)?;
+    kept.put(&changes_of(alloc, &[2], &[9])?)?;
+    kept.put(&changes_of(alloc, &[0], &[10])?)?;
+    let memory = kept.into_storage();
+    let (Some(first), Some(last)) = (memory.history().get(..15), memory.history().get(15..)) else {
+        return Err(Fail::from("fewer steps"));
+    };
+    let mut work = Vec::new(alloc);
+    found_after(alloc, &files.after(first)?, last, &mut work)?;
+    let before = image_of(alloc, &[7, 8, 9])?;
+    let after = image_of(alloc, &[10, 8, 9])?;
+    all_recover(alloc, &mut work, &Wanted { before, after })?;
+    is_told(format!(in alloc; "{}", last.len())?.as_str(), "7")
+}
+
+// The image file has what was put once it is settled: a sync, four writes, a sync, and the gate's two.
+#[test]
+fn puts_are_settled(rt: HostRuntime) -> Result<(), Fail> {
+    let (_, mut kept) = opened(rt.alloc(), usize::MAX)?;
+    kept.put(&changes_of(rt.alloc(), &[0, 1], &[7, 8])?)?;
+    kept.put(&changes_of(rt.alloc(), &[2, 0], &[9, 10])?)?;
+    kept.settle()?;
+    is_told(stands(&rt, kept, &[10, 8, 9])?.as_str(), "23 true")
+}
+
+// The write of the image fails while it is settled, and the put after it does first what the log asks for.
 #[test]
 fn put_goes_on_after_one_that_failed(rt: HostRuntime) -> Result<(), Fail> {
-    let (_, mut kept) = opened(rt.alloc(), 8)?;
-    let first = kept.put(&changes_of(rt.alloc(), &[0], &[7])?);
+    let (_, mut kept) = opened(rt.alloc(), 9)?;
+    kept.put(&changes_of(rt.alloc(), &[0], &[7])?)?;
+    let first = kept.settle();
     kept.put(&changes_of(rt.alloc(), &[0, 2], &[8, 9])?)?;
+    kept.settle()?;
     is_told(
         format!(in rt.alloc(); "{} {}", first.is_ok(), stands(&rt, kept, &[8, 2, 9])?)?.as_str(),
-        "false 25 true",
+        "false 28 true",
+    )
+}
+
+// A put that makes the log long: the next one settles it first.
+#[test]
+fn long_logs_are_settled(rt: HostRuntime) -> Result<(), Fail> {
+    let alloc = rt.alloc();
+    let files = Files::new(alloc, 16, &[])?;
+    let mut kept = match Kept::open(alloc, files.open(alloc, usize::MAX)?, NAME) {
+        Ok(kept) => kept,
+        Err(refusal) => return Err(Fail::new(format_args!("not opened: {refusal}"))),
+    };
+    let mut numbers: Vec<u32> = Vec::new(alloc);
+    let mut units = Vec::new(alloc);
+    for n in 0..4090 {
+        numbers.push(n)?;
+        units.push([5; UNIT])?;
+    }
+    if numbers.len() != units.len() || numbers.len() > 5000 {
+        return Err(Fail::from("too many units"));
+    }
+    kept.put(&Changes { numbers, units })?;
+    kept.put(&changes_of(alloc, &[0], &[6])?)?;
+    let memory = kept.into_storage();
+    is_told(
+        format!(in alloc; "{}", memory.history().len())?.as_str(),
+        "4112",
     )
 }
 
@@ -113,16 +172,16 @@ fn image_is_put(rt: HostRuntime) -> Result<(), Fail> {
     let is_put = is_image(&mut memory, &[[1; UNIT], [1; UNIT], last])?;
     is_told(
         format!(in rt.alloc(); "{} {is_put}", memory.history().len())?.as_str(),
-        "11 true",
+        "15 true",
     )
 }
 
 /// What an image of two units and ten bytes is when it is read under a name, where unit 1 was promised as 9 and unit 2 as 8.
 fn read_as(rt: &HostRuntime, name: u64) -> Result<String, Fail> {
     let alloc = rt.alloc();
-    let files = Files::new(alloc, 8, &image_of(alloc, &[1, 2, 3])?)?;
+    let files = Files::new(alloc, 16, &image_of(alloc, &[1, 2, 3])?)?;
     let mut memory = files.open(alloc, usize::MAX)?;
-    log(&mut memory, NAME, &[1, 2], &[[9; UNIT], [8; UNIT]])?;
+    log(&mut memory, NAME, 0, &[1, 2], &[[9; UNIT], [8; UNIT]])?;
     let steps = memory.history().len();
     let mut image: Vec<u8> = Vec::from_elem(alloc, 1, 8202)?;
     let text = match read_through(alloc, &mut memory, name, &mut image) {
@@ -149,9 +208,9 @@ fn images_are_read_through(rt: HostRuntime) -> Result<(), Fail> {
 #[test]
 fn foreign_logs_are_not_opened(rt: HostRuntime) -> Result<(), Fail> {
     let alloc = rt.alloc();
-    let files = Files::new(alloc, 8, &image_of(alloc, &[1, 2, 3])?)?;
+    let files = Files::new(alloc, 16, &image_of(alloc, &[1, 2, 3])?)?;
     let mut memory = files.open(alloc, usize::MAX)?;
-    log(&mut memory, NAME, &[1], &[[9; UNIT]])?;
+    log(&mut memory, NAME, 0, &[1], &[[9; UNIT]])?;
     match Kept::open(alloc, memory, NAME + 1) {
         Err(OpenRefusal::Foreign) => Ok(()),
         _ => Err(Fail::from("opened")),

@@ -8,11 +8,13 @@ use Rattle.redo.proofs.committing.write_gate.Goals as goal
 pub returns-in_err-write : goal.returns-in_err-write
 returns-in_err-write g c =
     let gate = c.args.gate.now in
-    part_stops (to_gate gate) (Write Log 0 (gate ∷ []) ∷ []) (Sync Log ∷ []) _ _ _ c.from_residual.result c.from_residual.ensures.0
-    (all_left (to_gate gate) (g.S.Storage.known c.args.storage.now)) c.in_err-write.ensures
+    let at = c.args.at in
+    part_stops (to_gate at gate) (Write Log at (gate ∷ []) ∷ []) (Sync Log ∷ []) _ _ _ c.from_residual.result c.from_residual.ensures.0
+    (all_left (to_gate at gate) (g.S.Storage.known c.args.storage.now)) c.in_err-write.ensures
 
 pub returns : goal.returns
 returns g c =
     let gate = c.args.gate.now in
-    last_part (to_gate gate) (Sync Log ∷ []) _ _ _ c.sync.result
-    (step_done (to_gate gate) (Write Log 0 (gate ∷ [])) (Sync Log ∷ []) _ _ _ (all_left (to_gate gate) (g.S.Storage.known c.args.storage.now)) c.in_ok-write.ensures) c.sync.ensures
+    let at = c.args.at in
+    last_part (to_gate at gate) (Sync Log ∷ []) _ _ _ c.sync.result
+    (step_done (to_gate at gate) (Write Log at (gate ∷ [])) (Sync Log ∷ []) _ _ _ (all_left (to_gate at gate) (g.S.Storage.known c.args.storage.now)) c.in_ok-write.ensures) c.sync.ensures

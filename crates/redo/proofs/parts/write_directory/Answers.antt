@@ -24,5 +24,5 @@ loop-rest-preserved g c =
       left = step_done _ _ _ _ _ _
           (left_as _ _ _ _ _ (directory_left ns c.split_at.result.0.now c.split_at.result.1.now c.numbers_unit.result c.loop-rest.at c.min.result some mid c.split_at.ensures.front c.split_at.ensures.back c.numbers_unit.ensures) c.loop-rest.invariant.left)
           c.in_ok-write.ensures;
-      room = let room : c.loop-rest.at + length ns ≤ 2 + length c.args.numbers.now = c.loop-rest.invariant.room in omega (arith, c.split_at.ensures.back_len, mid);
+      room = let room : c.loop-rest.at + length ns ≤ c.args.first + length c.args.numbers.now = c.loop-rest.invariant.room in omega (arith, c.split_at.ensures.back_len, mid);
     }

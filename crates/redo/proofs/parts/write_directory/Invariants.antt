@@ -5,8 +5,8 @@ use Rattle.redo.proofs.parts.write_directory.Given as goal
 
 abbrev pub invariant-loop-rest : goal.invariant-loop-rest
 invariant-loop-rest g l = record {
-  left : Left (directory_writes 2 l.fn.numbers) (g.S.Storage.known l.fn.storage) (g.S.Storage.known l.storage) (directory_writes l.at l.rest);
-  room : l.at + length l.rest ≤ 2 + length l.fn.numbers;
+  left : Left (directory_writes l.fn.first l.fn.numbers) (g.S.Storage.known l.fn.storage) (g.S.Storage.known l.storage) (directory_writes l.at l.rest);
+  room : l.at + length l.rest ≤ l.fn.first + length l.fn.numbers;
 }
 
 abbrev pub decreases-loop-rest : goal.decreases-loop-rest

@@ -1,76 +1,68 @@
-use Rattle.std.proofs.Common.{◌≡◌, ℕ, ◌+◌, ◌-◌, ◌/◌, ◌<◌, ◌≤◌, List, [], ◌∷◌, ◌++◌, length, map, drop, get_or, sym, ◌∙◌, ap, arith, Option}
-use Rattle.std.proofs.lemmas.List.{drop_all}
-use Rattle.std.specs.List.{zip}
+use Rattle.std.proofs.Common.{◌≡◌, ◌∷◌, ◌++◌, ◌∙◌, List, ℕ, [], map, ap, arith}
+use Rattle.std.proofs.lemmas.Bool.Decides.{nat_tests}
 use Rattle.stable.specs.declared.Which.TheVariants.{Image}
-use Rattle.stable.specs.Disk.{Contents, Step, Write, Sync}
-use Rattle.stable.specs.Runs.{Known}
-use Rattle.redo.specs.Record.{changes_in, closed, numbers_of, window}
+use Rattle.stable.specs.Disk.{Changes, Contents, Step, Sync}
+use Rattle.redo.specs.Record.{closed, from, most, record_standing, said_from, says_of}
 use Rattle.redo.specs.Runs.{singly}
 use Rattle.redo.specs.Plans.{run_write, to_gate, to_image}
-use Rattle.redo.proofs.Left.{Left, left_as, left_same, gives_up, part_stops, last_part, step_done}
-use Rattle.redo.proofs.Reading.{reads_log, shows_same, shows_write, redo_next}
+use Rattle.redo.proofs.Left.{left_as, last_part, part_stops, step_done, steps_done}
+use Rattle.redo.proofs.Reading.{record_left, shows_runs}
+use Rattle.redo.proofs.Records.{said_none, said_split}
 use Rattle.redo.proofs.recovering.redo.Goals as goal
 
--- the rest of it, with the next of the changes in front
-next_left : (plan : List Step) (a b : Option Known) (log : Contents) (numbers bytes : List ℕ) (first count i : ℕ) → i < length numbers → length numbers ≤ count → bytes ≡ log (first + i)
-    → Left plan a b (map (run_write Image) (singly (zip (drop i numbers) (window log (first + i) (count - i)))) ++ Sync Image ∷ to_gate closed)
-    → Left plan a b (Write Image (get_or numbers i 0) (bytes ∷ []) ∷ (map (run_write Image) (singly (zip (drop (i + 1) numbers) (window log (first + (i + 1)) (count - (i + 1))))) ++ Sync Image ∷ to_gate closed))
-next_left plan a b log numbers bytes first count i lt le is h =
-    left_as plan _ _ a b
-    (ap (λ (l : List Step). l ++ Sync Image ∷ to_gate closed) (redo_next log numbers first count i lt le)
-    ∙ ap (λ (v : List ℕ). Write Image (get_or numbers i 0) (v ∷ []) ∷ (map (run_write Image) (singly (zip (drop (i + 1) numbers) (window log (first + (i + 1)) (count - (i + 1))))) ++ Sync Image ∷ to_gate closed)) (sym is))
-    h
+abbrev tail : List Step
+tail = Sync Image ∷ to_gate 0 closed
 
 -- none is left
-none_more : (plan : List Step) (a b : Option Known) (log : Contents) (numbers : List ℕ) (first count i : ℕ) → length numbers ≤ i
-    → Left plan a b (map (run_write Image) (singly (zip (drop i numbers) (window log (first + i) (count - i)))) ++ Sync Image ∷ to_gate closed) → Left plan a b (Sync Image ∷ to_gate closed)
-none_more plan a b log numbers first count i le h =
-    left_as plan _ _ a b (ap (λ (l : List ℕ). map (run_write Image) (singly (zip l (window log (first + i) (count - i)))) ++ Sync Image ∷ to_gate closed) (drop_all i numbers le)) h
+all_written : (left name : ℕ) (log : Contents) (at : ℕ) → left ≡ 0 → map (run_write Image) (singly (said_from left name log at)) ++ tail ≡ tail
+all_written left name log at none =
+    ap (λ (k : ℕ). map (run_write Image) (singly (said_from k name log at)) ++ tail) none
+    ∙ ap (λ (l : Changes). map (run_write Image) (singly l) ++ tail) (said_none name log at)
 
--- at first all is left
-first_left : (a b : Option Known) (log : Contents) (numbers : List ℕ) (count i : ℕ) → i ≡ 0 → numbers ≡ numbers_of log count → Left (to_image (singly (changes_in log count))) a b (to_image (singly (changes_in log count)))
-    → Left (to_image (singly (changes_in log count))) a b (map (run_write Image) (singly (zip (drop i numbers) (window log (2 + (count + 1023) / 1024 + i) (count - i)))) ++ Sync Image ∷ to_gate closed)
-first_left a b log numbers count i zero_i is h =
-    left_as (to_image (singly (changes_in log count))) _ _ a b
-    (ap (λ (l : List ℕ). map (run_write Image) (singly (zip l (window log (2 + (count + 1023) / 1024) count))) ++ Sync Image ∷ to_gate closed) (sym is)
-    ∙ ap (λ (k : ℕ). map (run_write Image) (singly (zip numbers (window log k count))) ++ Sync Image ∷ to_gate closed) (let e : 2 + (count + 1023) / 1024 ≡ 2 + (count + 1023) / 1024 + 0 = omega arith in e)
-    ∙ ap (λ (k : ℕ). map (run_write Image) (singly (zip numbers (window log (2 + (count + 1023) / 1024 + 0) k))) ++ Sync Image ∷ to_gate closed) (let e : count ≡ count - 0 = omega arith in e)
-    ∙ ap (λ (k : ℕ). map (run_write Image) (singly (zip (drop k numbers) (window log (2 + (count + 1023) / 1024 + k) (count - k)))) ++ Sync Image ∷ to_gate closed) (sym zero_i))
-    h
+pub returns-in_err-next : goal.returns-in_err-next
+returns-in_err-next g c log shows =
+    let known = g.S.Storage.known in
+    let plan : List Step = to_image (singly (said_from most c.args.name log 0)) in
+    let says : Changes = says_of (record_standing c.args.name (from c.loop-left.at log)) in
+    let split = said_split c.loop-left.left c.args.name log c.loop-left.at (grind (arith, nat_tests)) in
+    part_stops plan (map (run_write Image) (singly says)) (map (run_write Image) (singly split.0) ++ tail) (known c.args.storage.now) (known c.loop-left.storage) (known c.redo_record.new.storage) c.from_residual.result c.from_residual.ensures.0
+    (record_left plan (known c.args.storage.now) (known c.loop-left.storage) (said_from c.loop-left.left c.args.name log c.loop-left.at) says split.0 tail split.1 (c.loop-left.invariant.left log shows))
+    (c.in_err-next.ensures.follows log (c.loop-left.invariant.shows log shows))
 
-pub returns-in_err-bytes : goal.returns-in_err-bytes
-returns-in_err-bytes g c log shows =
-    gives_up _ _ _ _ c.from_residual-in_err-bytes.result c.from_residual-in_err-bytes.ensures.0
-    (left_same _ _ _ _ _ (c.loop-i.invariant.left log shows) c.in_err-bytes.ensures.same)
-
-pub returns-in_err-write : goal.returns-in_err-write
-returns-in_err-write g c log shows =
-    let at = g.S.Storage.known c.loop-i.storage in
-    let is = reads_log log at _ c.in_ok-bytes.bytes (c.loop-i.invariant.shows log shows) c.in_ok-bytes.ensures.bytes in
-    part_stops _ (Write Image (get_or c.deref-n-items.result.now c.loop-i.i 0) (c.in_ok-bytes.bytes ∷ []) ∷ []) _ _ _ _ c.from_residual-in_err-write.result c.from_residual-in_err-write.ensures.0
-    (left_same _ _ _ _ _ (next_left _ _ _ log c.deref-n-items.result.now c.in_ok-bytes.bytes _ c.args.count c.loop-i.i c.loop-i-test.true c.loop-i.invariant.few is (c.loop-i.invariant.left log shows)) c.in_ok-bytes.ensures.same)
-    c.in_err-write.ensures
-
-pub loop-i-preserved : goal.loop-i-preserved
-loop-i-preserved g c =
-    let at = g.S.Storage.known c.loop-i.storage in
+pub loop-left-preserved : goal.loop-left-preserved
+loop-left-preserved g c =
+    let known = g.S.Storage.known in
     record {
-      few = c.loop-i.invariant.few;
+      room = c.in_ok-next.ensures.room;
       left = λ log shows.
-          let is = reads_log log at _ c.in_ok-bytes.bytes (c.loop-i.invariant.shows log shows) c.in_ok-bytes.ensures.bytes in
-          step_done _ _ _ _ _ _
-          (left_same _ _ _ _ _ (next_left _ _ _ log c.deref-n-items.result.now c.in_ok-bytes.bytes _ c.args.count c.loop-i.i c.loop-i-test.true c.loop-i.invariant.few is (c.loop-i.invariant.left log shows)) c.in_ok-bytes.ensures.same)
-          c.in_ok-write.ensures;
-      shows = λ log shows. shows_write log _ _ _ _ c.in_ok-write.ensures (shows_same log _ _ c.in_ok-bytes.ensures.same (c.loop-i.invariant.shows log shows));
+          let now = c.loop-left.invariant.shows log shows in
+          let plan : List Step = to_image (singly (said_from most c.args.name log 0)) in
+          let says : Changes = says_of (record_standing c.args.name (from c.loop-left.at log)) in
+          let rest : Changes = said_from c.in_ok-next.next.1 c.args.name log c.in_ok-next.next.0 in
+          steps_done plan (map (run_write Image) (singly says)) (map (run_write Image) (singly rest) ++ tail) (known c.args.storage.now) (known c.loop-left.storage) (known c.redo_record.new.storage)
+          (record_left plan (known c.args.storage.now) (known c.loop-left.storage) (said_from c.loop-left.left c.args.name log c.loop-left.at) says rest tail (c.in_ok-next.ensures.next log now) (c.loop-left.invariant.left log shows))
+          (c.in_ok-next.ensures.follows log now);
+      shows = λ log shows.
+          let now = c.loop-left.invariant.shows log shows in
+          shows_runs log (singly (says_of (record_standing c.args.name (from c.loop-left.at log)))) (known c.loop-left.storage) (known c.redo_record.new.storage) (c.in_ok-next.ensures.follows log now) now;
     }
 
 pub returns-in_err-sync : goal.returns-in_err-sync
 returns-in_err-sync g c log shows =
-    part_stops _ (Sync Image ∷ []) (to_gate closed) _ _ _ c.from_residual-in_err-sync.result c.from_residual-in_err-sync.ensures.0
-    (none_more _ _ _ log c.deref-n-items.result.now _ c.args.count c.loop-i.i c.loop-i-test.false (c.loop-i.invariant.left log shows)) c.in_err-sync.ensures
+    let known = g.S.Storage.known in
+    let plan : List Step = to_image (singly (said_from most c.args.name log 0)) in
+    let none : c.loop-left.left ≡ 0 = grind (arith, nat_tests) in
+    part_stops plan (Sync Image ∷ []) (to_gate 0 closed) (known c.args.storage.now) (known c.loop-left.storage) (known c.sync.new.self) c.from_residual-in_err-sync.result c.from_residual-in_err-sync.ensures.0
+    (left_as plan (map (run_write Image) (singly (said_from c.loop-left.left c.args.name log c.loop-left.at)) ++ tail) tail (known c.args.storage.now) (known c.loop-left.storage) (all_written c.loop-left.left c.args.name log c.loop-left.at none) (c.loop-left.invariant.left log shows))
+    c.in_err-sync.ensures
 
 pub returns : goal.returns
 returns g c log shows =
-    last_part _ (to_gate closed) _ _ _ c.close_gate.result
-    (step_done _ (Sync Image) (to_gate closed) _ _ _ (none_more _ _ _ log c.deref-n-items.result.now _ c.args.count c.loop-i.i c.loop-i-test.false (c.loop-i.invariant.left log shows)) c.in_ok-sync.ensures)
+    let known = g.S.Storage.known in
+    let plan : List Step = to_image (singly (said_from most c.args.name log 0)) in
+    let none : c.loop-left.left ≡ 0 = grind (arith, nat_tests) in
+    last_part plan (to_gate 0 closed) (known c.args.storage.now) (known c.sync.new.self) (known c.close_gate.new.storage) c.close_gate.result
+    (step_done plan (Sync Image) (to_gate 0 closed) (known c.args.storage.now) (known c.loop-left.storage) (known c.sync.new.self)
+    (left_as plan (map (run_write Image) (singly (said_from c.loop-left.left c.args.name log c.loop-left.at)) ++ tail) tail (known c.args.storage.now) (known c.loop-left.storage) (all_written c.loop-left.left c.args.name log c.loop-left.at none) (c.loop-left.invariant.left log shows))
+    c.in_ok-sync.ensures)
     c.close_gate.ensures

@@ -1,50 +1,50 @@
-use Rattle.std.proofs.Common.{ℕ, subst}
-use Rattle.stable.specs.Disk.{put}
+use Rattle.std.proofs.Common.{ℕ, subst, OnOk}
+use Rattle.stable.specs.Disk.{Contents, put}
 use Rattle.stable.specs.Runs.{Knows, EachMoment}
-use Rattle.redo.specs.UnderWay.{IsAtRest, IsUnderWay}
-use Rattle.redo.specs.Laws.{FindsEither}
+use Rattle.redo.specs.UnderWay.{IsCurrent, IsUnderWay}
 use Rattle.changes.specs.Units.{puts_of}
 use Rattle.image_file.proofs.Calls.{last_moment}
-use Rattle.image_file.proofs.Putting.{stopped_between, both_between, rests_between, at_first, on_err}
+use Rattle.image_file.proofs.Putting.{all_find, current_at, stopped_between, both_between, current_between, on_err}
 use Rattle.image_file.proofs.kept.Kept.put.Goals as goal
 
-pub returns-in_err-settle-clause-again_any_moment : goal.returns-in_err-settle-clause-again_any_moment
-returns-in_err-settle-clause-again_any_moment g c failed before after unsettled fits h =
+pub returns-then-not-failed-clause-any_moment : goal.returns-then-not-failed-clause-any_moment
+returns-then-not-failed-clause-any_moment g c image settled current =
     let s = c.args.self.now in
-    stopped_between s.name s.small before after failed (puts_of c.args.changes.now) fits (g.S.Storage.known s.storage) (g.S.Storage.known c.settle.new.self.storage)
-    (c.settle.ensures.any_moment failed before after unsettled fits h)
+    all_find s.name image (put (puts_of c.args.changes.now) image) (g.S.Storage.known s.storage) (g.S.Storage.known c.put_settled.new.self.storage) (c.put_settled.ensures.any_moment image current)
 
-pub returns-clause-any_moment : goal.returns-clause-any_moment
-returns-clause-any_moment g c image settled rest =
-    let known = g.S.Storage.known in
-    let ws = puts_of c.args.changes.now in
-    at_first c.settle.new.self c.args.self.now (c.settle.ensures.still settled).0
-    (λ k. Knows (IsAtRest image) (known k.storage) → EachMoment (FindsEither k.name image (put ws image)) (known k.storage) (known c.put_settled.new.self.storage))
-    (c.put_settled.ensures.finds image) rest
+pub returns-then-not-failed-clause-failed : goal.returns-then-not-failed-clause-failed
+returns-then-not-failed-clause-failed g c image settled current =
+    let s = c.args.self.now in
+    let a = g.S.Storage.known s.storage in
+    let d = g.S.Storage.known c.put_settled.new.self.storage in
+    let after : Contents = put (puts_of c.args.changes.now) image in
+    on_err c.put_settled.result (Knows (IsUnderWay s.name image after) d)
+    (last_moment (IsUnderWay s.name image after) (IsCurrent s.name s.at image) a d current (c.put_settled.ensures.any_moment image current))
 
-pub returns-clause-failed : goal.returns-clause-failed
-returns-clause-failed g c image settled rest =
-    let known = g.S.Storage.known in
-    let ws = puts_of c.args.changes.now in
-    let moments = at_first c.settle.new.self c.args.self.now (c.settle.ensures.still settled).0
-    (λ k. Knows (IsAtRest image) (known k.storage) → EachMoment (IsUnderWay k.name ws image (put ws image)) (known k.storage) (known c.put_settled.new.self.storage))
-    (c.put_settled.ensures.any_moment image) rest in
-    on_err c.put_settled.result (Knows (IsUnderWay c.args.self.now.name ws image (put ws image)) (known c.put_settled.new.self.storage))
-    (last_moment (IsUnderWay c.args.self.now.name ws image (put ws image)) (IsAtRest image) (known c.args.self.now.storage) (known c.put_settled.new.self.storage) rest moments)
+pub returns-in_err-settle-clause-again_any_moment : goal.returns-in_err-settle-clause-again_any_moment
+returns-in_err-settle-clause-again_any_moment g c before after unsettled h =
+    let s = c.args.self.now in
+    stopped_between s.name before after (puts_of c.args.changes.now) (g.S.Storage.known s.storage) (g.S.Storage.known c.settle.new.self.storage) (c.settle.ensures.any_moment before after h)
 
 pub returns-clause-again_any_moment : goal.returns-clause-again_any_moment
-returns-clause-again_any_moment g c failed before after unsettled fits h =
-    let known = g.S.Storage.known in
+returns-clause-again_any_moment g c before after unsettled h =
     let s = c.args.self.now in
-    let m = known c.settle.new.self.storage in
-    let new = known c.put_settled.new.self.storage in
+    let m = c.settle.new.self in
     let ws = puts_of c.args.changes.now in
-    both_between s.name s.small before after failed ws fits (known s.storage) m new (c.settle.ensures.any_moment failed before after unsettled fits h)
-    (c.in_ok-settle.ensures.ok failed before after unsettled fits h)
-    (λ image rest. subst (λ (n : ℕ). EachMoment (FindsEither n image (put ws image)) m new) c.settle.ensures.name (c.put_settled.ensures.finds image rest))
+    let b = g.S.Storage.known m.storage in
+    let d = g.S.Storage.known c.put_settled-2.new.self.storage in
+    both_between s.name before after ws (g.S.Storage.known s.storage) b d (c.settle.ensures.any_moment before after h) (c.in_ok-settle.ensures.ok before after h)
+    (λ image rest. subst (λ (n : ℕ). EachMoment (IsUnderWay n image (put ws image)) b d) c.settle.ensures.name
+    (c.put_settled-2.ensures.any_moment image (current_at m.name m.at image b c.in_ok-settle.ensures.place rest)))
 
 pub returns-clause-again_ok : goal.returns-clause-again_ok
-returns-clause-again_ok g c failed before after unsettled fits h =
-    let known = g.S.Storage.known in
-    rests_between (puts_of c.args.changes.now) before after (known c.settle.new.self.storage) (known c.put_settled.new.self.storage) c.put_settled.result
-    (c.in_ok-settle.ensures.ok failed before after unsettled fits h) (λ image rest. c.put_settled.ensures.ok image rest)
+returns-clause-again_ok g c before after unsettled h =
+    let s = c.args.self.now in
+    let m = c.settle.new.self in
+    let ws = puts_of c.args.changes.now in
+    let b = g.S.Storage.known m.storage in
+    let new = c.put_settled-2.new.self in
+    let d = g.S.Storage.known new.storage in
+    current_between s.name before after ws new.at b d c.put_settled-2.result (c.in_ok-settle.ensures.ok before after h)
+    (λ image rest. subst (λ (n : ℕ). OnOk c.put_settled-2.result (Knows (IsCurrent n new.at (put ws image)) d)) c.settle.ensures.name
+    (c.put_settled-2.ensures.ok image (current_at m.name m.at image b c.in_ok-settle.ensures.place rest)))

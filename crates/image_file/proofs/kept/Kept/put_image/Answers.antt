@@ -1,43 +1,103 @@
-use Rattle.std.proofs.Common.{ℕ, [], sym, subst}
-use Rattle.stable.specs.Disk.{put}
-use Rattle.stable.specs.Runs.{Happens, Knows, EachMoment}
-use Rattle.redo.specs.Laws.{FindsEither}
+use Rattle.std.proofs.Common.{◌≡◌, ℕ, refl, subst, sym, ◌∙◌}
+use Rattle.stable.specs.Disk.{Contents, put}
+use Rattle.stable.specs.Runs.{now, Knows, EachMoment}
+use Rattle.redo.specs.Plans.{recover_plan}
+use Rattle.redo.specs.UnderWay.{IsAtRest, IsCurrent, IsUnderWay}
+use Rattle.redo.specs.Laws.{FindsEither, RestsWithEither}
 use Rattle.changes.specs.Units.{puts_of}
-use Rattle.image_file.specs.Images.{ShowsImage, with_image}
-use Rattle.image_file.proofs.Putting.{nothing_finds, image_moments, image_rests, at_first}
+use Rattle.image_file.specs.Images.{with_image}
+use Rattle.image_file.proofs.Calls.{each_then, known_still}
+use Rattle.image_file.proofs.Putting.{widely, all_find, to_recover_it, rests_it, current_at, nothing_moves, settled_shows, image_puts, image_settles, image_rests, on_ok}
 use Rattle.image_file.proofs.kept.Kept.put_image.Goals as goal
 
-pub returns-in_err-changes-clause-any_moment : goal.returns-in_err-changes-clause-any_moment
-returns-in_err-changes-clause-any_moment g c before settled rest shows =
-    let known = g.S.Storage.known in
+pub returns-in_err-settle-clause-any_moment : goal.returns-in_err-settle-clause-any_moment
+returns-in_err-settle-clause-any_moment g c before settled current sound =
     let s = c.args.self.now in
-    let new = known c.differing.new.storage in
-    let happens = at_first c.settle.new.self s (c.settle.ensures.still settled).0 (λ k. Happens [] (known k.storage) new) c.differing.ensures.same in
-    nothing_finds s.name s.small before (with_image c.args.image.now before) (known s.storage) new happens rest
+    let a = g.S.Storage.known s.storage in
+    let b = g.S.Storage.known c.settle.new.self.storage in
+    let after : Contents = with_image c.args.image.now before in
+    all_find s.name before after a b (widely s.name before after a b (c.settle.ensures.any_moment before before (to_recover_it s.name s.at before a current)))
+
+pub returns-in_err-changes-clause-any_moment : goal.returns-in_err-changes-clause-any_moment
+returns-in_err-changes-clause-any_moment g c before settled current sound =
+    let s = c.args.self.now in
+    let m = c.settle.new.self in
+    let a = g.S.Storage.known s.storage in
+    let b = g.S.Storage.known m.storage in
+    let mid = g.S.Storage.known c.differing.new.storage in
+    let after : Contents = with_image c.args.image.now before in
+    let rec = to_recover_it s.name s.at before a current in
+    let rest = rests_it before b (c.in_ok-settle.ensures.ok before before rec) in
+    let here : Knows (IsCurrent s.name 0 before) b = current_at s.name 0 before b refl rest in
+    each_then (FindsEither s.name before after) a b mid (all_find s.name before after a b (widely s.name before after a b (c.settle.ensures.any_moment before before rec)))
+    (all_find s.name before after b mid (nothing_moves s.name 0 before after b mid c.differing.ensures.same here))
+
+pub returns-in_err-put_settled-clause-any_moment : goal.returns-in_err-put_settled-clause-any_moment
+returns-in_err-put_settled-clause-any_moment g c before settled current sound =
+    let s = c.args.self.now in
+    let m = c.settle.new.self in
+    let a = g.S.Storage.known s.storage in
+    let b = g.S.Storage.known m.storage in
+    let mid = g.S.Storage.known c.differing.new.storage in
+    let d = g.S.Storage.known c.put_settled.new.self.storage in
+    let after : Contents = with_image c.args.image.now before in
+    let ws = puts_of c.in_ok-changes.changes in
+    let rec = to_recover_it s.name s.at before a current in
+    let rest = rests_it before b (c.in_ok-settle.ensures.ok before before rec) in
+    let shown = settled_shows (λ k. recover_plan s.name (now k).log.shows) s.name s.at before a b current c.in_ok-settle.ensures.follows sound rest in
+    let here = current_at m.name m.at before b c.in_ok-settle.ensures.place rest in
+    let there = known_still (IsCurrent m.name m.at before) b mid c.differing.ensures.same here in
+    let first = each_then (FindsEither s.name before after) a b mid (all_find s.name before after a b (widely s.name before after a b (c.settle.ensures.any_moment before before rec)))
+    (all_find s.name before after b mid (nothing_moves s.name 0 before after b mid c.differing.ensures.same (current_at s.name 0 before b refl rest))) in
+    each_then (FindsEither s.name before after) a mid d first
+    (image_puts s.name before after (put ws before) (c.in_ok-changes.ensures.differ before shown) mid d
+    (subst (λ (n : ℕ). EachMoment (IsUnderWay n before (put ws before)) mid d) c.settle.ensures.name (c.put_settled.ensures.any_moment before there)))
 
 pub returns-clause-any_moment : goal.returns-clause-any_moment
-returns-clause-any_moment g c before settled rest shows =
-    let known = g.S.Storage.known in
+returns-clause-any_moment g c before settled current sound =
     let s = c.args.self.now in
     let m = c.settle.new.self in
-    let same = (c.settle.ensures.still settled).0 in
-    let mid = known c.differing.new.storage in
-    let new = known c.put_settled.new.self.storage in
+    let p = c.put_settled.new.self in
+    let a = g.S.Storage.known s.storage in
+    let b = g.S.Storage.known m.storage in
+    let mid = g.S.Storage.known c.differing.new.storage in
+    let d = g.S.Storage.known p.storage in
+    let e = g.S.Storage.known c.settle-2.new.self.storage in
+    let after : Contents = with_image c.args.image.now before in
     let ws = puts_of c.in_ok-changes.changes in
-    let happens = at_first m s same (λ k. Happens [] (known k.storage) mid) c.differing.ensures.same in
-    let shown = at_first s m (sym same) (λ k. Knows (ShowsImage before) (known k.storage)) shows in
-    image_moments s.name s.small before (with_image c.args.image.now before) ws (known s.storage) mid new happens (c.in_ok-changes.ensures.differ before shown) rest
-    (λ image resting. subst (λ (n : ℕ). EachMoment (FindsEither n image (put ws image)) mid new) c.settle.ensures.name (c.put_settled.ensures.finds image resting))
+    let made : Contents = put ws before in
+    let rec = to_recover_it s.name s.at before a current in
+    let rest = rests_it before b (c.in_ok-settle.ensures.ok before before rec) in
+    let shown = settled_shows (λ k. recover_plan s.name (now k).log.shows) s.name s.at before a b current c.in_ok-settle.ensures.follows sound rest in
+    let here = current_at m.name m.at before b c.in_ok-settle.ensures.place rest in
+    let there = known_still (IsCurrent m.name m.at before) b mid c.differing.ensures.same here in
+    let same = c.in_ok-changes.ensures.differ before shown in
+    let put_there : Knows (IsCurrent p.name p.at made) d = subst (λ (n : ℕ). Knows (IsCurrent n p.at made) d) (sym c.put_settled.ensures.name) (c.in_ok-put_settled.ensures.ok before there) in
+    let first = each_then (FindsEither s.name before after) a b mid (all_find s.name before after a b (widely s.name before after a b (c.settle.ensures.any_moment before before rec)))
+    (all_find s.name before after b mid (nothing_moves s.name 0 before after b mid c.differing.ensures.same (current_at s.name 0 before b refl rest))) in
+    let second = each_then (FindsEither s.name before after) a mid d first
+    (image_puts s.name before after made same mid d
+    (subst (λ (n : ℕ). EachMoment (IsUnderWay n before made) mid d) c.settle.ensures.name (c.put_settled.ensures.any_moment before there))) in
+    each_then (FindsEither s.name before after) a d e second
+    (image_settles s.name before after made same d e
+    (subst (λ (n : ℕ). EachMoment (IsUnderWay n made made) d e) (c.put_settled.ensures.name ∙ c.settle.ensures.name) (c.settle-2.ensures.any_moment made made (to_recover_it p.name p.at made d put_there))))
 
 pub returns-clause-ok : goal.returns-clause-ok
-returns-clause-ok g c before settled rest shows =
-    let known = g.S.Storage.known in
+returns-clause-ok g c before settled current sound =
     let s = c.args.self.now in
     let m = c.settle.new.self in
-    let same = (c.settle.ensures.still settled).0 in
-    let mid = known c.differing.new.storage in
-    let ws = puts_of c.in_ok-changes.changes in
-    let happens = at_first m s same (λ k. Happens [] (known k.storage) mid) c.differing.ensures.same in
-    let shown = at_first s m (sym same) (λ k. Knows (ShowsImage before) (known k.storage)) shows in
-    image_rests before (with_image c.args.image.now before) ws (known s.storage) mid (known c.put_settled.new.self.storage) c.put_settled.result happens (c.in_ok-changes.ensures.differ before shown) rest
-    (λ image resting. c.put_settled.ensures.ok image resting)
+    let p = c.put_settled.new.self in
+    let a = g.S.Storage.known s.storage in
+    let b = g.S.Storage.known m.storage in
+    let mid = g.S.Storage.known c.differing.new.storage in
+    let d = g.S.Storage.known p.storage in
+    let e = g.S.Storage.known c.settle-2.new.self.storage in
+    let after : Contents = with_image c.args.image.now before in
+    let made : Contents = put (puts_of c.in_ok-changes.changes) before in
+    let rec = to_recover_it s.name s.at before a current in
+    let rest = rests_it before b (c.in_ok-settle.ensures.ok before before rec) in
+    let shown = settled_shows (λ k. recover_plan s.name (now k).log.shows) s.name s.at before a b current c.in_ok-settle.ensures.follows sound rest in
+    let there = known_still (IsCurrent m.name m.at before) b mid c.differing.ensures.same (current_at m.name m.at before b c.in_ok-settle.ensures.place rest) in
+    let put_there : Knows (IsCurrent p.name p.at made) d = subst (λ (n : ℕ). Knows (IsCurrent n p.at made) d) (sym c.put_settled.ensures.name) (c.in_ok-put_settled.ensures.ok before there) in
+    on_ok c.settle-2.result (Knows (RestsWithEither made made) e) (Knows (IsAtRest after) e) (image_rests s.name before after made (c.in_ok-changes.ensures.differ before shown) e)
+    (c.settle-2.ensures.ok made made (to_recover_it p.name p.at made d put_there))
