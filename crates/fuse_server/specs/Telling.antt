@@ -88,8 +88,9 @@ telling (request.Create flags mode umask open_flags name) = Name name.now
 telling request.Statfs = Room
 telling r = Other
 
--- one of those, but for LOOKUP
+-- something
 abbrev pub tells : Request → Bool
+tells (request.Lookup name) = true
 tells (request.Getattr flags handle) = true
 tells (request.Setattr valid handle size lock_owner atime mtime ctime mode uid gid) = true
 tells request.Readlink = true

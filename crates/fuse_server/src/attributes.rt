@@ -107,7 +107,8 @@ impl Seats {
         ensures asked { Talked (CalledFrom work.reach S.called) S.entered S.left work.now sessions.old sessions.new }
         ensures seen { IfOk result (λ room. TalkedFor (CalledFrom work.reach S.called) S.entered S.left work.now sessions.old call.Statfs (reply.Space room) sessions.new) }
     {
-        self.ask(sessions, work, Call::Statfs)?.space()
+        let heard = self.ask(sessions, work, Call::Statfs)?;
+        heard.space()
     }
 
     /// The target of the link at a path.
@@ -121,7 +122,8 @@ impl Seats {
         ensures asked { Talked (CalledFrom work.reach S.called) S.entered S.left work.now sessions.old sessions.new }
         ensures seen { IfOk result (λ target. TalkedFor (CalledFrom work.reach S.called) S.entered S.left work.now sessions.old (call.Readlink path.entry) (reply.Target target) sessions.new) }
     {
-        self.ask(sessions, work, Call::Readlink { path })?.target()
+        let heard = self.ask(sessions, work, Call::Readlink { path })?;
+        heard.target()
     }
 }
 
@@ -136,7 +138,8 @@ fn attributes_open<S: Sessions>(
         → ToldBehind (CalledFrom work.reach S.called) S.entered S.left work.now work.reach Node sessions.old (answer.Attributes (told_of was)) sessions.new) }
 {
     let call = Call::Fstat { fd: descriptor.fd };
-    calling(sessions, work, descriptor.session, call).attributes()
+    let heard = calling(sessions, work, descriptor.session, call);
+    heard.attributes()
 }
 
 impl Seats {
@@ -155,6 +158,21 @@ impl Seats {
         let path = work.reach.node()?;
         self.look(sessions, work, path)
     }
+
+    /// Changes of the message's node are made: its attributes then.
+    fn set_node<S: Sessions>(
+        &mut self,
+        sessions: &mut S,
+        work: Work,
+        changes: Changes,
+    ) -> Result<Attributes, Refused>
+        ensures asked { Talked (CalledFrom work.reach S.called) S.entered S.left work.now sessions.old sessions.new }
+        ensures behind { IfOk result (λ was. ToldBehind (CalledFrom work.reach S.called) S.entered S.left work.now work.reach Node sessions.old (answer.Attributes (told_of was)) sessions.new) }
+    {
+        let path = work.reach.node()?;
+        self.change(sessions, work, path, changes)?;
+        self.attributes(sessions, work)
+    }
 }
 
 impl Mount {
@@ -168,23 +186,6 @@ impl Mount {
         ensures told { IfOk result (λ a. IsTrue (is_attributes a)) }
         ensures behind { IfOk result (λ a. ToldBehind (CalledFrom work.reach S.called) S.entered S.left work.now work.reach Node sessions.old a sessions.new) }
     {
-        let attributes = self.seats.attributes(sessions, work)?;
-        Ok(answer_of(&attributes))
-    }
-
-    /// Changes of the message's node are made: its attributes then.
-    fn set_node<S: Sessions>(
-        &mut self,
-        sessions: &mut S,
-        work: Work,
-        changes: Changes,
-    ) -> Result<FuseAnswer, Refused>
-        ensures asked { Talked (CalledFrom work.reach S.called) S.entered S.left work.now sessions.old sessions.new }
-        ensures told { IfOk result (λ a. IsTrue (is_attributes a)) }
-        ensures behind { IfOk result (λ a. ToldBehind (CalledFrom work.reach S.called) S.entered S.left work.now work.reach Node sessions.old a sessions.new) }
-    {
-        let path = work.reach.node()?;
-        self.seats.change(sessions, work, path, changes)?;
         let attributes = self.seats.attributes(sessions, work)?;
         Ok(answer_of(&attributes))
     }
@@ -203,7 +204,8 @@ impl Mount {
         let was = self.seats.attributes(sessions, work)?;
         check_link(wanted, &was)?;
         let changes = wanted.changes(&was)?;
-        self.set_node(sessions, work, changes)
+        let attributes = self.seats.set_node(sessions, work, changes)?;
+        Ok(answer_of(&attributes))
     }
 
     /// READLINK.
@@ -218,7 +220,8 @@ impl Mount {
     {
         let path = work.reach.node()?;
         let target = self.seats.target(sessions, work, path)?;
-        Ok(FuseAnswer::Bytes(bytes_of(&target).to_vec(self.alloc)?))
+        let bytes = bytes_of(&target).to_vec(self.alloc)?;
+        Ok(FuseAnswer::Bytes(bytes))
     }
 
     /// STATFS.

@@ -147,9 +147,8 @@ impl Mount {
         let path = work.reach.below(name)?;
         let made = self.make_file(sessions, work, path, mode_of(mode))?;
         close(sessions, work, made);
-        Ok(FuseAnswer::Entry(
-            self.tell_made(sessions, work, path, owner)?,
-        ))
+        let entry = self.tell_made(sessions, work, path, owner)?;
+        Ok(FuseAnswer::Entry(entry))
     }
 
     /// MKDIR: a directory is made.
@@ -170,9 +169,8 @@ impl Mount {
         let mode = mode_of(mode);
         self.seats
             .ask_done(sessions, work, Call::Mkdir { path, mode })?;
-        Ok(FuseAnswer::Entry(
-            self.tell_made(sessions, work, path, owner)?,
-        ))
+        let entry = self.tell_made(sessions, work, path, owner)?;
+        Ok(FuseAnswer::Entry(entry))
     }
 
     /// SYMLINK: a symbolic link is made. It stays user 0's, since a change of owners by its name goes to what it leads to.
@@ -190,7 +188,8 @@ impl Mount {
         let path = work.reach.below(name)?;
         self.seats
             .ask_done(sessions, work, Call::Symlink { target, path })?;
-        Ok(FuseAnswer::Entry(self.tell(sessions, work, path)?))
+        let entry = self.tell(sessions, work, path)?;
+        Ok(FuseAnswer::Entry(entry))
     }
 
     /// The kernel is told of a file that was made, and has it open by this descriptor.

@@ -158,7 +158,8 @@ impl Mount {
         let new = work.reach.below(name)?;
         self.seats
             .ask_done(sessions, work, Call::Link { old, new })?;
-        Ok(FuseAnswer::Entry(self.tell(sessions, work, new)?))
+        let entry = self.tell(sessions, work, new)?;
+        Ok(FuseAnswer::Entry(entry))
     }
 
     /// UNLINK: a file's name is taken away.

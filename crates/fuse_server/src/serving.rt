@@ -70,13 +70,14 @@ fn asks_sync(request: &Request<'_>) -> bool
     matches!(request, Request::Fsync { .. } | Request::Fsyncdir { .. })
 }
 
-/// Whether the answer to a request, but LOOKUP, tells what the last exchange before it told.
+/// Whether the answer to a request tells what the last exchange before it told.
 fn tells(request: &Request<'_>) -> bool
     ensures { result ≡ tells request.now }
 {
     matches!(
         request,
-        Request::Getattr { .. }
+        Request::Lookup { .. }
+            | Request::Getattr { .. }
             | Request::Setattr { .. }
             | Request::Readlink
             | Request::Symlink { .. }
@@ -217,9 +218,9 @@ impl Mount {
         }
     }
 
-    /// What is said to a message whose answer tells what the last exchange told, but to a LOOKUP.
+    /// What is said to a message about a node, a name, or the room.
     #[tactic(auto, using(crate::proofs::Asking::goes_on, crate::proofs::KindLaws::refusal_for))]
-    fn said_telling<S: Sessions>(
+    fn told_of<S: Sessions>(
         &mut self,
         sessions: &mut S,
         work: Work,
@@ -231,6 +232,22 @@ impl Mount {
         match self.on_nodes(sessions, work, message) {
             Ok(answer) => answer,
             Err(refused) => FuseAnswer::Refused(refused),
+        }
+    }
+
+    /// What is said to a message whose answer tells what the last exchange before it told.
+    fn said_telling<S: Sessions>(
+        &mut self,
+        sessions: &mut S,
+        work: Work,
+        message: &Message<'_>,
+    ) -> Said
+        ensures asked { AskedFor (MayHear (CalledFrom work.reach S.called) S.entered S.left work.now) work.reach (telling message.now.request) sessions.old result sessions.new }
+        ensures told { IsSaidTo (known_of self.new.nodes) message.now.request result }
+    {
+        match message.request {
+            Request::Lookup { name } => self.lookup(sessions, work, name),
+            _ => Said::Plain(self.told_of(sessions, work, message)),
         }
     }
 
@@ -256,13 +273,10 @@ impl Mount {
         ensures asked { AskedFor (MayHear (CalledFrom work.reach S.called) S.entered S.left work.now) work.reach (telling message.now.request) sessions.old result sessions.new }
         ensures told { IsSaidTo (known_of self.new.nodes) message.now.request result }
     {
-        match message.request {
-            Request::Lookup { name } => self.lookup(sessions, work, name),
-            _ if tells(&message.request) => {
-                Said::Plain(self.said_telling(sessions, work, message))
-            }
-            _ => Said::Plain(self.said_plainly(sessions, work, message)),
+        if tells(&message.request) {
+            return self.said_telling(sessions, work, message);
         }
+        Said::Plain(self.said_plainly(sessions, work, message))
     }
 
     /// What is said to a message.
