@@ -60,7 +60,8 @@ loud may k l bytes opcode unique capacity s old t new (Ok a) same_opcode same_un
 loud may k l bytes opcode unique capacity s old t new (Err e) same_opcode same_unique answers it = tt
 
 -- one that has none was not
-pub silently : {S : Type 0} (may : Reach → S → Ask → Heard → S → Type 0) (k l : Known) (bytes : List ℕ) (opcode capacity : ℕ) (s : S) (old : List ℕ)
+pub silently : {S : Type 0}
+    (may : Reach → S → Ask → Heard → S → Type 0) (k l : Known) (bytes : List ℕ) (opcode capacity : ℕ) (s : S) (old : List ℕ)
     → opcode ≡ opcode_in bytes → is_silent opcode ≡ true → IsAnswered may k l bytes capacity s old s old
 silently may k l bytes opcode capacity s old same_opcode silent =
     let L : ℕ → Type 0 = λ o. is_silent o ≡ true in
@@ -72,7 +73,8 @@ never true e h = cc
 never false e h = cc
 
 -- an answer has bytes
-pub loud_has_bytes : {S A E : Type 0} (may : Reach → S → Ask → Heard → S → Type 0) (k l : Known) (bytes : List ℕ) (opcode unique capacity : ℕ) (s : S)
+pub loud_has_bytes : {S A E : Type 0}
+    (may : Reach → S → Ask → Heard → S → Type 0) (k l : Known) (bytes : List ℕ) (opcode unique capacity : ℕ) (s : S)
     (old : List ℕ) (t : S) (new : List ℕ) (r : Result A E) → opcode ≡ opcode_in bytes → is_silent opcode ≡ false
     → OnOk r (IsTold may k l bytes unique capacity s old t new) → OnOk r ((new ≡ old) ↔ IsTrue (is_silent (opcode_in bytes)))
 loud_has_bytes may k l bytes opcode unique capacity s old t new (Ok a) same_opcode answers (it, written, fits) =

@@ -69,15 +69,18 @@ pub told_shown : {S : Type 0} {called : S → ℕ → ℕ → Call → Outcome �
 told_shown was (Err refused) looked is = tt
 told_shown was (Ok e) looked is = shown was looked is
 
-pub opened_shown : {S : Type 0} {called : S → ℕ → ℕ → Call → Outcome → S → Type 0} {entered : S → ℕ → ℕ → Result ℕ EnterRefusal → S → Type 0}
-    {left : S → S → Type 0} {now : ℕ} {s t : S} {path : PathFrom} (was : Attributes) (r : Result (Entry × Opened) Refused)
+pub opened_shown : {S : Type 0} {called : S → ℕ → ℕ → Call → Outcome → S → Type 0}
+    {entered : S → ℕ → ℕ → Result ℕ EnterRefusal → S → Type 0} {left : S → S → Type 0} {now : ℕ}
+    {s t : S} {path : PathFrom} (was : Attributes) (r : Result (Entry × Opened) Refused)
     → LookedAt called entered left now s path (Some was) t → IfOk r (λ (e : Entry × Opened). e.0.attributes ≡ told_of was)
     → IfOk r (λ (e : Entry × Opened). ShownAt called entered left now s path e.0.attributes t)
 opened_shown was (Err refused) looked is = tt
 opened_shown was (Ok e) looked is = shown was looked is
 
-pub looked_after : {S : Type 0} {called : S → ℕ → ℕ → Call → Outcome → S → Type 0} {entered : S → ℕ → ℕ → Result ℕ EnterRefusal → S → Type 0}
-    {left : S → S → Type 0} {now : ℕ} {s t : S} (u : S) (path : PathFrom) → Talked called entered left now s t → (r : Result Attributes Refused)
+pub looked_after : {S : Type 0} {called : S → ℕ → ℕ → Call → Outcome → S → Type 0}
+    {entered : S → ℕ → ℕ → Result ℕ EnterRefusal → S → Type 0} {left : S → S → Type 0} {now : ℕ}
+    {s t : S} (u : S) (path : PathFrom) → Talked called entered left now s t
+    → (r : Result Attributes Refused)
     → IfOk r (λ (was : Attributes). LookedAt called entered left now t path (Some was) u)
     → IfOk r (λ (was : Attributes). LookedAt called entered left now s path (Some was) u)
 looked_after u path first (Err refused) looked = tt
@@ -90,17 +93,21 @@ pub told_after : {S : Type 0} {called : S → ℕ → ℕ → Call → Outcome �
 told_after u path first (Err refused) looked = tt
 told_after u path first (Ok e) looked = shown_after first looked
 
-pub entry_behind : {S : Type 0} {called : S → ℕ → ℕ → Call → Outcome → S → Type 0} {entered : S → ℕ → ℕ → Result ℕ EnterRefusal → S → Type 0}
-    {left : S → S → Type 0} {now : ℕ} {s t : S} (x : Reach) (name : List ℕ) (entry : Entry) (path : PathFrom) → IsAt x.own name path
-    → ShownAt called entered left now s path entry.attributes t → ToldBehind called entered left now x (Name name) s (answer_of.Entry entry) t
+pub entry_behind : {S : Type 0} {called : S → ℕ → ℕ → Call → Outcome → S → Type 0}
+    {entered : S → ℕ → ℕ → Result ℕ EnterRefusal → S → Type 0} {left : S → S → Type 0} {now : ℕ}
+    {s t : S} (x : Reach) (name : List ℕ) (entry : Entry) (path : PathFrom) → IsAt x.own name path
+    → ShownAt called entered left now s path entry.attributes t
+    → ToldBehind called entered left now x (Name name) s (answer_of.Entry entry) t
 entry_behind x name entry path at it = record {
   log = log_of it.looked;
   leads = leads_of it.looked;
   told = record { session = it.looked.session; path = path; was = it.was; at = at; ends = (refl, refl); is = it.is };
 }
 
-pub created_behind : {S : Type 0} {called : S → ℕ → ℕ → Call → Outcome → S → Type 0} {entered : S → ℕ → ℕ → Result ℕ EnterRefusal → S → Type 0}
-    {left : S → S → Type 0} {now : ℕ} {s t : S} (x : Reach) (name : List ℕ) (entry : Entry) (opened : Opened) (path : PathFrom) → IsAt x.own name path
+pub created_behind : {S : Type 0} {called : S → ℕ → ℕ → Call → Outcome → S → Type 0}
+    {entered : S → ℕ → ℕ → Result ℕ EnterRefusal → S → Type 0} {left : S → S → Type 0} {now : ℕ}
+    {s t : S} (x : Reach) (name : List ℕ) (entry : Entry) (opened : Opened) (path : PathFrom)
+    → IsAt x.own name path
     → ShownAt called entered left now s path entry.attributes t
     → ToldBehind called entered left now x (Name name) s (answer_of.Create entry opened) t
 created_behind x name entry opened path at it = record {
@@ -127,14 +134,16 @@ pub open_behind : {S : Type 0} {called : S → ℕ → ℕ → Call → Outcome 
     (heard_of.Outcome (outcome.Reply (reply.Inode was))) t
     → ToldBehind called entered left now x Node s (answer_of.Attributes (told_of was)) t
 open_behind {s = s} x was descriptor has last = record {
-  log = record { ask = ask.Call descriptor.session (call.Fstat descriptor.fd); heard = heard_of.Outcome (outcome.Reply (reply.Inode was)) } ∷ [];
+  log = record { ask = ask.Call descriptor.session (call.Fstat descriptor.fd); heard = heard_of.Outcome (outcome.Reply (reply.Inode was)) }
+      ∷ [];
   leads = (s, refl, last);
   told = inr (record { descriptor = descriptor; was = was; has = has; ends = (refl, refl); is = refl });
 }
 
 -- what a node's descriptor has open was looked at
 pub open_so : {S : Type 0} (called : S → ℕ → ℕ → Call → Outcome → S → Type 0) (entered : S → ℕ → ℕ → Result ℕ EnterRefusal → S → Type 0)
-    (left : S → S → Type 0) (now : ℕ) (s t : S) (x : Reach) (descriptor : Descriptor) (h : Heard) (r : Result Attributes Refused) → r ≡ attributes_in h
+    (left : S → S → Type 0) (now : ℕ) (s t : S) (x : Reach) (descriptor : Descriptor) (h : Heard) (r : Result Attributes Refused)
+    → r ≡ attributes_in h
     → MayHear called entered left now s (ask.Call descriptor.session (call.Fstat descriptor.fd)) h t
     → IfOk r (λ (was : Attributes). x.descriptor ≡ Some descriptor
     → ToldBehind called entered left now x Node s (answer_of.Attributes (told_of was)) t)
@@ -150,8 +159,9 @@ pub node_so : {S : Type 0} (called : S → ℕ → ℕ → Call → Outcome → 
 node_so called entered left now s t x path at (Err refused) looked = tt
 node_so called entered left now s t x path at (Ok was) looked = node_behind x was path at looked
 
-pub target_behind : {S : Type 0} {called : S → ℕ → ℕ → Call → Outcome → S → Type 0} {entered : S → ℕ → ℕ → Result ℕ EnterRefusal → S → Type 0}
-    {left : S → S → Type 0} {now : ℕ} {s t : S} (x : Reach) (bytes : Vec ℕ) (target : LinkTarget) (path : PathFrom) → IsAt x.own [] path
+pub target_behind : {S : Type 0} {called : S → ℕ → ℕ → Call → Outcome → S → Type 0}
+    {entered : S → ℕ → ℕ → Result ℕ EnterRefusal → S → Type 0} {left : S → S → Type 0} {now : ℕ}
+    {s t : S} (x : Reach) (bytes : Vec ℕ) (target : LinkTarget) (path : PathFrom) → IsAt x.own [] path
     → TalkedFor called entered left now s (call.Readlink path) (reply.Target target) t → bytes.items ≡ target_of target
     → ToldBehind called entered left now x Target s (answer_of.Bytes bytes) t
 target_behind x bytes target path at talked is = record {
@@ -160,8 +170,9 @@ target_behind x bytes target path at talked is = record {
   told = record { session = talked.session; path = path; target = target; at = at; ends = (refl, refl); is = is };
 }
 
-pub unlinked_behind : {S : Type 0} {called : S → ℕ → ℕ → Call → Outcome → S → Type 0} {entered : S → ℕ → ℕ → Result ℕ EnterRefusal → S → Type 0}
-    {left : S → S → Type 0} {now : ℕ} {s t : S} (x : Reach) (name : List ℕ) (path : PathFrom) → IsAt x.own name path
+pub unlinked_behind : {S : Type 0} {called : S → ℕ → ℕ → Call → Outcome → S → Type 0}
+    {entered : S → ℕ → ℕ → Result ℕ EnterRefusal → S → Type 0} {left : S → S → Type 0} {now : ℕ}
+    {s t : S} (x : Reach) (name : List ℕ) (path : PathFrom) → IsAt x.own name path
     → TalkedFor called entered left now s (call.Unlink path) reply.Done t
     → ToldBehind called entered left now x (Unlinked name) s answer_of.Done t
 unlinked_behind x name path at talked = record {
@@ -170,8 +181,9 @@ unlinked_behind x name path at talked = record {
   told = record { session = talked.session; path = path; at = at; ends = (refl, refl) };
 }
 
-pub removed_behind : {S : Type 0} {called : S → ℕ → ℕ → Call → Outcome → S → Type 0} {entered : S → ℕ → ℕ → Result ℕ EnterRefusal → S → Type 0}
-    {left : S → S → Type 0} {now : ℕ} {s t : S} (x : Reach) (name : List ℕ) (path : PathFrom) → IsAt x.own name path
+pub removed_behind : {S : Type 0} {called : S → ℕ → ℕ → Call → Outcome → S → Type 0}
+    {entered : S → ℕ → ℕ → Result ℕ EnterRefusal → S → Type 0} {left : S → S → Type 0} {now : ℕ}
+    {s t : S} (x : Reach) (name : List ℕ) (path : PathFrom) → IsAt x.own name path
     → TalkedFor called entered left now s (call.Rmdir path) reply.Done t
     → ToldBehind called entered left now x (Removed name) s answer_of.Done t
 removed_behind x name path at talked = record {
@@ -180,8 +192,10 @@ removed_behind x name path at talked = record {
   told = record { session = talked.session; path = path; at = at; ends = (refl, refl) };
 }
 
-pub renamed_behind : {S : Type 0} {called : S → ℕ → ℕ → Call → Outcome → S → Type 0} {entered : S → ℕ → ℕ → Result ℕ EnterRefusal → S → Type 0}
-    {left : S → S → Type 0} {now : ℕ} {s t : S} (x : Reach) (old new : List ℕ) (from to : PathFrom) → IsAt x.own old from → IsAt x.other new to
+pub renamed_behind : {S : Type 0} {called : S → ℕ → ℕ → Call → Outcome → S → Type 0}
+    {entered : S → ℕ → ℕ → Result ℕ EnterRefusal → S → Type 0} {left : S → S → Type 0} {now : ℕ}
+    {s t : S} (x : Reach) (old new : List ℕ) (from to : PathFrom) → IsAt x.own old from
+    → IsAt x.other new to
     → TalkedFor called entered left now s (call.Rename from to) reply.Done t
     → ToldBehind called entered left now x (Renamed old new) s answer_of.Done t
 renamed_behind x old new from to at into talked = record {
@@ -239,8 +253,9 @@ refused_so : (x : Reach) (about : Telling) (e : Refused) (log : List Exchange) �
 refused_so x (Name name) e log = tt
 refused_so x about e log = tt
 
-pub refused_behind : {S : Type 0} {called : S → ℕ → ℕ → Call → Outcome → S → Type 0} {entered : S → ℕ → ℕ → Result ℕ EnterRefusal → S → Type 0}
-    {left : S → S → Type 0} {now : ℕ} {s t : S} (x : Reach) (about : Telling) (e : Refused) → Talked called entered left now s t
+pub refused_behind : {S : Type 0} {called : S → ℕ → ℕ → Call → Outcome → S → Type 0}
+    {entered : S → ℕ → ℕ → Result ℕ EnterRefusal → S → Type 0} {left : S → S → Type 0} {now : ℕ}
+    {s t : S} (x : Reach) (about : Telling) (e : Refused) → Talked called entered left now s t
     → ToldBehind called entered left now x about s (answer_of.Refused e) t
 refused_behind x about e talked = record { log = talked.log; leads = talked.leads; told = refused_so x about e talked.log }
 
@@ -248,15 +263,17 @@ unknown_so : (x : Reach) (about : Telling) (log : List Exchange) → IsToldAs x 
 unknown_so x (Name name) log = tt
 unknown_so x about log = tt
 
-pub unknown_behind : {S : Type 0} {called : S → ℕ → ℕ → Call → Outcome → S → Type 0} {entered : S → ℕ → ℕ → Result ℕ EnterRefusal → S → Type 0}
-    {left : S → S → Type 0} {now : ℕ} {s t : S} (x : Reach) (about : Telling) → Talked called entered left now s t
+pub unknown_behind : {S : Type 0} {called : S → ℕ → ℕ → Call → Outcome → S → Type 0}
+    {entered : S → ℕ → ℕ → Result ℕ EnterRefusal → S → Type 0} {left : S → S → Type 0} {now : ℕ}
+    {s t : S} (x : Reach) (about : Telling) → Talked called entered left now s t
     → ToldBehind called entered left now x about s answer_of.Unknown t
 unknown_behind x about talked = record { log = talked.log; leads = talked.leads; told = unknown_so x about talked.log }
 
 -- ---- what is said
 
 pub said_behind : {S : Type 0} {called : S → ℕ → ℕ → Call → Outcome → S → Type 0} {entered : S → ℕ → ℕ → Result ℕ EnterRefusal → S → Type 0}
-    {left : S → S → Type 0} {now : ℕ} {s t : S} {x : Reach} {about : Telling} {a : FuseAnswer} → ToldBehind called entered left now x about s a t
+    {left : S → S → Type 0} {now : ℕ} {s t : S} {x : Reach} {about : Telling} {a : FuseAnswer}
+    → ToldBehind called entered left now x about s a t
     → AskedFor (MayHear called entered left now) x about s (said.Plain a) t
 said_behind b = (b.log, b.leads, b.told)
 
@@ -276,15 +293,17 @@ pub told_same : {S : Type 0} {called : S → ℕ → ℕ → Call → Outcome �
 told_same {called = called} {entered} {left} {now} {s} {t} {x} a is b =
     let P : FuseAnswer → Type 0 = λ y. ToldBehind called entered left now x Node s y t in subst P (sym is) b
 
-pub node_after_ok : {S : Type 0} {called : S → ℕ → ℕ → Call → Outcome → S → Type 0} {entered : S → ℕ → ℕ → Result ℕ EnterRefusal → S → Type 0}
-    {left : S → S → Type 0} {now : ℕ} {s t : S} (u : S) (x : Reach) → Talked called entered left now s t → (r : Result Attributes Refused)
+pub node_after_ok : {S : Type 0} {called : S → ℕ → ℕ → Call → Outcome → S → Type 0}
+    {entered : S → ℕ → ℕ → Result ℕ EnterRefusal → S → Type 0} {left : S → S → Type 0} {now : ℕ}
+    {s t : S} (u : S) (x : Reach) → Talked called entered left now s t → (r : Result Attributes Refused)
     → IfOk r (λ (was : Attributes). ToldBehind called entered left now x Node t (answer_of.Attributes (told_of was)) u)
     → IfOk r (λ (was : Attributes). ToldBehind called entered left now x Node s (answer_of.Attributes (told_of was)) u)
 node_after_ok u x first (Err refused) b = tt
 node_after_ok u x first (Ok was) b = node_after first b
 
 pub given_open : {S : Type 0} (called : S → ℕ → ℕ → Call → Outcome → S → Type 0) (entered : S → ℕ → ℕ → Result ℕ EnterRefusal → S → Type 0)
-    (left : S → S → Type 0) (now : ℕ) (s t : S) (x : Reach) (descriptor : Descriptor) → x.descriptor ≡ Some descriptor → (r : Result Attributes Refused)
+    (left : S → S → Type 0) (now : ℕ) (s t : S) (x : Reach) (descriptor : Descriptor) → x.descriptor ≡ Some descriptor
+    → (r : Result Attributes Refused)
     → IfOk r (λ (was : Attributes). x.descriptor ≡ Some descriptor
     → ToldBehind called entered left now x Node s (answer_of.Attributes (told_of was)) t)
     → IfOk r (λ (was : Attributes). ToldBehind called entered left now x Node s (answer_of.Attributes (told_of was)) t)
@@ -326,8 +345,9 @@ as_lookup may x s it t r name is asked =
     let P : Request → Type 0 = λ q. AskedFor may x (telling q) s it t in subst P (sym is) asked
 
 -- a name was looked for, and leads to nothing
-pub nothing_there : {S : Type 0} {called : S → ℕ → ℕ → Call → Outcome → S → Type 0} {entered : S → ℕ → ℕ → Result ℕ EnterRefusal → S → Type 0}
-    {left : S → S → Type 0} {now : ℕ} {s t : S} (x : Reach) (name : List ℕ) (path : PathFrom) → IsAt x.own name path
+pub nothing_there : {S : Type 0} {called : S → ℕ → ℕ → Call → Outcome → S → Type 0}
+    {entered : S → ℕ → ℕ → Result ℕ EnterRefusal → S → Type 0} {left : S → S → Type 0} {now : ℕ}
+    {s t : S} (x : Reach) (name : List ℕ) (path : PathFrom) → IsAt x.own name path
     → LookedAt called entered left now s path None t → AskedFor (MayHear called entered left now) x (Name name) s said.Missing t
 nothing_there x name path at looked = (
   log_of looked,

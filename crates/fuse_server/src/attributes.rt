@@ -105,7 +105,8 @@ impl Seats {
     /// The room of the volume.
     fn space<S: Sessions>(&mut self, sessions: &mut S, work: Work) -> Result<Statfs, Refused>
         ensures asked { Talked (CalledFrom work.reach S.called) S.entered S.left work.now sessions.old sessions.new }
-        ensures seen { IfOk result (λ room. TalkedFor (CalledFrom work.reach S.called) S.entered S.left work.now sessions.old call.Statfs (reply.Space room) sessions.new) }
+        ensures seen { IfOk result (λ room. TalkedFor (CalledFrom work.reach S.called) S.entered S.left work.now sessions.old call.Statfs
+            (reply.Space room) sessions.new) }
     {
         let heard = self.ask(sessions, work, Call::Statfs)?;
         heard.space()
@@ -120,7 +121,8 @@ impl Seats {
     ) -> Result<LinkTarget, Refused>
         requires { IsNamed work.reach path }
         ensures asked { Talked (CalledFrom work.reach S.called) S.entered S.left work.now sessions.old sessions.new }
-        ensures seen { IfOk result (λ target. TalkedFor (CalledFrom work.reach S.called) S.entered S.left work.now sessions.old (call.Readlink path.entry) (reply.Target target) sessions.new) }
+        ensures seen { IfOk result (λ target. TalkedFor (CalledFrom work.reach S.called) S.entered S.left work.now sessions.old
+            (call.Readlink path.entry) (reply.Target target) sessions.new) }
     {
         let heard = self.ask(sessions, work, Call::Readlink { path })?;
         heard.target()
@@ -135,7 +137,8 @@ fn attributes_open<S: Sessions>(
 ) -> Result<Attributes, Refused>
     ensures asked { Talked (CalledFrom work.reach S.called) S.entered S.left work.now sessions.old sessions.new }
     ensures behind { IfOk result (λ was. work.reach.descriptor ≡ Some descriptor
-        → ToldBehind (CalledFrom work.reach S.called) S.entered S.left work.now work.reach Node sessions.old (answer.Attributes (told_of was)) sessions.new) }
+        → ToldBehind (CalledFrom work.reach S.called) S.entered S.left work.now work.reach Node sessions.old (answer.Attributes (told_of
+        was)) sessions.new) }
 {
     let call = Call::Fstat { fd: descriptor.fd };
     let heard = calling(sessions, work, descriptor.session, call);
@@ -150,7 +153,8 @@ impl Seats {
         work: Work,
     ) -> Result<Attributes, Refused>
         ensures asked { Talked (CalledFrom work.reach S.called) S.entered S.left work.now sessions.old sessions.new }
-        ensures behind { IfOk result (λ was. ToldBehind (CalledFrom work.reach S.called) S.entered S.left work.now work.reach Node sessions.old (answer.Attributes (told_of was)) sessions.new) }
+        ensures behind { IfOk result (λ was. ToldBehind (CalledFrom work.reach S.called) S.entered S.left work.now work.reach Node
+            sessions.old (answer.Attributes (told_of was)) sessions.new) }
     {
         if let Some(descriptor) = work.reach.descriptor {
             return attributes_open(sessions, work, descriptor);
@@ -167,7 +171,8 @@ impl Seats {
         changes: Changes,
     ) -> Result<Attributes, Refused>
         ensures asked { Talked (CalledFrom work.reach S.called) S.entered S.left work.now sessions.old sessions.new }
-        ensures behind { IfOk result (λ was. ToldBehind (CalledFrom work.reach S.called) S.entered S.left work.now work.reach Node sessions.old (answer.Attributes (told_of was)) sessions.new) }
+        ensures behind { IfOk result (λ was. ToldBehind (CalledFrom work.reach S.called) S.entered S.left work.now work.reach Node
+            sessions.old (answer.Attributes (told_of was)) sessions.new) }
     {
         let path = work.reach.node()?;
         self.change(sessions, work, path, changes)?;
@@ -184,7 +189,8 @@ impl Mount {
     ) -> Result<FuseAnswer, Refused>
         ensures asked { Talked (CalledFrom work.reach S.called) S.entered S.left work.now sessions.old sessions.new }
         ensures told { IfOk result (λ a. IsTrue (is_attributes a)) }
-        ensures behind { IfOk result (λ a. ToldBehind (CalledFrom work.reach S.called) S.entered S.left work.now work.reach Node sessions.old a sessions.new) }
+        ensures behind { IfOk result (λ a. ToldBehind (CalledFrom work.reach S.called) S.entered S.left work.now work.reach Node
+            sessions.old a sessions.new) }
     {
         let attributes = self.seats.attributes(sessions, work)?;
         Ok(answer_of(&attributes))
@@ -199,7 +205,8 @@ impl Mount {
     ) -> Result<FuseAnswer, Refused>
         ensures asked { Talked (CalledFrom work.reach S.called) S.entered S.left work.now sessions.old sessions.new }
         ensures told { IfOk result (λ a. IsTrue (is_attributes a)) }
-        ensures behind { IfOk result (λ a. ToldBehind (CalledFrom work.reach S.called) S.entered S.left work.now work.reach Node sessions.old a sessions.new) }
+        ensures behind { IfOk result (λ a. ToldBehind (CalledFrom work.reach S.called) S.entered S.left work.now work.reach Node
+            sessions.old a sessions.new) }
     {
         let was = self.seats.attributes(sessions, work)?;
         check_link(wanted, &was)?;
@@ -216,7 +223,8 @@ impl Mount {
     ) -> Result<FuseAnswer, Refused>
         ensures asked { Talked (CalledFrom work.reach S.called) S.entered S.left work.now sessions.old sessions.new }
         ensures told { IfOk result (λ a. IsTrue (is_bytes a)) }
-        ensures behind { IfOk result (λ a. ToldBehind (CalledFrom work.reach S.called) S.entered S.left work.now work.reach Target sessions.old a sessions.new) }
+        ensures behind { IfOk result (λ a. ToldBehind (CalledFrom work.reach S.called) S.entered S.left work.now work.reach Target
+            sessions.old a sessions.new) }
     {
         let path = work.reach.node()?;
         let target = self.seats.target(sessions, work, path)?;
@@ -232,7 +240,8 @@ impl Mount {
     ) -> Result<FuseAnswer, Refused>
         ensures asked { Talked (CalledFrom work.reach S.called) S.entered S.left work.now sessions.old sessions.new }
         ensures told { IfOk result (λ a. IsTrue (is_room a)) }
-        ensures behind { IfOk result (λ a. ToldBehind (CalledFrom work.reach S.called) S.entered S.left work.now work.reach Room sessions.old a sessions.new) }
+        ensures behind { IfOk result (λ a. ToldBehind (CalledFrom work.reach S.called) S.entered S.left work.now work.reach Room
+            sessions.old a sessions.new) }
     {
         let room = self.seats.space(sessions, work)?;
         Ok(FuseAnswer::Statfs(room_of(&room)))

@@ -103,14 +103,17 @@ impl Mount {
     ) -> Result<FuseAnswer, Refused>
         ensures asked { Talked (CalledFrom work.reach S.called) S.entered S.left work.now sessions.old sessions.new }
         ensures told { IfOk result (IsFor (known_of self.new.nodes) message.now.request) }
-        ensures behind { IfOk result (λ a. ToldBehind (CalledFrom work.reach S.called) S.entered S.left work.now work.reach (telling message.now.request) sessions.old a sessions.new) }
+        ensures behind { IfOk result (λ a. ToldBehind (CalledFrom work.reach S.called) S.entered S.left work.now work.reach (telling
+            message.now.request) sessions.old a sessions.new) }
     {
         match message.request {
             Request::Unlink { name } => self.unlink(sessions, work, name),
             Request::Rmdir { name } => self.rmdir(sessions, work, name),
             Request::Link { name, .. } => self.link(sessions, work, name),
             Request::Rename {
-                old_name, new_name, ..
+                old_name,
+                new_name,
+                ..
             } => self.rename(sessions, work, old_name, new_name, 0),
             Request::Rename2 {
                 flags,
@@ -131,7 +134,8 @@ impl Mount {
     ) -> Result<FuseAnswer, Refused>
         ensures asked { Talked (CalledFrom work.reach S.called) S.entered S.left work.now sessions.old sessions.new }
         ensures told { IfOk result (IsFor (known_of self.new.nodes) message.now.request) }
-        ensures behind { IfOk result (λ a. ToldBehind (CalledFrom work.reach S.called) S.entered S.left work.now work.reach (telling message.now.request) sessions.old a sessions.new) }
+        ensures behind { IfOk result (λ a. ToldBehind (CalledFrom work.reach S.called) S.entered S.left work.now work.reach (telling
+            message.now.request) sessions.old a sessions.new) }
     {
         match message.request {
             Request::Mknod { mode, name, .. } => self.mknod(sessions, work, message, name, mode),
@@ -151,7 +155,8 @@ impl Mount {
     ) -> Result<FuseAnswer, Refused>
         ensures asked { Talked (CalledFrom work.reach S.called) S.entered S.left work.now sessions.old sessions.new }
         ensures told { IfOk result (IsFor (known_of self.new.nodes) message.now.request) }
-        ensures behind { IfOk result (λ a. ToldBehind (CalledFrom work.reach S.called) S.entered S.left work.now work.reach (telling message.now.request) sessions.old a sessions.new) }
+        ensures behind { IfOk result (λ a. ToldBehind (CalledFrom work.reach S.called) S.entered S.left work.now work.reach (telling
+            message.now.request) sessions.old a sessions.new) }
     {
         match message.request {
             Request::Getattr { .. } => self.getattr(sessions, work),
@@ -226,7 +231,8 @@ impl Mount {
         work: Work,
         message: &Message<'_>,
     ) -> FuseAnswer
-        ensures behind { ToldBehind (CalledFrom work.reach S.called) S.entered S.left work.now work.reach (telling message.now.request) sessions.old result sessions.new }
+        ensures behind { ToldBehind (CalledFrom work.reach S.called) S.entered S.left work.now work.reach (telling message.now.request)
+            sessions.old result sessions.new }
         ensures told { IsFor (known_of self.new.nodes) message.now.request result }
     {
         match self.on_nodes(sessions, work, message) {
@@ -242,7 +248,8 @@ impl Mount {
         work: Work,
         message: &Message<'_>,
     ) -> Said
-        ensures asked { AskedFor (MayHear (CalledFrom work.reach S.called) S.entered S.left work.now) work.reach (telling message.now.request) sessions.old result sessions.new }
+        ensures asked { AskedFor (MayHear (CalledFrom work.reach S.called) S.entered S.left work.now) work.reach (telling
+            message.now.request) sessions.old result sessions.new }
         ensures told { IsSaidTo (known_of self.new.nodes) message.now.request result }
     {
         match message.request {
@@ -270,7 +277,8 @@ impl Mount {
 
     /// What is said to a message that is no sync.
     fn said_of<S: Sessions>(&mut self, sessions: &mut S, work: Work, message: &Message<'_>) -> Said
-        ensures asked { AskedFor (MayHear (CalledFrom work.reach S.called) S.entered S.left work.now) work.reach (telling message.now.request) sessions.old result sessions.new }
+        ensures asked { AskedFor (MayHear (CalledFrom work.reach S.called) S.entered S.left work.now) work.reach (telling
+            message.now.request) sessions.old result sessions.new }
         ensures told { IsSaidTo (known_of self.new.nodes) message.now.request result }
     {
         if tells(&message.request) {
@@ -281,7 +289,8 @@ impl Mount {
 
     /// What is said to a message.
     fn said_by<S: Sessions>(&mut self, sessions: &mut S, work: Work, message: &Message<'_>) -> Said
-        ensures asked { AskedFor (MayHear (CalledFrom work.reach S.called) S.entered S.left work.now) work.reach (telling message.now.request) sessions.old result sessions.new }
+        ensures asked { AskedFor (MayHear (CalledFrom work.reach S.called) S.entered S.left work.now) work.reach (telling
+            message.now.request) sessions.old result sessions.new }
         ensures told { IsSaidTo (known_of self.new.nodes) message.now.request result }
     {
         if asks_sync(&message.request) {

@@ -11,4 +11,5 @@ returns-in-Ok-None-clause-asked g c = λ name at. nothing_there c.args.work.reac
     (rw c.in-Ok-None.field-0-is at c.in-Ok-None.ensures.shown)
 
 pub returns-in-Err-clause-asked : goal.returns-in-Err-clause-asked
-returns-in-Err-clause-asked g c = λ name at. said_behind (refused_behind c.args.work.reach (Name name) c.in-Err.refused c.find.ensures.asked)
+returns-in-Err-clause-asked g c = λ name at. said_behind (refused_behind c.args.work.reach (Name name) c.in-Err.refused
+    c.find.ensures.asked)

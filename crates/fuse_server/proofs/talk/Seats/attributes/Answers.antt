@@ -5,7 +5,8 @@ use Rattle.fuse_server.proofs.talk.Seats.attributes.Goals as goal
 pub returns-in-Some-clause-behind : goal.returns-in-Some-clause-behind
 returns-in-Some-clause-behind g c =
     given_open (CalledFrom c.args.work.reach g.S.Sessions.called) g.S.Sessions.entered g.S.Sessions.left c.args.work.now c.args.sessions.now
-    c.attributes_open.new.sessions c.args.work.reach c.in-Some.descriptor c.in-Some.is c.attributes_open.result c.attributes_open.ensures.behind
+    c.attributes_open.new.sessions c.args.work.reach c.in-Some.descriptor c.in-Some.is c.attributes_open.result
+    c.attributes_open.ensures.behind
 
 pub returns-clause-behind : goal.returns-clause-behind
 returns-clause-behind g c =
