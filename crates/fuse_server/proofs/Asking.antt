@@ -1,5 +1,6 @@
 -- What sessions are asked, one thing after another.
-use Rattle.std.proofs.Common.{⊤, ◌≡◌, ℕ, List, [], ◌∷◌, ◌++◌, Option, Some, None, Result, Ok, Err, IfOk, OnOk, IsOk, refl, sym, subst}
+use Rattle.std.proofs.Common.{◌≡◌, ℕ, List, [], ◌∷◌, ◌++◌, Some, None, Result, Ok, Err, IfOk, OnOk, IsOk, refl, sym, subst}
+use Rattle.std.specs.Prelude.{⊤}
 use Rattle.errno.specs.declared.Errno.TheVariants.{ENOENT}
 use Rattle.tree.specs.declared.Call.{Call}
 use Rattle.tree.specs.declared.Call.TheVariants as call
@@ -51,21 +52,21 @@ goes_on {called = called} {entered} {left} {now} {s} {t} {u} a b = record {
 }
 
 -- a call that starts at what a message may name
-pub from_named : {S : Type 0} {called : S → ℕ → ℕ → Call → Outcome → S → Type 0} {entered : S → ℕ → ℕ → Result ℕ EnterRefusal → S → Type 0}
-    {left : S → S → Type 0} {now : ℕ} {s t : S} (x : Reach) (session : ℕ) (asked : Call) (h : Heard) → AsksFrom x asked
+pub from_named : {S : Type 0} (called : S → ℕ → ℕ → Call → Outcome → S → Type 0) (entered : S → ℕ → ℕ → Result ℕ EnterRefusal → S → Type 0)
+    (left : S → S → Type 0) (now : ℕ) (s t : S) (x : Reach) (session : ℕ) (asked : Call) (h : Heard) → AsksFrom x asked
     → MayHear called entered left now s (ask.Call session asked) h t
     → MayHear (CalledFrom x called) entered left now s (ask.Call session asked) h t
-from_named x session asked (heard_of.Outcome o) named may = record { named = named; answer = may }
-from_named x session asked (heard_of.Entered r) named may = absurd may
-from_named x session asked heard_of.Left named may = absurd may
+from_named called entered left now s t x session asked (heard_of.Outcome o) named may = record { named = named; answer = may }
+from_named called entered left now s t x session asked (heard_of.Entered r) named may = absurd may
+from_named called entered left now s t x session asked heard_of.Left named may = absurd may
 
 -- users enter as they do
-pub enters : {S : Type 0} {called : S → ℕ → ℕ → Call → Outcome → S → Type 0} {entered : S → ℕ → ℕ → Result ℕ EnterRefusal → S → Type 0}
-    {left : S → S → Type 0} {now : ℕ} {s t : S} (x : Reach) (uid gid : ℕ) (h : Heard)
+pub enters : {S : Type 0} (called : S → ℕ → ℕ → Call → Outcome → S → Type 0) (entered : S → ℕ → ℕ → Result ℕ EnterRefusal → S → Type 0)
+    (left : S → S → Type 0) (now : ℕ) (s t : S) (x : Reach) (uid gid : ℕ) (h : Heard)
     → MayHear called entered left now s (ask.Enter uid gid) h t → MayHear (CalledFrom x called) entered left now s (ask.Enter uid gid) h t
-enters x uid gid (heard_of.Outcome o) may = absurd may
-enters x uid gid (heard_of.Entered r) may = may
-enters x uid gid heard_of.Left may = absurd may
+enters called entered left now s t x uid gid (heard_of.Outcome o) may = absurd may
+enters called entered left now s t x uid gid (heard_of.Entered r) may = may
+enters called entered left now s t x uid gid heard_of.Left may = absurd may
 
 -- a call and its answer behind others
 pub after : {S : Type 0} {called : S → ℕ → ℕ → Call → Outcome → S → Type 0} {entered : S → ℕ → ℕ → Result ℕ EnterRefusal → S → Type 0}

@@ -31,7 +31,7 @@ told_number k inode kind None e = put_there k.numbers inode (Some k.next)
 -- an entry that tells it
 pub known_entry : (k l : Known) (inode : ℕ) (kind : NodeKind) (id : ℕ) (e : Entry) → l ≡ told k inode kind
     → id ≡ number_in k inode → e.node ≡ id → e.attributes.inode ≡ inode → IsKnown l e
-known_entry k l inode kind place id e same number node at =
+known_entry k l inode kind id e same number node at =
     let P : Known → Type 0 = λ m. m.numbers inode ≡ Some (number_in k inode) in
     let there : l.numbers inode ≡ Some (number_in k inode) = subst P (sym same) (told_number k inode kind (k.numbers inode) refl) in
     let A : ℕ → Type 0 = λ i. l.numbers i ≡ Some (number_in k inode) in
@@ -40,10 +40,10 @@ known_entry k l inode kind place id e same number node at =
 -- and the node gets a handle
 pub opened_entry : (k l m : Known) (inode : ℕ) (kind : NodeKind) (id : ℕ) (d : Option Descriptor) (e : Entry)
     → l ≡ told k inode kind → m ≡ opened l id d → id ≡ number_in k inode → e.node ≡ id → e.attributes.inode ≡ inode → IsKnown m e
-opened_entry k l m inode kind place id d e same then number node at =
+opened_entry k l m inode kind id d e same then number node at =
     let P : Known → Type 0 = λ x. IsKnown x e in
     let Q : Known → Type 0 = λ x. IsKnown (opened x id d) e in
-    subst P (sym then) (known_entry k l inode kind place id e same number node at)
+    subst P (sym then) (known_entry k l inode kind id e same number node at)
 
 -- the numbers that inodes have stay theirs, where nothing is told
 pub keeps : (k l : Known) → l ≡ k → KeepsNumbers k l
@@ -61,7 +61,7 @@ told_as_keeps k inode kind None e other id h = elim (eqb_tells inode other) [
 
 -- and where a node is told
 pub told_keeps : (k l : Known) (inode : ℕ) (kind : NodeKind) → l ≡ told k inode kind → KeepsNumbers k l
-told_keeps k l inode kind place is =
+told_keeps k l inode kind is =
     let P : Known → Type 0 = λ m. KeepsNumbers k m in
     subst P (sym is) (record { numbers = told_as_keeps k inode kind (k.numbers inode) refl })
 

@@ -1,5 +1,5 @@
 -- What is answered behind what sessions were asked.
-use Rattle.std.proofs.Common.{◌≡◌, ℕ, List, [], ◌∷◌, ◌++◌, Some, None, Result, true, false, refl, inl, inr, subst, sym}
+use Rattle.std.proofs.Common.{◌≡◌, ℕ, List, [], ◌∷◌, ◌++◌, Some, None, Result, Ok, Err, IfOk, true, false, refl, inl, inr, subst, sym}
 use Rattle.std.specs.Borrow.{Bor}
 use Rattle.fuse.specs.declared.reply.Attributes.{Attributes as Told}
 use Rattle.fuse.specs.declared.reply.Entry.{Entry}
@@ -19,29 +19,32 @@ use Rattle.tree.specs.declared.PathFrom.{PathFrom}
 use Rattle.tree.specs.declared.Reply.{Reply}
 use Rattle.tree.specs.declared.Reply.TheVariants as reply
 use Rattle.tree.specs.declared.Statfs.{Statfs}
-use Rattle.talks.specs.Hearing.{target_of}
+use Rattle.talks.specs.Hearing.{attributes_in, target_of}
 use Rattle.talks.specs.Talks.{Exchange, MayHear, Leads, IsDone}
+use Rattle.talks.specs.declared.ask.Ask.{Ask}
 use Rattle.talks.specs.declared.ask.Ask.TheVariants as ask
 use Rattle.talks.specs.declared.heard.Heard.{Heard}
 use Rattle.talks.specs.declared.heard.Heard.TheVariants as heard_of
 use Rattle.talks.specs.declared.refused.Refused.{Refused}
 use Rattle.talks.specs.declared.sessions.EnterRefusal.{EnterRefusal}
 use Rattle.fuse_server.specs.Asking.{Talked, TalkedTo, TalkedFor, LookedAt, EndsWith}
+use Rattle.fuse_server.specs.Kinds.{is_sync}
 use Rattle.fuse_server.specs.Reach.{IsAt}
 use Rattle.fuse_server.specs.Telling.{Telling, telling, tells, told_of, room_of, IsToldAs, ToldBehind, ShownAt, AskedFor}
 use Rattle.fuse_server.specs.Telling.Telling.{Name, Node, Target, Unlinked, Removed, Renamed, Room, Other}
 use Rattle.fuse_server.specs.declared.said.FuseAnswer.{FuseAnswer}
 use Rattle.fuse_server.specs.declared.said.FuseAnswer.TheVariants as answer_of
+use Rattle.fuse_server.specs.declared.said.Said.{Said}
 use Rattle.fuse_server.specs.declared.said.Said.TheVariants as said
 use Rattle.fuse_server.specs.declared.work.Reach.{Reach}
-use Rattle.fuse_server.proofs.Asking.{joined, after}
+use Rattle.fuse_server.proofs.Asking.{joined, after, attributes_so}
 
 -- the exchanges up to a call and its answer
-log_of : {S : Type 0} {called : S → ℕ → ℕ → Call → Outcome → S → Type 0} {entered : S → ℕ → ℕ → Result ℕ EnterRefusal → S → Type 0}
+abbrev log_of : {S : Type 0} {called : S → ℕ → ℕ → Call → Outcome → S → Type 0} {entered : S → ℕ → ℕ → Result ℕ EnterRefusal → S → Type 0}
     {left : S → S → Type 0} {now : ℕ} {s t : S} {asked : Call} {h : Heard} → TalkedTo called entered left now s asked h t → List Exchange
 log_of {asked = asked} {h} talked = record { ask = ask.Call talked.session asked; heard = h } ∷ talked.first.log
 
-leads_of : {S : Type 0} {called : S → ℕ → ℕ → Call → Outcome → S → Type 0} {entered : S → ℕ → ℕ → Result ℕ EnterRefusal → S → Type 0}
+abbrev leads_of : {S : Type 0} {called : S → ℕ → ℕ → Call → Outcome → S → Type 0} {entered : S → ℕ → ℕ → Result ℕ EnterRefusal → S → Type 0}
     {left : S → S → Type 0} {now : ℕ} {s t : S} {asked : Call} {h : Heard} (talked : TalkedTo called entered left now s asked h t)
     → Leads (MayHear called entered left now) s (log_of talked) t
 leads_of talked = (talked.before, talked.first.leads, talked.last)
@@ -58,23 +61,59 @@ pub shown : {S : Type 0} {called : S → ℕ → ℕ → Call → Outcome → S 
     → LookedAt called entered left now s path (Some was) t → told ≡ told_of was → ShownAt called entered left now s path told t
 shown was looked is = record { was = was; looked = looked; is = is }
 
-pub entry_behind : {S : Type 0} {called : S → ℕ → ℕ → Call → Outcome → S → Type 0} {entered : S → ℕ → ℕ → Result ℕ EnterRefusal → S → Type 0}
-    {left : S → S → Type 0} {now : ℕ} {s t : S} (x : Reach) (name : List ℕ) (entry : Entry) (path : PathFrom) → IsAt x.own name path
-    → ShownAt called entered left now s path entry.attributes t → ToldBehind called entered left now x (Name name) s (answer_of.Entry entry) t
-entry_behind x name entry path at shown = record {
-  log = log_of shown.looked;
-  leads = leads_of shown.looked;
-  told = record { session = shown.looked.session; path = path; was = shown.was; at = at; ends = (refl, refl); is = shown.is };
+-- looks that may be refused
+pub told_shown : {S : Type 0} {called : S → ℕ → ℕ → Call → Outcome → S → Type 0} {entered : S → ℕ → ℕ → Result ℕ EnterRefusal → S → Type 0}
+    {left : S → S → Type 0} {now : ℕ} {s t : S} {path : PathFrom} (was : Attributes) (r : Result Entry Refused)
+    → LookedAt called entered left now s path (Some was) t → IfOk r (λ (e : Entry). e.attributes ≡ told_of was)
+    → IfOk r (λ (e : Entry). ShownAt called entered left now s path e.attributes t)
+told_shown was (Err refused) looked is = tt
+told_shown was (Ok e) looked is = shown was looked is
+
+pub opened_shown : {S : Type 0} {called : S → ℕ → ℕ → Call → Outcome → S → Type 0}
+    {entered : S → ℕ → ℕ → Result ℕ EnterRefusal → S → Type 0} {left : S → S → Type 0} {now : ℕ}
+    {s t : S} {path : PathFrom} (was : Attributes) (r : Result (Entry × Opened) Refused)
+    → LookedAt called entered left now s path (Some was) t → IfOk r (λ (e : Entry × Opened). e.0.attributes ≡ told_of was)
+    → IfOk r (λ (e : Entry × Opened). ShownAt called entered left now s path e.0.attributes t)
+opened_shown was (Err refused) looked is = tt
+opened_shown was (Ok e) looked is = shown was looked is
+
+pub looked_after : {S : Type 0} {called : S → ℕ → ℕ → Call → Outcome → S → Type 0}
+    {entered : S → ℕ → ℕ → Result ℕ EnterRefusal → S → Type 0} {left : S → S → Type 0} {now : ℕ}
+    {s t : S} (u : S) (path : PathFrom) → Talked called entered left now s t
+    → (r : Result Attributes Refused)
+    → IfOk r (λ (was : Attributes). LookedAt called entered left now t path (Some was) u)
+    → IfOk r (λ (was : Attributes). LookedAt called entered left now s path (Some was) u)
+looked_after u path first (Err refused) looked = tt
+looked_after u path first (Ok was) looked = after first looked
+
+pub told_after : {S : Type 0} {called : S → ℕ → ℕ → Call → Outcome → S → Type 0} {entered : S → ℕ → ℕ → Result ℕ EnterRefusal → S → Type 0}
+    {left : S → S → Type 0} {now : ℕ} {s t : S} (u : S) (path : PathFrom) → Talked called entered left now s t → (r : Result Entry Refused)
+    → IfOk r (λ (e : Entry). ShownAt called entered left now t path e.attributes u)
+    → IfOk r (λ (e : Entry). ShownAt called entered left now s path e.attributes u)
+told_after u path first (Err refused) looked = tt
+told_after u path first (Ok e) looked = shown_after first looked
+
+pub entry_behind : {S : Type 0} {called : S → ℕ → ℕ → Call → Outcome → S → Type 0}
+    {entered : S → ℕ → ℕ → Result ℕ EnterRefusal → S → Type 0} {left : S → S → Type 0} {now : ℕ}
+    {s t : S} (x : Reach) (name : List ℕ) (entry : Entry) (path : PathFrom) → IsAt x.own name path
+    → ShownAt called entered left now s path entry.attributes t
+    → ToldBehind called entered left now x (Name name) s (answer_of.Entry entry) t
+entry_behind x name entry path at it = record {
+  log = log_of it.looked;
+  leads = leads_of it.looked;
+  told = record { session = it.looked.session; path = path; was = it.was; at = at; ends = (refl, refl); is = it.is };
 }
 
-pub created_behind : {S : Type 0} {called : S → ℕ → ℕ → Call → Outcome → S → Type 0} {entered : S → ℕ → ℕ → Result ℕ EnterRefusal → S → Type 0}
-    {left : S → S → Type 0} {now : ℕ} {s t : S} (x : Reach) (name : List ℕ) (entry : Entry) (opened : Opened) (path : PathFrom) → IsAt x.own name path
+pub created_behind : {S : Type 0} {called : S → ℕ → ℕ → Call → Outcome → S → Type 0}
+    {entered : S → ℕ → ℕ → Result ℕ EnterRefusal → S → Type 0} {left : S → S → Type 0} {now : ℕ}
+    {s t : S} (x : Reach) (name : List ℕ) (entry : Entry) (opened : Opened) (path : PathFrom)
+    → IsAt x.own name path
     → ShownAt called entered left now s path entry.attributes t
     → ToldBehind called entered left now x (Name name) s (answer_of.Create entry opened) t
-created_behind x name entry opened path at shown = record {
-  log = log_of shown.looked;
-  leads = leads_of shown.looked;
-  told = record { session = shown.looked.session; path = path; was = shown.was; at = at; ends = (refl, refl); is = shown.is };
+created_behind x name entry opened path at it = record {
+  log = log_of it.looked;
+  leads = leads_of it.looked;
+  told = record { session = it.looked.session; path = path; was = it.was; at = at; ends = (refl, refl); is = it.is };
 }
 
 -- a node was looked at
@@ -95,13 +134,34 @@ pub open_behind : {S : Type 0} {called : S → ℕ → ℕ → Call → Outcome 
     (heard_of.Outcome (outcome.Reply (reply.Inode was))) t
     → ToldBehind called entered left now x Node s (answer_of.Attributes (told_of was)) t
 open_behind {s = s} x was descriptor has last = record {
-  log = record { ask = ask.Call descriptor.session (call.Fstat descriptor.fd); heard = heard_of.Outcome (outcome.Reply (reply.Inode was)) } ∷ [];
+  log = record { ask = ask.Call descriptor.session (call.Fstat descriptor.fd); heard = heard_of.Outcome (outcome.Reply (reply.Inode was)) }
+      ∷ [];
   leads = (s, refl, last);
   told = inr (record { descriptor = descriptor; was = was; has = has; ends = (refl, refl); is = refl });
 }
 
-pub target_behind : {S : Type 0} {called : S → ℕ → ℕ → Call → Outcome → S → Type 0} {entered : S → ℕ → ℕ → Result ℕ EnterRefusal → S → Type 0}
-    {left : S → S → Type 0} {now : ℕ} {s t : S} (x : Reach) (bytes : Vec ℕ) (target : LinkTarget) (path : PathFrom) → IsAt x.own [] path
+-- what a node's descriptor has open was looked at
+pub open_so : {S : Type 0} (called : S → ℕ → ℕ → Call → Outcome → S → Type 0) (entered : S → ℕ → ℕ → Result ℕ EnterRefusal → S → Type 0)
+    (left : S → S → Type 0) (now : ℕ) (s t : S) (x : Reach) (descriptor : Descriptor) (h : Heard) (r : Result Attributes Refused)
+    → r ≡ attributes_in h
+    → MayHear called entered left now s (ask.Call descriptor.session (call.Fstat descriptor.fd)) h t
+    → IfOk r (λ (was : Attributes). x.descriptor ≡ Some descriptor
+    → ToldBehind called entered left now x Node s (answer_of.Attributes (told_of was)) t)
+open_so called entered left now s t x descriptor h (Err refused) is may = tt
+open_so called entered left now s t x descriptor h (Ok was) is may = λ has.
+    let P : Heard → Type 0 = λ y. MayHear called entered left now s (ask.Call descriptor.session (call.Fstat descriptor.fd)) y t in
+    open_behind x was descriptor has (subst P (attributes_so h was (sym is)) may)
+
+pub node_so : {S : Type 0} (called : S → ℕ → ℕ → Call → Outcome → S → Type 0) (entered : S → ℕ → ℕ → Result ℕ EnterRefusal → S → Type 0)
+    (left : S → S → Type 0) (now : ℕ) (s t : S) (x : Reach) (path : PathFrom) → IsAt x.own [] path → (r : Result Attributes Refused)
+    → IfOk r (λ (was : Attributes). LookedAt called entered left now s path (Some was) t)
+    → IfOk r (λ (was : Attributes). ToldBehind called entered left now x Node s (answer_of.Attributes (told_of was)) t)
+node_so called entered left now s t x path at (Err refused) looked = tt
+node_so called entered left now s t x path at (Ok was) looked = node_behind x was path at looked
+
+pub target_behind : {S : Type 0} {called : S → ℕ → ℕ → Call → Outcome → S → Type 0}
+    {entered : S → ℕ → ℕ → Result ℕ EnterRefusal → S → Type 0} {left : S → S → Type 0} {now : ℕ}
+    {s t : S} (x : Reach) (bytes : Vec ℕ) (target : LinkTarget) (path : PathFrom) → IsAt x.own [] path
     → TalkedFor called entered left now s (call.Readlink path) (reply.Target target) t → bytes.items ≡ target_of target
     → ToldBehind called entered left now x Target s (answer_of.Bytes bytes) t
 target_behind x bytes target path at talked is = record {
@@ -110,8 +170,9 @@ target_behind x bytes target path at talked is = record {
   told = record { session = talked.session; path = path; target = target; at = at; ends = (refl, refl); is = is };
 }
 
-pub unlinked_behind : {S : Type 0} {called : S → ℕ → ℕ → Call → Outcome → S → Type 0} {entered : S → ℕ → ℕ → Result ℕ EnterRefusal → S → Type 0}
-    {left : S → S → Type 0} {now : ℕ} {s t : S} (x : Reach) (name : List ℕ) (path : PathFrom) → IsAt x.own name path
+pub unlinked_behind : {S : Type 0} {called : S → ℕ → ℕ → Call → Outcome → S → Type 0}
+    {entered : S → ℕ → ℕ → Result ℕ EnterRefusal → S → Type 0} {left : S → S → Type 0} {now : ℕ}
+    {s t : S} (x : Reach) (name : List ℕ) (path : PathFrom) → IsAt x.own name path
     → TalkedFor called entered left now s (call.Unlink path) reply.Done t
     → ToldBehind called entered left now x (Unlinked name) s answer_of.Done t
 unlinked_behind x name path at talked = record {
@@ -120,8 +181,9 @@ unlinked_behind x name path at talked = record {
   told = record { session = talked.session; path = path; at = at; ends = (refl, refl) };
 }
 
-pub removed_behind : {S : Type 0} {called : S → ℕ → ℕ → Call → Outcome → S → Type 0} {entered : S → ℕ → ℕ → Result ℕ EnterRefusal → S → Type 0}
-    {left : S → S → Type 0} {now : ℕ} {s t : S} (x : Reach) (name : List ℕ) (path : PathFrom) → IsAt x.own name path
+pub removed_behind : {S : Type 0} {called : S → ℕ → ℕ → Call → Outcome → S → Type 0}
+    {entered : S → ℕ → ℕ → Result ℕ EnterRefusal → S → Type 0} {left : S → S → Type 0} {now : ℕ}
+    {s t : S} (x : Reach) (name : List ℕ) (path : PathFrom) → IsAt x.own name path
     → TalkedFor called entered left now s (call.Rmdir path) reply.Done t
     → ToldBehind called entered left now x (Removed name) s answer_of.Done t
 removed_behind x name path at talked = record {
@@ -130,8 +192,10 @@ removed_behind x name path at talked = record {
   told = record { session = talked.session; path = path; at = at; ends = (refl, refl) };
 }
 
-pub renamed_behind : {S : Type 0} {called : S → ℕ → ℕ → Call → Outcome → S → Type 0} {entered : S → ℕ → ℕ → Result ℕ EnterRefusal → S → Type 0}
-    {left : S → S → Type 0} {now : ℕ} {s t : S} (x : Reach) (old new : List ℕ) (from to : PathFrom) → IsAt x.own old from → IsAt x.other new to
+pub renamed_behind : {S : Type 0} {called : S → ℕ → ℕ → Call → Outcome → S → Type 0}
+    {entered : S → ℕ → ℕ → Result ℕ EnterRefusal → S → Type 0} {left : S → S → Type 0} {now : ℕ}
+    {s t : S} (x : Reach) (old new : List ℕ) (from to : PathFrom) → IsAt x.own old from
+    → IsAt x.other new to
     → TalkedFor called entered left now s (call.Rename from to) reply.Done t
     → ToldBehind called entered left now x (Renamed old new) s answer_of.Done t
 renamed_behind x old new from to at into talked = record {
@@ -158,8 +222,21 @@ ends_on session asked r (e ∷ es) first ends = ends
 
 node_on : (x : Reach) (told : Told) (log first : List Exchange) → IsToldAs x Node (answer_of.Attributes told) log
     → IsToldAs x Node (answer_of.Attributes told) (log ++ first)
-node_on x told log first (inl seen) = inl (record seen { ends = ends_on _ _ _ log first seen.ends })
-node_on x told log first (inr seen) = inr (record seen { ends = ends_on _ _ _ log first seen.ends })
+node_on x told log first (inl seen) = inl (record {
+  session = seen.session;
+  path = seen.path;
+  was = seen.was;
+  at = seen.at;
+  ends = ends_on seen.session (call.Lstat seen.path) (reply.Inode seen.was) log first seen.ends;
+  is = seen.is;
+})
+node_on x told log first (inr seen) = inr (record {
+  descriptor = seen.descriptor;
+  was = seen.was;
+  has = seen.has;
+  ends = ends_on seen.descriptor.session (call.Fstat seen.descriptor.fd) (reply.Inode seen.was) log first seen.ends;
+  is = seen.is;
+})
 
 pub node_after : {S : Type 0} {called : S → ℕ → ℕ → Call → Outcome → S → Type 0} {entered : S → ℕ → ℕ → Result ℕ EnterRefusal → S → Type 0}
     {left : S → S → Type 0} {now : ℕ} {s t u : S} {x : Reach} {told : Told} → Talked called entered left now s t
@@ -176,8 +253,9 @@ refused_so : (x : Reach) (about : Telling) (e : Refused) (log : List Exchange) �
 refused_so x (Name name) e log = tt
 refused_so x about e log = tt
 
-pub refused_behind : {S : Type 0} {called : S → ℕ → ℕ → Call → Outcome → S → Type 0} {entered : S → ℕ → ℕ → Result ℕ EnterRefusal → S → Type 0}
-    {left : S → S → Type 0} {now : ℕ} {s t : S} (x : Reach) (about : Telling) (e : Refused) → Talked called entered left now s t
+pub refused_behind : {S : Type 0} {called : S → ℕ → ℕ → Call → Outcome → S → Type 0}
+    {entered : S → ℕ → ℕ → Result ℕ EnterRefusal → S → Type 0} {left : S → S → Type 0} {now : ℕ}
+    {s t : S} (x : Reach) (about : Telling) (e : Refused) → Talked called entered left now s t
     → ToldBehind called entered left now x about s (answer_of.Refused e) t
 refused_behind x about e talked = record { log = talked.log; leads = talked.leads; told = refused_so x about e talked.log }
 
@@ -185,15 +263,17 @@ unknown_so : (x : Reach) (about : Telling) (log : List Exchange) → IsToldAs x 
 unknown_so x (Name name) log = tt
 unknown_so x about log = tt
 
-pub unknown_behind : {S : Type 0} {called : S → ℕ → ℕ → Call → Outcome → S → Type 0} {entered : S → ℕ → ℕ → Result ℕ EnterRefusal → S → Type 0}
-    {left : S → S → Type 0} {now : ℕ} {s t : S} (x : Reach) (about : Telling) → Talked called entered left now s t
+pub unknown_behind : {S : Type 0} {called : S → ℕ → ℕ → Call → Outcome → S → Type 0}
+    {entered : S → ℕ → ℕ → Result ℕ EnterRefusal → S → Type 0} {left : S → S → Type 0} {now : ℕ}
+    {s t : S} (x : Reach) (about : Telling) → Talked called entered left now s t
     → ToldBehind called entered left now x about s answer_of.Unknown t
 unknown_behind x about talked = record { log = talked.log; leads = talked.leads; told = unknown_so x about talked.log }
 
 -- ---- what is said
 
 pub said_behind : {S : Type 0} {called : S → ℕ → ℕ → Call → Outcome → S → Type 0} {entered : S → ℕ → ℕ → Result ℕ EnterRefusal → S → Type 0}
-    {left : S → S → Type 0} {now : ℕ} {s t : S} {x : Reach} {about : Telling} {a : FuseAnswer} → ToldBehind called entered left now x about s a t
+    {left : S → S → Type 0} {now : ℕ} {s t : S} {x : Reach} {about : Telling} {a : FuseAnswer}
+    → ToldBehind called entered left now x about s a t
     → AskedFor (MayHear called entered left now) x about s (said.Plain a) t
 said_behind b = (b.log, b.leads, b.told)
 
@@ -206,27 +286,68 @@ plainly x a talked = (talked.log, talked.leads, tt)
 never : true ≡ false → ⊥
 never e = cc
 
--- a request that is no LOOKUP, and tells nothing of it
-pub tells_nothing : (r : Request) → tells r ≡ false → ((name : Bor (List ℕ)) → r ≡ request.Lookup name → ⊥) → telling r ≡ Other
-tells_nothing (request.Lookup name) none other = absurd (other name refl)
-tells_nothing (request.Getattr flags handle) none other = absurd (never none)
-tells_nothing (request.Setattr valid handle size lock_owner atime mtime ctime mode uid gid) none other = absurd (never none)
-tells_nothing request.Readlink none other = absurd (never none)
-tells_nothing (request.Symlink name target) none other = absurd (never none)
-tells_nothing (request.Mknod mode device umask name) none other = absurd (never none)
-tells_nothing (request.Mkdir mode umask name) none other = absurd (never none)
-tells_nothing (request.Unlink name) none other = absurd (never none)
-tells_nothing (request.Rmdir name) none other = absurd (never none)
-tells_nothing (request.Rename new_directory old_name new_name) none other = absurd (never none)
-tells_nothing (request.Rename2 new_directory flags old_name new_name) none other = absurd (never none)
-tells_nothing (request.Link file name) none other = absurd (never none)
-tells_nothing (request.Create flags mode umask open_flags name) none other = absurd (never none)
-tells_nothing request.Statfs none other = absurd (never none)
-tells_nothing r none other = refl
+-- what is told of a node
+pub told_same : {S : Type 0} {called : S → ℕ → ℕ → Call → Outcome → S → Type 0} {entered : S → ℕ → ℕ → Result ℕ EnterRefusal → S → Type 0}
+    {left : S → S → Type 0} {now : ℕ} {s t : S} {x : Reach} {told : Told} (a : FuseAnswer) → a ≡ answer_of.Attributes told
+    → ToldBehind called entered left now x Node s (answer_of.Attributes told) t → ToldBehind called entered left now x Node s a t
+told_same {called = called} {entered} {left} {now} {s} {t} {x} a is b =
+    let P : FuseAnswer → Type 0 = λ y. ToldBehind called entered left now x Node s y t in subst P (sym is) b
+
+pub node_after_ok : {S : Type 0} {called : S → ℕ → ℕ → Call → Outcome → S → Type 0}
+    {entered : S → ℕ → ℕ → Result ℕ EnterRefusal → S → Type 0} {left : S → S → Type 0} {now : ℕ}
+    {s t : S} (u : S) (x : Reach) → Talked called entered left now s t → (r : Result Attributes Refused)
+    → IfOk r (λ (was : Attributes). ToldBehind called entered left now x Node t (answer_of.Attributes (told_of was)) u)
+    → IfOk r (λ (was : Attributes). ToldBehind called entered left now x Node s (answer_of.Attributes (told_of was)) u)
+node_after_ok u x first (Err refused) b = tt
+node_after_ok u x first (Ok was) b = node_after first b
+
+pub given_open : {S : Type 0} (called : S → ℕ → ℕ → Call → Outcome → S → Type 0) (entered : S → ℕ → ℕ → Result ℕ EnterRefusal → S → Type 0)
+    (left : S → S → Type 0) (now : ℕ) (s t : S) (x : Reach) (descriptor : Descriptor) → x.descriptor ≡ Some descriptor
+    → (r : Result Attributes Refused)
+    → IfOk r (λ (was : Attributes). x.descriptor ≡ Some descriptor
+    → ToldBehind called entered left now x Node s (answer_of.Attributes (told_of was)) t)
+    → IfOk r (λ (was : Attributes). ToldBehind called entered left now x Node s (answer_of.Attributes (told_of was)) t)
+given_open called entered left now s t x descriptor has (Err refused) b = tt
+given_open called entered left now s t x descriptor has (Ok was) b = b has
+
+-- a request that tells nothing of it
+pub tells_nothing : (r : Request) → tells r ≡ false → telling r ≡ Other
+tells_nothing (request.Lookup name) none = absurd (never none)
+tells_nothing (request.Getattr flags handle) none = absurd (never none)
+tells_nothing (request.Setattr valid handle size lock_owner atime mtime ctime mode uid gid) none = absurd (never none)
+tells_nothing request.Readlink none = absurd (never none)
+tells_nothing (request.Symlink name target) none = absurd (never none)
+tells_nothing (request.Mknod mode device umask name) none = absurd (never none)
+tells_nothing (request.Mkdir mode umask name) none = absurd (never none)
+tells_nothing (request.Unlink name) none = absurd (never none)
+tells_nothing (request.Rmdir name) none = absurd (never none)
+tells_nothing (request.Rename new_directory old_name new_name) none = absurd (never none)
+tells_nothing (request.Rename2 new_directory flags old_name new_name) none = absurd (never none)
+tells_nothing (request.Link file name) none = absurd (never none)
+tells_nothing (request.Create flags mode umask open_flags name) none = absurd (never none)
+tells_nothing request.Statfs none = absurd (never none)
+tells_nothing r none = refl
+
+pub sync_tells_nothing : (r : Request) → is_sync r ≡ true → telling r ≡ Other
+sync_tells_nothing (request.Fsync handle flags) sync = refl
+sync_tells_nothing (request.Fsyncdir handle flags) sync = refl
+sync_tells_nothing r sync = absurd (never (sym sync))
+
+pub as_other : {S : Type 0} (may : S → Ask → Heard → S → Type 0) (x : Reach) (s : S) (it : Said) (t : S) (about : Telling) → about ≡ Other
+    → AskedFor may x Other s it t → AskedFor may x about s it t
+as_other may x s it t about is asked =
+    let P : Telling → Type 0 = λ a. AskedFor may x a s it t in subst P (sym is) asked
+
+-- a LOOKUP's name
+pub as_lookup : {S : Type 0} (may : S → Ask → Heard → S → Type 0) (x : Reach) (s : S) (it : Said) (t : S) (r : Request)
+    (name : Bor (List ℕ)) → r ≡ request.Lookup name → AskedFor may x (Name name.now) s it t → AskedFor may x (telling r) s it t
+as_lookup may x s it t r name is asked =
+    let P : Request → Type 0 = λ q. AskedFor may x (telling q) s it t in subst P (sym is) asked
 
 -- a name was looked for, and leads to nothing
-pub nothing_there : {S : Type 0} {called : S → ℕ → ℕ → Call → Outcome → S → Type 0} {entered : S → ℕ → ℕ → Result ℕ EnterRefusal → S → Type 0}
-    {left : S → S → Type 0} {now : ℕ} {s t : S} (x : Reach) (name : List ℕ) (path : PathFrom) → IsAt x.own name path
+pub nothing_there : {S : Type 0} {called : S → ℕ → ℕ → Call → Outcome → S → Type 0}
+    {entered : S → ℕ → ℕ → Result ℕ EnterRefusal → S → Type 0} {left : S → S → Type 0} {now : ℕ}
+    {s t : S} (x : Reach) (name : List ℕ) (path : PathFrom) → IsAt x.own name path
     → LookedAt called entered left now s path None t → AskedFor (MayHear called entered left now) x (Name name) s said.Missing t
 nothing_there x name path at looked = (
   log_of looked,

@@ -46,18 +46,21 @@ IsSent unique it old new = IsReply (reply_to it) × (new ≡ old ++ answer uniqu
 
 -- One answer more, with this number: what may be said to the bytes, behind exchanges that led the sessions from one state to the other, or
 -- that there is no memory, and then nothing was asked.
-abbrev pub IsTold : {S : Type 0} → (Reach → S → Ask → Heard → S → Type 0) → Known → Known → List ℕ → ℕ → ℕ → S → List ℕ → S → List ℕ → Type 0
+abbrev pub IsTold : {S : Type 0} → (Reach → S → Ask → Heard → S → Type 0) → Known → Known → List ℕ → ℕ → ℕ → S → List ℕ → S → List ℕ
+    → Type 0
 IsTold may k l bytes unique capacity s old t new = (it : Said) × IsSent unique it old new
     × (IsSaidToBytes may k l bytes s it t ⊎ ((it ≡ no_memory) × (t ≡ s) × (capacity < length old + 65552)))
 
 -- A message that has no answer: nothing is asked, and nothing is said.
-abbrev pub IsAnsweredAs : {S : Type 0} → (Reach → S → Ask → Heard → S → Type 0) → Known → Known → Bool → List ℕ → ℕ → S → List ℕ → S → List ℕ
+abbrev pub IsAnsweredAs : {S : Type 0} → (Reach → S → Ask → Heard → S → Type 0) → Known → Known → Bool → List ℕ → ℕ → S → List ℕ → S
+    → List ℕ
     → Type 0
 IsAnsweredAs may k l true bytes capacity s old t new = (t ≡ s) × (new ≡ old)
 IsAnsweredAs may k l false bytes capacity s old t new = IsTold may k l bytes (unique_in bytes) capacity s old t new
 
 -- how a message is answered, into a buffer of this capacity, by what is known before and behind it
-abbrev pub IsAnswered : {S : Type 0} → (Reach → S → Ask → Heard → S → Type 0) → Known → Known → List ℕ → ℕ → S → List ℕ → S → List ℕ → Type 0
+abbrev pub IsAnswered : {S : Type 0} → (Reach → S → Ask → Heard → S → Type 0) → Known → Known → List ℕ → ℕ → S → List ℕ → S → List ℕ
+    → Type 0
 IsAnswered may k l bytes capacity s old t new = IsAnsweredAs may k l (is_silent (opcode_in bytes)) bytes capacity s old t new
 
 -- what sessions may answer at a time to what a message asks that may name so much

@@ -23,8 +23,9 @@ pub record Talked {S : Type 0} (called : S → ℕ → ℕ → Call → Outcome 
   pub leads : Leads (MayHear called entered left now) s log t
 
 -- So they do, and the last exchange is this call and its answer.
-pub record TalkedTo {S : Type 0} (called : S → ℕ → ℕ → Call → Outcome → S → Type 0) (entered : S → ℕ → ℕ → Result ℕ EnterRefusal → S → Type 0)
-    (left : S → S → Type 0) (now : ℕ) (s : S) (asked : Call) (heard : Heard) (t : S) : Type 0 where
+pub record TalkedTo {S : Type 0} (called : S → ℕ → ℕ → Call → Outcome → S → Type 0)
+    (entered : S → ℕ → ℕ → Result ℕ EnterRefusal → S → Type 0) (left : S → S → Type 0) (now : ℕ)
+    (s : S) (asked : Call) (heard : Heard) (t : S) : Type 0 where
   pub session : ℕ
   pub before : S
   pub first : Talked called entered left now s before

@@ -88,8 +88,9 @@ telling (request.Create flags mode umask open_flags name) = Name name.now
 telling request.Statfs = Room
 telling r = Other
 
--- one of those, but for LOOKUP
+-- something
 abbrev pub tells : Request → Bool
+tells (request.Lookup name) = true
 tells (request.Getattr flags handle) = true
 tells (request.Setattr valid handle size lock_owner atime mtime ctime mode uid gid) = true
 tells request.Readlink = true
@@ -160,8 +161,9 @@ pub record IsMissing (x : Reach) (name : List ℕ) (log : List Exchange) : Type 
   pub ends : EndsWith session (call.Lstat path) (reply.Refused ENOENT) log
 
 -- A path was looked at, and these attributes are told.
-pub record ShownAt {S : Type 0} (called : S → ℕ → ℕ → Call → Outcome → S → Type 0) (entered : S → ℕ → ℕ → Result ℕ EnterRefusal → S → Type 0)
-    (left : S → S → Type 0) (now : ℕ) (s : S) (path : PathFrom) (told : Told) (t : S) : Type 0 where
+pub record ShownAt {S : Type 0} (called : S → ℕ → ℕ → Call → Outcome → S → Type 0)
+    (entered : S → ℕ → ℕ → Result ℕ EnterRefusal → S → Type 0) (left : S → S → Type 0) (now : ℕ)
+    (s : S) (path : PathFrom) (told : Told) (t : S) : Type 0 where
   pub was : Attributes
   pub looked : LookedAt called entered left now s path (Some was) t
   pub is : told ≡ told_of was
@@ -196,8 +198,9 @@ IsBehind x about said.Synced log = EndsInSync log
 IsBehind x about said.Missing log = IsMissingAs x about log
 
 -- By exchanges and nothing else sessions come from one state to another, and this is answered behind them.
-pub record ToldBehind {S : Type 0} (called : S → ℕ → ℕ → Call → Outcome → S → Type 0) (entered : S → ℕ → ℕ → Result ℕ EnterRefusal → S → Type 0)
-    (left : S → S → Type 0) (now : ℕ) (x : Reach) (about : Telling) (s : S) (a : FuseAnswer) (t : S) : Type 0 where
+pub record ToldBehind {S : Type 0} (called : S → ℕ → ℕ → Call → Outcome → S → Type 0)
+    (entered : S → ℕ → ℕ → Result ℕ EnterRefusal → S → Type 0) (left : S → S → Type 0) (now : ℕ)
+    (x : Reach) (about : Telling) (s : S) (a : FuseAnswer) (t : S) : Type 0 where
   pub log : List Exchange
   pub leads : Leads (MayHear called entered left now) s log t
   pub told : IsToldAs x about a log

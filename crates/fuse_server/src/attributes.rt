@@ -105,9 +105,11 @@ impl Seats {
     /// The room of the volume.
     fn space<S: Sessions>(&mut self, sessions: &mut S, work: Work) -> Result<Statfs, Refused>
         ensures asked { Talked (CalledFrom work.reach S.called) S.entered S.left work.now sessions.old sessions.new }
-        ensures seen { IfOk result (λ room. TalkedFor (CalledFrom work.reach S.called) S.entered S.left work.now sessions.old call.Statfs (reply.Space room) sessions.new) }
+        ensures seen { IfOk result (λ room. TalkedFor (CalledFrom work.reach S.called) S.entered S.left work.now sessions.old call.Statfs
+            (reply.Space room) sessions.new) }
     {
-        self.ask(sessions, work, Call::Statfs)?.space()
+        let heard = self.ask(sessions, work, Call::Statfs)?;
+        heard.space()
     }
 
     /// The target of the link at a path.
@@ -119,9 +121,11 @@ impl Seats {
     ) -> Result<LinkTarget, Refused>
         requires { IsNamed work.reach path }
         ensures asked { Talked (CalledFrom work.reach S.called) S.entered S.left work.now sessions.old sessions.new }
-        ensures seen { IfOk result (λ target. TalkedFor (CalledFrom work.reach S.called) S.entered S.left work.now sessions.old (call.Readlink path.entry) (reply.Target target) sessions.new) }
+        ensures seen { IfOk result (λ target. TalkedFor (CalledFrom work.reach S.called) S.entered S.left work.now sessions.old
+            (call.Readlink path.entry) (reply.Target target) sessions.new) }
     {
-        self.ask(sessions, work, Call::Readlink { path })?.target()
+        let heard = self.ask(sessions, work, Call::Readlink { path })?;
+        heard.target()
     }
 }
 
@@ -133,10 +137,12 @@ fn attributes_open<S: Sessions>(
 ) -> Result<Attributes, Refused>
     ensures asked { Talked (CalledFrom work.reach S.called) S.entered S.left work.now sessions.old sessions.new }
     ensures behind { IfOk result (λ was. work.reach.descriptor ≡ Some descriptor
-        → ToldBehind (CalledFrom work.reach S.called) S.entered S.left work.now work.reach Node sessions.old (answer.Attributes (told_of was)) sessions.new) }
+        → ToldBehind (CalledFrom work.reach S.called) S.entered S.left work.now work.reach Node sessions.old (answer.Attributes (told_of
+        was)) sessions.new) }
 {
     let call = Call::Fstat { fd: descriptor.fd };
-    calling(sessions, work, descriptor.session, call).attributes()
+    let heard = calling(sessions, work, descriptor.session, call);
+    heard.attributes()
 }
 
 impl Seats {
@@ -147,13 +153,30 @@ impl Seats {
         work: Work,
     ) -> Result<Attributes, Refused>
         ensures asked { Talked (CalledFrom work.reach S.called) S.entered S.left work.now sessions.old sessions.new }
-        ensures behind { IfOk result (λ was. ToldBehind (CalledFrom work.reach S.called) S.entered S.left work.now work.reach Node sessions.old (answer.Attributes (told_of was)) sessions.new) }
+        ensures behind { IfOk result (λ was. ToldBehind (CalledFrom work.reach S.called) S.entered S.left work.now work.reach Node
+            sessions.old (answer.Attributes (told_of was)) sessions.new) }
     {
         if let Some(descriptor) = work.reach.descriptor {
             return attributes_open(sessions, work, descriptor);
         }
         let path = work.reach.node()?;
         self.look(sessions, work, path)
+    }
+
+    /// Changes of the message's node are made: its attributes then.
+    fn set_node<S: Sessions>(
+        &mut self,
+        sessions: &mut S,
+        work: Work,
+        changes: Changes,
+    ) -> Result<Attributes, Refused>
+        ensures asked { Talked (CalledFrom work.reach S.called) S.entered S.left work.now sessions.old sessions.new }
+        ensures behind { IfOk result (λ was. ToldBehind (CalledFrom work.reach S.called) S.entered S.left work.now work.reach Node
+            sessions.old (answer.Attributes (told_of was)) sessions.new) }
+    {
+        let path = work.reach.node()?;
+        self.change(sessions, work, path, changes)?;
+        self.attributes(sessions, work)
     }
 }
 
@@ -166,25 +189,9 @@ impl Mount {
     ) -> Result<FuseAnswer, Refused>
         ensures asked { Talked (CalledFrom work.reach S.called) S.entered S.left work.now sessions.old sessions.new }
         ensures told { IfOk result (λ a. IsTrue (is_attributes a)) }
-        ensures behind { IfOk result (λ a. ToldBehind (CalledFrom work.reach S.called) S.entered S.left work.now work.reach Node sessions.old a sessions.new) }
+        ensures behind { IfOk result (λ a. ToldBehind (CalledFrom work.reach S.called) S.entered S.left work.now work.reach Node
+            sessions.old a sessions.new) }
     {
-        let attributes = self.seats.attributes(sessions, work)?;
-        Ok(answer_of(&attributes))
-    }
-
-    /// Changes of the message's node are made: its attributes then.
-    fn set_node<S: Sessions>(
-        &mut self,
-        sessions: &mut S,
-        work: Work,
-        changes: Changes,
-    ) -> Result<FuseAnswer, Refused>
-        ensures asked { Talked (CalledFrom work.reach S.called) S.entered S.left work.now sessions.old sessions.new }
-        ensures told { IfOk result (λ a. IsTrue (is_attributes a)) }
-        ensures behind { IfOk result (λ a. ToldBehind (CalledFrom work.reach S.called) S.entered S.left work.now work.reach Node sessions.old a sessions.new) }
-    {
-        let path = work.reach.node()?;
-        self.seats.change(sessions, work, path, changes)?;
         let attributes = self.seats.attributes(sessions, work)?;
         Ok(answer_of(&attributes))
     }
@@ -198,12 +205,14 @@ impl Mount {
     ) -> Result<FuseAnswer, Refused>
         ensures asked { Talked (CalledFrom work.reach S.called) S.entered S.left work.now sessions.old sessions.new }
         ensures told { IfOk result (λ a. IsTrue (is_attributes a)) }
-        ensures behind { IfOk result (λ a. ToldBehind (CalledFrom work.reach S.called) S.entered S.left work.now work.reach Node sessions.old a sessions.new) }
+        ensures behind { IfOk result (λ a. ToldBehind (CalledFrom work.reach S.called) S.entered S.left work.now work.reach Node
+            sessions.old a sessions.new) }
     {
         let was = self.seats.attributes(sessions, work)?;
         check_link(wanted, &was)?;
         let changes = wanted.changes(&was)?;
-        self.set_node(sessions, work, changes)
+        let attributes = self.seats.set_node(sessions, work, changes)?;
+        Ok(answer_of(&attributes))
     }
 
     /// READLINK.
@@ -214,11 +223,13 @@ impl Mount {
     ) -> Result<FuseAnswer, Refused>
         ensures asked { Talked (CalledFrom work.reach S.called) S.entered S.left work.now sessions.old sessions.new }
         ensures told { IfOk result (λ a. IsTrue (is_bytes a)) }
-        ensures behind { IfOk result (λ a. ToldBehind (CalledFrom work.reach S.called) S.entered S.left work.now work.reach Target sessions.old a sessions.new) }
+        ensures behind { IfOk result (λ a. ToldBehind (CalledFrom work.reach S.called) S.entered S.left work.now work.reach Target
+            sessions.old a sessions.new) }
     {
         let path = work.reach.node()?;
         let target = self.seats.target(sessions, work, path)?;
-        Ok(FuseAnswer::Bytes(bytes_of(&target).to_vec(self.alloc)?))
+        let bytes = bytes_of(&target).to_vec(self.alloc)?;
+        Ok(FuseAnswer::Bytes(bytes))
     }
 
     /// STATFS.
@@ -229,7 +240,8 @@ impl Mount {
     ) -> Result<FuseAnswer, Refused>
         ensures asked { Talked (CalledFrom work.reach S.called) S.entered S.left work.now sessions.old sessions.new }
         ensures told { IfOk result (λ a. IsTrue (is_room a)) }
-        ensures behind { IfOk result (λ a. ToldBehind (CalledFrom work.reach S.called) S.entered S.left work.now work.reach Room sessions.old a sessions.new) }
+        ensures behind { IfOk result (λ a. ToldBehind (CalledFrom work.reach S.called) S.entered S.left work.now work.reach Room
+            sessions.old a sessions.new) }
     {
         let room = self.seats.space(sessions, work)?;
         Ok(FuseAnswer::Statfs(room_of(&room)))

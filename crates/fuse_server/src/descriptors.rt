@@ -1,5 +1,5 @@
-//! Descriptors: one for a file, which all its handles share. Where the server has no more, one is closed whose file isn't gone: it is opened
-//! again when it is used.
+//! Descriptors: one for a file, which all its handles share. Where the server has no more, one is closed whose file isn't gone: it is
+//! opened again when it is used.
 #![tactic(auto, using(crate::proofs::Asking::goes_on, crate::proofs::Asking::stays))]
 
 ghost use Rattle.fuse_server.specs.Asking.{Talked};

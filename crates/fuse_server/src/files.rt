@@ -200,7 +200,8 @@ impl Mount {
 
     /// FSYNC and FSYNCDIR: all that was written reaches the disk.
     pub(crate) fn sync<S: Sessions>(&mut self, sessions: &mut S, work: Work) -> Said
-        ensures asked { AskedFor (MayHear (CalledFrom work.reach S.called) S.entered S.left work.now) work.reach Other sessions.old result sessions.new }
+        ensures asked { AskedFor (MayHear (CalledFrom work.reach S.called) S.entered S.left work.now) work.reach Other sessions.old result
+            sessions.new }
         ensures sync { IsOfSync result }
     {
         let heard = match self.seats.ask(sessions, work, Call::Sync) {

@@ -83,7 +83,8 @@ impl Seats {
     ) -> Result<Attributes, Refused>
         requires { IsNamed work.reach path }
         ensures asked { Talked (CalledFrom work.reach S.called) S.entered S.left work.now sessions.old sessions.new }
-        ensures seen { IfOk result (λ was. LookedAt (CalledFrom work.reach S.called) S.entered S.left work.now sessions.old path.entry (Some was) sessions.new) }
+        ensures seen { IfOk result (λ was. LookedAt (CalledFrom work.reach S.called) S.entered S.left work.now sessions.old path.entry
+            (Some was) sessions.new) }
     {
         self.give(sessions, work, path, owner)?;
         self.look(sessions, work, path)
@@ -102,7 +103,8 @@ impl Mount {
         requires { IsNamed work.reach path }
         ensures asked { Talked (CalledFrom work.reach S.called) S.entered S.left work.now sessions.old sessions.new }
         ensures told { IfOk result (IsKnown (known_of self.new.nodes)) }
-        ensures shown { IfOk result (λ entry. ShownAt (CalledFrom work.reach S.called) S.entered S.left work.now sessions.old path.entry entry.attributes sessions.new) }
+        ensures shown { IfOk result (λ entry. ShownAt (CalledFrom work.reach S.called) S.entered S.left work.now sessions.old path.entry
+            entry.attributes sessions.new) }
     {
         self.seats.give(sessions, work, path, owner)?;
         self.tell(sessions, work, path)
@@ -138,7 +140,8 @@ impl Mount {
     ) -> Result<FuseAnswer, Refused>
         ensures asked { Talked (CalledFrom work.reach S.called) S.entered S.left work.now sessions.old sessions.new }
         ensures told { IfOk result (IsEntry (known_of self.new.nodes)) }
-        ensures behind { IfOk result (λ a. ToldBehind (CalledFrom work.reach S.called) S.entered S.left work.now work.reach (Name name.now) sessions.old a sessions.new) }
+        ensures behind { IfOk result (λ a. ToldBehind (CalledFrom work.reach S.called) S.entered S.left work.now work.reach (Name name.now)
+            sessions.old a sessions.new) }
     {
         if !is_file(mode) {
             return Err(Refused::By(Errno::EPERM));
@@ -147,9 +150,8 @@ impl Mount {
         let path = work.reach.below(name)?;
         let made = self.make_file(sessions, work, path, mode_of(mode))?;
         close(sessions, work, made);
-        Ok(FuseAnswer::Entry(
-            self.tell_made(sessions, work, path, owner)?,
-        ))
+        let entry = self.tell_made(sessions, work, path, owner)?;
+        Ok(FuseAnswer::Entry(entry))
     }
 
     /// MKDIR: a directory is made.
@@ -163,16 +165,16 @@ impl Mount {
     ) -> Result<FuseAnswer, Refused>
         ensures asked { Talked (CalledFrom work.reach S.called) S.entered S.left work.now sessions.old sessions.new }
         ensures told { IfOk result (IsEntry (known_of self.new.nodes)) }
-        ensures behind { IfOk result (λ a. ToldBehind (CalledFrom work.reach S.called) S.entered S.left work.now work.reach (Name name.now) sessions.old a sessions.new) }
+        ensures behind { IfOk result (λ a. ToldBehind (CalledFrom work.reach S.called) S.entered S.left work.now work.reach (Name name.now)
+            sessions.old a sessions.new) }
     {
         let owner = owner_of(message)?;
         let path = work.reach.below(name)?;
         let mode = mode_of(mode);
         self.seats
             .ask_done(sessions, work, Call::Mkdir { path, mode })?;
-        Ok(FuseAnswer::Entry(
-            self.tell_made(sessions, work, path, owner)?,
-        ))
+        let entry = self.tell_made(sessions, work, path, owner)?;
+        Ok(FuseAnswer::Entry(entry))
     }
 
     /// SYMLINK: a symbolic link is made. It stays user 0's, since a change of owners by its name goes to what it leads to.
@@ -185,12 +187,14 @@ impl Mount {
     ) -> Result<FuseAnswer, Refused>
         ensures asked { Talked (CalledFrom work.reach S.called) S.entered S.left work.now sessions.old sessions.new }
         ensures told { IfOk result (IsEntry (known_of self.new.nodes)) }
-        ensures behind { IfOk result (λ a. ToldBehind (CalledFrom work.reach S.called) S.entered S.left work.now work.reach (Name name.now) sessions.old a sessions.new) }
+        ensures behind { IfOk result (λ a. ToldBehind (CalledFrom work.reach S.called) S.entered S.left work.now work.reach (Name name.now)
+            sessions.old a sessions.new) }
     {
         let path = work.reach.below(name)?;
         self.seats
             .ask_done(sessions, work, Call::Symlink { target, path })?;
-        Ok(FuseAnswer::Entry(self.tell(sessions, work, path)?))
+        let entry = self.tell(sessions, work, path)?;
+        Ok(FuseAnswer::Entry(entry))
     }
 
     /// The kernel is told of a file that was made, and has it open by this descriptor.
@@ -228,7 +232,8 @@ impl Mount {
         requires { IsNamed work.reach path }
         ensures asked { Talked (CalledFrom work.reach S.called) S.entered S.left work.now sessions.old sessions.new }
         ensures told { IfOk result (λ x. IsKnown (known_of self.new.nodes) x.0) }
-        ensures shown { IfOk result (λ x. ShownAt (CalledFrom work.reach S.called) S.entered S.left work.now sessions.old path.entry x.0.attributes sessions.new) }
+        ensures shown { IfOk result (λ x. ShownAt (CalledFrom work.reach S.called) S.entered S.left work.now sessions.old path.entry
+            x.0.attributes sessions.new) }
     {
         let attributes = self.seats.look_at_made(sessions, work, path, owner)?;
         self.tell_opened(&attributes, descriptor)
@@ -245,7 +250,8 @@ impl Mount {
     ) -> Result<FuseAnswer, Refused>
         ensures asked { Talked (CalledFrom work.reach S.called) S.entered S.left work.now sessions.old sessions.new }
         ensures told { IfOk result (IsCreate (known_of self.new.nodes)) }
-        ensures behind { IfOk result (λ a. ToldBehind (CalledFrom work.reach S.called) S.entered S.left work.now work.reach (Name name.now) sessions.old a sessions.new) }
+        ensures behind { IfOk result (λ a. ToldBehind (CalledFrom work.reach S.called) S.entered S.left work.now work.reach (Name name.now)
+            sessions.old a sessions.new) }
     {
         let owner = owner_of(message)?;
         let path = work.reach.below(name)?;

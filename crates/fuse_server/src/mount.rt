@@ -94,8 +94,8 @@ impl Mount {
 }
 
 impl Answers for Mount {
-    ghost answers = { λ S called entered left bytes answer s m t n. IsAnsweredBy called entered left (known_of m.nodes) (known_of n.nodes) bytes answer
-        s t };
+    ghost answers = { λ S called entered left bytes answer s m t n. IsAnsweredBy called entered left (known_of m.nodes) (known_of n.nodes)
+        bytes answer s t };
 
     ghost fewest = { 40 };
 

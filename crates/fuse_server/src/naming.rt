@@ -46,7 +46,8 @@ impl Seats {
         requires old { IsNamed work.reach old }
         requires new { IsNamed work.reach new }
         ensures asked { Talked (CalledFrom work.reach S.called) S.entered S.left work.now sessions.old sessions.new }
-        ensures done { OnOk result (TalkedFor (CalledFrom work.reach S.called) S.entered S.left work.now sessions.old (call.Rename old.entry new.entry) reply.Done sessions.new) }
+        ensures done { OnOk result (TalkedFor (CalledFrom work.reach S.called) S.entered S.left work.now sessions.old (call.Rename
+            old.entry new.entry) reply.Done sessions.new) }
     {
         let inode = self.look(sessions, work, old)?.inode;
         self.ask_done(sessions, work, Call::Rename { old, new })?;
@@ -77,7 +78,8 @@ pub(crate) fn tell<S: Sessions>(
     requires { IsNamed work.reach path }
     ensures asked { Talked (CalledFrom work.reach S.called) S.entered S.left work.now sessions.old sessions.new }
     ensures told { IfOk result (IsKnown (known_of nodes.new)) }
-    ensures shown { IfOk result (λ entry. ShownAt (CalledFrom work.reach S.called) S.entered S.left work.now sessions.old path.entry entry.attributes sessions.new) }
+    ensures shown { IfOk result (λ entry. ShownAt (CalledFrom work.reach S.called) S.entered S.left work.now sessions.old path.entry
+        entry.attributes sessions.new) }
     ensures kept { KeepsNumbers (known_of nodes.old) (known_of nodes.new) }
 {
     let attributes = seats.look(sessions, work, path)?;
@@ -95,7 +97,8 @@ impl Mount {
         requires { IsNamed work.reach path }
         ensures asked { Talked (CalledFrom work.reach S.called) S.entered S.left work.now sessions.old sessions.new }
         ensures told { IfOk result (IsKnown (known_of self.new.nodes)) }
-        ensures shown { IfOk result (λ entry. ShownAt (CalledFrom work.reach S.called) S.entered S.left work.now sessions.old path.entry entry.attributes sessions.new) }
+        ensures shown { IfOk result (λ entry. ShownAt (CalledFrom work.reach S.called) S.entered S.left work.now sessions.old path.entry
+            entry.attributes sessions.new) }
     {
         tell(&mut self.seats, &mut self.nodes, sessions, work, path)
     }
@@ -110,7 +113,8 @@ impl Mount {
         requires { IsNamed work.reach path }
         ensures asked { Talked (CalledFrom work.reach S.called) S.entered S.left work.now sessions.old sessions.new }
         ensures told { IfOk result (λ found. IfSome found (IsKnown (known_of self.new.nodes))) }
-        ensures shown { IfOk result (λ found. FoundAt (CalledFrom work.reach S.called) S.entered S.left work.now sessions.old path.entry found sessions.new) }
+        ensures shown { IfOk result (λ found. FoundAt (CalledFrom work.reach S.called) S.entered S.left work.now sessions.old path.entry
+            found sessions.new) }
     {
         match self.seats.look_for(sessions, work, path)? {
             Some(attributes) => Ok(Some(tell_node(&mut self.nodes, &attributes)?)),
@@ -122,7 +126,8 @@ impl Mount {
     fn lookup_at<S: Sessions>(&mut self, sessions: &mut S, work: Work, path: PathFrom<'_>) -> Said
         requires { IsNamed work.reach path }
         ensures asked { (name : List ℕ) → IsAt work.reach.own name path.entry
-            → AskedFor (MayHear (CalledFrom work.reach S.called) S.entered S.left work.now) work.reach (Name name) sessions.old result sessions.new }
+            → AskedFor (MayHear (CalledFrom work.reach S.called) S.entered S.left work.now) work.reach (Name name) sessions.old result
+            sessions.new }
         ensures told { IsOfLookup (known_of self.new.nodes) result }
     {
         match self.find(sessions, work, path) {
@@ -134,7 +139,8 @@ impl Mount {
 
     /// LOOKUP.
     pub(crate) fn lookup<S: Sessions>(&mut self, sessions: &mut S, work: Work, name: &[u8]) -> Said
-        ensures asked { AskedFor (MayHear (CalledFrom work.reach S.called) S.entered S.left work.now) work.reach (Name name.now) sessions.old result sessions.new }
+        ensures asked { AskedFor (MayHear (CalledFrom work.reach S.called) S.entered S.left work.now) work.reach (Name name.now)
+            sessions.old result sessions.new }
         ensures told { IsOfLookup (known_of self.new.nodes) result }
     {
         match work.reach.below(name) {
@@ -152,13 +158,15 @@ impl Mount {
     ) -> Result<FuseAnswer, Refused>
         ensures asked { Talked (CalledFrom work.reach S.called) S.entered S.left work.now sessions.old sessions.new }
         ensures told { IfOk result (IsEntry (known_of self.new.nodes)) }
-        ensures behind { IfOk result (λ a. ToldBehind (CalledFrom work.reach S.called) S.entered S.left work.now work.reach (Name name.now) sessions.old a sessions.new) }
+        ensures behind { IfOk result (λ a. ToldBehind (CalledFrom work.reach S.called) S.entered S.left work.now work.reach (Name name.now)
+            sessions.old a sessions.new) }
     {
         let old = work.reach.other()?;
         let new = work.reach.below(name)?;
         self.seats
             .ask_done(sessions, work, Call::Link { old, new })?;
-        Ok(FuseAnswer::Entry(self.tell(sessions, work, new)?))
+        let entry = self.tell(sessions, work, new)?;
+        Ok(FuseAnswer::Entry(entry))
     }
 
     /// UNLINK: a file's name is taken away.
@@ -170,13 +178,13 @@ impl Mount {
     ) -> Result<FuseAnswer, Refused>
         ensures asked { Talked (CalledFrom work.reach S.called) S.entered S.left work.now sessions.old sessions.new }
         ensures told { IfOk result (λ a. IsTrue (is_done a)) }
-        ensures behind { IfOk result (λ a. ToldBehind (CalledFrom work.reach S.called) S.entered S.left work.now work.reach (Unlinked name.now) sessions.old a sessions.new) }
+        ensures behind { IfOk result (λ a. ToldBehind (CalledFrom work.reach S.called) S.entered S.left work.now work.reach (Unlinked
+            name.now) sessions.old a sessions.new) }
     {
         let path = work.reach.below(name)?;
         let was = self.seats.look(sessions, work, path)?;
         self.hold(sessions, work, path, was.inode)?;
-        self.seats
-            .ask_done(sessions, work, Call::Unlink { path })?;
+        self.seats.ask_done(sessions, work, Call::Unlink { path })?;
         self.lose(&was);
         Ok(FuseAnswer::Done)
     }
@@ -197,7 +205,8 @@ impl Mount {
     ) -> Result<FuseAnswer, Refused>
         ensures asked { Talked (CalledFrom work.reach S.called) S.entered S.left work.now sessions.old sessions.new }
         ensures told { IfOk result (λ a. IsTrue (is_done a)) }
-        ensures behind { IfOk result (λ a. ToldBehind (CalledFrom work.reach S.called) S.entered S.left work.now work.reach (Removed name.now) sessions.old a sessions.new) }
+        ensures behind { IfOk result (λ a. ToldBehind (CalledFrom work.reach S.called) S.entered S.left work.now work.reach (Removed
+            name.now) sessions.old a sessions.new) }
     {
         let path = work.reach.below(name)?;
         let was = self.seats.look(sessions, work, path)?;
@@ -247,7 +256,8 @@ impl Mount {
     ) -> Result<FuseAnswer, Refused>
         ensures asked { Talked (CalledFrom work.reach S.called) S.entered S.left work.now sessions.old sessions.new }
         ensures told { IfOk result (λ a. IsTrue (is_done a)) }
-        ensures behind { IfOk result (λ a. ToldBehind (CalledFrom work.reach S.called) S.entered S.left work.now work.reach (Renamed from.now to.now) sessions.old a sessions.new) }
+        ensures behind { IfOk result (λ a. ToldBehind (CalledFrom work.reach S.called) S.entered S.left work.now work.reach (Renamed
+            from.now to.now) sessions.old a sessions.new) }
     {
         if flags > NO_REPLACE {
             return Err(Refused::By(Errno::EINVAL));

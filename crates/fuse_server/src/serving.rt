@@ -70,13 +70,14 @@ fn asks_sync(request: &Request<'_>) -> bool
     matches!(request, Request::Fsync { .. } | Request::Fsyncdir { .. })
 }
 
-/// Whether the answer to a request, but LOOKUP, tells what the last exchange before it told.
+/// Whether the answer to a request tells what the last exchange before it told.
 fn tells(request: &Request<'_>) -> bool
     ensures { result ≡ tells request.now }
 {
     matches!(
         request,
-        Request::Getattr { .. }
+        Request::Lookup { .. }
+            | Request::Getattr { .. }
             | Request::Setattr { .. }
             | Request::Readlink
             | Request::Symlink { .. }
@@ -102,14 +103,17 @@ impl Mount {
     ) -> Result<FuseAnswer, Refused>
         ensures asked { Talked (CalledFrom work.reach S.called) S.entered S.left work.now sessions.old sessions.new }
         ensures told { IfOk result (IsFor (known_of self.new.nodes) message.now.request) }
-        ensures behind { IfOk result (λ a. ToldBehind (CalledFrom work.reach S.called) S.entered S.left work.now work.reach (telling message.now.request) sessions.old a sessions.new) }
+        ensures behind { IfOk result (λ a. ToldBehind (CalledFrom work.reach S.called) S.entered S.left work.now work.reach (telling
+            message.now.request) sessions.old a sessions.new) }
     {
         match message.request {
             Request::Unlink { name } => self.unlink(sessions, work, name),
             Request::Rmdir { name } => self.rmdir(sessions, work, name),
             Request::Link { name, .. } => self.link(sessions, work, name),
             Request::Rename {
-                old_name, new_name, ..
+                old_name,
+                new_name,
+                ..
             } => self.rename(sessions, work, old_name, new_name, 0),
             Request::Rename2 {
                 flags,
@@ -130,7 +134,8 @@ impl Mount {
     ) -> Result<FuseAnswer, Refused>
         ensures asked { Talked (CalledFrom work.reach S.called) S.entered S.left work.now sessions.old sessions.new }
         ensures told { IfOk result (IsFor (known_of self.new.nodes) message.now.request) }
-        ensures behind { IfOk result (λ a. ToldBehind (CalledFrom work.reach S.called) S.entered S.left work.now work.reach (telling message.now.request) sessions.old a sessions.new) }
+        ensures behind { IfOk result (λ a. ToldBehind (CalledFrom work.reach S.called) S.entered S.left work.now work.reach (telling
+            message.now.request) sessions.old a sessions.new) }
     {
         match message.request {
             Request::Mknod { mode, name, .. } => self.mknod(sessions, work, message, name, mode),
@@ -150,7 +155,8 @@ impl Mount {
     ) -> Result<FuseAnswer, Refused>
         ensures asked { Talked (CalledFrom work.reach S.called) S.entered S.left work.now sessions.old sessions.new }
         ensures told { IfOk result (IsFor (known_of self.new.nodes) message.now.request) }
-        ensures behind { IfOk result (λ a. ToldBehind (CalledFrom work.reach S.called) S.entered S.left work.now work.reach (telling message.now.request) sessions.old a sessions.new) }
+        ensures behind { IfOk result (λ a. ToldBehind (CalledFrom work.reach S.called) S.entered S.left work.now work.reach (telling
+            message.now.request) sessions.old a sessions.new) }
     {
         match message.request {
             Request::Getattr { .. } => self.getattr(sessions, work),
@@ -217,20 +223,38 @@ impl Mount {
         }
     }
 
-    /// What is said to a message whose answer tells what the last exchange told, but to a LOOKUP.
+    /// What is said to a message about a node, a name, or the room.
     #[tactic(auto, using(crate::proofs::Asking::goes_on, crate::proofs::KindLaws::refusal_for))]
-    fn said_telling<S: Sessions>(
+    fn told_of<S: Sessions>(
         &mut self,
         sessions: &mut S,
         work: Work,
         message: &Message<'_>,
     ) -> FuseAnswer
-        ensures behind { ToldBehind (CalledFrom work.reach S.called) S.entered S.left work.now work.reach (telling message.now.request) sessions.old result sessions.new }
+        ensures behind { ToldBehind (CalledFrom work.reach S.called) S.entered S.left work.now work.reach (telling message.now.request)
+            sessions.old result sessions.new }
         ensures told { IsFor (known_of self.new.nodes) message.now.request result }
     {
         match self.on_nodes(sessions, work, message) {
             Ok(answer) => answer,
             Err(refused) => FuseAnswer::Refused(refused),
+        }
+    }
+
+    /// What is said to a message whose answer tells what the last exchange before it told.
+    fn said_telling<S: Sessions>(
+        &mut self,
+        sessions: &mut S,
+        work: Work,
+        message: &Message<'_>,
+    ) -> Said
+        ensures asked { AskedFor (MayHear (CalledFrom work.reach S.called) S.entered S.left work.now) work.reach (telling
+            message.now.request) sessions.old result sessions.new }
+        ensures told { IsSaidTo (known_of self.new.nodes) message.now.request result }
+    {
+        match message.request {
+            Request::Lookup { name } => self.lookup(sessions, work, name),
+            _ => Said::Plain(self.told_of(sessions, work, message)),
         }
     }
 
@@ -253,21 +277,20 @@ impl Mount {
 
     /// What is said to a message that is no sync.
     fn said_of<S: Sessions>(&mut self, sessions: &mut S, work: Work, message: &Message<'_>) -> Said
-        ensures asked { AskedFor (MayHear (CalledFrom work.reach S.called) S.entered S.left work.now) work.reach (telling message.now.request) sessions.old result sessions.new }
+        ensures asked { AskedFor (MayHear (CalledFrom work.reach S.called) S.entered S.left work.now) work.reach (telling
+            message.now.request) sessions.old result sessions.new }
         ensures told { IsSaidTo (known_of self.new.nodes) message.now.request result }
     {
-        match message.request {
-            Request::Lookup { name } => self.lookup(sessions, work, name),
-            _ if tells(&message.request) => {
-                Said::Plain(self.said_telling(sessions, work, message))
-            }
-            _ => Said::Plain(self.said_plainly(sessions, work, message)),
+        if tells(&message.request) {
+            return self.said_telling(sessions, work, message);
         }
+        Said::Plain(self.said_plainly(sessions, work, message))
     }
 
     /// What is said to a message.
     fn said_by<S: Sessions>(&mut self, sessions: &mut S, work: Work, message: &Message<'_>) -> Said
-        ensures asked { AskedFor (MayHear (CalledFrom work.reach S.called) S.entered S.left work.now) work.reach (telling message.now.request) sessions.old result sessions.new }
+        ensures asked { AskedFor (MayHear (CalledFrom work.reach S.called) S.entered S.left work.now) work.reach (telling
+            message.now.request) sessions.old result sessions.new }
         ensures told { IsSaidTo (known_of self.new.nodes) message.now.request result }
     {
         if asks_sync(&message.request) {

@@ -101,7 +101,8 @@ impl Seats {
         ensures done { OnOk result (TalkedFor (CalledFrom work.reach S.called) S.entered S.left work.now sessions.old call.entry reply.Done
             sessions.new) }
     {
-        self.ask(sessions, work, call)?.done()
+        let heard = self.ask(sessions, work, call)?;
+        heard.done()
     }
 
     /// The attributes of what a path names.
@@ -116,7 +117,8 @@ impl Seats {
         ensures seen { IfOk result (λ was. LookedAt (CalledFrom work.reach S.called) S.entered S.left work.now sessions.old path.entry
             (Some was) sessions.new) }
     {
-        self.ask(sessions, work, Call::Lstat { path })?.attributes()
+        let heard = self.ask(sessions, work, Call::Lstat { path })?;
+        heard.attributes()
     }
 
     /// The attributes of what a path names, if it names anything.

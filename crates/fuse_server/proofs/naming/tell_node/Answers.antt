@@ -1,4 +1,4 @@
-use Rattle.std.proofs.Common.{◌∙◌, ap}
+use Rattle.std.proofs.Common.{ap}
 use Rattle.fuse.specs.declared.reply.Attributes.{Attributes}
 use Rattle.fuse_nodes.specs.Known.{known_of}
 use Rattle.fuse_server.proofs.Entries.{known_entry, told_keeps}

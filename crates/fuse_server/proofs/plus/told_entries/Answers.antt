@@ -7,7 +7,8 @@ use Rattle.fuse_server.proofs.plus.told_entries.Goals as goal
 
 pub entries-init : goal.entries-init
 entries-init g c = record {
-  asked = stays (CalledFrom c.args.work.reach g.S.Sessions.called) g.S.Sessions.entered g.S.Sessions.left c.args.work.now c.args.sessions.now;
+  asked = stays (CalledFrom c.args.work.reach g.S.Sessions.called) g.S.Sessions.entered g.S.Sessions.left c.args.work.now
+      c.args.sessions.now;
   room = omega (arith, ap length c.in_ok-bytes.ensures.items);
   listed = none_listed (known_of c.args.nodes.now) c.in_ok-bytes.bytes.items c.in_ok-bytes.ensures.items;
 }

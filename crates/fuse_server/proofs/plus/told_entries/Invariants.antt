@@ -7,7 +7,8 @@ use Rattle.fuse_server.proofs.plus.told_entries.Given as goal
 
 abbrev pub invariant-entries : goal.invariant-entries
 invariant-entries g l = record {
-  asked : Talked (CalledFrom l.work.reach g.S.Sessions.called) g.S.Sessions.entered g.S.Sessions.left l.work.now l.initial.sessions l.sessions;
+  asked : Talked (CalledFrom l.work.reach g.S.Sessions.called) g.S.Sessions.entered g.S.Sessions.left l.work.now l.initial.sessions
+      l.sessions;
   room : length l.bytes.items ≤ l.listing.room;
   listed : IsListed (known_of l.nodes) l.bytes.items;
 }

@@ -7,7 +7,10 @@ pub returns-clause-asked : goal.returns-clause-asked
 returns-clause-asked g c =
     asks (CalledFrom c.args.work.reach g.S.Sessions.called) g.S.Sessions.entered g.S.Sessions.left c.args.work.now c.args.sessions.now
     (ask.Call c.args.session c.args.call) c.heard.result c.heard.new.sessions
-    (from_named c.args.work.reach c.args.session c.args.call c.heard.result c.requires c.heard.ensures)
+    (from_named g.S.Sessions.called g.S.Sessions.entered g.S.Sessions.left c.args.work.now c.args.sessions.now c.heard.new.sessions
+    c.args.work.reach c.args.session c.args.call c.heard.result c.requires c.heard.ensures)
 
 pub returns-clause-heard : goal.returns-clause-heard
-returns-clause-heard g c = from_named c.args.work.reach c.args.session c.args.call c.heard.result c.requires c.heard.ensures
+returns-clause-heard g c =
+    from_named g.S.Sessions.called g.S.Sessions.entered g.S.Sessions.left c.args.work.now c.args.sessions.now c.heard.new.sessions
+    c.args.work.reach c.args.session c.args.call c.heard.result c.requires c.heard.ensures

@@ -6,4 +6,6 @@ use Rattle.fuse_server.proofs.talk.entering.Goals as goal
 pub returns : goal.returns
 returns g c =
     asks (CalledFrom c.args.work.reach g.S.Sessions.called) g.S.Sessions.entered g.S.Sessions.left c.args.work.now c.args.sessions.now
-    (ask.Enter 0 0) c.heard.result c.heard.new.sessions (enters c.args.work.reach 0 0 c.heard.result c.heard.ensures)
+    (ask.Enter 0 0) c.heard.result c.heard.new.sessions (enters g.S.Sessions.called g.S.Sessions.entered g.S.Sessions.left c.args.work.now
+    c.args.sessions.now c.heard.new.sessions
+    c.args.work.reach 0 0 c.heard.result c.heard.ensures)

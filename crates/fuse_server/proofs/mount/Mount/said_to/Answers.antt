@@ -1,11 +1,16 @@
-use Rattle.std.proofs.Common.{sym, ◌∙◌}
 use Rattle.fuse_nodes.specs.Known.{known_of}
-use Rattle.fuse_server.proofs.KindLaws.{sync_for}
-use Rattle.fuse_server.proofs.Answering.{to_read}
+use Rattle.fuse_server.specs.Answering.{MayHearFrom}
+use Rattle.fuse_server.proofs.Answering.{to_read, to_unread}
 use Rattle.fuse_server.proofs.mount.Mount.said_to.Goals as goal
 
-pub returns-in-Ok-clause-told : goal.returns-in-Ok-clause-told
-returns-in-Ok-clause-told g c =
-    let known = known_of c.sync.new.self.nodes in
-    to_read known c.args.bytes.now c.read.result c.in-Ok.message c.sync.result c.in-Ok.is c.read.ensures.exact
-    (sync_for known c.in-Ok.message.request c.sync.result (sym c.asks_sync.ensures ∙ c.if-asks_sync.true) c.sync.ensures.sync)
+pub returns-in-Ok : goal.returns-in-Ok
+returns-in-Ok g c =
+    to_read (MayHearFrom g.S.Sessions.called g.S.Sessions.entered g.S.Sessions.left c.args.now) (known_of c.args.self.now.nodes)
+    (known_of c.said_by.new.self.nodes) c.args.bytes.now c.read.result c.in-Ok.message c.args.sessions.now c.said_by.result
+    c.said_by.new.sessions c.reach_of.result c.in-Ok.is c.read.ensures.exact c.reach_of.ensures c.said_by.ensures.told
+    c.said_by.ensures.asked
+
+pub returns-in-Err : goal.returns-in-Err
+returns-in-Err g c =
+    to_unread (MayHearFrom g.S.Sessions.called g.S.Sessions.entered g.S.Sessions.left c.args.now) (known_of c.args.self.now.nodes)
+    (known_of c.args.self.now.nodes) c.args.bytes.now c.read.result _ c.args.sessions.now c.in-Err.is c.read.ensures.exact

@@ -1,8 +1,9 @@
 use Rattle.fuse_server.proofs.Asking.{goes_on}
+use Rattle.fuse_server.proofs.Telling.{told_after}
 use Rattle.fuse_server.proofs.mount.Mount.tell_made.Goals as goal
-
-pub returns-in_err-tell-clause-asked : goal.returns-in_err-tell-clause-asked
-returns-in_err-tell-clause-asked g c = goes_on c.give.ensures c.tell.ensures.asked
 
 pub returns-clause-asked : goal.returns-clause-asked
 returns-clause-asked g c = goes_on c.give.ensures c.tell.ensures.asked
+
+pub returns-clause-shown : goal.returns-clause-shown
+returns-clause-shown g c = told_after c.tell.new.sessions c.args.path c.give.ensures c.tell.result c.tell.ensures.shown

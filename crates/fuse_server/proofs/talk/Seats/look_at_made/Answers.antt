@@ -1,5 +1,9 @@
 use Rattle.fuse_server.proofs.Asking.{goes_on}
+use Rattle.fuse_server.proofs.Telling.{looked_after}
 use Rattle.fuse_server.proofs.talk.Seats.look_at_made.Goals as goal
 
-pub returns : goal.returns
-returns g c = goes_on c.give.ensures c.look.ensures.asked
+pub returns-clause-asked : goal.returns-clause-asked
+returns-clause-asked g c = goes_on c.give.ensures c.look.ensures.asked
+
+pub returns-clause-seen : goal.returns-clause-seen
+returns-clause-seen g c = looked_after c.look.new.sessions c.args.path c.give.ensures c.look.result c.look.ensures.seen
