@@ -88,9 +88,8 @@ fn use_now(uses: &mut Uses, winners: &mut Tournament, items: &[Slot], at: usize)
 
 impl Slots {
     ghost use Rattle.cache.specs.Order.{IsVictim, IsDue};
-    ghost use Rattle.cache.specs.Edits.{IsSetAt, IsFilledAt, IsBlankedAt, IsChangedAt, IsAt, IsPlaceOf, IsWritten, AllStay, AllClean};
+    ghost use Rattle.cache.specs.Edits.{IsSetAt, IsFilledAt, IsBlankedAt, IsChangedAt, IsAt, IsPlaceOf, IsNextOf, IsWritten, AllStay, AllClean};
     ghost use Rattle.cache.specs.Edits.{SomeUnclean, IsLowestOf, IsLowestBlock, IsRunEnd, AreDirty, AreBegun, Leaves, after_write};
-    ghost use Rattle.cache.specs.Edits.{IsNextOf};
     ghost use Rattle.cache.specs.Runs.{IsCopied, AreGathered};
 
     /// So many slots, all free.
