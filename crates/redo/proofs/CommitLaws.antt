@@ -293,8 +293,8 @@ module _ (name : ℕ) (before after : Contents) where
       let Q : Disk → Type 0 = λ e. IsLogged name records image e × IsSure e.image image × (e.log.failed ≡ false) in
       let first = image_written records image either runs is d l in
       let closes : (e : Disk) → Q e → Reaches P e (to_gate 0 closed) (IsAtRest image) = λ e h.
-          let r = gate_written [] records image image either either closed e (closes_from records image e some h.0 h.1) in
-          record { along = r.along; ends = record { gate = r.ends.2; image_is = made_sure image _ r.ends.0.makes_before; sound = sound_still (to_gate 0 closed) e ∙ h.2 } } in
+      let r = gate_written [] records image image either either closed e (closes_from records image e some h.0 h.1) in
+      record { along = r.along; ends = record { gate = r.ends.2; image_is = made_sure image _ r.ends.0.makes_before; sound = sound_still (to_gate 0 closed) e ∙ h.2 } } in
       subst (λ (l : List Step). Reaches P d l (IsAtRest image)) (append_assoc (map (run_write Image) runs) (Sync Image ∷ []) (to_gate 0 closed))
       (reaches_then P Q (IsAtRest image) d writes (to_gate 0 closed) (record { along = first.along; ends = (first.ends.0, first.ends.1, sound_still writes d ∙ sound) }) closes)
 
@@ -409,30 +409,30 @@ module _ (name : ℕ) (small : name < 2 ^ 64) (records : List Changes) (changes 
       let first = body_written room d l gate in
       let R : Disk → Type 0 = IsCurrent name last after in
       let opens : (e : Disk) → Q e → Reaches P e (to_gate at h) R = λ e q.
-          let r = gate_written name image after records (changes ∷ []) image after (inl (λ n. refl)) (inr (λ n. refl)) h e q.0 in
-          let f : Disk = all_done e (to_gate at h) in
-          let v = r.ends.0 in
-          let m = all_moves (numbered at (h ∷ [])) [] e (to_gate at h) ((λ n t. t), (tt, tt)) in
-          record {
-            along = r.along;
-            ends = record {
-              records = records ++ changes ∷ [];
-              at_is = place_next;
-              logged = record {
-                log = v.log;
-                says = v.says;
-                few = v.few;
-                sure = λ n lt. elim (cases_eq n at) [
-                  | inl here ↦ subst (λ (k : ℕ). Keeps f.log k (v.log k)) (sym here) (subst (Keeps f.log at) (sym (r.ends.1 at ∙ q.1)) r.ends.2)
-                  | inr other ↦ v.sure n lt other
-                ];
-                shut = v.shut;
-                makes = v.makes_after;
-              };
-              gate = m.log_keeps last closed (only_gate at last h (λ same. omega arith)) q.2;
-              sound = sound_still (to_gate at h) e ∙ q.3;
-            };
-          } in
+      let r = gate_written name image after records (changes ∷ []) image after (inl (λ n. refl)) (inr (λ n. refl)) h e q.0 in
+      let f : Disk = all_done e (to_gate at h) in
+      let v = r.ends.0 in
+      let m = all_moves (numbered at (h ∷ [])) [] e (to_gate at h) ((λ n t. t), (tt, tt)) in
+      record {
+        along = r.along;
+        ends = record {
+          records = records ++ changes ∷ [];
+          at_is = place_next;
+          logged = record {
+            log = v.log;
+            says = v.says;
+            few = v.few;
+            sure = λ n lt. elim (cases_eq n at) [
+              | inl here ↦ subst (λ (k : ℕ). Keeps f.log k (v.log k)) (sym here) (subst (Keeps f.log at) (sym (r.ends.1 at ∙ q.1)) r.ends.2)
+              | inr other ↦ v.sure n lt other
+            ];
+            shut = v.shut;
+            makes = v.makes_after;
+          };
+          gate = m.log_keeps last closed (only_gate at last h (λ same. omega arith)) q.2;
+          sound = sound_still (to_gate at h) e ∙ q.3;
+        };
+      } in
       reaches_then P Q R d (to_write name at changes) (to_gate at h)
       (record { along = first.along; ends = (first.ends.0, first.ends.1, first.ends.2, sound_still (to_write name at changes) d ∙ sound) }) opens
 
