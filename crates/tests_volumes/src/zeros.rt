@@ -70,7 +70,7 @@ fn with_ones(alloc: Global, length: usize, places: &[usize]) -> Result<Vec<u8>, 
 }
 
 /// What a file of zeros holds once these bytes were put.
-fn held(alloc: Global, bytes: &[u8]) -> Result<Held, Fail> {
+fn what_it_holds(alloc: Global, bytes: &[u8]) -> Result<Held, Fail> {
     let mut held = Held {
         bytes: Vec::from_elem(alloc, 0, 300005)?,
         put: 0,
@@ -82,7 +82,7 @@ fn held(alloc: Global, bytes: &[u8]) -> Result<Held, Fail> {
 #[test]
 fn zeros_are_not_put(rt: HostRuntime) -> Result<(), Fail> {
     for (length, places, put) in &PUT {
-        let held = held(rt.alloc(), &with_ones(rt.alloc(), *length, places)?)?;
+        let held = what_it_holds(rt.alloc(), &with_ones(rt.alloc(), *length, places)?)?;
         let wanted = with_ones(rt.alloc(), 300005, places)?;
         assert!(rt; held.bytes == wanted && held.put == *put, "{length} bytes");
     }
