@@ -1,6 +1,8 @@
 """Drawn calls on a mounted volume beside a folder of the host, in which each has to come to the same.
 
-usage: python3 -m fuse_parts.walk MOUNTED HOST CALLS SEED"""
+usage: python3 -m fuse_parts.walk MOUNTED HOST CALLS SEED
+
+A directory that was removed while it was open answers ESTALE to what is asked by its descriptor (docs/MOUNT.md)."""
 import errno, mmap, os, pathlib, random, stat, sys
 
 from .files import forget
@@ -88,6 +90,9 @@ class Walk:
             return None
         it = self.draw.choice(self.open)
         one = outcome(function, it.files[0], *more)
+        host = os.fstat(it.files[1])
+        if one == "ESTALE" and stat.S_ISDIR(host.st_mode) and host.st_nlink == 0:
+            return None  # a directory that was removed while it was open
         return self.compare((name, *more), one, outcome(function, it.files[1], *more))
 
     # ---- the calls
