@@ -1,8 +1,8 @@
 //! The threads behind a link end, whatever their drivers do.
 
-use crate::scene::{Scene, is_zero};
-use crate::setting::{Ending, Plan, SECTORS, write_of};
-use crate::watch::Watch;
+use crate::counted::{Counted, each_counted};
+use crate::setting::{DRIVERS, Ending, Plan, SECTORS, filled_up, play, write_of};
+use crate::watch::{Watch, is_reached};
 use bdev::Driver;
 use channel_link::link::ChannelLink;
 use media::partition::Table;
@@ -11,6 +11,7 @@ use modeldisk::{Fault, FaultKind, Inner, RamDriver, ScriptedDriver};
 use reissue::link::Link;
 use std::alloc::{AllocError, Global};
 use std::process::Abort;
+use std::sync::atomic::{AtomicU64, Ordering};
 use std::sync::{Arc, Wait};
 use std::test::*;
 use std::thread::Threads;
@@ -33,23 +34,33 @@ impl<R: Wait + Abort + Copy + Send + Sync> Plan<R> for LeftAtWork<R> {
     }
 }
 
+fn is_zero(image: &[u8]) -> bool {
+    image.iter().all(|byte| *byte == 0)
+}
+
 // The threads are stopped while the first driver is held, until the drivers that weren't started are dropped. It takes no step then, and
 // its thread is joined.
 #[test]
 fn stopped_while_held(rt: HostRuntime) -> Result<(), Fail> {
-    let scene = Scene::holding(rt.alloc(), rt)?;
+    let alloc = rt.alloc();
+    let gone = Arc::new(alloc, AtomicU64::new(0))?;
+    let gate = Arc::new(alloc, Watch::holding(rt, Arc::try_clone(&gone)?))?;
     let plan = LeftAtWork {
-        gate: scene.gate()?,
+        gate: Arc::try_clone(&gate)?,
         steps: 1,
     };
-    let (came, image) = scene.counting(Vec::new(scene.alloc), plan, Ending::Stopped)?;
+    let drivers = each_counted(alloc, filled_up(alloc, Vec::new(alloc))?, &gone)?;
+    let (came, image) = play(alloc, rt, SECTORS, drivers, &gate, plan, Ending::Stopped).ok_or(
+        "not stopped",
+    )?;
     assert!(rt; came && is_zero(&image));
-    assert_eq!(rt; (scene.passed(), scene.counted()), (1, 33));
+    assert_eq!(rt; gate.passed(), 1);
+    assert_eq!(rt; gone.load(Ordering::SeqCst), 33);
     Ok(())
 }
 
-// A driver that works on its first request for ever.
-fn never_done(alloc: Global) -> Result<Vec<Driver>, AllocError> {
+// Drivers of which the first one works on its first request for ever.
+fn never_done(alloc: Global, gone: &Arc<AtomicU64>) -> Result<Vec<Counted<Driver>>, AllocError> {
     let mut faults: Vec<Fault> = Vec::new(alloc);
     faults.push(Fault {
         request: 1,
@@ -60,36 +71,42 @@ fn never_done(alloc: Global) -> Result<Vec<Driver>, AllocError> {
     let first: Driver = Box::new(alloc, ScriptedDriver::new(inner, faults))?;
     let mut drivers: Vec<Driver> = Vec::new(alloc);
     drivers.push(first)?;
-    Ok(drivers)
-}
-
-// The threads end so while the first driver works. Whether it was at work by then, and the media's bytes.
-fn left_at_work<R: Threads + Wait + Abort + Copy + Send + Sync + 'static>(
-    scene: &Scene<R>,
-    ending: Ending,
-) -> Result<(bool, Vec<u8>), Fail> {
-    let plan = LeftAtWork {
-        gate: scene.gate()?,
-        steps: 100,
-    };
-    scene.counting(never_done(scene.alloc)?, plan, ending)
+    each_counted(alloc, filled_up(alloc, drivers)?, gone)
 }
 
 #[test]
 fn stopped_at_work(rt: HostRuntime) -> Result<(), Fail> {
-    let scene = Scene::open(rt.alloc(), rt)?;
-    let (came, image) = left_at_work(&scene, Ending::Stopped)?;
+    let alloc = rt.alloc();
+    let gone = Arc::new(alloc, AtomicU64::new(0))?;
+    let gate = Arc::new(alloc, Watch::open(rt))?;
+    let plan = LeftAtWork {
+        gate: Arc::try_clone(&gate)?,
+        steps: 100,
+    };
+    let drivers = never_done(alloc, &gone)?;
+    let (came, image) = play(alloc, rt, SECTORS, drivers, &gate, plan, Ending::Stopped).ok_or(
+        "not stopped",
+    )?;
     assert!(rt; came && is_zero(&image));
-    assert_eq!(rt; scene.counted(), 33);
+    assert_eq!(rt; gone.load(Ordering::SeqCst), 33);
     Ok(())
 }
 
 // The threads are let go while the first driver works: they end by themselves.
 #[test]
 fn let_go_at_work(rt: HostRuntime) -> Result<(), Fail> {
-    let scene = Scene::open(rt.alloc(), rt)?;
-    let (came, _) = left_at_work(&scene, Ending::LetGo)?;
-    assert!(rt; came && scene.is_counted(33));
+    let alloc = rt.alloc();
+    let gone = Arc::new(alloc, AtomicU64::new(0))?;
+    let gate = Arc::new(alloc, Watch::open(rt))?;
+    let plan = LeftAtWork {
+        gate: Arc::try_clone(&gate)?,
+        steps: 100,
+    };
+    let drivers = never_done(alloc, &gone)?;
+    let (came, _) = play(alloc, rt, SECTORS, drivers, &gate, plan, Ending::LetGo).ok_or(
+        "not let go",
+    )?;
+    assert!(rt; came && is_reached(&*gone, 33));
     Ok(())
 }
 
@@ -112,10 +129,21 @@ fn ends_idle<R: Threads + Wait + Abort + Copy + Send + Sync + 'static>(
     rt: R,
     takes: bool,
 ) -> Result<(), Fail> {
-    let scene = Scene::open(alloc, rt)?;
-    let (came, image) = scene.counting(Vec::new(alloc), Idles { takes }, Ending::Stopped)?;
+    let gone = Arc::new(alloc, AtomicU64::new(0))?;
+    let gate = Arc::new(alloc, Watch::open(rt))?;
+    let drivers = each_counted(alloc, filled_up(alloc, Vec::new(alloc))?, &gone)?;
+    let (came, image) = play(
+        alloc,
+        rt,
+        SECTORS,
+        drivers,
+        &gate,
+        Idles { takes },
+        Ending::Stopped,
+    )
+    .ok_or("not stopped")?;
     assert!(rt; came && is_zero(&image));
-    assert_eq!(rt; scene.counted(), 33);
+    assert_eq!(rt; gone.load(Ordering::SeqCst), 33);
     Ok(())
 }
 

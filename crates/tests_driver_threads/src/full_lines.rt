@@ -1,8 +1,7 @@
 //! Lines that are full: what has no room there is kept.
 
 use crate::requests::posted_until_full;
-use crate::scene::Scene;
-use crate::setting::{Plan, SECTORS, request_at, write_of};
+use crate::setting::{Ending, Plan, SECTORS, filled_up, play, request_at, write_of};
 use crate::watch::Watch;
 use channel_link::channel::bounded;
 use channel_link::link::ChannelLink;
@@ -57,9 +56,15 @@ impl<R: Wait + Abort + Copy + Send + Sync> Plan<R> for ComplainsAtLast<R> {
 /// The last one of 65 complaints between two ticks isn't lost.
 #[test]
 fn complaint_at_a_full_line(rt: HostRuntime) -> Result<(), Fail> {
-    let scene = Scene::ticking(rt.alloc(), rt)?;
-    let gate = scene.gate()?;
-    let (came, _) = scene.over_ram(SECTORS, ComplainsAtLast { gate })?;
+    let alloc = rt.alloc();
+    let gate = Arc::new(alloc, Watch::ticking(rt))?;
+    let plan = ComplainsAtLast {
+        gate: Arc::try_clone(&gate)?,
+    };
+    let drivers = filled_up(alloc, Vec::new(alloc))?;
+    let (came, _) = play(alloc, rt, SECTORS, drivers, &gate, plan, Ending::Stopped).ok_or(
+        "not stopped",
+    )?;
     assert_eq!(rt; came, Some(2));
     Ok(())
 }
@@ -123,9 +128,14 @@ impl<R: Wait + Copy> Plan<R> for FilledBehindLate {
 /// A late answer of a driver that was replaced makes no room for a request at the next driver.
 #[test]
 fn requests_behind_a_late_answer(rt: HostRuntime) -> Result<(), Fail> {
-    let scene = Scene::holding(rt.alloc(), rt)?;
-    let release = scene.count()?;
-    let (came, _) = scene.over_ram(SECTORS, FilledBehindLate { release })?;
+    let alloc = rt.alloc();
+    let release = Arc::new(alloc, AtomicU64::new(0))?;
+    let gate = Arc::new(alloc, Watch::holding(rt, Arc::try_clone(&release)?))?;
+    let plan = FilledBehindLate { release };
+    let drivers = filled_up(alloc, Vec::new(alloc))?;
+    let (came, _) = play(alloc, rt, SECTORS, drivers, &gate, plan, Ending::Stopped).ok_or(
+        "not stopped",
+    )?;
     assert_eq!(rt; came, Some(32));
     Ok(())
 }

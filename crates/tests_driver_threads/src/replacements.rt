@@ -1,7 +1,6 @@
 //! Drivers that are held, die or leave their range are replaced.
 
-use crate::scene::{Scene, is_written, is_zero};
-use crate::setting::{Plan, SECTORS, filled_up, request_at, write_of};
+use crate::setting::{Ending, Plan, SECTORS, filled_up, play, request_at, write_of};
 use crate::watch::Watch;
 use bdev::Driver;
 use channel_link::link::ChannelLink;
@@ -50,6 +49,12 @@ pub(crate) fn first_asked<R: Wait + Copy>(
     Some(first)
 }
 
+fn is_all(image: &[u8], from: usize, to: usize, byte: u8) -> bool {
+    image
+        .get(from..to)
+        .is_some_and(|bytes| bytes.iter().all(|b| *b == byte))
+}
+
 // The first driver is held while a later one answers; then it is let go.
 #[derive(Drop)]
 struct HeldDriver<R: Abort + Copy> {
@@ -89,25 +94,28 @@ impl<R: Wait + Abort + Copy + Send + Sync> Plan<R> for HeldDriver<R> {
     }
 }
 
-// A later driver wrote both sectors and answered, and the one that was held did no more than the step that it was held at.
-fn is_held(rt: &impl Abort, came: &Held, image: &[u8], passed: u64) {
+#[test]
+fn held_driver(rt: HostRuntime) -> Result<(), Fail> {
+    let alloc = rt.alloc();
+    let release = Arc::new(alloc, AtomicU64::new(0))?;
+    let gate = Arc::new(alloc, Watch::holding(rt, Arc::try_clone(&release)?))?;
+    let plan = HeldDriver {
+        gate: Arc::try_clone(&gate)?,
+        release,
+    };
+    let drivers = filled_up(alloc, Vec::new(alloc))?;
+    let (came, image) = play(alloc, rt, SECTORS, drivers, &gate, plan, Ending::Stopped).ok_or(
+        "not stopped",
+    )?;
+    let came = came.ok_or("no answer")?;
     assert_eq!(rt; came.first, 1);
     assert!(rt; came.answered.from.generation > 1);
     assert_eq!(rt; came.answered.outcome, Ok(1024));
     assert!(rt; came.dead && came.woke);
-    assert_eq!(rt; (came.early, passed), (0, 1));
-    assert!(rt; is_written(image, 5120, 0x22));
-}
-
-#[test]
-fn held_driver(rt: HostRuntime) -> Result<(), Fail> {
-    let scene = Scene::holding(rt.alloc(), rt)?;
-    let plan = HeldDriver {
-        gate: scene.gate()?,
-        release: scene.count()?,
-    };
-    let (came, image) = scene.over_ram(SECTORS, plan)?;
-    is_held(&rt, &came.ok_or("no answer")?, &image, scene.passed());
+    assert_eq!(rt; came.early, 0);
+    assert!(rt; is_all(&image, 4096, 5120, 0x22));
+    assert!(rt; is_all(&image, 0, 4096, 0) && is_all(&image, 5120, 65536, 0));
+    assert_eq!(rt; gate.passed(), 1);
     Ok(())
 }
 
@@ -126,7 +134,7 @@ impl<R: Wait + Copy> Plan<R> for AskedUntilAnswered {
 }
 
 // A driver that dies at its first request, at the step after this many of its sectors were moved.
-fn dying(alloc: Global, after: u32) -> Result<Driver, AllocError> {
+pub(crate) fn dying(alloc: Global, after: u32) -> Result<Driver, AllocError> {
     let mut faults: Vec<Fault> = Vec::new(alloc);
     faults.push(Fault {
         request: 1,
@@ -137,30 +145,26 @@ fn dying(alloc: Global, after: u32) -> Result<Driver, AllocError> {
     Ok(Box::new(alloc, ScriptedDriver::new(inner, faults))?)
 }
 
-// As many drivers as a request of 4096 bytes has sectors, each dying at another one.
-fn dying_ones(alloc: Global, count: u32) -> Result<Vec<Driver>, AllocError> {
-    let mut drivers: Vec<Driver> = Vec::new(alloc);
-    for after in 0..count {
-        drivers.push(dying(alloc, after)?)?;
-    }
-    filled_up(alloc, drivers)
-}
-
-// A driver behind the eight answered, and wrote all eight sectors.
-fn is_ninth(rt: &impl Abort, answered: &BlockReply, image: &[u8]) {
-    assert!(rt; answered.from.generation > 8);
-    assert_eq!(rt; answered.outcome, Ok(4096));
-    assert!(rt; is_written(image, 8192, 0x5a));
-}
-
 #[test]
 fn dies_in_each_step(rt: HostRuntime) -> Result<(), Fail> {
-    let scene = Scene::open(rt.alloc(), rt)?;
+    let alloc = rt.alloc();
+    let gate = Arc::new(alloc, Watch::open(rt))?;
+    let mut dying_ones: Vec<Driver> = Vec::new(alloc);
+    for after in 0..8u32 {
+        dying_ones.push(dying(alloc, after)?)?;
+    }
+    let drivers = filled_up(alloc, dying_ones)?;
     let plan = AskedUntilAnswered {
         request: request_at(1, 4096, 4096, 0x5a),
     };
-    let (came, image) = scene.over(dying_ones(scene.alloc, 8)?, plan)?;
-    is_ninth(&rt, &came.ok_or("no answer")?, &image);
+    let (came, image) = play(alloc, rt, SECTORS, drivers, &gate, plan, Ending::Stopped).ok_or(
+        "not stopped",
+    )?;
+    let answered = came.ok_or("no answer")?;
+    assert!(rt; answered.from.generation > 8);
+    assert_eq!(rt; answered.outcome, Ok(4096));
+    assert!(rt; is_all(&image, 4096, 8192, 0x5a));
+    assert!(rt; is_all(&image, 0, 4096, 0) && is_all(&image, 8192, 65536, 0));
     Ok(())
 }
 
@@ -187,20 +191,26 @@ impl<R: Wait + Copy> Plan<R> for AskedUntilGivenUp {
     }
 }
 
-/// So many drivers that die at once.
-pub(crate) fn dying_at_once(alloc: Global, count: u32) -> Result<Vec<Driver>, AllocError> {
-    let mut drivers: Vec<Driver> = Vec::new(alloc);
-    for _ in 0..count {
-        drivers.push(dying(alloc, 0)?)?;
-    }
-    Ok(drivers)
-}
-
 #[test]
 fn given_up(rt: HostRuntime) -> Result<(), Fail> {
-    let scene = Scene::open(rt.alloc(), rt)?;
-    let (came, image) = scene.over(dying_at_once(scene.alloc, 3)?, AskedUntilGivenUp)?;
-    assert!(rt; came == Some(3) && is_zero(&image));
+    let alloc = rt.alloc();
+    let gate = Arc::new(alloc, Watch::open(rt))?;
+    let mut drivers: Vec<Driver> = Vec::new(alloc);
+    for _ in 0..3 {
+        drivers.push(dying(alloc, 0)?)?;
+    }
+    let (came, image) = play(
+        alloc,
+        rt,
+        SECTORS,
+        drivers,
+        &gate,
+        AskedUntilGivenUp,
+        Ending::Stopped,
+    )
+    .ok_or("not stopped")?;
+    assert_eq!(rt; came, Some(3));
+    assert!(rt; is_all(&image, 0, 65536, 0));
     Ok(())
 }
 
@@ -225,8 +235,19 @@ impl<R: Wait + Copy> Plan<R> for Complains {
 
 #[test]
 fn complained_of(rt: HostRuntime) -> Result<(), Fail> {
-    let scene = Scene::open(rt.alloc(), rt)?;
-    let (came, _) = scene.over_ram(SECTORS, Complains)?;
+    let alloc = rt.alloc();
+    let gate = Arc::new(alloc, Watch::open(rt))?;
+    let drivers = filled_up(alloc, Vec::new(alloc))?;
+    let (came, _) = play(
+        alloc,
+        rt,
+        SECTORS,
+        drivers,
+        &gate,
+        Complains,
+        Ending::Stopped,
+    )
+    .ok_or("not stopped")?;
     assert_eq!(rt; came, Some((1, 2)));
     Ok(())
 }
@@ -244,18 +265,19 @@ impl<R: Wait + Copy> Plan<R> for LeavesRange {
     }
 }
 
-// A later driver wrote sectors 8 and 9, and answered.
-fn is_second(rt: &impl Abort, answered: &BlockReply, image: &[u8]) {
-    assert!(rt; answered.id == 2 && answered.from.generation > 1);
-    assert_eq!(rt; answered.outcome, Ok(1024));
-    assert!(rt; is_written(image, 5120, 0x22));
-}
-
 #[test]
 fn leaves_its_range(rt: HostRuntime) -> Result<(), Fail> {
-    let scene = Scene::open(rt.alloc(), rt)?;
-    let (came, image) = scene.over_ram(16, LeavesRange)?;
-    is_second(&rt, &came.ok_or("no answer")?, &image);
+    let alloc = rt.alloc();
+    let gate = Arc::new(alloc, Watch::open(rt))?;
+    let drivers = filled_up(alloc, Vec::new(alloc))?;
+    let (came, image) = play(alloc, rt, 16, drivers, &gate, LeavesRange, Ending::Stopped).ok_or(
+        "not stopped",
+    )?;
+    let answered = came.ok_or("no answer")?;
+    assert!(rt; answered.id == 2 && answered.from.generation > 1);
+    assert_eq!(rt; answered.outcome, Ok(1024));
+    assert!(rt; is_all(&image, 4096, 5120, 0x22));
+    assert!(rt; is_all(&image, 0, 4096, 0) && is_all(&image, 5120, 65536, 0));
     Ok(())
 }
 
@@ -289,20 +311,20 @@ impl<R: Wait + Copy> Plan<R> for LateReply {
     }
 }
 
-// Each answer bears its own endpoint.
-fn are_apart(rt: &impl Abort, early: &BlockReply, late: &BlockReply) {
+#[test]
+fn late_reply(rt: HostRuntime) -> Result<(), Fail> {
+    let alloc = rt.alloc();
+    let release = Arc::new(alloc, AtomicU64::new(0))?;
+    let gate = Arc::new(alloc, Watch::holding(rt, Arc::try_clone(&release)?))?;
+    let plan = LateReply { release };
+    let drivers = filled_up(alloc, Vec::new(alloc))?;
+    let (came, _) = play(alloc, rt, SECTORS, drivers, &gate, plan, Ending::Stopped).ok_or(
+        "not stopped",
+    )?;
+    let (early, late) = came.ok_or("no answers")?;
     assert!(rt; early.from.generation > 1 && early.id == 2);
     assert_eq!(rt; early.outcome, Ok(1024));
     assert!(rt; late.from.generation == 1 && late.id == 1);
     assert_eq!(rt; late.outcome, Err(Errno::EINVAL));
-}
-
-#[test]
-fn late_reply(rt: HostRuntime) -> Result<(), Fail> {
-    let scene = Scene::holding(rt.alloc(), rt)?;
-    let release = scene.count()?;
-    let (came, _) = scene.over_ram(SECTORS, LateReply { release })?;
-    let (early, late) = came.ok_or("no answers")?;
-    are_apart(&rt, &early, &late);
     Ok(())
 }

@@ -1,12 +1,12 @@
 //! Thirty-two requests may be under way to a driver, and as many again once their answers were taken.
 
-use crate::scene::Scene;
-use crate::setting::{Plan, SECTORS, write_of};
+use crate::setting::{Ending, Plan, SECTORS, filled_up, play, write_of};
+use crate::watch::Watch;
 use channel_link::link::ChannelLink;
 use message::Incoming;
 use message::endpoint::Endpoint;
 use reissue::link::{Link, LinkRefusal};
-use std::sync::Wait;
+use std::sync::{Arc, Wait};
 use std::test::*;
 
 // The most requests that are posted in a round.
@@ -67,12 +67,22 @@ impl<R: Wait + Copy> Plan<R> for FilledAgain {
 
 #[test]
 fn requests_under_way(rt: HostRuntime) -> Result<(), Fail> {
-    let scene = Scene::open(rt.alloc(), rt)?;
-    let (came, _) = scene.over_ram(SECTORS, FilledAgain)?;
+    let alloc = rt.alloc();
+    let gate = Arc::new(alloc, Watch::open(rt))?;
+    let drivers = filled_up(alloc, Vec::new(alloc))?;
+    let (came, _) = play(
+        alloc,
+        rt,
+        SECTORS,
+        drivers,
+        &gate,
+        FilledAgain,
+        Ending::Stopped,
+    )
+    .ok_or("not stopped")?;
     assert_eq!(rt;
-        came,
-        Some([32, 32, 32]),
-        "another message, or none is refused"
+        came.ok_or("another message, or none is refused")?,
+        [32, 32, 32]
     );
     Ok(())
 }

@@ -1,9 +1,10 @@
 //! At which tick the next driver is started.
 
-use crate::replacements::{dying_at_once, first_asked};
-use crate::scene::Scene;
-use crate::setting::{Ending, Plan, write_of};
+use crate::counted::each_counted;
+use crate::replacements::{dying, first_asked};
+use crate::setting::{Ending, Plan, SECTORS, filled_up, play, write_of};
 use crate::watch::{Watch, is_reached};
+use bdev::Driver;
 use channel_link::link::ChannelLink;
 use message::Incoming;
 use reissue::link::Link;
@@ -40,12 +41,19 @@ impl<R: Wait + Abort + Copy + Send + Sync> Plan<R> for DiesInATick<R> {
 /// A driver that died since the last tick is replaced at the next one: its exit was reported, under the tick that was the last one then.
 #[test]
 fn replaced_at_the_next_tick(rt: HostRuntime) -> Result<(), Fail> {
-    let scene = Scene::ticking(rt.alloc(), rt)?;
+    let alloc = rt.alloc();
+    let gone = Arc::new(alloc, AtomicU64::new(0))?;
+    let gate = Arc::new(alloc, Watch::ticking(rt))?;
     let plan = DiesInATick {
-        gate: scene.gate()?,
-        gone: scene.count()?,
+        gate: Arc::try_clone(&gate)?,
+        gone: Arc::try_clone(&gone)?,
     };
-    let (came, _) = scene.counting(dying_at_once(scene.alloc, 1)?, plan, Ending::Stopped)?;
+    let mut drivers: Vec<Driver> = Vec::new(alloc);
+    drivers.push(dying(alloc, 0)?)?;
+    let drivers = each_counted(alloc, filled_up(alloc, drivers)?, &gone)?;
+    let (came, _) = play(alloc, rt, SECTORS, drivers, &gate, plan, Ending::Stopped).ok_or(
+        "not stopped",
+    )?;
     assert_eq!(rt; came, Some((2, 2)));
     Ok(())
 }
