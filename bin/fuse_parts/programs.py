@@ -1,6 +1,7 @@
 """Programs that people use, on a mounted volume whose drivers die; each has a folder of its own there, `at`, and `source` to take from."""
 import os, re, shutil, subprocess
 from .rows import Skip, Wrong, holds, need, quiet, ran, row, run, said, same
+from .source import project_in
 from .volume import same_trees
 
 program = lambda name: row("programs", name)
@@ -125,11 +126,7 @@ def sqlite_wal(at, source):
 @program("make")
 def make(at, source):
     need("make", "gcc")
-    for it in range(1, 5):
-        (at / f"f{it}.c").write_text(f"int f{it}(int x) {{ return x + {it}; }}\n")
-    calls = "".join(f"int f{it}(int); " for it in range(1, 5))
-    (at / "main.c").write_text(f'#include <stdio.h>\n{calls}\nint main(void) {{ printf("%d\\n", f1(f2(f3(f4(0))))); return 0; }}\n')
-    (at / "Makefile").write_text("CFLAGS = -O2\nprogram: main.o f1.o f2.o f3.o f4.o\n\t$(CC) -o $@ $^\n")
+    project_in(at)
     ran("make", "-s", "-C", at, "-j2")
     same("what the program prints", ran(at / "program"), "10\n")
     same("what is made again", "up to date" in ran("make", "-C", at), True)

@@ -21,3 +21,13 @@ def source_in(folder):
         os.link(source / "blob", source / "hard")
         os.utime(source / "docs", (1_000_000_000, 1_234_567_890))
     return source
+
+
+def project_in(folder):
+    """A small project in C, for make: a program of five files."""
+    folder.mkdir(exist_ok=True)
+    for it in range(1, 5):
+        (folder / f"f{it}.c").write_text(f"int f{it}(int x) {{ return x + {it}; }}\n")
+    calls = "".join(f"int f{it}(int); " for it in range(1, 5))
+    (folder / "main.c").write_text(f'#include <stdio.h>\n{calls}\nint main(void) {{ printf("%d\\n", f1(f2(f3(f4(0))))); return 0; }}\n')
+    (folder / "Makefile").write_text("CFLAGS = -O2\nprogram: main.o f1.o f2.o f3.o f4.o\n\t$(CC) -o $@ $^\n")

@@ -37,6 +37,7 @@ def ordinary_user(trial):
         volume.mount()
         line = "mkdir d && echo hello > d/f && ln d/f g && ln -s g s && cat s && chmod 600 g && mv d e && rm e/f && touch -d @5 g"
         may(USER, [], line, volume.folder)
+        may(USER, [], 'cp -a s t && touch -hd @7 t && test "$(stat -c "%u %g %Y" t)" = "65534 65534 7"', volume.folder)
         may(USER, [], "chown 1 g", volume.folder, "Operation not permitted")
         same("what another user is told", run("ls", volume.folder, user=OTHER, group=OTHER, extra_groups=[]).returncode != 0, True)
         volume.umount()

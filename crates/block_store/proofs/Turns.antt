@@ -58,19 +58,32 @@ pub on_ok : {X E : Type 0} (r : Result X E) (P Q : Type 0) → (P → Q) → OnO
 on_ok (Ok x) P Q h p = h p
 on_ok (Err e) P Q h p = tt
 
+-- a call that only looks, of which this is said
+pub reads_by : {B : Type 0} (w : World B) (a b : B) (P : Disk → Type 0) → w.looks a b → Turns w a b (λ d e. (e ≡ d) × P d) → Reads w a b P
+reads_by w a b P looks turns = record { turns = turns; looks = looks }
+
 -- two reads
 pub reads_then : {B : Type 0} (w : World B) → IsWorld w → (a b c : B) (P Q R : Disk → Type 0) → ((d : Disk) → P d → Q d → R d)
     → Reads w a b P → Reads w b c Q → Reads w a c R
-reads_then w k a b c P Q R h x y = turns_then w k a b c (λ d e. (e ≡ d) × P d) (λ d e. (e ≡ d) × Q d) (λ d e. (e ≡ d) × R d)
-    (λ d e f p q. (q.0 ∙ p.0, h d p.1 (subst (λ (z : Disk). Q z) p.0 q.1))) x y
+reads_then w k a b c P Q R h x y = record {
+  turns = turns_then w k a b c (λ d e. (e ≡ d) × P d) (λ d e. (e ≡ d) × Q d) (λ d e. (e ≡ d) × R d)
+      (λ d e f p q. (q.0 ∙ p.0, h d p.1 (subst (λ (z : Disk). Q z) p.0 q.1))) x.turns y.turns;
+  looks = k.look_on a b c x.looks y.looks;
+}
 
 -- nothing is read
 pub reads_none : {B : Type 0} (w : World B) → IsWorld w → (a : B) (P : Disk → Type 0) → w.ready a → ((d : Disk) → P d) → Reads w a a P
-reads_none w k a P r h = turns_as w a a (λ d e. e ≡ d) (λ d e. (e ≡ d) × P d) (λ d e same. (same, h d)) (turns_none w k a r)
+reads_none w k a P r h = record {
+  turns = turns_as w a a (λ d e. e ≡ d) (λ d e. (e ≡ d) × P d) (λ d e same. (same, h d)) (turns_none w k a r);
+  looks = k.look a;
+}
 
 -- another fact that follows
 pub reads_as : {B : Type 0} (w : World B) (a b : B) (P Q : Disk → Type 0) → ((d : Disk) → P d → Q d) → Reads w a b P → Reads w a b Q
-reads_as w a b P Q h x = turns_as w a b (λ d e. (e ≡ d) × P d) (λ d e. (e ≡ d) × Q d) (λ d e p. (p.0, h d p.1)) x
+reads_as w a b P Q h x = record {
+  turns = turns_as w a b (λ d e. (e ≡ d) × P d) (λ d e. (e ≡ d) × Q d) (λ d e p. (p.0, h d p.1)) x.turns;
+  looks = x.looks;
+}
 
 -- what follows of a result that is good, and of what it gave
 pub if_ok : {X E : Type 0} (r : Result X E) (P Q : X → Type 0) → ((x : X) → P x → Q x) → IfOk r P → IfOk r Q

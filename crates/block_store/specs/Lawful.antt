@@ -59,4 +59,6 @@ is_world = record {
     subst (λ (x : Disk). IsShown (frame_in a.block_size a.image.items) x) (sym s.0) (shown a.block_size a.image.items),
     subst (λ (x : Disk). IsShown (frame_in b.block_size b.image.items) x) (sym s.1) (shown b.block_size b.image.items),
   );
+  look = λ a. refl;
+  look_on = λ a b c x y. y ∙ x;
 }

@@ -24,4 +24,5 @@ memory_world = record {
   over = λ m c. c ≡ cut.Eio;
   live = λ m. Unit {0};
   synced = λ m. Unit {0};
+  looks = λ a b. b ≡ a;
 }

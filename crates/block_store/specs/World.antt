@@ -21,6 +21,8 @@ pub record World (B : Type 0) : Type 1 where
   pub live : B → Type 0
   -- all that was changed is written
   pub synced : B → Type 0
+  -- a call that only looks leads from one to the other
+  pub looks : B → B → Type 0
 
 -- What would be read back before and after is related so.
 pub record Turns {B : Type 0} (w : World B) (a b : B) (R : Disk → Disk → Type 0) : Type 0 where
@@ -51,7 +53,11 @@ pub record IsWorld {B : Type 0} (w : World B) : Type 0 where
   pub between : (a b c : B) (d f : Disk) → w.leads a b → w.leads b c → w.sees a c d f → Between w a b c d f
   pub blocks : (a b : B) (d e : Disk) → w.sees a b d e → IsBlocks (w.size a) d × IsBlocks (w.size b) e
   pub shown : (a b : B) (d e : Disk) → w.sees a b d e → IsShown (w.frames a) d × IsShown (w.frames b) e
+  -- a call that does nothing looks, and so do two that do
+  pub look : (a : B) → w.looks a a
+  pub look_on : (a b c : B) → w.looks a b → w.looks b c → w.looks a c
 
--- what would be read back stays, and this is said of it
-abbrev pub Reads : {B : Type 0} → World B → B → B → (Disk → Type 0) → Type 0
-Reads w a b P = Turns w a b (λ d e. (e ≡ d) × P d)
+-- A call only looks: what would be read back stays, and this is said of it.
+pub record Reads {B : Type 0} (w : World B) (a b : B) (P : Disk → Type 0) : Type 0 where
+  pub turns : Turns w a b (λ d e. (e ≡ d) × P d)
+  pub looks : w.looks a b

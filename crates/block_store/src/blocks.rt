@@ -29,6 +29,7 @@ pub trait Blocks {
     fn fetch(&mut self, block: u32) -> Result<Self::Frame, Cut>
         requires ready { world.ready self.old }
         ensures turns { Turns world self.old self.new (λ d e. e ≡ d) }
+        ensures looks { world.looks self.old self.new }
         ensures frame { IfOk result (λ f. names self.new f block) }
         ensures cut { IfErr result (λ c. world.over self.new c) };
 
@@ -57,13 +58,15 @@ pub trait Blocks {
     /// Gives up the frame of a block, if its bytes are the disk's.
     fn forget(&mut self, block: u32)
         requires ready { world.ready self.old }
-        ensures turns { Turns world self.old self.new (λ d e. e ≡ d) };
+        ensures turns { Turns world self.old self.new (λ d e. e ≡ d) }
+        ensures looks { world.looks self.old self.new };
 
-    /// Writes all that was changed.
+    /// Writes all that was changed. Where nothing was, it only looks.
     fn sync(&mut self) -> Result<(), Cut>
         requires ready { world.ready self.old }
         ensures turns { Turns world self.old self.new (λ d e. e ≡ d) }
         ensures synced { OnOk result (world.synced self.new) }
+        ensures looks { world.looks self.old self.new }
         ensures cut { IfErr result (λ c. world.over self.new c) };
 
     /// Whether calls go on, or why not.

@@ -19,6 +19,7 @@ pub mod Sizes
 pub mod Tied
 pub mod Agreeing
 pub mod Handing
+pub mod Looking
 pub mod Runs
 mod Taking
 mod Silent

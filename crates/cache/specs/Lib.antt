@@ -13,5 +13,6 @@ pub mod Runs
 pub mod Frames
 pub mod Calls
 pub mod Takes
+pub mod Looking
 pub mod Fetches
 pub mod Laws

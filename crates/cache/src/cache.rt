@@ -63,6 +63,7 @@ impl<L: Link> Cache<L> {
     ghost use Rattle.cache.specs.declared.slot.Slot.{Slot};
     ghost use Rattle.cache.specs.Fetches.{Hits, Misses, BlanksFrame, MakesRoom, IsAtOnce};
     ghost use Rattle.cache.specs.Takes.{Takes, ReadsStay, NoReadBegun, IsBlockRead, Reads, read_into};
+    ghost use Rattle.cache.specs.Looking.{Looks};
 
     /// A cache with so many frames, none of them in use, over transfers with nothing pending: 1 BadFrames unless they are 16 to
     /// 4096, looked at first; 2 OutOfMemory.
@@ -163,6 +164,7 @@ impl<L: Link> Cache<L> {
         ensures cut { IfErr result (λ cut. IsWhyCut (caching L.Link self.new) cut) }
         ensures refused { OnErr result (self.new ≡ self.old) }
         ensures flush { WantsFlush L.Link self.old self.new }
+        ensures looks { Looks (caching L.Link self.old) (caching L.Link self.new) }
     {
         self.live()?;
         let settled = self
@@ -314,6 +316,7 @@ impl<L: Link> Cache<L> {
         ensures cut { IfErr result (λ cut. IsWhyCut (caching L.Link self.new) cut) }
         ensures flush { WantsFlush L.Link self.old self.new }
         ensures at_once { IsAtOnce result self.old self.new }
+        ensures looks { Looks (caching L.Link self.old) (caching L.Link self.new) }
     {
         let at = self.slots.victim();
         self.clean(at)?;
@@ -333,6 +336,7 @@ impl<L: Link> Cache<L> {
         ensures reading { IfSome result (λ r.
             (r.block ≡ block) × IsBlockRead (begun_in self.new.transfers) r.ticket block self.old.shape.block_size) }
         ensures flush { WantsFlush L.Link self.old self.new }
+        ensures looks { Looks (caching L.Link self.old) (caching L.Link self.new) }
     {
         let ask = self.shape.read(block);
         match self.transfers.begin(&ask) {
@@ -352,6 +356,7 @@ impl<L: Link> Cache<L> {
             (r.block ≡ block) × IsBlockRead (begun_in self.new.transfers) r.ticket block self.new.shape.block_size) }
         ensures cut { IfErr result (λ cut. IsWhyCut (caching L.Link self.new) cut) }
         ensures flush { WantsFlush L.Link self.old self.new }
+        ensures looks { Looks (caching L.Link self.old) (caching L.Link self.new) }
     {
         'tries: loop {
             self.live()?;
@@ -373,6 +378,7 @@ impl<L: Link> Cache<L> {
         ensures stay { AllStay self.old.slots self.new.slots }
         ensures cut { IfErr result (λ cut. IsWhyCut (caching L.Link self.new) cut) }
         ensures flush { WantsFlush L.Link self.old self.new }
+        ensures looks { Looks (caching L.Link self.old) (caching L.Link self.new) }
     {
         'messages: loop {
             let Took::Read(settled) = self.take()? else {
@@ -394,6 +400,7 @@ impl<L: Link> Cache<L> {
         ensures stay { AllStay self.old.slots self.new.slots }
         ensures cut { IfErr result (λ cut. IsWhyCut (caching L.Link self.new) cut) }
         ensures flush { WantsFlush L.Link self.old self.new }
+        ensures looks { Looks (caching L.Link self.old) (caching L.Link self.new) }
     {
         let reading = self.begin_read(block)?;
         self.wait(reading)
@@ -423,6 +430,7 @@ impl<L: Link> Cache<L> {
         ensures miss { held self.old.slots.items.items block ≡ None → Misses State.Clean result self.old self.new }
         ensures cut { IfErr result (λ cut. IsWhyCut (caching L.Link self.new) cut) }
         ensures flush { WantsFlush L.Link self.old self.new }
+        ensures looks { Looks (caching L.Link self.old) (caching L.Link self.new) }
     {
         match self.find(block, &mut Steps::new()) {
             Some(frame) => {
@@ -445,6 +453,7 @@ impl<L: Link> Cache<L> {
         ensures miss { Misses State.Clean result self.old self.new }
         ensures cut { IfErr result (λ cut. IsWhyCut (caching L.Link self.new) cut) }
         ensures flush { WantsFlush L.Link self.old self.new }
+        ensures looks { Looks (caching L.Link self.old) (caching L.Link self.new) }
     {
         let at = self.make_room()?;
         self.read(block)?;
@@ -537,6 +546,7 @@ impl<L: Link> Cache<L> {
         ensures rest { self.new ≡ record self.old { slots = self.new.slots } }
         ensures uses { self.new.slots.uses ≡ self.old.slots.uses }
         ensures frames { (f : FrameValue) → f.block ≢ block → IsFrame self.old f → IsFrame self.new f }
+        ensures looks { Looks (caching L.Link self.old) (caching L.Link self.new) }
     {
         match self.find(block, &mut Steps::new()) {
             Some(frame) => {
@@ -652,6 +662,7 @@ impl<L: Link> Cache<L> {
         ensures leaves { Leaves self.old.slots.items.items self.new.slots.items.items }
         ensures end { message ≡ Incoming.End → self.new ≡ self.old }
         ensures reads { NoReadBegun (begun_in self.old.transfers) (begun_in self.new.transfers) }
+        ensures looks { Looks (caching L.Link self.old) (caching L.Link self.new) }
     {
         let settled = self.transfers.absorb(&message, &mut zeros());
         settle(&mut self.slots, &mut self.flush, settled);

@@ -4,7 +4,7 @@ use Rattle.std.proofs.Common.{refl}
 use Rattle.message.specs.declared.Incoming.{Incoming}
 use Rattle.volume.specs.Reading.{Disk}
 use Rattle.reissue.specs.Room.{room_needed}
-use Rattle.cache.specs.Edits.{AllClean}
+use Rattle.cache.specs.Looking.{IsSettled, Looks}
 use Rattle.cache.specs.Calls.{AbstractCache, IsReady, IsLive, IsWhyCut}
 use Rattle.flusher.specs.Flushing.{WritesLowest, BeginsAll}
 use Rattle.block_store.specs.declared.Cut.{Cut}
@@ -20,7 +20,8 @@ pub record IsCached {B : Type 0} (w : World B) (f : B → AbstractCache) (goes :
   pub sees : (a b : B) (d e : Disk) → Sees (f a) (f b) d e → w.sees a b d e
   pub over : (a : B) (cut : Cut) → w.over a cut → IsWhyCut (f a) cut
   pub live : (a : B) → w.live a → IsLive (f a)
-  pub synced : (a : B) → w.synced a → AllClean (f a).held
+  pub synced : (a : B) → w.synced a → IsSettled (f a)
+  pub looks : (a b : B) → w.looks a b → Looks (f a) (f b)
 
 -- so it is of blocks that are made of one
 pub stored_is_cached : {B : Type 0} (f : B → AbstractCache) (goes : B → B → Type 0) → IsCached (world_by f goes) f goes
@@ -33,6 +34,7 @@ stored_is_cached f goes = record {
   over = λ a cut x. x;
   live = λ a x. x;
   synced = λ a x. x;
+  looks = λ a b x. x;
 }
 
 -- a message may be handed over: an id and the link's room are left for it

@@ -15,6 +15,7 @@ use Rattle.records.specs.View.{frame_or}
 use Rattle.cache.specs.Calls.{AbstractCache, IsReady}
 use Rattle.cache.specs.Frames.{CacheAgrees, frames_of, frame_of, view, disk_block}
 use Rattle.cache.proofs.Runs.{runs_none, runs_then, true_before}
+use Rattle.cache.proofs.Looking.{looks_none, looks_then}
 use Rattle.block_store.specs.World.{IsWorld, IsBlocks, IsShown}
 use Rattle.cached_blocks.specs.World.{Leads, Sees, world_by}
 
@@ -95,6 +96,8 @@ is_world f goes stays joins = record {
     λ block bytes h. ap (λ (x : Disk). x block) s.before ∙ shown (f a) (state_after s.image s.marks) block bytes h,
     λ block bytes h. ap (λ (x : Disk). x block) s.after ∙ shown (f b) (state_after s.image (grown s.told s.marks)) block bytes h,
   );
+  look = λ a. looks_none (f a);
+  look_on = λ a b c x y. looks_then (f a) (f b) (f c) x y;
 }
   where
     subst_disk : (size : ℕ) (d e : Disk) → d ≡ e → IsBlocks size d → IsBlocks size e

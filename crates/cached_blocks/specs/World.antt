@@ -10,7 +10,7 @@ use Rattle.reissue.specs.Moves.{state_after}
 use Rattle.reissue.specs.declared.link.Link.{Ghosts as LinkWords}
 use Rattle.reissue.specs.Transfers.{link_of}
 use Rattle.cache.specs.Calls.{AbstractCache, caching, frame_count, with_cache_link, Runs, IsReady, IsLive, IsWhyCut, LinkGoesOn}
-use Rattle.cache.specs.Edits.{AllClean}
+use Rattle.cache.specs.Looking.{IsSettled, Looks}
 use Rattle.cache.specs.Frames.{CacheAgrees, frames_of, view}
 use Rattle.block_store.specs.World.{World}
 use Rattle.cached_blocks.specs.declared.Stored.{Stored}
@@ -46,7 +46,8 @@ world_by f goes = record {
   frames = λ c. frames_of (f c).size (f c).held;
   over = λ c cut. IsWhyCut (f c) cut;
   live = λ c. IsLive (f c);
-  synced = λ c. AllClean (f c).held;
+  synced = λ c. IsSettled (f c);
+  looks = λ a b. Looks (f a) (f b);
 }
 
 -- the cache that is stored

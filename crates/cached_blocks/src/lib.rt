@@ -68,6 +68,7 @@ pub trait Caches: Blocks {
     ghost use Rattle.cache.specs.Calls.{AbstractCache, IsReady, IsIdle, IsLive, Keeps, PostsAlone, HandsOver};
     ghost use Rattle.flusher.specs.Flushing.{BeginsAll};
     ghost use Rattle.cache.specs.Edits.{AllClean};
+    ghost use Rattle.cache.specs.Looking.{Looks};
     ghost use Rattle.block_store.specs.World.{Turns};
     ghost use Rattle.cached_blocks.specs.Cached.{IsCached, MayAbsorb, Flushes};
 
@@ -92,6 +93,7 @@ pub trait Caches: Blocks {
         ensures turns { Turns Self.world self.old self.new (λ d e. e ≡ d) }
         ensures posts { PostsAlone (caching self.old) (caching self.new) }
         ensures clean { AllClean (caching self.old).held → AllClean (caching self.new).held }
+        ensures looks { Looks (caching self.old) (caching self.new) }
         ensures flushed { wanted self.old ≡ true → Flushes (caching self.old) (caching self.new) }
         ensures unasked { wanted self.old ≡ false → self.new ≡ self.old }
         ensures done { wanted self.new ≡ false };
@@ -107,6 +109,7 @@ pub trait Caches: Blocks {
             → (caching self.new).told ≡ (caching self.old).told }
         ensures goes { goes_on self.old self.new }
         ensures flushed { message ≡ Incoming.Flush → IsLive (caching self.new) → BeginsAll 16 (caching self.old).held (caching self.new) }
+        ensures looks { Looks (caching self.old) (caching self.new) }
         ensures done { (message ≡ Incoming.End → ⊥) → wanted self.new ≡ false }
         ensures end { message ≡ Incoming.End → self.new ≡ self.old };
 

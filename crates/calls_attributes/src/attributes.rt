@@ -31,6 +31,7 @@ pub fn stat<B: Blocks>(
     requires on { IsOn B.world geometry.now blocks.old }
     ensures turns { Turns B.world blocks.old blocks.new (λ d e. (f : Files) →
         Meets geometry.now (λ t. stat t user path.entry) result reply.new (HasFiles f) (HasFiles f) d e) }
+    ensures looks { B.world.looks blocks.old blocks.new }
     ensures halt { IfErr result (λ h. IsHalt B.world blocks.new h) }
     ensures proper { OnOk result (answer_of reply.new ≢ refused Errno.EIO) }
 {

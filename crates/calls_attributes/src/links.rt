@@ -36,6 +36,7 @@ pub fn lstat<B: Blocks>(
     requires on { IsOn B.world geometry.now blocks.old }
     ensures turns { Turns B.world blocks.old blocks.new (λ d e. (f : Files) →
         Meets geometry.now (λ t. lstat t user path.entry) result reply.new (HasFiles f) (HasFiles f) d e) }
+    ensures looks { B.world.looks blocks.old blocks.new }
     ensures halt { IfErr result (λ h. IsHalt B.world blocks.new h) }
     ensures proper { OnOk result (answer_of reply.new ≢ refused Errno.EIO) }
 {
@@ -80,6 +81,7 @@ pub fn readlink<B: Blocks>(
     requires on { IsOn B.world geometry.now blocks.old }
     ensures turns { Turns B.world blocks.old blocks.new (λ d e. (f : Files) →
         Meets geometry.now (λ t. readlink t user path.entry) result reply.new (HasFiles f) (HasFiles f) d e) }
+    ensures looks { B.world.looks blocks.old blocks.new }
     ensures halt { IfErr result (λ h. IsHalt B.world blocks.new h) }
     ensures proper { OnOk result (answer_of reply.new ≢ refused Errno.EIO) }
 {

@@ -34,6 +34,7 @@ pub fn fstat<B: Blocks>(
     requires session { session < most_sessions }
     ensures turns { let f = files_of opens.now in Turns B.world blocks.old blocks.new (λ d e.
         Meets geometry.now (λ t. fstat t session fd) result reply.new (HasFiles f) (HasFiles f) d e) }
+    ensures looks { B.world.looks blocks.old blocks.new }
     ensures halt { IfErr result (λ h. IsHalt B.world blocks.new h) }
     ensures proper { OnOk result (answer_of reply.new ≢ refused Errno.EIO) }
 {

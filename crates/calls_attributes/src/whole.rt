@@ -35,6 +35,7 @@ pub fn statfs<B: Blocks>(blocks: &mut B, geometry: &Geometry, reply: &mut Reply)
     requires on { IsOn B.world geometry.now blocks.old }
     ensures turns { Turns B.world blocks.old blocks.new (λ d e. (f : Files) →
         Meets geometry.now (λ t. statfs geometry.now t) result reply.new (HasFiles f) (HasFiles f) d e) }
+    ensures looks { B.world.looks blocks.old blocks.new }
     ensures halt { IfErr result (λ h. IsHalt B.world blocks.new h) }
     ensures proper { OnOk result (answer_of reply.new ≢ refused Errno.EIO) }
 {

@@ -1,7 +1,8 @@
 -- close, made on a volume.
-use Rattle.std.proofs.Common.{◌≡◌, ◌<◌, ℕ, refl, sym, ap, subst, ◌∙◌, Option, Some, None, Ok, Err, Bool, true, false}
-use Rattle.std.specs.Prelude.{Result, IsTrue, is_some, not, ◌&&◌, ◌==◌, if◌then◌else◌}
+use Rattle.std.proofs.Common.{◌≡◌, ◌≢◌, ◌<◌, ℕ, refl, sym, ap, subst, ◌∙◌, Option, Some, None, Ok, Err, Bool, true, false}
+use Rattle.std.specs.Prelude.{Result, IsTrue, is_some, nat_lt, not, ◌&&◌, ◌==◌, if◌then◌else◌}
 use Rattle.std.proofs.lemmas.Bool.{eq-eqb}
+use Rattle.lemmas.proofs.Bools.{false_not_true}
 use Rattle.errno.specs.declared.Errno.{Errno}
 use Rattle.layout.specs.declared.Geometry.{Geometry}
 use Rattle.layout.specs.Places.{IsGeometry}
@@ -16,9 +17,10 @@ use Rattle.tree.specs.Answers.{Effect, done, refused}
 use Rattle.tree.proofs.Search.{found_below}
 use Rattle.tree.proofs.Closed.{close_keeps}
 use Rattle.volume.specs.Reading.{Disk}
-use Rattle.volume.specs.Pieces.{Pieces, pieces}
+use Rattle.volume.specs.Pieces.{pieces}
 use Rattle.volume.specs.Nodes.{node_of}
 use Rattle.volume.specs.Holds.{HoldsVolume}
+use Rattle.records.specs.Settled.{has_link}
 use Rattle.descriptors.specs.Files.{Files, HasFiles, files_in, tree_with, with_files, let_go, close_file}
 use Rattle.descriptors.proofs.TreeCalls.{close_is_close}
 use Rattle.inode_operations.specs.Steps.{IsOfNode, LosesNode, left_of}
@@ -26,6 +28,7 @@ use Rattle.inode_operations.proofs.Nodes.{put_back}
 use Rattle.inode_operations.proofs.Between.{nothing_is_done, step_is_done, holds_at_end}
 use Rattle.inode_operations.proofs.CallLawsEnding.{left_is_left}
 use Rattle.calls_attributes.specs.Does.{Does, IsHeld}
+use Rattle.calls_files.specs.Closing.{leaves_node}
 use Rattle.calls_attributes.proofs.Made.{refused_made, granted_made}
 use Rattle.calls_attributes.proofs.Looks.{same_found, node_open, opened_by}
 use Rattle.calls_attributes.proofs.OpenFiles.{tree_kept, other_files, files_are, caller}
@@ -170,6 +173,18 @@ module _ (g : Geometry) (session fd : ℕ) (early : session < 64) (f h : Files) 
     close_unsound d y m ok same some held =
         let number : m ≡ n = gone_is (less f session fd) x.number m x.file (sym some ∙ x.goes) in
         subst (λ (k : ℕ). IsOfNode g (pieces g y) k) (sym number) (subst (λ (z : Disk). IsOfNode g (pieces g z) n) (sym same) (close_of d ok held))
+
+    -- a node that has a link
+    pub close_linked : (d y : Disk) (m : ℕ) → y ≡ d → gone ≡ Some m → (t : Tree) → HoldsVolume g d t → HasFiles f t → IsTrue (leaves_node t session fd)
+        → ((pieces g y).inodes m).links ≢ 0
+    close_linked d y m same some t holds files leaves =
+        let number : m ≡ n = gone_is (less f session fd) x.number m x.file (sym some ∙ x.goes) in
+        let linked : IsTrue (has_link t n) =
+        subst (λ (a : Result (ℕ × OpenFile) Errno). IsTrue (elim a [ Ok o ↦ has_link t o.1.inode | Err error ↦ true ])) (found t files) leaves in
+        let counted : IsTrue (nat_lt 0 ((pieces g d).inodes n).links) =
+        subst (λ (o : Option Node). IsTrue (elim o [ None ↦ true | Some one ↦ nat_lt 0 one.links ])) (there t files d holds) linked in
+        subst (λ (k : ℕ). ((pieces g y).inodes k).links ≢ 0) (sym number)
+        (subst (λ (z : Disk). ((pieces g z).inodes n).links ≢ 0) (sym same) (λ zero. false_not_true (subst (λ (k : ℕ). nat_lt 0 k ≡ true) zero counted)))
 
     -- another descriptor is left, so the node stays
     pub close_one : (d e : Disk) → e ≡ d → gone ≡ None → Does g (λ t. close t session fd) done (HasFiles f) (HasFiles h) d e

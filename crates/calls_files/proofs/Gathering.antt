@@ -1,20 +1,18 @@
 -- The names of a directory, entry by entry, and the numbers that they lead to.
-use Rattle.std.proofs.Common.{◌≡◌, ◌<◌, ◌≤◌, ◌+◌, ◌-◌, ◌*◌, ℕ, refl, sym, ap, subst, ◌∙◌, arith, true, Some, Option, Ok, []}
-use Rattle.std.specs.Prelude.{List, Result, OnOk, IsTrue, length, slice_index, nat_le, is_some, if◌then◌else◌}
+use Rattle.std.proofs.Common.{◌≡◌, ◌<◌, ◌≤◌, ◌+◌, ◌-◌, ◌*◌, ℕ, sym, ap, subst, ◌∙◌, arith, true, Some, Ok, []}
+use Rattle.std.specs.Prelude.{List, Result, OnOk, IsTrue, length, slice_index, nat_le, is_some}
 use Rattle.std.proofs.lemmas.Bool.{and_parts, and_from, leb-true, cond-true}
 use Rattle.layout.specs.declared.Geometry.{Geometry}
 use Rattle.layout.specs.Places.{IsGeometry}
 use Rattle.tree.specs.Names.{Name, Names, with_name, inode_of}
-use Rattle.tree.specs.Tree.{Tree, Node, Body, is_file, is_directory, names_of}
-use Rattle.tree.specs.Changes.{open_file_of}
+use Rattle.tree.specs.Tree.{Body, is_file, is_directory, names_of}
 use Rattle.volume.specs.Reading.{Disk, is_inode}
 use Rattle.volume.specs.declared.Inode.{Inode}
 use Rattle.volume.specs.Pieces.{Pieces, pieces}
 use Rattle.volume.specs.Nodes.{entry_inode, entry_name, names_in, entry_count_of, is_directory_mode, is_marked, directory_of, file_of, file_byte, node_of}
 use Rattle.volume.specs.Entries.{is_directory_inode}
-use Rattle.volume.specs.Holds.{HoldsVolume}
 use Rattle.block_store.specs.Rows.{HasBytes}
-use Rattle.directory.specs.Rows.{IsRow, SameEntry}
+use Rattle.directory.specs.Rows.{SameEntry}
 use Rattle.directory.proofs.Rows.{same_target, same_name_there, next_name, found_at}
 use Rattle.directory.proofs.Text.{name_is_field, name_of_good}
 use Rattle.directory.proofs.Directories.{directory_is_row}

@@ -1,12 +1,12 @@
 -- A name put into a map.
 use Rattle.std.proofs.Common.{◌≡◌, ℕ, List, [], ◌∷◌, refl, ap}
-use Rattle.std.specs.Prelude.{map, Option}
+use Rattle.std.specs.Prelude.{map}
 use Rattle.std.specs.Global.{Vec}
 use Rattle.std.specs.declared.cmp.Ordering.{Ordering}
 use Rattle.std.specs.declared.cmp.Ordering.TheVariants.{Less, Equal, Greater}
 use Rattle.std.specs.BTreeMap.{insert_entry}
 use Rattle.std.specs.FinMap.Entries.{by_order}
-use Rattle.tree.specs.Names.{Name, Names, name_cmp, with_name}
+use Rattle.tree.specs.Names.{name_cmp, with_name}
 use Rattle.calls_files.specs.Pairs.{pair_of}
 
 abbrev vec_cmp : Vec ℕ → Vec ℕ → Ordering

@@ -1,13 +1,12 @@
 -- readdir, made on a volume.
 use Rattle.std.proofs.Common.{◌≡◌, ℕ, refl, sym, ap, subst, ◌∙◌, Option, Some, None, Ok, Err, Bool, true, false}
 use mathlib.Core.Logic.{inl, inr}
-use Rattle.std.specs.Prelude.{Result, not, if◌then◌else◌, ◌⊎◌}
-use Rattle.std.proofs.lemmas.Bool.{cond-true}
+use Rattle.std.specs.Prelude.{Result, not, if◌then◌else◌}
 use Rattle.errno.specs.declared.Errno.{Errno}
 use Rattle.errno.specs.declared.Errno.TheVariants.{EBADF, ENOTDIR, ENOENT, ENOMEM}
 use Rattle.layout.specs.declared.Geometry.{Geometry}
 use Rattle.tree.specs.Names.{Names}
-use Rattle.tree.specs.Tree.{Tree, Node, Body, File, Directory, OpenFile, is_file, is_directory}
+use Rattle.tree.specs.Tree.{Tree, Node, File, Directory, OpenFile, is_file, is_directory}
 use Rattle.tree.specs.Refusals.{◌>>=◌, refuse_if, or_refuse}
 use Rattle.tree.specs.Changes.{open_file_of}
 use Rattle.tree.specs.FileCalls.{names_or, readdir}

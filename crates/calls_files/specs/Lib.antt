@@ -7,3 +7,4 @@ pub mod Writing
 pub mod Pairs
 pub mod Numbers
 pub mod Refusals
+pub mod Closing

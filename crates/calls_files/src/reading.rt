@@ -81,6 +81,7 @@ pub fn read<B: Blocks>(
     requires session { session < most_sessions }
     ensures turns { Turns B.world blocks.old blocks.new (λ d e. MeetsOrLacks geometry.now (λ t. read t session fd count) result reply.new
         (HasFiles (files_of opens.old)) (HasFiles (files_of opens.new)) d e) }
+    ensures looks { B.world.looks blocks.old blocks.new }
     ensures halt { IfErr result (λ h. IsHalt B.world blocks.new h) }
     ensures proper { OnOk result (answer_of reply.new ≢ refused Errno.EIO) }
 {

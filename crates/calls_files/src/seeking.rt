@@ -69,6 +69,7 @@ pub fn seek<B: Blocks>(
     requires session { session < most_sessions }
     ensures turns { Turns B.world blocks.old blocks.new (λ d e. Meets geometry.now (λ t. seek t session fd whence offset) result reply.new
         (HasFiles (files_of opens.old)) (HasFiles (files_of opens.new)) d e) }
+    ensures looks { B.world.looks blocks.old blocks.new }
     ensures halt { IfErr result (λ h. IsHalt B.world blocks.new h) }
     ensures proper { OnOk result (answer_of reply.new ≢ refused Errno.EIO) }
 {

@@ -1,5 +1,5 @@
 -- What a path to a new name leads to.
-use Rattle.std.proofs.Common.{◌≡◌, ◌<◌, ℕ, true, false, sym, ap, ◌∙◌, Some, None, Ok, Err}
+use Rattle.std.proofs.Common.{◌≡◌, ◌<◌, true, false, sym, ap, ◌∙◌, Some, None, Ok, Err}
 use mathlib.Core.Logic.{inl, inr}
 use Rattle.std.specs.Prelude.{◌||◌, is_some, not, All}
 use Rattle.std.proofs.lemmas.Bool.{cases_Bool, cond-true, not-false, or_parts}

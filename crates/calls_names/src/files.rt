@@ -1,6 +1,6 @@
 //! New files.
 
-ghost use Rattle.std.specs.Prelude.{◌≢◌, ◌≤◌, IfErr};
+ghost use Rattle.std.specs.Prelude.{◌≡◌, ◌≢◌, ◌≤◌, IfErr, false};
 ghost use Rattle.tree.specs.Tree.{Node, Tree, most_permissions};
 ghost use Rattle.volume.specs.Holds.{HoldsVolume};
 ghost use Rattle.block_store.specs.Halts.{Ends, IsHalt};
@@ -61,6 +61,7 @@ pub fn make_file<B: Blocks>(
     ensures turns { Turns B.world blocks.old blocks.new (λ d e. (t : Tree) (parent : Node) → HoldsVolume geometry.now d t
         → IsVacant geometry.now d t place.now parent
         → Answers result (λ r. MakesFileOr geometry.now t user creates now mode place.now d e r)) }
+    ensures looks { creates ≡ false → B.world.looks blocks.old blocks.new }
     ensures stop { IfErr result (λ s. IsStop B.world blocks.new s) }
     ensures proper { IfErr result (λ s. IfRefused s (λ e. e ≢ Errno.EIO)) }
 {

@@ -1,7 +1,8 @@
 //! The call open.
 
-ghost use Rattle.std.specs.Prelude.{◌≡◌, ◌≢◌, ◌<◌, IfErr, OnOk, Ok};
+ghost use Rattle.std.specs.Prelude.{◌≡◌, ◌≢◌, ◌<◌, IfErr, OnOk, Ok, false};
 ghost use Rattle.tree.specs.Tree.{most_sessions};
+ghost use Rattle.tree.specs.Flags.{creates, truncates};
 ghost use Rattle.tree.specs.FileCalls.{open_path};
 ghost use Rattle.tree.specs.Answers.{answer_of, refused};
 ghost use Rattle.descriptors.specs.Files.{HasFiles, room_for_file};
@@ -60,6 +61,7 @@ pub fn open<B: Blocks>(
     ensures turns { Turns B.world blocks.old blocks.new (λ d e.
         Meets geometry.now (λ t. open_path geometry.now t user now session path.entry flags.0 mode) result reply.new
         (HasFiles (files_of opens.old)) (HasFiles (files_of opens.new)) d e) }
+    ensures looks { creates flags.0 ≡ false → truncates flags.0 ≡ false → B.world.looks blocks.old blocks.new }
     ensures halt { IfErr result (λ h. IsHalt B.world blocks.new h) }
     ensures proper { OnOk result (answer_of reply.new ≢ refused Errno.EIO) }
 {

@@ -1,6 +1,7 @@
 //! The node that open opens.
 
-ghost use Rattle.std.specs.Prelude.{◌≡◌, ◌≢◌, ◌≤◌, IfErr, IsTrue, is_some};
+ghost use Rattle.std.specs.Prelude.{◌≡◌, ◌≢◌, ◌≤◌, IfErr, IsTrue, is_some, false};
+ghost use Rattle.tree.specs.Flags.{creates, truncates};
 ghost use Rattle.tree.specs.Tree.{Tree, most_permissions};
 ghost use Rattle.volume.specs.Holds.{HoldsVolume};
 ghost use Rattle.block_store.specs.Volume.{IsOn};
@@ -35,6 +36,7 @@ fn ready_there<B: Blocks>(
     ensures turns { Turns B.world blocks.old blocks.new (λ d e. (t : Tree) → HoldsVolume geometry.now d t
         → IsTrue (is_some (t.nodes number))
         → Answers result (ReadiesThere geometry.now t user now number flags.0 d e)) }
+    ensures looks { truncates flags.0 ≡ false → B.world.looks blocks.old blocks.new }
     ensures stop { IfErr result (λ s. IsStop B.world blocks.new s) }
     ensures proper { IfErr result (λ s. IfRefused s (λ e. e ≢ Errno.EIO)) }
 {
@@ -95,6 +97,7 @@ pub(crate) fn ready<B: Blocks>(
     requires mode { mode ≤ most_permissions }
     ensures turns { Turns B.world blocks.old blocks.new (λ d e. (t : Tree) → HoldsVolume geometry.now d t
         → Answers result (Readies geometry.now t (open_named geometry.now t user now path.entry flags.0 mode) flags.0 d e)) }
+    ensures looks { creates flags.0 ≡ false → truncates flags.0 ≡ false → B.world.looks blocks.old blocks.new }
     ensures stop { IfErr result (λ s. IsStop B.world blocks.new s) }
     ensures proper { IfErr result (λ s. IfRefused s (λ e. e ≢ Errno.EIO)) }
 {

@@ -1,10 +1,10 @@
 -- Client calls, by their effects.
-use Rattle.std.proofs.Common.{◌≡◌, ℕ, ◌<◌, ◌≤◌, Bool, true, false, refl, sym, ap, subst, ◌∙◌, Ok, Err}
+use Rattle.std.proofs.Common.{◌≡◌, ℕ, ◌<◌, ◌≤◌, Bool, true, false, refl, sym, ap, subst, ◌∙◌, Err}
 use mathlib.Core.Logic.{inl, inr}
-use Rattle.std.specs.Prelude.{◌⊎◌, ◌&&◌, if◌then◌else◌, Result, IsTrue}
+use Rattle.std.specs.Prelude.{◌&&◌, if◌then◌else◌, Result}
 use Rattle.std.proofs.lemmas.Bool.{le-leb, lt-leb}
 use Rattle.errno.specs.declared.Errno.{Errno}
-use Rattle.errno.specs.declared.Errno.TheVariants.{EINVAL, ENOMEM}
+use Rattle.errno.specs.declared.Errno.TheVariants.{EINVAL}
 use Rattle.layout.specs.declared.Geometry.{Geometry}
 use Rattle.tree.specs.declared.Who.{Who}
 use Rattle.tree.specs.declared.Call.{Call}
@@ -21,7 +21,7 @@ use Rattle.block_store.specs.declared.Halt.{Halt}
 use Rattle.block_store.specs.declared.Halt.TheVariants as halt
 use Rattle.block_store.specs.Halts.{Ends}
 use Rattle.block_store.proofs.Turns.{ends_as}
-use Rattle.calls_attributes.specs.Does.{answer_in, tree_in, IsHeld, IsMade, IsLacking, Does, DoesOrLacks, Meets, MeetsOrLacks}
+use Rattle.calls_attributes.specs.Does.{IsHeld, IsMade, IsLacking, Does, DoesOrLacks, Meets, MeetsOrLacks}
 use Rattle.client_calls.specs.Calls.{IsDone, DoesCall, MeetsCall}
 use Rattle.calls_attributes.proofs.Made.{refused_made}
 

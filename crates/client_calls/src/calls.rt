@@ -1,6 +1,7 @@
 //! The body of each call.
 
-ghost use Rattle.std.specs.Prelude.{◌≡◌, ◌≢◌, IfErr, OnOk, IsTrue};
+ghost use Rattle.std.specs.Prelude.{◌≡◌, ◌≢◌, ℕ, IfErr, OnOk, IsTrue};
+ghost use Rattle.tree.specs.declared.Call.TheVariants.{Dup};
 ghost use Rattle.tree.specs.Answers.{answer_of, refused};
 ghost use Rattle.records.specs.Legal.{is_success, is_sync};
 ghost use Rattle.descriptors.specs.Table.{files_of};
@@ -8,7 +9,7 @@ ghost use Rattle.block_store.specs.World.{Turns};
 ghost use Rattle.block_store.specs.Volume.{IsOn};
 ghost use Rattle.block_store.specs.Halts.{IsHalt};
 ghost use Rattle.tree.specs.Effects.{user_of};
-ghost use Rattle.client_calls.specs.Calls.{DoesCall, MeetsCall};
+ghost use Rattle.client_calls.specs.Calls.{DoesCall, MeetsCall, OnlyLooks};
 
 use block_store::{Blocks, Cut, Halt};
 use calls_attributes::{chmod, chown, dup, fstat, lstat, readlink, stat, statfs, sync, utime};
@@ -48,6 +49,8 @@ fn perform<B: Blocks>(
     ensures turns { Turns B.world blocks.old blocks.new (λ d e.
         MeetsCall geometry.now who now call.now result reply.new (files_of opens.old) (files_of opens.new) d e) }
     ensures synced { OnOk result (IsTrue (is_sync call.now) → IsTrue (is_success (answer_of reply.new)) → B.world.synced blocks.new) }
+    ensures looks { OnlyLooks B.world geometry.now who call.now (files_of opens.old) blocks.old blocks.new }
+    ensures still { (fd : ℕ) → call.now ≡ Dup fd → blocks.new ≡ blocks.old }
     ensures halt { IfErr result (λ h. IsHalt B.world blocks.new h) }
     ensures proper { OnOk result (answer_of reply.new ≢ refused Errno.EIO) }
 {
@@ -132,6 +135,8 @@ pub fn body<B: Blocks>(
     ensures turns { Turns B.world blocks.old blocks.new (λ d e. OnOk result
         (DoesCall geometry.now who now call.now (answer_of reply.new) (files_of opens.old) (files_of opens.new) d e)) }
     ensures synced { OnOk result (IsTrue (is_sync call.now) → IsTrue (is_success (answer_of reply.new)) → B.world.synced blocks.new) }
+    ensures looks { OnlyLooks B.world geometry.now who call.now (files_of opens.old) blocks.old blocks.new }
+    ensures still { (fd : ℕ) → call.now ≡ Dup fd → blocks.new ≡ blocks.old }
     ensures cut { IfErr result (λ c. B.world.over blocks.new c) }
     ensures proper { OnOk result (answer_of reply.new ≢ refused Errno.EIO) }
 {

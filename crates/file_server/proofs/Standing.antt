@@ -1,5 +1,5 @@
 -- A server stands through what is done at its link between two calls, through messages and calls.
-use Rattle.std.proofs.Common.{◌≡◌, ◌∙◌, sym, subst, List, ◌∷◌}
+use Rattle.std.proofs.Common.{◌≡◌, ◌∙◌, sym, subst, ap, List, ◌∷◌}
 use Rattle.layout.specs.declared.Geometry.{Geometry}
 use Rattle.tree.specs.Tree.{Tree}
 use Rattle.records.specs.Marks.{Mark, Took}
@@ -8,7 +8,8 @@ use Rattle.records.specs.Opening.{contents_at}
 use Rattle.records.specs.Acts.{Outbox, IsAtRest, marks_after}
 use Rattle.records.specs.Legal.{IsLegal, tree_after}
 use Rattle.records.specs.View.{Frames, ReadsBack}
-use Rattle.records.specs.ServerCall.{Serving, Serves, HasTree, has_open_file}
+use Rattle.records.specs.ServerCall.{Serving, Serves, IsQuiet, HasTree, has_open_file}
+use Rattle.records.specs.Settled.{is_settled, LookingWritesNothing}
 use Rattle.reissue.specs.Calls.{Truth}
 use Rattle.file_server.specs.Over.{SameServing}
 use Rattle.file_server.specs.Laws.{SameStands, MessageStands, AnswerStands, CutStands}
@@ -28,6 +29,10 @@ serves_same old new image tree marks same s = record {
         open_files = subst (λ (g : Geometry). new.is_busy ≡ has_open_file (tree_after g tree marks)) (sym same.geometry)
             (same.is_busy ∙ had.open_files);
       };
+  looking = λ replies. subst (λ (g : Geometry). LookingWritesNothing g tree marks) (sym same.geometry) (s.looking replies);
+  settled = λ replies live looks.
+      let quiet : IsQuiet old marks = s.settled replies (sym same.ended ∙ live) (ap (λ (g : Geometry). is_settled g tree marks) (sym same.geometry) ∙ looks) in
+      record { settled = same.settled quiet.settled; none_written = quiet.none_written };
 }
 
 pub same_stands : {S L : Type 0} (serving : S → Serving) (link_truth : L → Truth) → SameStands S L serving link_truth

@@ -52,6 +52,7 @@ pub record SameServing (old new : Serving) : Type 0 where
   pub is_busy : new.is_busy ≡ old.is_busy
   pub told : new.told ≡ old.told
   pub ended : new.ended ≡ old.ended
+  pub settled : old.settled → new.settled
 
 -- the server serves with this record, and its link guarantees this one
 pub record Hears (s : Serving) (guarantee : Truth) (v : Opening) (tree : Tree) (marks noted : List Mark) : Type 0 where

@@ -15,6 +15,7 @@ use Rattle.block_store.specs.declared.Cut.{Cut}
 use Rattle.cache.specs.Slots.{ticket_of, is_clean, is_dirty}
 use Rattle.cache.specs.Edits.{AllClean, SomeUnclean, IssuesLowest, IsBegun, IsOutside, AreBegun}
 use Rattle.cache.specs.Runs.{IssuesRun, BeginsRun}
+use Rattle.cache.specs.Looking.{IsSettled}
 use Rattle.cache.specs.Frames.{CacheAgrees}
 use Rattle.cache.specs.Calls.{AbstractCache, IsReady, IsStuck, PostsAlone, Runs, Keeps, Serves}
 use Rattle.records.specs.Told.{Told, Posted, Complained, Received}
@@ -23,7 +24,7 @@ use Rattle.cache.proofs.Tied.{way_ticket, no_ticket}
 use Rattle.cache.proofs.Agreeing.{same_view, byte_or}
 use Rattle.cache.proofs.Runs.{runs_as}
 use Rattle.cache.proofs.Begun.{fits_in}
-use Rattle.flusher.specs.Flushing.{WritesLowest, WritesJust, WritesRuns, IsIdle, IsSynced, Syncs}
+use Rattle.flusher.specs.Flushing.{WritesLowest, WritesJust, WritesRuns, IsSynced, Syncs}
 
 -- where a frame isn't clean and no write can be begun, a request is pending
 pub busy_unclean : (c : AbstractCache) → IsReady c → IsStuck c → SomeUnclean c.held → IsBusy (pending_of c.table.pending)
@@ -42,7 +43,7 @@ busy_unclean c ready stuck some = elim stuck.why [
     by (Changed t) e h = under t (ap ticket_of e)
 
 -- where each frame is clean no write is open
-pub idle : (c : AbstractCache) → IsReady c → AllClean c.held → IsIdle c
+pub idle : (c : AbstractCache) → IsReady c → AllClean c.held → IsSettled c
 idle c ready clean = record {
   clean = clean;
   no_write = λ t r bytes is wr.
@@ -233,6 +234,15 @@ begins_of most n size size' mid new between pending' same x = subst (λ (k : ℕ
 pub begins_none : (most n size : ℕ) (mid new : ℕ → Option Slot) (between pending' : ℕ → Option Begun)
     → n ≡ 0 → BeginsRun most size n mid new between pending' → (new ≡ mid) × (pending' ≡ between)
 begins_none most n size mid new between pending' none x = subst (λ (k : ℕ). BeginsRun most size k mid new between pending') none x
+
+-- a run is of dirty frames
+pub run_dirty : (most n size : ℕ) (mid new : ℕ → Option Slot) (between pending' : ℕ → Option Begun)
+    → n ≢ 0 → BeginsRun most size n mid new between pending' → AllClean mid → ⊥
+run_dirty most zero size mid new between pending' some x clean = some refl
+run_dirty most (suc n) size mid new between pending' some x clean =
+    let y = x.run.begun.each 0 (omega arith) in
+    let e : Clean ≡ Dirty = sym (clean (x.block + 0) y.slot y.is) ∙ y.dirty in
+    cc
 
 -- a run has eight frames at most, since a block has a sector at least
 pub run_few : (most n size : ℕ) (mid new : ℕ → Option Slot) (between pending' : ℕ → Option Begun)

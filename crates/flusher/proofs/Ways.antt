@@ -3,7 +3,8 @@ use Rattle.std.proofs.Common.{◌≡◌, ℕ, suc, ◌+◌, ◌<◌, ◌≤◌, 
 use mathlib.Core.Logic.{inl, inr}
 use Rattle.std.specs.Prelude.{◌⊎◌}
 use Rattle.cache.specs.declared.slot.Slot.{Slot}
-use Rattle.cache.specs.Edits.{IsAt, BeginsNext, NoneDirtyFrom}
+use Rattle.cache.specs.declared.state.State.TheVariants.{Clean, Dirty}
+use Rattle.cache.specs.Edits.{IsAt, AllClean, IssuesNext, BeginsNext, NoneDirtyFrom}
 use Rattle.cache.specs.Calls.{AbstractCache, held_by, IsFrameOf, IsLive, IsRefusing}
 use Rattle.cache.specs.declared.frame.Frame.{Frame}
 use Rattle.cache.proofs.Held.{has_one}
@@ -27,6 +28,13 @@ begins_more count from b o old mid new h is next = record {
   count_is = omega (arith, h.count_is);
   writes = (mid, h.writes, subst (λ (y : Option ℕ). BeginsNext from y mid new) is next);
 }
+
+-- it is of a dirty frame
+pub next_dirty : (from b : ℕ) (o : Option ℕ) (mid new : ℕ → Option Slot) → o ≡ Some b → BeginsNext from o mid new → AllClean mid → ⊥
+next_dirty from b o mid new is next clean =
+    let x : IssuesNext from b mid new = subst (λ (y : Option ℕ). BeginsNext from y mid new) is next in
+    let e : Clean ≡ Dirty = sym (clean b x.slot x.is) ∙ x.dirty in
+    cc
 
 -- no further one is
 pub begins_stopped : (most count from : ℕ) (o : Option ℕ) (old mid : ℕ → Option Slot) (new : AbstractCache) → count < most → Begins count from old mid → o ≡ None

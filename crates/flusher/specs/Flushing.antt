@@ -1,10 +1,9 @@
 -- What flushing and syncing do.
 use Rattle.std.specs.Prelude.{◌≡◌, ◌⊎◌, ℕ, zero, suc, ◌-◌, ◌<◌, ◌≤◌, length, List, [], ◌∷◌, sum, Option, Some, None, Result, Ok, Err, false}
 use Rattle.reissue.specs.Moves.{DiskState, Begun}
-use Rattle.reissue.specs.Entries.{pending_of}
 use Rattle.cache.specs.declared.slot.Slot.{Slot}
 use Rattle.block_store.specs.declared.Cut.{Cut}
-use Rattle.cache.specs.Edits.{AllClean, IssuesLowest, IssuesNext, NoneDirtyFrom}
+use Rattle.cache.specs.Edits.{IssuesLowest, IssuesNext, NoneDirtyFrom}
 use Rattle.cache.specs.Order.{IsDue}
 use Rattle.cache.specs.declared.cache.Cache.{Cache}
 use Rattle.cache.specs.Frames.{CacheAgrees, view}
@@ -57,11 +56,6 @@ pub record MakesWay {L : Type 0} (block : ℕ) (old new : Cache L) (after : Abst
   pub begins : (from : ℕ) → due ≡ Some from → held_by old block ≡ None → WritesNext 16 from (held_by old) after
   pub none : due ≡ None → new ≡ old
   pub there : (s : Slot) → held_by old block ≡ Some s → new ≡ old
-
--- no frame is dirty, and no write is open
-pub record IsIdle (c : AbstractCache) : Type 0 where
-  pub clean : AllClean c.held
-  pub no_write : (t : ℕ) (r : Begun) (bytes : List ℕ) → pending_of c.table.pending t ≡ Some r → r.written ≡ Some bytes → ⊥
 
 -- no place is unsure, and the disk is what would be read back
 pub record IsSynced (c : AbstractCache) (v : DiskState) : Type 0 where

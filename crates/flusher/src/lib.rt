@@ -7,8 +7,9 @@ ghost use Rattle.cache.specs.Calls.{LinkGoesOn, WantsFlush, messages_left};
 ghost use Rattle.reissue.specs.Transfers.{begun_in};
 ghost use Rattle.cache.specs.Takes.{NoReadBegun};
 ghost use Rattle.cache.specs.Edits.{AllClean, SomeUnclean};
+ghost use Rattle.cache.specs.Looking.{IsSettled};
 ghost use Rattle.cache.specs.declared.frame.Frame.{Frame};
-ghost use Rattle.flusher.specs.Flushing.{WritesLowest, WritesInRuns, BeginsAll, WritesNext, MakesWay, IsIdle, Syncs};
+ghost use Rattle.flusher.specs.Flushing.{WritesLowest, WritesInRuns, BeginsAll, WritesNext, MakesWay, Syncs};
 
 use block_store::Cut;
 use cache::Cache;
@@ -41,6 +42,7 @@ fn begin_runs<L: Link>(cache: &mut Cache<L>, most: u32)
     ensures flush { cache.new.flush ≡ cache.old.flush }
     ensures uses { cache.new.slots.uses ≡ cache.old.slots.uses }
     ensures reads { NoReadBegun (begun_in cache.old.transfers) (begun_in cache.new.transfers) }
+    ensures at_once { AllClean (held_by cache.old) → cache.new ≡ cache.old }
 {
     let mut left = most;
     'runs: while left > 0 {
@@ -71,6 +73,7 @@ pub fn flush_some<L: Link>(cache: &mut Cache<L>)
     ensures flush { cache.new.flush ≡ cache.old.flush }
     ensures uses { cache.new.slots.uses ≡ cache.old.slots.uses }
     ensures reads { NoReadBegun (begun_in cache.old.transfers) (begun_in cache.new.transfers) }
+    ensures at_once { AllClean (held_by cache.old) → cache.new ≡ cache.old }
 {
     begin_runs(cache, MOST_FRAMES);
 }
@@ -91,6 +94,7 @@ fn begin_from<L: Link>(cache: &mut Cache<L>, from: u32)
     ensures flush { cache.new.flush ≡ cache.old.flush }
     ensures uses { cache.new.slots.uses ≡ cache.old.slots.uses }
     ensures reads { NoReadBegun (begun_in cache.old.transfers) (begun_in cache.new.transfers) }
+    ensures at_once { AllClean (held_by cache.old) → cache.new ≡ cache.old }
 {
     'frames: for _ in 0..MOST_FRAMES {
         match cache.write_next(from) {
@@ -116,6 +120,7 @@ pub fn make_way<L: Link>(cache: &mut Cache<L>, block: u32)
     ensures flush { cache.new.flush ≡ cache.old.flush }
     ensures uses { cache.new.slots.uses ≡ cache.old.slots.uses }
     ensures reads { NoReadBegun (begun_in cache.old.transfers) (begun_in cache.new.transfers) }
+    ensures at_once { AllClean (held_by cache.old) → cache.new ≡ cache.old }
 {
     let Some(from) = cache.due() else {
         return;
@@ -152,7 +157,7 @@ fn write_all<L: Link>(cache: &mut Cache<L>) -> Result<(), Cut>
     ensures runs { Does L.Link cache.old cache.new (Syncs result) }
     ensures goes { LinkGoesOn L.Link cache.old cache.new }
     ensures count { frame_count cache.new ≡ frame_count cache.old }
-    ensures idle { OnOk result (IsIdle (caching L.Link cache.new)) }
+    ensures idle { OnOk result (IsSettled (caching L.Link cache.new)) }
     ensures cut { IfErr result (λ cut. IsWhyCut (caching L.Link cache.new) cut) }
     ensures frames { (f : Frame) → IsFrame cache.old f → IsFrame cache.new f }
     ensures flush { WantsFlush L.Link cache.old cache.new }
@@ -176,7 +181,7 @@ pub fn sync<L: Link>(cache: &mut Cache<L>) -> Result<(), Cut>
     ensures runs { Does L.Link cache.old cache.new (Syncs result) }
     ensures goes { LinkGoesOn L.Link cache.old cache.new }
     ensures count { frame_count cache.new ≡ frame_count cache.old }
-    ensures idle { OnOk result (IsIdle (caching L.Link cache.new)) }
+    ensures idle { OnOk result (IsSettled (caching L.Link cache.new)) }
     ensures cut { IfErr result (λ cut. IsWhyCut (caching L.Link cache.new) cut) }
     ensures frames { (f : Frame) → IsFrame cache.old f → IsFrame cache.new f }
     ensures flush { WantsFlush L.Link cache.old cache.new }

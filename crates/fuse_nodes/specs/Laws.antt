@@ -1,5 +1,5 @@
 -- What all that is known keeps, whatever becomes of it.
-use Rattle.std.specs.Prelude.{⊤, ◌≡◌, ◌<◌, ℕ, false, Option, Some, None, IsSome, IsSomeAnd}
+use Rattle.std.specs.Prelude.{⊤, ◌≡◌, ◌<◌, ℕ, true, false, Option, Some, None, IsSome, IfSome, IsSomeAnd}
 use Rattle.fuse_nodes.specs.Known.{Facts, Known, at_first, is_stale}
 use Rattle.fuse_nodes.specs.Changes.{told, number_in, forgotten, opened, closed, without_descriptor, with_descriptor, lost}
 use Rattle.fuse_nodes.specs.declared.node.Descriptor.{Descriptor}
@@ -47,3 +47,12 @@ NumbersStay = (k l : Known) → IsSound k → Steps k l → (id : ℕ) → id < 
 abbrev pub IsToldByItsNumber : Type 0
 IsToldByItsNumber = (k : Known) → IsSound k → (inode : ℕ) (kind : NodeKind)
     → IsSomeAnd ((told k inode kind).nodes (number_in k inode)) (λ facts. (facts.inode ≡ inode) × (facts.gone ≡ false))
+
+-- An inode has no node, or one whose last name was taken from it.
+abbrev pub IsLost : Known → ℕ → Type 0
+IsLost k inode = IfSome (k.numbers inode) (λ id. IfSome (k.nodes id) (λ facts. facts.gone ≡ true))
+
+-- Then so is each node with this inode, by whatever number it is known: none that isn't open leads to what stands there next.
+abbrev pub LostLeadNowhere : Type 0
+LostLeadNowhere = (k : Known) → IsSound k → (inode : ℕ) → IsLost k inode → (id : ℕ) (facts : Facts) → k.nodes id ≡ Some facts
+    → facts.inode ≡ inode → facts.gone ≡ true

@@ -88,10 +88,10 @@ loud_has_bytes may k l bytes opcode unique capacity s old t new (Err e) same_opc
 pub to_read : {S : Type 0} (may : Reach → S → Ask → Heard → S → Type 0) (k l : Known) (bytes : List ℕ)
     (read : Result Message MalformedMessage) (m : Message) (s : S) (it : Said) (t : S) (x : Reach) → read ≡ Ok m
     → Gives (λ (y : Message). view y) read (request_at bytes) → x ≡ reach_of k m → IsSaidTo l m.request it
-    → AskedFor (may x) x (telling m.request) s it t → IsSaidToBytes may k l bytes s it t
+    → AskedFor (may x) x (telling m.request) l s it t → IsSaidToBytes may k l bytes s it t
 to_read may k l bytes read m s it t x is gives reach fits asked =
     let P : Result Message MalformedMessage → Type 0 = λ r. IsSaidToRead may k l r s it t in
-    let Q : Reach → Type 0 = λ y. AskedFor (may y) y (telling m.request) s it t in
+    let Q : Reach → Type 0 = λ y. AskedFor (may y) y (telling m.request) l s it t in
     (read, gives, subst P (sym is) (fits, subst Q reach asked))
 
 -- what can't be read is refused

@@ -1,6 +1,6 @@
 -- What sessions are asked, one thing after another.
-use Rattle.std.proofs.Common.{◌≡◌, ℕ, List, [], ◌∷◌, ◌++◌, Some, None, Result, Ok, Err, IfOk, OnOk, IsOk, refl, sym, subst}
-use Rattle.std.specs.Prelude.{⊤}
+use Rattle.std.proofs.Common.{◌≡◌, ◌⊎◌, ◌∙◌, ℕ, Bool, true, false, IsTrue, List, [], ◌∷◌, ◌++◌, Option, Some, None, Result, Ok, Err, IfOk, OnOk, OnErr, IsOk, refl, sym, ap, subst, inl, inr}
+use Rattle.std.specs.Prelude.{⊤, MatchResult}
 use Rattle.errno.specs.declared.Errno.TheVariants.{ENOENT}
 use Rattle.tree.specs.declared.Call.{Call}
 use Rattle.tree.specs.declared.Call.TheVariants as call
@@ -12,7 +12,7 @@ use Rattle.tree.specs.declared.LinkTarget.{LinkTarget}
 use Rattle.tree.specs.declared.PathFrom.{PathFrom}
 use Rattle.tree.specs.declared.Reply.{Reply}
 use Rattle.tree.specs.declared.Statfs.{Statfs}
-use Rattle.talks.specs.Hearing.{attributes_in, room_in, target_in}
+use Rattle.talks.specs.Hearing.{attributes_in, done_in, room_in, target_in}
 use Rattle.talks.specs.Talks.{Exchange, MayHear, Leads, IsDone}
 use Rattle.talks.specs.declared.ask.Ask.{Ask}
 use Rattle.talks.specs.declared.ask.Ask.TheVariants as ask
@@ -21,8 +21,9 @@ use Rattle.talks.specs.declared.heard.Heard.TheVariants as heard_of
 use Rattle.talks.specs.declared.refused.Refused.TheVariants.{By}
 use Rattle.talks.specs.declared.sessions.EnterRefusal.{EnterRefusal}
 use Rattle.talks.specs.declared.refused.Refused.{Refused}
-use Rattle.fuse_server.specs.Asking.{Talked, TalkedTo, TalkedFor, LookedAt}
-use Rattle.fuse_server.specs.Reach.{AsksFrom, CalledFrom}
+use Rattle.fuse_server.specs.Asking.{Talked, TalkedTo, TalkedFor, TalkedLooking, LookedBefore, LookedAt, look_reply}
+use Rattle.fuse_server.specs.Losing.{AreQuiet, IsQuiet, WasLooked, takes_name}
+use Rattle.fuse_server.specs.Reach.{AsksFrom, CalledFrom, GivesTold, IsAt, IsNamed}
 use Rattle.fuse_server.specs.declared.work.Reach.{Reach}
 
 -- exchanges behind others
@@ -34,13 +35,35 @@ joined may s t u first (e ∷ es) before (v, between, last) = (v, joined may s t
 -- nothing is asked
 pub stays : {S : Type 0} (called : S → ℕ → ℕ → Call → Outcome → S → Type 0) (entered : S → ℕ → ℕ → Result ℕ EnterRefusal → S → Type 0)
     (left : S → S → Type 0) (now : ℕ) (s : S) → Talked called entered left now s s
-stays called entered left now s = record { log = []; leads = refl }
+stays called entered left now s = record { log = []; leads = refl; quiet = tt }
+
+-- exchanges that take no name away, one behind the other
+pub quiet_joined : (first then : List Exchange) → AreQuiet first → AreQuiet then → AreQuiet (then ++ first)
+quiet_joined first [] before quiet = before
+quiet_joined first (e ∷ es) before (own, rest) = (own, quiet_joined first es before rest)
 
 -- one thing is asked
 pub asks : {S : Type 0} (called : S → ℕ → ℕ → Call → Outcome → S → Type 0) (entered : S → ℕ → ℕ → Result ℕ EnterRefusal → S → Type 0)
-    (left : S → S → Type 0) (now : ℕ) (s : S) (a : Ask) (h : Heard) (t : S) → MayHear called entered left now s a h t
-    → Talked called entered left now s t
-asks called entered left now s a h t heard = record { log = record { ask = a; heard = h } ∷ []; leads = (s, refl, heard) }
+    (left : S → S → Type 0) (now : ℕ) (s : S) (a : Ask) (h : Heard) (t : S) → IsQuiet (record { ask = a; heard = h })
+    → MayHear called entered left now s a h t → Talked called entered left now s t
+asks called entered left now s a h t quiet heard = record {
+  log = record { ask = a; heard = h } ∷ [];
+  leads = (s, refl, heard);
+  quiet = (quiet, tt);
+}
+
+-- a call that takes no name away
+pub never_takes : (b : Bool) (X : Type 0) → b ≡ false → IsTrue b → X → ⊥
+never_takes true X e t x = cc
+never_takes false X e t x = cc
+
+-- nor does one that wasn't done
+pub not_done : (h : Heard) (r : Result ⊤ Refused) (X : Type 0)
+    → MatchResult r (λ _. done_in h ≡ Ok reply.Done) (λ (e : Refused). done_in h ≡ Err e) → OnErr r (X → IsDone h → ⊥)
+not_done h (Ok u) X told = tt
+not_done h (Err e) X told = λ x done. clash (sym (ap done_in done) ∙ told) where
+  clash : Ok reply.Done ≡ Err e → ⊥
+  clash is = cc
 
 -- more is asked
 pub goes_on : {S : Type 0} {called : S → ℕ → ℕ → Call → Outcome → S → Type 0} {entered : S → ℕ → ℕ → Result ℕ EnterRefusal → S → Type 0}
@@ -49,12 +72,18 @@ pub goes_on : {S : Type 0} {called : S → ℕ → ℕ → Call → Outcome → 
 goes_on {called = called} {entered} {left} {now} {s} {t} {u} a b = record {
   log = b.log ++ a.log;
   leads = joined (MayHear called entered left now) s t u a.log b.log a.leads b.leads;
+  quiet = quiet_joined a.log b.log a.quiet b.quiet;
 }
+
+-- so it is also where nothing else is wanted of an error
+pub on_err : {A E P : Type 0} (r : Result A E) → P → OnErr r P
+on_err (Ok a) p = tt
+on_err (Err e) p = p
 
 -- a call that starts at what a message may name
 pub from_named : {S : Type 0} (called : S → ℕ → ℕ → Call → Outcome → S → Type 0) (entered : S → ℕ → ℕ → Result ℕ EnterRefusal → S → Type 0)
-    (left : S → S → Type 0) (now : ℕ) (s t : S) (x : Reach) (session : ℕ) (asked : Call) (h : Heard) → AsksFrom x asked
-    → MayHear called entered left now s (ask.Call session asked) h t
+    (left : S → S → Type 0) (now : ℕ) (s t : S) (x : Reach) (session : ℕ) (asked : Call) (h : Heard)
+    → AsksFrom x asked ⊎ GivesTold x called s now asked → MayHear called entered left now s (ask.Call session asked) h t
     → MayHear (CalledFrom x called) entered left now s (ask.Call session asked) h t
 from_named called entered left now s t x session asked (heard_of.Outcome o) named may = record { named = named; answer = may }
 from_named called entered left now s t x session asked (heard_of.Entered r) named may = absurd may
@@ -135,3 +164,112 @@ pub seen : {S : Type 0} {called : S → ℕ → ℕ → Call → Outcome → S �
     → TalkedTo called entered left now s (call.Lstat path) h t → attributes_in h ≡ Ok a → LookedAt called entered left now s path (Some a) t
 seen {S} {called} {entered} {left} {now} {s} {t} path h a talked e =
     let P : Heard → Type 0 = λ x. TalkedTo called entered left now s (call.Lstat path) x t in subst P (attributes_so h a e) talked
+
+-- ---- names that are taken away
+
+-- such a call was refused, or wasn't answered
+pub untaken : {S : Type 0} (called : S → ℕ → ℕ → Call → Outcome → S → Type 0) (entered : S → ℕ → ℕ → Result ℕ EnterRefusal → S → Type 0)
+    (left : S → S → Type 0) (now : ℕ) (s t : S) (session : ℕ) (asked : Call) (h : Heard) (r : Result ⊤ Refused)
+    → MatchResult r (λ _. done_in h ≡ Ok reply.Done) (λ (e : Refused). done_in h ≡ Err e)
+    → MayHear called entered left now s (ask.Call session asked) h t → OnErr r (Talked called entered left now s t)
+untaken called entered left now s t session asked h (Ok u) told may = tt
+untaken called entered left now s t session asked h (Err e) told may =
+    asks called entered left now s (ask.Call session asked) h t (not_done h (Err e) (IsTrue (takes_name asked)) told) may
+
+-- or it was done
+pub taken : {S : Type 0} (called : S → ℕ → ℕ → Call → Outcome → S → Type 0) (entered : S → ℕ → ℕ → Result ℕ EnterRefusal → S → Type 0)
+    (left : S → S → Type 0) (now : ℕ) (s t : S) (session : ℕ) (asked : Call) (h : Heard) (r : Result ⊤ Refused) → (IsOk r → IsDone h)
+    → MayHear called entered left now s (ask.Call session asked) h t
+    → OnOk r (MayHear called entered left now s (ask.Call session asked) (heard_of.Outcome (outcome.Reply reply.Done)) t)
+taken called entered left now s t session asked h (Err e) done may = tt
+taken called entered left now s t session asked h (Ok u) done may =
+    let P : Heard → Type 0 = λ x. MayHear called entered left now s (ask.Call session asked) x t in subst P (done refl) may
+
+-- behind others
+pub taken_after : {S : Type 0} {called : S → ℕ → ℕ → Call → Outcome → S → Type 0} {entered : S → ℕ → ℕ → Result ℕ EnterRefusal → S → Type 0}
+    {left : S → S → Type 0} {now : ℕ} {s t : S} (u : S) (asked : Call) (session : ℕ) (r : Result ⊤ Refused)
+    → Talked called entered left now s t
+    → OnOk r (MayHear called entered left now t (ask.Call session asked) (heard_of.Outcome (outcome.Reply reply.Done)) u)
+    → OnOk r (TalkedFor called entered left now s asked reply.Done u)
+taken_after u asked session (Err e) first last = tt
+taken_after {t = t} u asked session (Ok x) first last = record { session = session; before = t; first = first; last = last }
+
+pub untaken_after : {S : Type 0} {called : S → ℕ → ℕ → Call → Outcome → S → Type 0} {entered : S → ℕ → ℕ → Result ℕ EnterRefusal → S → Type 0}
+    {left : S → S → Type 0} {now : ℕ} {s t : S} (u : S) (r : Result ⊤ Refused) → Talked called entered left now s t
+    → OnErr r (Talked called entered left now t u)
+    → OnErr r (Talked called entered left now s u)
+untaken_after u (Err e) first then = goes_on first then
+untaken_after u (Ok x) first then = tt
+
+-- a look stays among the exchanges
+pub looked_first : (path : PathFrom) (r : Reply) (first then : List Exchange) → WasLooked path r first → WasLooked path r (then ++ first)
+looked_first path r first [] looked = looked
+looked_first path r first (e ∷ es) looked = inr (looked_first path r first es looked)
+
+pub looked_then : (path : PathFrom) (r : Reply) (first then : List Exchange) → WasLooked path r then → WasLooked path r (then ++ first)
+looked_then path r first [] looked = absurd looked
+looked_then path r first (e ∷ es) (inl own) = inl own
+looked_then path r first (e ∷ es) (inr rest) = inr (looked_then path r first es rest)
+
+-- a path was looked at
+pub looking : {S : Type 0} {called : S → ℕ → ℕ → Call → Outcome → S → Type 0} {entered : S → ℕ → ℕ → Result ℕ EnterRefusal → S → Type 0}
+    {left : S → S → Type 0} {now : ℕ} {s t : S} {path : PathFrom} (found : Option Attributes) → LookedAt called entered left now s path found t
+    → TalkedLooking called entered left now s path (look_reply found) t
+looking {path = path} (Some was) looked = record {
+  talked = record {
+    log = record { ask = ask.Call looked.session (call.Lstat path); heard = heard_of.Outcome (outcome.Reply (reply.Inode was)) }
+        ∷ looked.first.log;
+    leads = (looked.before, looked.first.leads, looked.last);
+    quiet = (never_takes false _ refl, looked.first.quiet);
+  };
+  looked = inl (looked.session, refl, refl);
+}
+looking {path = path} None looked = record {
+  talked = record {
+    log = record { ask = ask.Call looked.session (call.Lstat path); heard = heard_of.Outcome (outcome.Reply (reply.Refused ENOENT)) }
+        ∷ looked.first.log;
+    leads = (looked.before, looked.first.leads, looked.last);
+    quiet = (never_takes false _ refl, looked.first.quiet);
+  };
+  looked = inl (looked.session, refl, refl);
+}
+
+pub looking_on : {S : Type 0} {called : S → ℕ → ℕ → Call → Outcome → S → Type 0} {entered : S → ℕ → ℕ → Result ℕ EnterRefusal → S → Type 0}
+    {left : S → S → Type 0} {now : ℕ} {s t u : S} {path : PathFrom} {r : Reply} → TalkedLooking called entered left now s path r t
+    → Talked called entered left now t u → TalkedLooking called entered left now s path r u
+unfolding goes_on
+looking_on {path = path} {r} a b =
+    record { talked = goes_on a.talked b; looked = looked_first path r a.talked.log b.log a.looked }
+
+pub looking_after : {S : Type 0} {called : S → ℕ → ℕ → Call → Outcome → S → Type 0} {entered : S → ℕ → ℕ → Result ℕ EnterRefusal → S → Type 0}
+    {left : S → S → Type 0} {now : ℕ} {s t u : S} {path : PathFrom} {r : Reply} → Talked called entered left now s t
+    → TalkedLooking called entered left now t path r u → TalkedLooking called entered left now s path r u
+unfolding goes_on
+looking_after {path = path} {r} a b =
+    record { talked = goes_on a b.talked; looked = looked_then path r a.log b.talked.log b.looked }
+
+-- a look, and then a call that was done
+pub looked_before : {S : Type 0} {called : S → ℕ → ℕ → Call → Outcome → S → Type 0} {entered : S → ℕ → ℕ → Result ℕ EnterRefusal → S → Type 0}
+    {left : S → S → Type 0} {now : ℕ} {s t u : S} {path : PathFrom} {r : Reply} {asked : Call} → TalkedLooking called entered left now s path r t
+    → TalkedFor called entered left now t asked reply.Done u → LookedBefore called entered left now s path r asked u
+looked_before a b = record { session = b.session; before = b.before; looking = looking_on a b.first; last = b.last }
+
+-- what a look told is given an owner
+pub gives_told : {S : Type 0} (called : S → ℕ → ℕ → Call → Outcome → S → Type 0) (entered : S → ℕ → ℕ → Result ℕ EnterRefusal → S → Type 0)
+    (left : S → S → Type 0) (now : ℕ) (s t u : S) (x : Reach) (session : ℕ) (path own : PathFrom) (uid gid : ℕ) (h given : Heard)
+    (was : Attributes) → IsNamed x path → IsAt (Some was.inode) [] own → attributes_in h ≡ Ok was
+    → MayHear (CalledFrom x called) entered left now s (ask.Call session (call.Lstat path)) h t
+    → MayHear called entered left now t (ask.Call session (call.Chown own uid gid)) given u
+    → Talked (CalledFrom x called) entered left now t u
+gives_told called entered left now s t u x session path own uid gid h given was named at told looked may =
+    let P : Heard → Type 0 = λ y. MayHear (CalledFrom x called) entered left now s (ask.Call session (call.Lstat path)) y t in
+    asks (CalledFrom x called) entered left now t (ask.Call session (call.Chown own uid gid)) given u (never_takes false _ refl)
+    (from_named called entered left now t u x session (call.Chown own uid gid) given (inr (record {
+      before = s;
+      session = session;
+      looked = path;
+      was = was;
+      named = named;
+      answer = (subst P (attributes_so h was told) looked).answer;
+      at = at;
+    })) may)

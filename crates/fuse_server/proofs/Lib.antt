@@ -1,4 +1,5 @@
 pub mod Asking
+pub mod Losing
 pub mod Telling
 pub mod Replies
 pub mod KindLaws

@@ -1,5 +1,5 @@
 -- What is answered behind what sessions were asked.
-use Rattle.std.proofs.Common.{◌≡◌, ℕ, List, [], ◌∷◌, ◌++◌, Some, None, Result, Ok, Err, IfOk, true, false, refl, inl, inr, subst, sym}
+use Rattle.std.proofs.Common.{◌≡◌, ℕ, List, [], ◌∷◌, ◌++◌, Some, None, Option, Result, Ok, Err, IfOk, IfSome, IsTrue, true, false, ◌⊎◌, refl, inl, inr, subst, sym}
 use Rattle.std.specs.Borrow.{Bor}
 use Rattle.fuse.specs.declared.reply.Attributes.{Attributes as Told}
 use Rattle.fuse.specs.declared.reply.Entry.{Entry}
@@ -7,6 +7,8 @@ use Rattle.fuse.specs.declared.reply.Opened.{Opened}
 use Rattle.fuse.specs.declared.reply.StatfsReply.{StatfsReply}
 use Rattle.fuse.specs.declared.request.Request.{Request}
 use Rattle.fuse.specs.declared.request.Request.TheVariants as request
+use Rattle.fuse_nodes.specs.Known.{Known}
+use Rattle.fuse_nodes.specs.Laws.{IsLost}
 use Rattle.fuse_nodes.specs.declared.node.Descriptor.{Descriptor}
 use Rattle.std.specs.Global.{Vec}
 use Rattle.tree.specs.declared.Attributes.{Attributes}
@@ -27,8 +29,9 @@ use Rattle.talks.specs.declared.heard.Heard.{Heard}
 use Rattle.talks.specs.declared.heard.Heard.TheVariants as heard_of
 use Rattle.talks.specs.declared.refused.Refused.{Refused}
 use Rattle.talks.specs.declared.sessions.EnterRefusal.{EnterRefusal}
-use Rattle.fuse_server.specs.Asking.{Talked, TalkedTo, TalkedFor, LookedAt, EndsWith}
+use Rattle.fuse_server.specs.Asking.{Talked, TalkedTo, TalkedFor, TalkedLooking, LookedBefore, LookedAt, EndsWith, look_reply}
 use Rattle.fuse_server.specs.Kinds.{is_sync}
+use Rattle.fuse_server.specs.Losing.{Loses, is_last, takes_name}
 use Rattle.fuse_server.specs.Reach.{IsAt}
 use Rattle.fuse_server.specs.Telling.{Telling, telling, tells, told_of, room_of, IsToldAs, ToldBehind, ShownAt, AskedFor}
 use Rattle.fuse_server.specs.Telling.Telling.{Name, Node, Target, Unlinked, Removed, Renamed, Room, Other}
@@ -37,7 +40,8 @@ use Rattle.fuse_server.specs.declared.said.FuseAnswer.TheVariants as answer_of
 use Rattle.fuse_server.specs.declared.said.Said.{Said}
 use Rattle.fuse_server.specs.declared.said.Said.TheVariants as said
 use Rattle.fuse_server.specs.declared.work.Reach.{Reach}
-use Rattle.fuse_server.proofs.Asking.{joined, after, attributes_so}
+use Rattle.fuse_server.proofs.Asking.{joined, after, attributes_so, looked_first, looked_then, never_takes, quiet_joined}
+use Rattle.fuse_server.proofs.Losing.{loses_on, quiet_loses, replaced}
 
 -- the exchanges up to a call and its answer
 abbrev log_of : {S : Type 0} {called : S → ℕ → ℕ → Call → Outcome → S → Type 0} {entered : S → ℕ → ℕ → Result ℕ EnterRefusal → S → Type 0}
@@ -48,6 +52,22 @@ abbrev leads_of : {S : Type 0} {called : S → ℕ → ℕ → Call → Outcome 
     {left : S → S → Type 0} {now : ℕ} {s t : S} {asked : Call} {h : Heard} (talked : TalkedTo called entered left now s asked h t)
     → Leads (MayHear called entered left now) s (log_of talked) t
 leads_of talked = (talked.before, talked.first.leads, talked.last)
+
+-- nothing is lost by a call that takes no name away
+loses_of : {S : Type 0} {called : S → ℕ → ℕ → Call → Outcome → S → Type 0}
+    {entered : S → ℕ → ℕ → Result ℕ EnterRefusal → S → Type 0} {left : S → S → Type 0} {now : ℕ}
+    {s t : S} {asked : Call} {h : Heard} (k : Known) (talked : TalkedTo called entered left now s asked h t)
+    → takes_name asked ≡ false → Loses k (log_of talked)
+loses_of {asked = asked} {h} k talked quiet =
+    quiet_loses k (log_of talked) (never_takes (takes_name asked) (IsDone h) quiet, talked.first.quiet)
+
+-- the exchanges up to a call that was done behind a look
+abbrev taking_log : {S : Type 0} {called : S → ℕ → ℕ → Call → Outcome → S → Type 0}
+    {entered : S → ℕ → ℕ → Result ℕ EnterRefusal → S → Type 0} {left : S → S → Type 0} {now : ℕ}
+    {s t : S} {path : PathFrom} {r : Reply} {asked : Call}
+    → LookedBefore called entered left now s path r asked t → List Exchange
+taking_log {asked = asked} b =
+    record { ask = ask.Call b.session asked; heard = heard_of.Outcome (outcome.Reply reply.Done) } ∷ b.looking.talked.log
 
 -- a look behind others
 pub shown_after : {S : Type 0} {called : S → ℕ → ℕ → Call → Outcome → S → Type 0} {entered : S → ℕ → ℕ → Result ℕ EnterRefusal → S → Type 0}
@@ -94,124 +114,154 @@ told_after u path first (Err refused) looked = tt
 told_after u path first (Ok e) looked = shown_after first looked
 
 pub entry_behind : {S : Type 0} {called : S → ℕ → ℕ → Call → Outcome → S → Type 0}
-    {entered : S → ℕ → ℕ → Result ℕ EnterRefusal → S → Type 0} {left : S → S → Type 0} {now : ℕ}
+    {entered : S → ℕ → ℕ → Result ℕ EnterRefusal → S → Type 0} {left : S → S → Type 0} {now : ℕ} {k : Known}
     {s t : S} (x : Reach) (name : List ℕ) (entry : Entry) (path : PathFrom) → IsAt x.own name path
     → ShownAt called entered left now s path entry.attributes t
-    → ToldBehind called entered left now x (Name name) s (answer_of.Entry entry) t
-entry_behind x name entry path at it = record {
+    → ToldBehind called entered left now x (Name name) k s (answer_of.Entry entry) t
+entry_behind {k = k} x name entry path at it = record {
   log = log_of it.looked;
   leads = leads_of it.looked;
   told = record { session = it.looked.session; path = path; was = it.was; at = at; ends = (refl, refl); is = it.is };
+  loses = loses_of k it.looked refl;
 }
 
 pub created_behind : {S : Type 0} {called : S → ℕ → ℕ → Call → Outcome → S → Type 0}
-    {entered : S → ℕ → ℕ → Result ℕ EnterRefusal → S → Type 0} {left : S → S → Type 0} {now : ℕ}
+    {entered : S → ℕ → ℕ → Result ℕ EnterRefusal → S → Type 0} {left : S → S → Type 0} {now : ℕ} {k : Known}
     {s t : S} (x : Reach) (name : List ℕ) (entry : Entry) (opened : Opened) (path : PathFrom)
     → IsAt x.own name path
     → ShownAt called entered left now s path entry.attributes t
-    → ToldBehind called entered left now x (Name name) s (answer_of.Create entry opened) t
-created_behind x name entry opened path at it = record {
+    → ToldBehind called entered left now x (Name name) k s (answer_of.Create entry opened) t
+created_behind {k = k} x name entry opened path at it = record {
   log = log_of it.looked;
   leads = leads_of it.looked;
   told = record { session = it.looked.session; path = path; was = it.was; at = at; ends = (refl, refl); is = it.is };
+  loses = loses_of k it.looked refl;
 }
 
 -- a node was looked at
 pub node_behind : {S : Type 0} {called : S → ℕ → ℕ → Call → Outcome → S → Type 0} {entered : S → ℕ → ℕ → Result ℕ EnterRefusal → S → Type 0}
-    {left : S → S → Type 0} {now : ℕ} {s t : S} (x : Reach) (was : Attributes) (path : PathFrom) → IsAt x.own [] path
+    {left : S → S → Type 0} {now : ℕ} {k : Known} {s t : S} (x : Reach) (was : Attributes) (path : PathFrom) → IsAt x.own [] path
     → LookedAt called entered left now s path (Some was) t
-    → ToldBehind called entered left now x Node s (answer_of.Attributes (told_of was)) t
-node_behind x was path at looked = record {
+    → ToldBehind called entered left now x Node k s (answer_of.Attributes (told_of was)) t
+node_behind {k = k} x was path at looked = record {
   log = log_of looked;
   leads = leads_of looked;
   told = inl (record { session = looked.session; path = path; was = was; at = at; ends = (refl, refl); is = refl });
+  loses = loses_of k looked refl;
 }
 
 -- or what its descriptor has open
 pub open_behind : {S : Type 0} {called : S → ℕ → ℕ → Call → Outcome → S → Type 0} {entered : S → ℕ → ℕ → Result ℕ EnterRefusal → S → Type 0}
-    {left : S → S → Type 0} {now : ℕ} {s t : S} (x : Reach) (was : Attributes) (descriptor : Descriptor) → x.descriptor ≡ Some descriptor
+    {left : S → S → Type 0} {now : ℕ} {k : Known} {s t : S} (x : Reach) (was : Attributes) (descriptor : Descriptor) → x.descriptor ≡ Some descriptor
     → MayHear called entered left now s (ask.Call descriptor.session (call.Fstat descriptor.fd))
     (heard_of.Outcome (outcome.Reply (reply.Inode was))) t
-    → ToldBehind called entered left now x Node s (answer_of.Attributes (told_of was)) t
+    → ToldBehind called entered left now x Node k s (answer_of.Attributes (told_of was)) t
 open_behind {s = s} x was descriptor has last = record {
   log = record { ask = ask.Call descriptor.session (call.Fstat descriptor.fd); heard = heard_of.Outcome (outcome.Reply (reply.Inode was)) }
       ∷ [];
   leads = (s, refl, last);
   told = inr (record { descriptor = descriptor; was = was; has = has; ends = (refl, refl); is = refl });
+  loses = (λ done. tt, tt);
 }
 
 -- what a node's descriptor has open was looked at
 pub open_so : {S : Type 0} (called : S → ℕ → ℕ → Call → Outcome → S → Type 0) (entered : S → ℕ → ℕ → Result ℕ EnterRefusal → S → Type 0)
-    (left : S → S → Type 0) (now : ℕ) (s t : S) (x : Reach) (descriptor : Descriptor) (h : Heard) (r : Result Attributes Refused)
+    (left : S → S → Type 0) (now : ℕ) (s t : S) (x : Reach) (k : Known) (descriptor : Descriptor) (h : Heard) (r : Result Attributes Refused)
     → r ≡ attributes_in h
     → MayHear called entered left now s (ask.Call descriptor.session (call.Fstat descriptor.fd)) h t
     → IfOk r (λ (was : Attributes). x.descriptor ≡ Some descriptor
-    → ToldBehind called entered left now x Node s (answer_of.Attributes (told_of was)) t)
-open_so called entered left now s t x descriptor h (Err refused) is may = tt
-open_so called entered left now s t x descriptor h (Ok was) is may = λ has.
+    → ToldBehind called entered left now x Node k s (answer_of.Attributes (told_of was)) t)
+open_so called entered left now s t x k descriptor h (Err refused) is may = tt
+open_so called entered left now s t x k descriptor h (Ok was) is may = λ has.
     let P : Heard → Type 0 = λ y. MayHear called entered left now s (ask.Call descriptor.session (call.Fstat descriptor.fd)) y t in
     open_behind x was descriptor has (subst P (attributes_so h was (sym is)) may)
 
 pub node_so : {S : Type 0} (called : S → ℕ → ℕ → Call → Outcome → S → Type 0) (entered : S → ℕ → ℕ → Result ℕ EnterRefusal → S → Type 0)
-    (left : S → S → Type 0) (now : ℕ) (s t : S) (x : Reach) (path : PathFrom) → IsAt x.own [] path → (r : Result Attributes Refused)
+    (left : S → S → Type 0) (now : ℕ) (s t : S) (x : Reach) (k : Known) (path : PathFrom) → IsAt x.own [] path → (r : Result Attributes Refused)
     → IfOk r (λ (was : Attributes). LookedAt called entered left now s path (Some was) t)
-    → IfOk r (λ (was : Attributes). ToldBehind called entered left now x Node s (answer_of.Attributes (told_of was)) t)
-node_so called entered left now s t x path at (Err refused) looked = tt
-node_so called entered left now s t x path at (Ok was) looked = node_behind x was path at looked
+    → IfOk r (λ (was : Attributes). ToldBehind called entered left now x Node k s (answer_of.Attributes (told_of was)) t)
+node_so called entered left now s t x k path at (Err refused) looked = tt
+node_so called entered left now s t x k path at (Ok was) looked = node_behind x was path at looked
 
 pub target_behind : {S : Type 0} {called : S → ℕ → ℕ → Call → Outcome → S → Type 0}
-    {entered : S → ℕ → ℕ → Result ℕ EnterRefusal → S → Type 0} {left : S → S → Type 0} {now : ℕ}
+    {entered : S → ℕ → ℕ → Result ℕ EnterRefusal → S → Type 0} {left : S → S → Type 0} {now : ℕ} {k : Known}
     {s t : S} (x : Reach) (bytes : Vec ℕ) (target : LinkTarget) (path : PathFrom) → IsAt x.own [] path
     → TalkedFor called entered left now s (call.Readlink path) (reply.Target target) t → bytes.items ≡ target_of target
-    → ToldBehind called entered left now x Target s (answer_of.Bytes bytes) t
-target_behind x bytes target path at talked is = record {
+    → ToldBehind called entered left now x Target k s (answer_of.Bytes bytes) t
+target_behind {k = k} x bytes target path at talked is = record {
   log = log_of talked;
   leads = leads_of talked;
   told = record { session = talked.session; path = path; target = target; at = at; ends = (refl, refl); is = is };
+  loses = loses_of k talked refl;
 }
 
+-- a file's name was taken away
 pub unlinked_behind : {S : Type 0} {called : S → ℕ → ℕ → Call → Outcome → S → Type 0}
-    {entered : S → ℕ → ℕ → Result ℕ EnterRefusal → S → Type 0} {left : S → S → Type 0} {now : ℕ}
-    {s t : S} (x : Reach) (name : List ℕ) (path : PathFrom) → IsAt x.own name path
-    → TalkedFor called entered left now s (call.Unlink path) reply.Done t
-    → ToldBehind called entered left now x (Unlinked name) s answer_of.Done t
-unlinked_behind x name path at talked = record {
-  log = log_of talked;
-  leads = leads_of talked;
-  told = record { session = talked.session; path = path; at = at; ends = (refl, refl) };
+    {entered : S → ℕ → ℕ → Result ℕ EnterRefusal → S → Type 0} {left : S → S → Type 0} {now : ℕ} {k : Known}
+    {s t : S} (x : Reach) (name : List ℕ) (path : PathFrom) (was : Attributes) → IsAt x.own name path
+    → LookedBefore called entered left now s path (reply.Inode was) (call.Unlink path) t → (IsTrue (is_last was) → IsLost k was.inode)
+    → ToldBehind called entered left now x (Unlinked name) k s answer_of.Done t
+unlinked_behind {k = k} x name path was at b lost = record {
+  log = taking_log b;
+  leads = (b.before, b.looking.talked.leads, b.last);
+  told = record { session = b.session; path = path; at = at; ends = (refl, refl) };
+  loses = (
+    λ done. record { was = was; looked = b.looking.looked; lost = lost },
+    quiet_loses k b.looking.talked.log b.looking.talked.quiet,
+  );
 }
 
+-- a directory's
 pub removed_behind : {S : Type 0} {called : S → ℕ → ℕ → Call → Outcome → S → Type 0}
-    {entered : S → ℕ → ℕ → Result ℕ EnterRefusal → S → Type 0} {left : S → S → Type 0} {now : ℕ}
-    {s t : S} (x : Reach) (name : List ℕ) (path : PathFrom) → IsAt x.own name path
-    → TalkedFor called entered left now s (call.Rmdir path) reply.Done t
-    → ToldBehind called entered left now x (Removed name) s answer_of.Done t
-removed_behind x name path at talked = record {
-  log = log_of talked;
-  leads = leads_of talked;
-  told = record { session = talked.session; path = path; at = at; ends = (refl, refl) };
+    {entered : S → ℕ → ℕ → Result ℕ EnterRefusal → S → Type 0} {left : S → S → Type 0} {now : ℕ} {k : Known}
+    {s t : S} (x : Reach) (name : List ℕ) (path : PathFrom) (was : Attributes) → IsAt x.own name path
+    → LookedBefore called entered left now s path (reply.Inode was) (call.Rmdir path) t → IsLost k was.inode
+    → ToldBehind called entered left now x (Removed name) k s answer_of.Done t
+removed_behind {k = k} x name path was at b lost = record {
+  log = taking_log b;
+  leads = (b.before, b.looking.talked.leads, b.last);
+  told = record { session = b.session; path = path; at = at; ends = (refl, refl) };
+  loses = (
+    λ done. record { was = was; looked = b.looking.looked; lost = lost },
+    quiet_loses k b.looking.talked.log b.looking.talked.quiet,
+  );
 }
 
+-- a name became another one
 pub renamed_behind : {S : Type 0} {called : S → ℕ → ℕ → Call → Outcome → S → Type 0}
-    {entered : S → ℕ → ℕ → Result ℕ EnterRefusal → S → Type 0} {left : S → S → Type 0} {now : ℕ}
-    {s t : S} (x : Reach) (old new : List ℕ) (from to : PathFrom) → IsAt x.own old from
-    → IsAt x.other new to
-    → TalkedFor called entered left now s (call.Rename from to) reply.Done t
-    → ToldBehind called entered left now x (Renamed old new) s answer_of.Done t
-renamed_behind x old new from to at into talked = record {
-  log = log_of talked;
-  leads = leads_of talked;
-  told = record { session = talked.session; from = from; to = to; at = at; into = into; ends = (refl, refl) };
+    {entered : S → ℕ → ℕ → Result ℕ EnterRefusal → S → Type 0} {left : S → S → Type 0} {now : ℕ} {k : Known}
+    {s t u : S} (x : Reach) (old new : List ℕ) (from to : PathFrom) (found : Option Attributes) (moved : Attributes)
+    → IsAt x.own old from → IsAt x.other new to → TalkedLooking called entered left now s to (look_reply found) t
+    → LookedBefore called entered left now t from (reply.Inode moved) (call.Rename from to) u
+    → IfSome found (λ (was : Attributes). IsTrue (is_last was) → (was.inode ≡ moved.inode) ⊎ IsLost k was.inode)
+    → ToldBehind called entered left now x (Renamed old new) k s answer_of.Done u
+renamed_behind {called = called} {entered} {left} {now} {k} {s} {t} {u} x old new from to found moved at into a b lost = record {
+  log = record { ask = ask.Call b.session (call.Rename from to); heard = heard_of.Outcome (outcome.Reply reply.Done) }
+      ∷ (b.looking.talked.log ++ a.talked.log);
+  leads = (
+    b.before,
+    joined (MayHear called entered left now) s t b.before a.talked.log b.looking.talked.log a.talked.leads b.looking.talked.leads,
+    b.last,
+  );
+  told = record { session = b.session; from = from; to = to; at = at; into = into; ends = (refl, refl) };
+  loses = (
+    λ done. replaced k from to (b.looking.talked.log ++ a.talked.log) found moved
+        (looked_first to (look_reply found) a.talked.log b.looking.talked.log a.looked)
+        (looked_then from (reply.Inode moved) a.talked.log b.looking.talked.log b.looking.looked) lost,
+    quiet_loses k (b.looking.talked.log ++ a.talked.log)
+        (quiet_joined a.talked.log b.looking.talked.log a.talked.quiet b.looking.talked.quiet),
+  );
 }
 
 pub room_behind : {S : Type 0} {called : S → ℕ → ℕ → Call → Outcome → S → Type 0} {entered : S → ℕ → ℕ → Result ℕ EnterRefusal → S → Type 0}
-    {left : S → S → Type 0} {now : ℕ} {s t : S} (x : Reach) (told : StatfsReply) (room : Statfs)
+    {left : S → S → Type 0} {now : ℕ} {k : Known} {s t : S} (x : Reach) (told : StatfsReply) (room : Statfs)
     → TalkedFor called entered left now s call.Statfs (reply.Space room) t → told ≡ room_of room
-    → ToldBehind called entered left now x Room s (answer_of.Statfs told) t
-room_behind x told room talked is = record {
+    → ToldBehind called entered left now x Room k s (answer_of.Statfs told) t
+room_behind {k = k} x told room talked is = record {
   log = log_of talked;
   leads = leads_of talked;
   told = record { session = talked.session; room = room; ends = (refl, refl); is = is };
+  loses = loses_of k talked refl;
 }
 
 -- the last exchange stays the last one behind others
@@ -239,13 +289,14 @@ node_on x told log first (inr seen) = inr (record {
 })
 
 pub node_after : {S : Type 0} {called : S → ℕ → ℕ → Call → Outcome → S → Type 0} {entered : S → ℕ → ℕ → Result ℕ EnterRefusal → S → Type 0}
-    {left : S → S → Type 0} {now : ℕ} {s t u : S} {x : Reach} {told : Told} → Talked called entered left now s t
-    → ToldBehind called entered left now x Node t (answer_of.Attributes told) u
-    → ToldBehind called entered left now x Node s (answer_of.Attributes told) u
-node_after {called = called} {entered} {left} {now} {s} {t} {u} {x} {told} first b = record {
+    {left : S → S → Type 0} {now : ℕ} {k : Known} {s t u : S} {x : Reach} {told : Told} → Talked called entered left now s t
+    → ToldBehind called entered left now x Node k t (answer_of.Attributes told) u
+    → ToldBehind called entered left now x Node k s (answer_of.Attributes told) u
+node_after {called = called} {entered} {left} {now} {k} {s} {t} {u} {x} {told} first b = record {
   log = b.log ++ first.log;
   leads = joined (MayHear called entered left now) s t u first.log b.log first.leads b.leads;
   told = node_on x told b.log first.log b.told;
+  loses = loses_on k first.log b.log (quiet_loses k first.log first.quiet) b.loses;
 }
 
 -- a refusal may be answered behind anything
@@ -254,61 +305,71 @@ refused_so x (Name name) e log = tt
 refused_so x about e log = tt
 
 pub refused_behind : {S : Type 0} {called : S → ℕ → ℕ → Call → Outcome → S → Type 0}
-    {entered : S → ℕ → ℕ → Result ℕ EnterRefusal → S → Type 0} {left : S → S → Type 0} {now : ℕ}
+    {entered : S → ℕ → ℕ → Result ℕ EnterRefusal → S → Type 0} {left : S → S → Type 0} {now : ℕ} {k : Known}
     {s t : S} (x : Reach) (about : Telling) (e : Refused) → Talked called entered left now s t
-    → ToldBehind called entered left now x about s (answer_of.Refused e) t
-refused_behind x about e talked = record { log = talked.log; leads = talked.leads; told = refused_so x about e talked.log }
+    → ToldBehind called entered left now x about k s (answer_of.Refused e) t
+refused_behind {k = k} x about e talked = record {
+  log = talked.log;
+  leads = talked.leads;
+  told = refused_so x about e talked.log;
+  loses = quiet_loses k talked.log talked.quiet;
+}
 
 unknown_so : (x : Reach) (about : Telling) (log : List Exchange) → IsToldAs x about answer_of.Unknown log
 unknown_so x (Name name) log = tt
 unknown_so x about log = tt
 
 pub unknown_behind : {S : Type 0} {called : S → ℕ → ℕ → Call → Outcome → S → Type 0}
-    {entered : S → ℕ → ℕ → Result ℕ EnterRefusal → S → Type 0} {left : S → S → Type 0} {now : ℕ}
+    {entered : S → ℕ → ℕ → Result ℕ EnterRefusal → S → Type 0} {left : S → S → Type 0} {now : ℕ} {k : Known}
     {s t : S} (x : Reach) (about : Telling) → Talked called entered left now s t
-    → ToldBehind called entered left now x about s answer_of.Unknown t
-unknown_behind x about talked = record { log = talked.log; leads = talked.leads; told = unknown_so x about talked.log }
+    → ToldBehind called entered left now x about k s answer_of.Unknown t
+unknown_behind {k = k} x about talked = record {
+  log = talked.log;
+  leads = talked.leads;
+  told = unknown_so x about talked.log;
+  loses = quiet_loses k talked.log talked.quiet;
+}
 
 -- ---- what is said
 
 pub said_behind : {S : Type 0} {called : S → ℕ → ℕ → Call → Outcome → S → Type 0} {entered : S → ℕ → ℕ → Result ℕ EnterRefusal → S → Type 0}
-    {left : S → S → Type 0} {now : ℕ} {s t : S} {x : Reach} {about : Telling} {a : FuseAnswer}
-    → ToldBehind called entered left now x about s a t
-    → AskedFor (MayHear called entered left now) x about s (said.Plain a) t
-said_behind b = (b.log, b.leads, b.told)
+    {left : S → S → Type 0} {now : ℕ} {k : Known} {s t : S} {x : Reach} {about : Telling} {a : FuseAnswer}
+    → ToldBehind called entered left now x about k s a t
+    → AskedFor (MayHear called entered left now) x about k s (said.Plain a) t
+said_behind b = (b.log, b.leads, b.told, b.loses)
 
 -- where nothing is told of the last exchange
 pub plainly : {S : Type 0} {called : S → ℕ → ℕ → Call → Outcome → S → Type 0} {entered : S → ℕ → ℕ → Result ℕ EnterRefusal → S → Type 0}
-    {left : S → S → Type 0} {now : ℕ} {s t : S} (x : Reach) (a : FuseAnswer) → Talked called entered left now s t
-    → AskedFor (MayHear called entered left now) x Other s (said.Plain a) t
-plainly x a talked = (talked.log, talked.leads, tt)
+    {left : S → S → Type 0} {now : ℕ} {k : Known} {s t : S} (x : Reach) (a : FuseAnswer) → Talked called entered left now s t
+    → AskedFor (MayHear called entered left now) x Other k s (said.Plain a) t
+plainly {k = k} x a talked = (talked.log, talked.leads, tt, quiet_loses k talked.log talked.quiet)
 
 never : true ≡ false → ⊥
 never e = cc
 
 -- what is told of a node
 pub told_same : {S : Type 0} {called : S → ℕ → ℕ → Call → Outcome → S → Type 0} {entered : S → ℕ → ℕ → Result ℕ EnterRefusal → S → Type 0}
-    {left : S → S → Type 0} {now : ℕ} {s t : S} {x : Reach} {told : Told} (a : FuseAnswer) → a ≡ answer_of.Attributes told
-    → ToldBehind called entered left now x Node s (answer_of.Attributes told) t → ToldBehind called entered left now x Node s a t
-told_same {called = called} {entered} {left} {now} {s} {t} {x} a is b =
-    let P : FuseAnswer → Type 0 = λ y. ToldBehind called entered left now x Node s y t in subst P (sym is) b
+    {left : S → S → Type 0} {now : ℕ} {k : Known} {s t : S} {x : Reach} {told : Told} (a : FuseAnswer) → a ≡ answer_of.Attributes told
+    → ToldBehind called entered left now x Node k s (answer_of.Attributes told) t → ToldBehind called entered left now x Node k s a t
+told_same {called = called} {entered} {left} {now} {k} {s} {t} {x} a is b =
+    let P : FuseAnswer → Type 0 = λ y. ToldBehind called entered left now x Node k s y t in subst P (sym is) b
 
 pub node_after_ok : {S : Type 0} {called : S → ℕ → ℕ → Call → Outcome → S → Type 0}
     {entered : S → ℕ → ℕ → Result ℕ EnterRefusal → S → Type 0} {left : S → S → Type 0} {now : ℕ}
-    {s t : S} (u : S) (x : Reach) → Talked called entered left now s t → (r : Result Attributes Refused)
-    → IfOk r (λ (was : Attributes). ToldBehind called entered left now x Node t (answer_of.Attributes (told_of was)) u)
-    → IfOk r (λ (was : Attributes). ToldBehind called entered left now x Node s (answer_of.Attributes (told_of was)) u)
-node_after_ok u x first (Err refused) b = tt
-node_after_ok u x first (Ok was) b = node_after first b
+    {s t : S} (u : S) (x : Reach) (k : Known) → Talked called entered left now s t → (r : Result Attributes Refused)
+    → IfOk r (λ (was : Attributes). ToldBehind called entered left now x Node k t (answer_of.Attributes (told_of was)) u)
+    → IfOk r (λ (was : Attributes). ToldBehind called entered left now x Node k s (answer_of.Attributes (told_of was)) u)
+node_after_ok u x k first (Err refused) b = tt
+node_after_ok u x k first (Ok was) b = node_after first b
 
 pub given_open : {S : Type 0} (called : S → ℕ → ℕ → Call → Outcome → S → Type 0) (entered : S → ℕ → ℕ → Result ℕ EnterRefusal → S → Type 0)
-    (left : S → S → Type 0) (now : ℕ) (s t : S) (x : Reach) (descriptor : Descriptor) → x.descriptor ≡ Some descriptor
+    (left : S → S → Type 0) (now : ℕ) (s t : S) (x : Reach) (k : Known) (descriptor : Descriptor) → x.descriptor ≡ Some descriptor
     → (r : Result Attributes Refused)
     → IfOk r (λ (was : Attributes). x.descriptor ≡ Some descriptor
-    → ToldBehind called entered left now x Node s (answer_of.Attributes (told_of was)) t)
-    → IfOk r (λ (was : Attributes). ToldBehind called entered left now x Node s (answer_of.Attributes (told_of was)) t)
-given_open called entered left now s t x descriptor has (Err refused) b = tt
-given_open called entered left now s t x descriptor has (Ok was) b = b has
+    → ToldBehind called entered left now x Node k s (answer_of.Attributes (told_of was)) t)
+    → IfOk r (λ (was : Attributes). ToldBehind called entered left now x Node k s (answer_of.Attributes (told_of was)) t)
+given_open called entered left now s t x k descriptor has (Err refused) b = tt
+given_open called entered left now s t x k descriptor has (Ok was) b = b has
 
 -- a request that tells nothing of it
 pub tells_nothing : (r : Request) → tells r ≡ false → telling r ≡ Other
@@ -333,30 +394,32 @@ sync_tells_nothing (request.Fsync handle flags) sync = refl
 sync_tells_nothing (request.Fsyncdir handle flags) sync = refl
 sync_tells_nothing r sync = absurd (never (sym sync))
 
-pub as_other : {S : Type 0} (may : S → Ask → Heard → S → Type 0) (x : Reach) (s : S) (it : Said) (t : S) (about : Telling) → about ≡ Other
-    → AskedFor may x Other s it t → AskedFor may x about s it t
-as_other may x s it t about is asked =
-    let P : Telling → Type 0 = λ a. AskedFor may x a s it t in subst P (sym is) asked
+pub as_other : {S : Type 0} (may : S → Ask → Heard → S → Type 0) (x : Reach) (k : Known) (s : S) (it : Said) (t : S) (about : Telling) → about ≡ Other
+    → AskedFor may x Other k s it t → AskedFor may x about k s it t
+as_other may x k s it t about is asked =
+    let P : Telling → Type 0 = λ a. AskedFor may x a k s it t in subst P (sym is) asked
 
 -- a LOOKUP's name
-pub as_lookup : {S : Type 0} (may : S → Ask → Heard → S → Type 0) (x : Reach) (s : S) (it : Said) (t : S) (r : Request)
-    (name : Bor (List ℕ)) → r ≡ request.Lookup name → AskedFor may x (Name name.now) s it t → AskedFor may x (telling r) s it t
-as_lookup may x s it t r name is asked =
-    let P : Request → Type 0 = λ q. AskedFor may x (telling q) s it t in subst P (sym is) asked
+pub as_lookup : {S : Type 0} (may : S → Ask → Heard → S → Type 0) (x : Reach) (k : Known) (s : S) (it : Said) (t : S) (r : Request)
+    (name : Bor (List ℕ)) → r ≡ request.Lookup name → AskedFor may x (Name name.now) k s it t → AskedFor may x (telling r) k s it t
+as_lookup may x k s it t r name is asked =
+    let P : Request → Type 0 = λ q. AskedFor may x (telling q) k s it t in subst P (sym is) asked
 
 -- a name was looked for, and leads to nothing
 pub nothing_there : {S : Type 0} {called : S → ℕ → ℕ → Call → Outcome → S → Type 0}
-    {entered : S → ℕ → ℕ → Result ℕ EnterRefusal → S → Type 0} {left : S → S → Type 0} {now : ℕ}
+    {entered : S → ℕ → ℕ → Result ℕ EnterRefusal → S → Type 0} {left : S → S → Type 0} {now : ℕ} {k : Known}
     {s t : S} (x : Reach) (name : List ℕ) (path : PathFrom) → IsAt x.own name path
-    → LookedAt called entered left now s path None t → AskedFor (MayHear called entered left now) x (Name name) s said.Missing t
-nothing_there x name path at looked = (
+    → LookedAt called entered left now s path None t → AskedFor (MayHear called entered left now) x (Name name) k s said.Missing t
+nothing_there {k = k} x name path at looked = (
   log_of looked,
   leads_of looked,
   record { session = looked.session; path = path; at = at; ends = (refl, refl) },
+  loses_of k looked refl,
 )
 
 -- a sync was asked for, and is done
 pub synced : {S : Type 0} {called : S → ℕ → ℕ → Call → Outcome → S → Type 0} {entered : S → ℕ → ℕ → Result ℕ EnterRefusal → S → Type 0}
-    {left : S → S → Type 0} {now : ℕ} {s t : S} (x : Reach) (h : Heard) → TalkedTo called entered left now s call.Sync h t → IsDone h
-    → AskedFor (MayHear called entered left now) x Other s said.Synced t
-synced x h talked done = (log_of talked, leads_of talked, (talked.session, refl, done))
+    {left : S → S → Type 0} {now : ℕ} {k : Known} {s t : S} (x : Reach) (h : Heard) → TalkedTo called entered left now s call.Sync h t → IsDone h
+    → AskedFor (MayHear called entered left now) x Other k s said.Synced t
+synced {k = k} x h talked done =
+    (log_of talked, leads_of talked, (talked.session, refl, done), loses_of k talked refl)

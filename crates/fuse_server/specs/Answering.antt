@@ -28,7 +28,7 @@ use Rattle.fuse_server.specs.Messages.{opcode_in, unique_in, is_silent}
 abbrev pub IsSaidToRead : {S : Type 0} → (Reach → S → Ask → Heard → S → Type 0) → Known → Known → Result Message MalformedMessage
     → S → Said → S → Type 0
 IsSaidToRead may k l (Ok m) s it t =
-    IsSaidTo l m.request it × AskedFor (may (reach_of k m)) (reach_of k m) (telling m.request) s it t
+    IsSaidTo l m.request it × AskedFor (may (reach_of k m)) (reach_of k m) (telling m.request) l s it t
 IsSaidToRead may k l (Err fault) s it t = (it ≡ said.Plain (answer_of.Refused (By EINVAL))) × (t ≡ s)
 
 -- What may be said to the bytes of a message. Calls name their paths from the message's own nodes, as they are known before it, alone.

@@ -1,5 +1,6 @@
 pub mod Messages
 pub mod Reach
+pub mod Losing
 pub mod Asking
 pub mod Entries
 pub mod Kinds

@@ -1,8 +1,11 @@
 -- What a message may name.
-use Rattle.std.specs.Prelude.{⊤, ◌≡◌, ◌⊎◌, ℕ, List, Option, Some, None, Result, Ok, Err}
+use Rattle.std.specs.Prelude.{⊤, ◌≡◌, ◌⊎◌, ℕ, List, [], Option, Some, None, Result, Ok, Err}
+use Rattle.tree.specs.declared.Attributes.{Attributes}
 use Rattle.tree.specs.declared.Call.{Call}
 use Rattle.tree.specs.declared.Call.TheVariants as call
 use Rattle.tree.specs.declared.Outcome.{Outcome}
+use Rattle.tree.specs.declared.Outcome.TheVariants as outcome
+use Rattle.tree.specs.declared.Reply.TheVariants as reply
 use Rattle.tree.specs.declared.PathFrom.{PathFrom}
 use Rattle.tree.specs.declared.Start.{Start}
 use Rattle.tree.specs.declared.Start.TheVariants.{Root, Inode}
@@ -69,8 +72,24 @@ AsksFrom x (call.Readlink path) = IsNamed x path
 AsksFrom x (call.Lstat path) = IsNamed x path
 AsksFrom x c = ⊤
 
+-- The path is that of an inode itself, of which a look at a path that starts at one of them told in the exchange before.
+pub record WasTold {S : Type 0} (x : Reach) (called : S → ℕ → ℕ → Call → Outcome → S → Type 0) (s : S) (now : ℕ)
+    (path : PathFrom) : Type 0 where
+  pub before : S
+  pub session : ℕ
+  pub looked : PathFrom
+  pub was : Attributes
+  pub named : IsNamed x looked
+  pub answer : called before session now (call.Lstat looked) (outcome.Reply (reply.Inode was)) s
+  pub at : IsAt (Some was.inode) [] path
+
+-- Such an inode may be given an owner.
+abbrev pub GivesTold : {S : Type 0} → Reach → (S → ℕ → ℕ → Call → Outcome → S → Type 0) → S → ℕ → Call → Type 0
+GivesTold x called s now (call.Chown path uid gid) = WasTold x called s now path
+GivesTold x called s now c = ⊥
+
 -- What sessions may answer to such a call.
 pub record CalledFrom {S : Type 0} (x : Reach) (called : S → ℕ → ℕ → Call → Outcome → S → Type 0) (s : S) (session now : ℕ) (asked : Call)
     (answered : Outcome) (t : S) : Type 0 where
-  pub named : AsksFrom x asked
+  pub named : AsksFrom x asked ⊎ GivesTold x called s now asked
   pub answer : called s session now asked answered t

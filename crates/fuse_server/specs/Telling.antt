@@ -6,6 +6,7 @@ use Rattle.fuse.specs.declared.reply.Entry.{Entry}
 use Rattle.fuse.specs.declared.reply.StatfsReply.{StatfsReply}
 use Rattle.fuse.specs.declared.request.Request.{Request}
 use Rattle.fuse.specs.declared.request.Request.TheVariants as request
+use Rattle.fuse_nodes.specs.Known.{Known}
 use Rattle.fuse_nodes.specs.declared.node.Descriptor.{Descriptor}
 use Rattle.tree.specs.declared.Attributes.{Attributes}
 use Rattle.tree.specs.declared.Call.{Call}
@@ -21,6 +22,7 @@ use Rattle.talks.specs.declared.ask.Ask.{Ask}
 use Rattle.talks.specs.declared.heard.Heard.{Heard}
 use Rattle.talks.specs.declared.sessions.EnterRefusal.{EnterRefusal}
 use Rattle.fuse_server.specs.Asking.{EndsWith, LookedAt}
+use Rattle.fuse_server.specs.Losing.{Loses}
 use Rattle.fuse_server.specs.Reach.{IsAt}
 use Rattle.fuse_server.specs.declared.said.FuseAnswer.{FuseAnswer}
 use Rattle.fuse_server.specs.declared.said.FuseAnswer.TheVariants as answer_of
@@ -197,13 +199,14 @@ IsBehind x about (said.Plain a) log = IsToldAs x about a log
 IsBehind x about said.Synced log = EndsInSync log
 IsBehind x about said.Missing log = IsMissingAs x about log
 
--- By exchanges and nothing else sessions come from one state to another, and this is answered behind them.
+-- By exchanges and nothing else sessions come from one state to another, and this is answered behind them, by what is known then.
 pub record ToldBehind {S : Type 0} (called : S → ℕ → ℕ → Call → Outcome → S → Type 0)
     (entered : S → ℕ → ℕ → Result ℕ EnterRefusal → S → Type 0) (left : S → S → Type 0) (now : ℕ)
-    (x : Reach) (about : Telling) (s : S) (a : FuseAnswer) (t : S) : Type 0 where
+    (x : Reach) (about : Telling) (k : Known) (s : S) (a : FuseAnswer) (t : S) : Type 0 where
   pub log : List Exchange
   pub leads : Leads (MayHear called entered left now) s log t
   pub told : IsToldAs x about a log
+  pub loses : Loses k log
 
-abbrev pub AskedFor : {S : Type 0} → (S → Ask → Heard → S → Type 0) → Reach → Telling → S → Said → S → Type 0
-AskedFor may x about s it t = (log : List Exchange) × Leads may s log t × IsBehind x about it log
+abbrev pub AskedFor : {S : Type 0} → (S → Ask → Heard → S → Type 0) → Reach → Telling → Known → S → Said → S → Type 0
+AskedFor may x about k s it t = (log : List Exchange) × Leads may s log t × IsBehind x about it log × Loses k log

@@ -1,9 +1,10 @@
 //! Attributes: what is told of a node, and what is changed.
 #![tactic(auto, using(crate::proofs::Asking::goes_on, crate::proofs::Asking::stays))]
 
-ghost use Rattle.std.specs.Prelude.{◌≡◌, Some, IfOk, IsTrue};
+ghost use Rattle.std.specs.Prelude.{◌≡◌, Some, IfOk, OnErr, IsTrue};
 ghost use Rattle.tree.specs.declared.Call.TheVariants as call;
 ghost use Rattle.tree.specs.declared.Reply.TheVariants as reply;
+ghost use Rattle.fuse_nodes.specs.Known.{Known, known_of};
 ghost use Rattle.fuse_server.specs.Asking.{Talked, TalkedFor};
 ghost use Rattle.fuse_server.specs.Kinds.{is_attributes, is_bytes, is_room};
 ghost use Rattle.fuse_server.specs.Reach.{CalledFrom, IsNamed};
@@ -96,7 +97,7 @@ impl Seats {
             let Some((change, more)) = left.split_first() else {
                 return Ok(());
             };
-            self.ask_done(sessions, work, change.call(path))?;
+            self.ask_done(sessions, work, &change.call(path))?;
             left = more;
         }
         Ok(())
@@ -108,7 +109,7 @@ impl Seats {
         ensures seen { IfOk result (λ room. TalkedFor (CalledFrom work.reach S.called) S.entered S.left work.now sessions.old call.Statfs
             (reply.Space room) sessions.new) }
     {
-        let heard = self.ask(sessions, work, Call::Statfs)?;
+        let heard = self.ask(sessions, work, &Call::Statfs)?;
         heard.space()
     }
 
@@ -124,7 +125,7 @@ impl Seats {
         ensures seen { IfOk result (λ target. TalkedFor (CalledFrom work.reach S.called) S.entered S.left work.now sessions.old
             (call.Readlink path.entry) (reply.Target target) sessions.new) }
     {
-        let heard = self.ask(sessions, work, Call::Readlink { path })?;
+        let heard = self.ask(sessions, work, &Call::Readlink { path })?;
         heard.target()
     }
 }
@@ -136,12 +137,12 @@ fn attributes_open<S: Sessions>(
     descriptor: Descriptor,
 ) -> Result<Attributes, Refused>
     ensures asked { Talked (CalledFrom work.reach S.called) S.entered S.left work.now sessions.old sessions.new }
-    ensures behind { IfOk result (λ was. work.reach.descriptor ≡ Some descriptor
-        → ToldBehind (CalledFrom work.reach S.called) S.entered S.left work.now work.reach Node sessions.old (answer.Attributes (told_of
+    ensures behind { (k : Known) → IfOk result (λ was. work.reach.descriptor ≡ Some descriptor
+        → ToldBehind (CalledFrom work.reach S.called) S.entered S.left work.now work.reach Node k sessions.old (answer.Attributes (told_of
         was)) sessions.new) }
 {
     let call = Call::Fstat { fd: descriptor.fd };
-    let heard = calling(sessions, work, descriptor.session, call);
+    let heard = calling(sessions, work, descriptor.session, &call);
     heard.attributes()
 }
 
@@ -153,8 +154,8 @@ impl Seats {
         work: Work,
     ) -> Result<Attributes, Refused>
         ensures asked { Talked (CalledFrom work.reach S.called) S.entered S.left work.now sessions.old sessions.new }
-        ensures behind { IfOk result (λ was. ToldBehind (CalledFrom work.reach S.called) S.entered S.left work.now work.reach Node
-            sessions.old (answer.Attributes (told_of was)) sessions.new) }
+        ensures behind { (k : Known) → IfOk result (λ was. ToldBehind (CalledFrom work.reach S.called) S.entered S.left work.now work.reach
+            Node k sessions.old (answer.Attributes (told_of was)) sessions.new) }
     {
         if let Some(descriptor) = work.reach.descriptor {
             return attributes_open(sessions, work, descriptor);
@@ -171,8 +172,8 @@ impl Seats {
         changes: Changes,
     ) -> Result<Attributes, Refused>
         ensures asked { Talked (CalledFrom work.reach S.called) S.entered S.left work.now sessions.old sessions.new }
-        ensures behind { IfOk result (λ was. ToldBehind (CalledFrom work.reach S.called) S.entered S.left work.now work.reach Node
-            sessions.old (answer.Attributes (told_of was)) sessions.new) }
+        ensures behind { (k : Known) → IfOk result (λ was. ToldBehind (CalledFrom work.reach S.called) S.entered S.left work.now work.reach
+            Node k sessions.old (answer.Attributes (told_of was)) sessions.new) }
     {
         let path = work.reach.node()?;
         self.change(sessions, work, path, changes)?;
@@ -187,10 +188,10 @@ impl Mount {
         sessions: &mut S,
         work: Work,
     ) -> Result<FuseAnswer, Refused>
-        ensures asked { Talked (CalledFrom work.reach S.called) S.entered S.left work.now sessions.old sessions.new }
+        ensures asked { OnErr result (Talked (CalledFrom work.reach S.called) S.entered S.left work.now sessions.old sessions.new) }
         ensures told { IfOk result (λ a. IsTrue (is_attributes a)) }
         ensures behind { IfOk result (λ a. ToldBehind (CalledFrom work.reach S.called) S.entered S.left work.now work.reach Node
-            sessions.old a sessions.new) }
+            (known_of self.new.nodes) sessions.old a sessions.new) }
     {
         let attributes = self.seats.attributes(sessions, work)?;
         Ok(answer_of(&attributes))
@@ -203,10 +204,10 @@ impl Mount {
         work: Work,
         wanted: &Wanted,
     ) -> Result<FuseAnswer, Refused>
-        ensures asked { Talked (CalledFrom work.reach S.called) S.entered S.left work.now sessions.old sessions.new }
+        ensures asked { OnErr result (Talked (CalledFrom work.reach S.called) S.entered S.left work.now sessions.old sessions.new) }
         ensures told { IfOk result (λ a. IsTrue (is_attributes a)) }
         ensures behind { IfOk result (λ a. ToldBehind (CalledFrom work.reach S.called) S.entered S.left work.now work.reach Node
-            sessions.old a sessions.new) }
+            (known_of self.new.nodes) sessions.old a sessions.new) }
     {
         let was = self.seats.attributes(sessions, work)?;
         check_link(wanted, &was)?;
@@ -221,10 +222,10 @@ impl Mount {
         sessions: &mut S,
         work: Work,
     ) -> Result<FuseAnswer, Refused>
-        ensures asked { Talked (CalledFrom work.reach S.called) S.entered S.left work.now sessions.old sessions.new }
+        ensures asked { OnErr result (Talked (CalledFrom work.reach S.called) S.entered S.left work.now sessions.old sessions.new) }
         ensures told { IfOk result (λ a. IsTrue (is_bytes a)) }
         ensures behind { IfOk result (λ a. ToldBehind (CalledFrom work.reach S.called) S.entered S.left work.now work.reach Target
-            sessions.old a sessions.new) }
+            (known_of self.new.nodes) sessions.old a sessions.new) }
     {
         let path = work.reach.node()?;
         let target = self.seats.target(sessions, work, path)?;
@@ -238,10 +239,10 @@ impl Mount {
         sessions: &mut S,
         work: Work,
     ) -> Result<FuseAnswer, Refused>
-        ensures asked { Talked (CalledFrom work.reach S.called) S.entered S.left work.now sessions.old sessions.new }
+        ensures asked { OnErr result (Talked (CalledFrom work.reach S.called) S.entered S.left work.now sessions.old sessions.new) }
         ensures told { IfOk result (λ a. IsTrue (is_room a)) }
         ensures behind { IfOk result (λ a. ToldBehind (CalledFrom work.reach S.called) S.entered S.left work.now work.reach Room
-            sessions.old a sessions.new) }
+            (known_of self.new.nodes) sessions.old a sessions.new) }
     {
         let room = self.seats.space(sessions, work)?;
         Ok(FuseAnswer::Statfs(room_of(&room)))

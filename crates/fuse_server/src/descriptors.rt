@@ -40,7 +40,7 @@ pub(crate) fn close<S: Sessions>(sessions: &mut S, work: Work, descriptor: Descr
     ensures { Talked (CalledFrom work.reach S.called) S.entered S.left work.now sessions.old sessions.new }
 {
     let call = Call::Close { fd: descriptor.fd };
-    let _ = calling(sessions, work, descriptor.session, call);
+    let _ = calling(sessions, work, descriptor.session, &call);
 }
 
 /// Opens a path by a session.
@@ -58,7 +58,7 @@ fn open_by<S: Sessions>(
         flags: OpenFlags::from_bits_retain(opening.flags),
         mode: opening.mode,
     };
-    let fd = calling(sessions, work, session, call).descriptor()?;
+    let fd = calling(sessions, work, session, &call).descriptor()?;
     Ok(Descriptor { session, fd })
 }
 

@@ -3,6 +3,7 @@
 
 ghost use Rattle.std.specs.Prelude.{◌≡◌, ◌≤◌, ℕ, IfOk, IsTrue, length};
 ghost use Rattle.talks.specs.Talks.{MayHear};
+ghost use Rattle.fuse_nodes.specs.Known.{known_of};
 ghost use Rattle.fuse_server.specs.Asking.{Talked};
 ghost use Rattle.fuse_server.specs.Reach.{CalledFrom};
 ghost use Rattle.fuse_server.specs.Telling.{AskedFor};
@@ -63,7 +64,7 @@ fn seek<S: Sessions>(
         whence: Whence::Set,
         offset,
     };
-    calling(sessions, work, descriptor.session, call).at()?;
+    calling(sessions, work, descriptor.session, &call).at()?;
     Ok(())
 }
 
@@ -82,7 +83,7 @@ fn read_at<S: Sessions>(
         fd: descriptor.fd,
         count,
     };
-    calling(sessions, work, descriptor.session, call).bytes()
+    calling(sessions, work, descriptor.session, &call).bytes()
 }
 
 /// Writes at a position: how many bytes were written.
@@ -100,7 +101,7 @@ fn write_at<S: Sessions>(
         fd: descriptor.fd,
         bytes,
     };
-    calling(sessions, work, descriptor.session, call).wrote()
+    calling(sessions, work, descriptor.session, &call).wrote()
 }
 
 impl Mount {
@@ -200,11 +201,11 @@ impl Mount {
 
     /// FSYNC and FSYNCDIR: all that was written reaches the disk.
     pub(crate) fn sync<S: Sessions>(&mut self, sessions: &mut S, work: Work) -> Said
-        ensures asked { AskedFor (MayHear (CalledFrom work.reach S.called) S.entered S.left work.now) work.reach Other sessions.old result
-            sessions.new }
+        ensures asked { AskedFor (MayHear (CalledFrom work.reach S.called) S.entered S.left work.now) work.reach Other (known_of
+            self.new.nodes) sessions.old result sessions.new }
         ensures sync { IsOfSync result }
     {
-        let heard = match self.seats.ask(sessions, work, Call::Sync) {
+        let heard = match self.seats.ask(sessions, work, &Call::Sync) {
             Ok(heard) => heard,
             Err(refused) => return Said::Plain(FuseAnswer::Refused(refused)),
         };

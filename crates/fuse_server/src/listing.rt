@@ -116,7 +116,7 @@ impl Mount {
         };
         let descriptor = self.open_path(sessions, work, opening, 0)?;
         let call = Call::Readdir { fd: descriptor.fd };
-        let names = calling(sessions, work, descriptor.session, call).names();
+        let names = calling(sessions, work, descriptor.session, &call).names();
         close(sessions, work, descriptor);
         names
     }

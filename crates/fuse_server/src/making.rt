@@ -1,7 +1,7 @@
 //! Files, directories and symbolic links that are made.
 #![tactic(auto, using(crate::proofs::Asking::goes_on, crate::proofs::Asking::stays))]
 
-ghost use Rattle.std.specs.Prelude.{◌≡◌, Some, IfOk};
+ghost use Rattle.std.specs.Prelude.{◌≡◌, Some, IfOk, OnErr};
 ghost use Rattle.fuse_server.specs.Asking.{Talked, LookedAt};
 ghost use Rattle.fuse_nodes.specs.Known.{known_of};
 ghost use Rattle.fuse_server.specs.Entries.{IsKnown};
@@ -13,17 +13,18 @@ ghost use Rattle.fuse_server.specs.Telling.Telling.{Name};
 use crate::descriptors::{NEW, Opening, close};
 use crate::mount::Mount;
 use crate::said::FuseAnswer;
-use crate::talk::Seats;
+use crate::talk::{Seats, calling};
 use crate::told::{entry_of, kind_of, opened_file};
 use crate::work::Work;
 use errno::Errno;
 use fuse::reply::{Entry, Opened};
 use fuse::request::Message;
 use fuse_nodes::node::Descriptor;
+use talks::ask::Ask;
 use talks::flags::mode_of;
 use talks::refused::Refused;
-use talks::sessions::Sessions;
-use tree::{Attributes, Call, PathFrom};
+use talks::sessions::{Sessions, heard};
+use tree::{Attributes, Call, PathFrom, Start};
 
 /// The type of a file in a mode, above the twelve lowest bits; 0 means it, too.
 const FILE: u32 = 0o10;
@@ -57,6 +58,29 @@ fn is_file(mode: u32) -> bool {
     kind == FILE || kind == 0
 }
 
+/// What a path names itself, be it a link, becomes an owner's: a look tells its inode, at which the change of owners starts, since a path
+/// that ends in a link leads further.
+fn give_itself<S: Sessions>(
+    sessions: &mut S,
+    work: Work,
+    session: u8,
+    path: PathFrom<'_>,
+    owner: Owner,
+) -> Result<(), Refused>
+    requires { IsNamed work.reach path }
+    ensures { Talked (CalledFrom work.reach S.called) S.entered S.left work.now sessions.old sessions.new }
+{
+    let looked = calling(sessions, work, session, &Call::Lstat { path });
+    let attributes = looked.attributes()?;
+    let Owner { uid, gid } = owner;
+    let path = PathFrom {
+        start: Start::Inode(attributes.inode),
+        bytes: b"",
+    };
+    let call = Call::Chown { path, uid, gid };
+    heard(sessions, work.now, &Ask::Call { session, call }).done()
+}
+
 impl Seats {
     /// What was made becomes the asker's.
     fn give<S: Sessions>(
@@ -70,7 +94,22 @@ impl Seats {
         ensures { Talked (CalledFrom work.reach S.called) S.entered S.left work.now sessions.old sessions.new }
     {
         let Owner { uid, gid } = owner;
-        self.ask_done(sessions, work, Call::Chown { path, uid, gid })
+        self.ask_done(sessions, work, &Call::Chown { path, uid, gid })
+    }
+
+    /// A link that was made becomes the asker's.
+    fn give_link<S: Sessions>(
+        &mut self,
+        sessions: &mut S,
+        work: Work,
+        path: PathFrom<'_>,
+        owner: Owner,
+    ) -> Result<(), Refused>
+        requires { IsNamed work.reach path }
+        ensures { Talked (CalledFrom work.reach S.called) S.entered S.left work.now sessions.old sessions.new }
+    {
+        let session = self.session(sessions, work, 0)?;
+        give_itself(sessions, work, session, path, owner)
     }
 
     /// A file that was made becomes the asker's: its attributes.
@@ -138,10 +177,10 @@ impl Mount {
         name: &[u8],
         mode: u32,
     ) -> Result<FuseAnswer, Refused>
-        ensures asked { Talked (CalledFrom work.reach S.called) S.entered S.left work.now sessions.old sessions.new }
+        ensures asked { OnErr result (Talked (CalledFrom work.reach S.called) S.entered S.left work.now sessions.old sessions.new) }
         ensures told { IfOk result (IsEntry (known_of self.new.nodes)) }
         ensures behind { IfOk result (λ a. ToldBehind (CalledFrom work.reach S.called) S.entered S.left work.now work.reach (Name name.now)
-            sessions.old a sessions.new) }
+            (known_of self.new.nodes) sessions.old a sessions.new) }
     {
         if !is_file(mode) {
             return Err(Refused::By(Errno::EPERM));
@@ -163,37 +202,57 @@ impl Mount {
         name: &[u8],
         mode: u32,
     ) -> Result<FuseAnswer, Refused>
-        ensures asked { Talked (CalledFrom work.reach S.called) S.entered S.left work.now sessions.old sessions.new }
+        ensures asked { OnErr result (Talked (CalledFrom work.reach S.called) S.entered S.left work.now sessions.old sessions.new) }
         ensures told { IfOk result (IsEntry (known_of self.new.nodes)) }
         ensures behind { IfOk result (λ a. ToldBehind (CalledFrom work.reach S.called) S.entered S.left work.now work.reach (Name name.now)
-            sessions.old a sessions.new) }
+            (known_of self.new.nodes) sessions.old a sessions.new) }
     {
         let owner = owner_of(message)?;
         let path = work.reach.below(name)?;
         let mode = mode_of(mode);
         self.seats
-            .ask_done(sessions, work, Call::Mkdir { path, mode })?;
+            .ask_done(sessions, work, &Call::Mkdir { path, mode })?;
         let entry = self.tell_made(sessions, work, path, owner)?;
         Ok(FuseAnswer::Entry(entry))
     }
 
-    /// SYMLINK: a symbolic link is made. It stays user 0's, since a change of owners by its name goes to what it leads to.
+    /// A link was made, becomes the asker's, and the kernel is told of it.
+    fn tell_link<S: Sessions>(
+        &mut self,
+        sessions: &mut S,
+        work: Work,
+        path: PathFrom<'_>,
+        owner: Owner,
+    ) -> Result<Entry, Refused>
+        requires { IsNamed work.reach path }
+        ensures asked { Talked (CalledFrom work.reach S.called) S.entered S.left work.now sessions.old sessions.new }
+        ensures told { IfOk result (IsKnown (known_of self.new.nodes)) }
+        ensures shown { IfOk result (λ entry. ShownAt (CalledFrom work.reach S.called) S.entered S.left work.now sessions.old path.entry
+            entry.attributes sessions.new) }
+    {
+        self.seats.give_link(sessions, work, path, owner)?;
+        self.tell(sessions, work, path)
+    }
+
+    /// SYMLINK: a symbolic link is made.
     pub(crate) fn symlink<S: Sessions>(
         &mut self,
         sessions: &mut S,
         work: Work,
+        message: &Message<'_>,
         name: &[u8],
         target: &[u8],
     ) -> Result<FuseAnswer, Refused>
-        ensures asked { Talked (CalledFrom work.reach S.called) S.entered S.left work.now sessions.old sessions.new }
+        ensures asked { OnErr result (Talked (CalledFrom work.reach S.called) S.entered S.left work.now sessions.old sessions.new) }
         ensures told { IfOk result (IsEntry (known_of self.new.nodes)) }
         ensures behind { IfOk result (λ a. ToldBehind (CalledFrom work.reach S.called) S.entered S.left work.now work.reach (Name name.now)
-            sessions.old a sessions.new) }
+            (known_of self.new.nodes) sessions.old a sessions.new) }
     {
+        let owner = owner_of(message)?;
         let path = work.reach.below(name)?;
         self.seats
-            .ask_done(sessions, work, Call::Symlink { target, path })?;
-        let entry = self.tell(sessions, work, path)?;
+            .ask_done(sessions, work, &Call::Symlink { target, path })?;
+        let entry = self.tell_link(sessions, work, path, owner)?;
         Ok(FuseAnswer::Entry(entry))
     }
 
@@ -248,10 +307,10 @@ impl Mount {
         name: &[u8],
         mode: u32,
     ) -> Result<FuseAnswer, Refused>
-        ensures asked { Talked (CalledFrom work.reach S.called) S.entered S.left work.now sessions.old sessions.new }
+        ensures asked { OnErr result (Talked (CalledFrom work.reach S.called) S.entered S.left work.now sessions.old sessions.new) }
         ensures told { IfOk result (IsCreate (known_of self.new.nodes)) }
         ensures behind { IfOk result (λ a. ToldBehind (CalledFrom work.reach S.called) S.entered S.left work.now work.reach (Name name.now)
-            sessions.old a sessions.new) }
+            (known_of self.new.nodes) sessions.old a sessions.new) }
     {
         let owner = owner_of(message)?;
         let path = work.reach.below(name)?;

@@ -1,11 +1,13 @@
 //! Names: where they lead, further ones, changed ones, and ones that are taken away.
 #![tactic(auto, using(crate::proofs::Asking::goes_on, crate::proofs::Asking::stays))]
 
-ghost use Rattle.std.specs.Prelude.{◌≡◌, ℕ, List, IfOk, OnOk, IfSome, IsTrue};
+ghost use Rattle.std.specs.Prelude.{◌≡◌, ◌⊎◌, ℕ, List, IfOk, OnErr, IfSome, IsTrue};
 ghost use Rattle.tree.specs.declared.Call.TheVariants as call;
 ghost use Rattle.tree.specs.declared.Reply.TheVariants as reply;
 ghost use Rattle.talks.specs.Talks.{MayHear};
-ghost use Rattle.fuse_server.specs.Asking.{Talked, TalkedFor};
+ghost use Rattle.fuse_nodes.specs.Laws.{IsLost};
+ghost use Rattle.fuse_server.specs.Asking.{look_reply, LookedBefore, Talked, TalkedLooking};
+ghost use Rattle.fuse_server.specs.Losing.{is_last};
 ghost use Rattle.fuse_nodes.specs.Known.{known_of};
 ghost use Rattle.fuse_server.specs.Entries.{IsKnown, KeepsNumbers};
 ghost use Rattle.fuse_server.specs.Kinds.{is_done, IsEntry, IsOfLookup};
@@ -16,11 +18,10 @@ ghost use Rattle.fuse_server.specs.Telling.Telling.{Name, Unlinked, Removed, Ren
 use crate::mount::Mount;
 use crate::said::{FuseAnswer, Said};
 use crate::talk::Seats;
-use crate::told::{entry_of, kind_of};
+use crate::told::{entry_of, is_directory, kind_of};
 use crate::work::Work;
 use errno::Errno;
 use fuse::reply::Entry;
-use fuse_nodes::node::NodeKind;
 use fuse_nodes::nodes::Nodes;
 use talks::refused::Refused;
 use talks::sessions::Sessions;
@@ -30,28 +31,30 @@ use tree::{Attributes, Call, PathFrom};
 const NO_REPLACE: u32 = 1;
 
 /// Whether the name that is taken away is the last one of what has these attributes.
-fn is_last(attributes: &Attributes) -> bool {
-    attributes.links < 2 || kind_of(attributes.mode) == NodeKind::Directory
+fn is_last(attributes: &Attributes) -> bool
+    ensures { result ≡ is_last attributes.now }
+{
+    attributes.links < 2 || is_directory(attributes.mode)
 }
 
 impl Seats {
-    /// Asks for a rename: the inode that has the new name now, unless it had both.
+    /// Asks for a rename: the attributes, before it, of what has the new name now, unless it had both.
     fn rename_path<S: Sessions>(
         &mut self,
         sessions: &mut S,
         work: Work,
         old: PathFrom<'_>,
         new: PathFrom<'_>,
-    ) -> Result<u16, Refused>
+    ) -> Result<Attributes, Refused>
         requires old { IsNamed work.reach old }
         requires new { IsNamed work.reach new }
-        ensures asked { Talked (CalledFrom work.reach S.called) S.entered S.left work.now sessions.old sessions.new }
-        ensures done { OnOk result (TalkedFor (CalledFrom work.reach S.called) S.entered S.left work.now sessions.old (call.Rename
-            old.entry new.entry) reply.Done sessions.new) }
+        ensures asked { OnErr result (Talked (CalledFrom work.reach S.called) S.entered S.left work.now sessions.old sessions.new) }
+        ensures done { IfOk result (λ was. LookedBefore (CalledFrom work.reach S.called) S.entered S.left work.now sessions.old old.entry
+            (reply.Inode was) (call.Rename old.entry new.entry) sessions.new) }
     {
-        let inode = self.look(sessions, work, old)?.inode;
-        self.ask_done(sessions, work, Call::Rename { old, new })?;
-        Ok(inode)
+        let was = self.look(sessions, work, old)?;
+        self.take(sessions, work, &Call::Rename { old, new })?;
+        Ok(was)
     }
 }
 
@@ -126,7 +129,8 @@ impl Mount {
     fn lookup_at<S: Sessions>(&mut self, sessions: &mut S, work: Work, path: PathFrom<'_>) -> Said
         requires { IsNamed work.reach path }
         ensures asked { (name : List ℕ) → IsAt work.reach.own name path.entry
-            → AskedFor (MayHear (CalledFrom work.reach S.called) S.entered S.left work.now) work.reach (Name name) sessions.old result
+            → AskedFor (MayHear (CalledFrom work.reach S.called) S.entered S.left work.now) work.reach (Name name) (known_of self.new.nodes)
+            sessions.old result
             sessions.new }
         ensures told { IsOfLookup (known_of self.new.nodes) result }
     {
@@ -140,7 +144,7 @@ impl Mount {
     /// LOOKUP.
     pub(crate) fn lookup<S: Sessions>(&mut self, sessions: &mut S, work: Work, name: &[u8]) -> Said
         ensures asked { AskedFor (MayHear (CalledFrom work.reach S.called) S.entered S.left work.now) work.reach (Name name.now)
-            sessions.old result sessions.new }
+            (known_of self.new.nodes) sessions.old result sessions.new }
         ensures told { IsOfLookup (known_of self.new.nodes) result }
     {
         match work.reach.below(name) {
@@ -156,15 +160,15 @@ impl Mount {
         work: Work,
         name: &[u8],
     ) -> Result<FuseAnswer, Refused>
-        ensures asked { Talked (CalledFrom work.reach S.called) S.entered S.left work.now sessions.old sessions.new }
+        ensures asked { OnErr result (Talked (CalledFrom work.reach S.called) S.entered S.left work.now sessions.old sessions.new) }
         ensures told { IfOk result (IsEntry (known_of self.new.nodes)) }
         ensures behind { IfOk result (λ a. ToldBehind (CalledFrom work.reach S.called) S.entered S.left work.now work.reach (Name name.now)
-            sessions.old a sessions.new) }
+            (known_of self.new.nodes) sessions.old a sessions.new) }
     {
         let old = work.reach.other()?;
         let new = work.reach.below(name)?;
         self.seats
-            .ask_done(sessions, work, Call::Link { old, new })?;
+            .ask_done(sessions, work, &Call::Link { old, new })?;
         let entry = self.tell(sessions, work, new)?;
         Ok(FuseAnswer::Entry(entry))
     }
@@ -176,21 +180,23 @@ impl Mount {
         work: Work,
         name: &[u8],
     ) -> Result<FuseAnswer, Refused>
-        ensures asked { Talked (CalledFrom work.reach S.called) S.entered S.left work.now sessions.old sessions.new }
+        ensures asked { OnErr result (Talked (CalledFrom work.reach S.called) S.entered S.left work.now sessions.old sessions.new) }
         ensures told { IfOk result (λ a. IsTrue (is_done a)) }
         ensures behind { IfOk result (λ a. ToldBehind (CalledFrom work.reach S.called) S.entered S.left work.now work.reach (Unlinked
-            name.now) sessions.old a sessions.new) }
+            name.now) (known_of self.new.nodes) sessions.old a sessions.new) }
     {
         let path = work.reach.below(name)?;
         let was = self.seats.look(sessions, work, path)?;
         self.hold(sessions, work, path, was.inode)?;
-        self.seats.ask_done(sessions, work, Call::Unlink { path })?;
+        self.seats.take(sessions, work, &Call::Unlink { path })?;
         self.lose(&was);
         Ok(FuseAnswer::Done)
     }
 
     /// A name was taken from what has these attributes.
-    fn lose(&mut self, was: &Attributes) {
+    fn lose(&mut self, was: &Attributes)
+        ensures { IsTrue (is_last was.now) → IsLost (known_of self.new.nodes) was.now.inode }
+    {
         if is_last(was) {
             self.nodes.lost(was.inode);
         }
@@ -203,14 +209,14 @@ impl Mount {
         work: Work,
         name: &[u8],
     ) -> Result<FuseAnswer, Refused>
-        ensures asked { Talked (CalledFrom work.reach S.called) S.entered S.left work.now sessions.old sessions.new }
+        ensures asked { OnErr result (Talked (CalledFrom work.reach S.called) S.entered S.left work.now sessions.old sessions.new) }
         ensures told { IfOk result (λ a. IsTrue (is_done a)) }
         ensures behind { IfOk result (λ a. ToldBehind (CalledFrom work.reach S.called) S.entered S.left work.now work.reach (Removed
-            name.now) sessions.old a sessions.new) }
+            name.now) (known_of self.new.nodes) sessions.old a sessions.new) }
     {
         let path = work.reach.below(name)?;
         let was = self.seats.look(sessions, work, path)?;
-        self.seats.ask_done(sessions, work, Call::Rmdir { path })?;
+        self.seats.take(sessions, work, &Call::Rmdir { path })?;
         self.nodes.lost(was.inode);
         Ok(FuseAnswer::Done)
     }
@@ -224,7 +230,9 @@ impl Mount {
         flags: u32,
     ) -> Result<Option<Attributes>, Refused>
         requires { IsNamed work.reach path }
-        ensures { Talked (CalledFrom work.reach S.called) S.entered S.left work.now sessions.old sessions.new }
+        ensures asked { Talked (CalledFrom work.reach S.called) S.entered S.left work.now sessions.old sessions.new }
+        ensures seen { IfOk result (λ found. TalkedLooking (CalledFrom work.reach S.called) S.entered S.left work.now sessions.old
+            path.entry (look_reply found) sessions.new) }
     {
         let Some(attributes) = self.seats.look_for(sessions, work, path)? else {
             return Ok(None);
@@ -237,7 +245,9 @@ impl Mount {
     }
 
     /// A name became another one of this inode. What it replaced lost it, unless both were names of one file: then nothing was changed.
-    fn moved(&mut self, inode: u16, replaced: Option<Attributes>) {
+    fn moved(&mut self, inode: u16, replaced: Option<Attributes>)
+        ensures { IfSome replaced (λ was. IsTrue (is_last was) → (was.inode ≡ inode) ⊎ IsLost (known_of self.new.nodes) was.inode) }
+    {
         if let Some(attributes) = replaced {
             if attributes.inode != inode {
                 self.lose(&attributes);
@@ -254,10 +264,10 @@ impl Mount {
         to: &[u8],
         flags: u32,
     ) -> Result<FuseAnswer, Refused>
-        ensures asked { Talked (CalledFrom work.reach S.called) S.entered S.left work.now sessions.old sessions.new }
+        ensures asked { OnErr result (Talked (CalledFrom work.reach S.called) S.entered S.left work.now sessions.old sessions.new) }
         ensures told { IfOk result (λ a. IsTrue (is_done a)) }
         ensures behind { IfOk result (λ a. ToldBehind (CalledFrom work.reach S.called) S.entered S.left work.now work.reach (Renamed
-            from.now to.now) sessions.old a sessions.new) }
+            from.now to.now) (known_of self.new.nodes) sessions.old a sessions.new) }
     {
         if flags > NO_REPLACE {
             return Err(Refused::By(Errno::EINVAL));
@@ -265,8 +275,8 @@ impl Mount {
         let old = work.reach.below(from)?;
         let new = work.reach.below_other(to)?;
         let replaced = self.replaced(sessions, work, new, flags)?;
-        let inode = self.seats.rename_path(sessions, work, old, new)?;
-        self.moved(inode, replaced);
+        let moved = self.seats.rename_path(sessions, work, old, new)?;
+        self.moved(moved.inode, replaced);
         Ok(FuseAnswer::Done)
     }
 }

@@ -1,7 +1,7 @@
 //! How each message is answered.
 #![tactic(auto, using(crate::proofs::Asking::goes_on, crate::proofs::Asking::stays))]
 
-ghost use Rattle.std.specs.Prelude.{◌≡◌, IfOk, IsTrue};
+ghost use Rattle.std.specs.Prelude.{◌≡◌, IfOk, OnErr, IsTrue};
 ghost use Rattle.fuse_nodes.specs.Known.{known_of};
 ghost use Rattle.talks.specs.Talks.{MayHear};
 ghost use Rattle.fuse_server.specs.Asking.{Talked};
@@ -101,10 +101,10 @@ impl Mount {
         work: Work,
         message: &Message<'_>,
     ) -> Result<FuseAnswer, Refused>
-        ensures asked { Talked (CalledFrom work.reach S.called) S.entered S.left work.now sessions.old sessions.new }
+        ensures asked { OnErr result (Talked (CalledFrom work.reach S.called) S.entered S.left work.now sessions.old sessions.new) }
         ensures told { IfOk result (IsFor (known_of self.new.nodes) message.now.request) }
         ensures behind { IfOk result (λ a. ToldBehind (CalledFrom work.reach S.called) S.entered S.left work.now work.reach (telling
-            message.now.request) sessions.old a sessions.new) }
+            message.now.request) (known_of self.new.nodes) sessions.old a sessions.new) }
     {
         match message.request {
             Request::Unlink { name } => self.unlink(sessions, work, name),
@@ -132,16 +132,18 @@ impl Mount {
         work: Work,
         message: &Message<'_>,
     ) -> Result<FuseAnswer, Refused>
-        ensures asked { Talked (CalledFrom work.reach S.called) S.entered S.left work.now sessions.old sessions.new }
+        ensures asked { OnErr result (Talked (CalledFrom work.reach S.called) S.entered S.left work.now sessions.old sessions.new) }
         ensures told { IfOk result (IsFor (known_of self.new.nodes) message.now.request) }
         ensures behind { IfOk result (λ a. ToldBehind (CalledFrom work.reach S.called) S.entered S.left work.now work.reach (telling
-            message.now.request) sessions.old a sessions.new) }
+            message.now.request) (known_of self.new.nodes) sessions.old a sessions.new) }
     {
         match message.request {
             Request::Mknod { mode, name, .. } => self.mknod(sessions, work, message, name, mode),
             Request::Mkdir { mode, name, .. } => self.mkdir(sessions, work, message, name, mode),
             Request::Create { mode, name, .. } => self.create(sessions, work, message, name, mode),
-            Request::Symlink { name, target } => self.symlink(sessions, work, name, target),
+            Request::Symlink { name, target } => self.symlink(
+                sessions, work, message, name, target,
+            ),
             _ => self.on_names(sessions, work, message),
         }
     }
@@ -153,10 +155,10 @@ impl Mount {
         work: Work,
         message: &Message<'_>,
     ) -> Result<FuseAnswer, Refused>
-        ensures asked { Talked (CalledFrom work.reach S.called) S.entered S.left work.now sessions.old sessions.new }
+        ensures asked { OnErr result (Talked (CalledFrom work.reach S.called) S.entered S.left work.now sessions.old sessions.new) }
         ensures told { IfOk result (IsFor (known_of self.new.nodes) message.now.request) }
         ensures behind { IfOk result (λ a. ToldBehind (CalledFrom work.reach S.called) S.entered S.left work.now work.reach (telling
-            message.now.request) sessions.old a sessions.new) }
+            message.now.request) (known_of self.new.nodes) sessions.old a sessions.new) }
     {
         match message.request {
             Request::Getattr { .. } => self.getattr(sessions, work),
@@ -232,7 +234,7 @@ impl Mount {
         message: &Message<'_>,
     ) -> FuseAnswer
         ensures behind { ToldBehind (CalledFrom work.reach S.called) S.entered S.left work.now work.reach (telling message.now.request)
-            sessions.old result sessions.new }
+            (known_of self.new.nodes) sessions.old result sessions.new }
         ensures told { IsFor (known_of self.new.nodes) message.now.request result }
     {
         match self.on_nodes(sessions, work, message) {
@@ -249,7 +251,7 @@ impl Mount {
         message: &Message<'_>,
     ) -> Said
         ensures asked { AskedFor (MayHear (CalledFrom work.reach S.called) S.entered S.left work.now) work.reach (telling
-            message.now.request) sessions.old result sessions.new }
+            message.now.request) (known_of self.new.nodes) sessions.old result sessions.new }
         ensures told { IsSaidTo (known_of self.new.nodes) message.now.request result }
     {
         match message.request {
@@ -278,7 +280,7 @@ impl Mount {
     /// What is said to a message that is no sync.
     fn said_of<S: Sessions>(&mut self, sessions: &mut S, work: Work, message: &Message<'_>) -> Said
         ensures asked { AskedFor (MayHear (CalledFrom work.reach S.called) S.entered S.left work.now) work.reach (telling
-            message.now.request) sessions.old result sessions.new }
+            message.now.request) (known_of self.new.nodes) sessions.old result sessions.new }
         ensures told { IsSaidTo (known_of self.new.nodes) message.now.request result }
     {
         if tells(&message.request) {
@@ -290,7 +292,7 @@ impl Mount {
     /// What is said to a message.
     fn said_by<S: Sessions>(&mut self, sessions: &mut S, work: Work, message: &Message<'_>) -> Said
         ensures asked { AskedFor (MayHear (CalledFrom work.reach S.called) S.entered S.left work.now) work.reach (telling
-            message.now.request) sessions.old result sessions.new }
+            message.now.request) (known_of self.new.nodes) sessions.old result sessions.new }
         ensures told { IsSaidTo (known_of self.new.nodes) message.now.request result }
     {
         if asks_sync(&message.request) {

@@ -1,10 +1,13 @@
 //! Calls by the sessions of user 0, by whom all calls are made: the kernel has looked at who may do what.
 #![tactic(auto, using(crate::proofs::Asking::goes_on, crate::proofs::Asking::stays))]
 
-ghost use Rattle.std.specs.Prelude.{Some, IfOk, OnOk};
+ghost use Rattle.std.specs.Prelude.{◌≡◌, false, Some, IfOk, OnOk, OnErr};
 ghost use Rattle.tree.specs.declared.Reply.TheVariants as reply;
+ghost use Rattle.tree.specs.declared.Outcome.TheVariants as outcome;
 ghost use Rattle.talks.specs.Talks.{MayHear};
 ghost use Rattle.talks.specs.declared.ask.Ask.TheVariants as ask;
+ghost use Rattle.talks.specs.declared.heard.Heard.TheVariants as heard_of;
+ghost use Rattle.fuse_server.specs.Losing.{takes_name};
 ghost use Rattle.fuse_server.specs.Asking.{Talked, TalkedTo, TalkedFor, LookedAt};
 ghost use Rattle.fuse_server.specs.Reach.{AsksFrom, CalledFrom, IsNamed};
 
@@ -22,14 +25,45 @@ pub(crate) fn calling<S: Sessions>(
     sessions: &mut S,
     work: Work,
     session: u8,
-    call: Call<'_>,
+    call: &Call<'_>,
 ) -> Heard
-    requires { AsksFrom work.reach call }
+    requires named { AsksFrom work.reach call.now }
+    requires quiet { takes_name call.now ≡ false }
     ensures asked { Talked (CalledFrom work.reach S.called) S.entered S.left work.now sessions.old sessions.new }
-    ensures heard { MayHear (CalledFrom work.reach S.called) S.entered S.left work.now sessions.old (ask.Call session call.entry) result
+    ensures heard { MayHear (CalledFrom work.reach S.called) S.entered S.left work.now sessions.old (ask.Call session call.now) result
         sessions.new }
 {
-    heard(sessions, work.now, &Ask::Call { session, call })
+    heard(
+        sessions,
+        work.now,
+        &Ask::Call {
+            session,
+            call: *call,
+        },
+    )
+}
+
+/// A call of a session that takes a name away.
+fn taking<S: Sessions>(
+    sessions: &mut S,
+    work: Work,
+    session: u8,
+    call: &Call<'_>,
+) -> Result<(), Refused>
+    requires { AsksFrom work.reach call.now }
+    ensures asked { OnErr result (Talked (CalledFrom work.reach S.called) S.entered S.left work.now sessions.old sessions.new) }
+    ensures done { OnOk result (MayHear (CalledFrom work.reach S.called) S.entered S.left work.now sessions.old (ask.Call session
+        call.now) (heard_of.Outcome (outcome.Reply reply.Done)) sessions.new) }
+{
+    heard(
+        sessions,
+        work.now,
+        &Ask::Call {
+            session,
+            call: *call,
+        },
+    )
+    .done()
 }
 
 /// A new session of user 0.
@@ -78,11 +112,12 @@ impl Seats {
         &mut self,
         sessions: &mut S,
         work: Work,
-        call: Call<'_>,
+        call: &Call<'_>,
     ) -> Result<Heard, Refused>
-        requires { AsksFrom work.reach call }
+        requires named { AsksFrom work.reach call.now }
+        requires quiet { takes_name call.now ≡ false }
         ensures asked { Talked (CalledFrom work.reach S.called) S.entered S.left work.now sessions.old sessions.new }
-        ensures heard { IfOk result (λ h. TalkedTo (CalledFrom work.reach S.called) S.entered S.left work.now sessions.old call.entry h
+        ensures heard { IfOk result (λ h. TalkedTo (CalledFrom work.reach S.called) S.entered S.left work.now sessions.old call.now h
             sessions.new) }
     {
         let session = self.session(sessions, work, 0)?;
@@ -94,15 +129,32 @@ impl Seats {
         &mut self,
         sessions: &mut S,
         work: Work,
-        call: Call<'_>,
+        call: &Call<'_>,
     ) -> Result<(), Refused>
-        requires { AsksFrom work.reach call }
+        requires named { AsksFrom work.reach call.now }
+        requires quiet { takes_name call.now ≡ false }
         ensures asked { Talked (CalledFrom work.reach S.called) S.entered S.left work.now sessions.old sessions.new }
-        ensures done { OnOk result (TalkedFor (CalledFrom work.reach S.called) S.entered S.left work.now sessions.old call.entry reply.Done
+        ensures done { OnOk result (TalkedFor (CalledFrom work.reach S.called) S.entered S.left work.now sessions.old call.now reply.Done
             sessions.new) }
     {
         let heard = self.ask(sessions, work, call)?;
         heard.done()
+    }
+
+    /// A call that takes a name away.
+    pub(crate) fn take<S: Sessions>(
+        &mut self,
+        sessions: &mut S,
+        work: Work,
+        call: &Call<'_>,
+    ) -> Result<(), Refused>
+        requires { AsksFrom work.reach call.now }
+        ensures asked { OnErr result (Talked (CalledFrom work.reach S.called) S.entered S.left work.now sessions.old sessions.new) }
+        ensures done { OnOk result (TalkedFor (CalledFrom work.reach S.called) S.entered S.left work.now sessions.old call.now reply.Done
+            sessions.new) }
+    {
+        let session = self.session(sessions, work, 0)?;
+        taking(sessions, work, session, call)
     }
 
     /// The attributes of what a path names.
@@ -117,7 +169,7 @@ impl Seats {
         ensures seen { IfOk result (λ was. LookedAt (CalledFrom work.reach S.called) S.entered S.left work.now sessions.old path.entry
             (Some was) sessions.new) }
     {
-        let heard = self.ask(sessions, work, Call::Lstat { path })?;
+        let heard = self.ask(sessions, work, &Call::Lstat { path })?;
         heard.attributes()
     }
 
@@ -133,7 +185,7 @@ impl Seats {
         ensures seen { IfOk result (λ found. LookedAt (CalledFrom work.reach S.called) S.entered S.left work.now sessions.old path.entry
             found sessions.new) }
     {
-        let heard = self.ask(sessions, work, Call::Lstat { path })?;
+        let heard = self.ask(sessions, work, &Call::Lstat { path })?;
         match heard.attributes() {
             Ok(attributes) => Ok(Some(attributes)),
             Err(Refused::By(Errno::ENOENT)) => Ok(None),

@@ -1,6 +1,6 @@
 //! Attributes of nodes and the room of a volume, as answers have them.
 
-ghost use Rattle.std.specs.Prelude.{◌≡◌};
+ghost use Rattle.std.specs.Prelude.{◌≡◌, ◌/◌, ◌==◌};
 ghost use Rattle.fuse_server.specs.Entries.{nothing};
 ghost use Rattle.fuse_server.specs.Telling.{told_of, room_of};
 
@@ -18,15 +18,27 @@ const BEST: u32 = 4096;
 /// The pages that the kernel has of a file stay when it is opened again.
 const KEEP_PAGES: u32 = 2;
 
+/// The type of directories.
+const DIRECTORY: u16 = 0o4;
+
 /// The type of a mode: what stands above the twelve lowest bits.
-fn type_of(mode: u16) -> u16 {
+fn type_of(mode: u16) -> u16
+    ensures { result ≡ mode / 4096 }
+{
     mode / 0o10000
+}
+
+/// Whether a directory has this mode.
+pub(crate) fn is_directory(mode: u16) -> bool
+    ensures { result ≡ (mode / 4096 == 4) }
+{
+    type_of(mode) == DIRECTORY
 }
 
 /// What kind of node has this mode.
 pub(crate) fn kind_of(mode: u16) -> NodeKind {
     match type_of(mode) {
-        0o4 => NodeKind::Directory,
+        DIRECTORY => NodeKind::Directory,
         0o12 => NodeKind::Symlink,
         _ => NodeKind::File,
     }

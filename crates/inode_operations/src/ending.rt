@@ -1,6 +1,6 @@
 //! The end of a node.
 
-ghost use Rattle.std.specs.Prelude.{IfErr};
+ghost use Rattle.std.specs.Prelude.{◌≢◌, IfErr};
 ghost use Rattle.descriptors.specs.Table.{files_of};
 ghost use Rattle.block_store.specs.Halts.{Ends, IsHalt};
 ghost use Rattle.block_store.specs.Volume.{IsOn};
@@ -32,8 +32,8 @@ pub fn free_node<B: Blocks>(blocks: &mut B, geometry: &Geometry, number: u32) ->
     Ok(())
 }
 
-/// Frees a node that has no link and isn't open; any other stays as it is. Unsound only where the volume isn't sound, or the number is no
-/// inode's.
+/// Frees a node that has no link and isn't open; any other stays as it is, and a node that has a link is only looked at. Unsound only where
+/// the volume isn't sound, or the number is no inode's.
 pub fn lose_node<B: Blocks>(
     blocks: &mut B,
     opens: &Descriptors,
@@ -43,6 +43,8 @@ pub fn lose_node<B: Blocks>(
     requires on { IsOn B.world geometry.now blocks.old }
     ensures turns { Turns B.world blocks.old blocks.new (λ d e. Ends result
         (λ x. LosesNode geometry.now (files_of opens.now) number d e) (IsOfNode geometry.now (pieces geometry.now d) number)) }
+    ensures looks { Turns B.world blocks.old blocks.new (λ d e.
+        ((pieces geometry.now d).inodes number).links ≢ 0 → B.world.looks blocks.old blocks.new) }
     ensures halt { IfErr result (λ h. IsHalt B.world blocks.new h) }
 {
     if number > 65535 {

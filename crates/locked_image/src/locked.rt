@@ -124,7 +124,7 @@ impl LockedImage {
 
     /// The two files, and the image's name in its log: the number of its inode, and 0, which is that of no file, where there is no image.
     /// The name of a log that was made is on the disk first.
-    fn files<R: Files<File = File>>(&self, rt: &R) -> io::Result<(ImageFiles, u64)> {
+    fn files<R: Files<File = File> + AllocGlobal>(&self, rt: &R) -> io::Result<(ImageFiles, u64)> {
         if self.is_new {
             flush_folder(rt, &self.log_name)?;
         }
@@ -132,7 +132,10 @@ impl LockedImage {
             Some(image) => (Some(image.try_clone()?), image.metadata()?.ino()),
             None => (None, 0),
         };
-        Ok((ImageFiles::new(self.log.try_clone()?, image)?, number))
+        Ok((
+            ImageFiles::new(rt.alloc(), self.log.try_clone()?, image)?,
+            number,
+        ))
     }
 
     /// Does what the log asks for, where there was one; `name` is the name that a refusal tells.

@@ -72,7 +72,7 @@ fn read_behind<'n, R: Files<File = File> + AllocGlobal>(
     }
     let image = File::open(rt, place)?;
     let number = image.metadata()?.ino();
-    let mut files = ImageFiles::new(log, Some(image))?;
+    let mut files = ImageFiles::new(rt.alloc(), log, Some(image))?;
     let mut bytes = bytes;
     match read_through(rt.alloc(), &mut files, number, bytes.as_mut_slice()) {
         Ok(()) => Ok(Ok(bytes)),

@@ -2,10 +2,13 @@
 
 use host::sparse::is_zero;
 use stable::{Storage, UNIT, Which};
+use std::alloc::Global;
 use std::fs::File;
 use std::io::{self, ErrorKind};
 use std::os::unix::fs::FileExt;
 
+/// How many bytes of a log are read at once (own).
+const AT_ONCE: u64 = 64 * UNIT as u64;
 /// How a log's head begins: the first bytes of the log's second unit.
 const HEAD: [u8; 8] = *b"MFSREDO1";
 
@@ -16,6 +19,7 @@ const HEAD: [u8; 8] = *b"MFSREDO1";
 #[derive(Drop)]
 pub struct ImageFiles {
     log: File,
+    ahead: Ahead,
     // None where there is no image yet.
     image: Option<File>,
     // How many bytes the image has.
@@ -24,6 +28,33 @@ pub struct ImageFiles {
     // gate, in front of it; and the first gate is closed.
     last: u64,
     is_doubtful: bool,
+}
+
+/// Bytes of a log, in the order of the file: what was read last, until the log is written.
+#[derive(Drop)]
+struct Ahead {
+    from: u64,
+    bytes: Vec<u8>,
+}
+
+impl Ahead {
+    /// The unit at a place, where all of it was read.
+    fn unit(&self, at: u64) -> Option<[u8; UNIT]> {
+        let skipped = usize::try_from(at.checked_sub(self.from)?).ok()?;
+        self.bytes.get(skipped..)?.first_chunk::<UNIT>().copied()
+    }
+
+    /// Reads so many bytes from a place on. Where that fails nothing counts as read.
+    fn fill(&mut self, file: &File, at: u64, count: usize) -> io::Result<()> {
+        self.bytes.truncate(0);
+        self.bytes.resize(count, 0)?;
+        self.from = at;
+        let read = file.read_exact_at(&mut self.bytes, at);
+        if read.is_err() {
+            self.bytes.truncate(0);
+        }
+        read
+    }
 }
 
 /// Where a unit begins in a file, in bytes.
@@ -53,13 +84,17 @@ pub(crate) fn is_log(log: &File) -> io::Result<bool> {
 
 impl ImageFiles {
     /// The storage of a log and an image, which has as many bytes as it has now.
-    pub(crate) fn new(log: File, image: Option<File>) -> io::Result<ImageFiles> {
+    pub(crate) fn new(alloc: Global, log: File, image: Option<File>) -> io::Result<ImageFiles> {
         let length = match &image {
             Some(image) => image.metadata()?.len(),
             None => 0,
         };
         Ok(ImageFiles {
             log,
+            ahead: Ahead {
+                from: 0,
+                bytes: Vec::new(alloc),
+            },
             image,
             length,
             last: 0,
@@ -79,6 +114,20 @@ impl ImageFiles {
         }
     }
 
+    /// The unit at a place of the log, with which those behind it are read: a settling asks for one after the other.
+    fn log_unit(&mut self, at: u64) -> io::Result<[u8; UNIT]> {
+        if let Some(unit) = self.ahead.unit(at) {
+            return Ok(unit);
+        }
+        let length = self.file(Which::Log)?.metadata()?.len();
+        let count = length.saturating_sub(at).min(AT_ONCE) as usize;
+        let _ = self.ahead.fill(&self.log, at, count);
+        match self.ahead.unit(at) {
+            Some(unit) => Ok(unit),
+            None => unit_at(&self.log, length, at),
+        }
+    }
+
     /// Writes bytes at a place, of the image only those within its length.
     fn write_at(&self, which: Which, at: u64, bytes: &[u8]) -> io::Result<()> {
         let there = match which {
@@ -94,17 +143,17 @@ impl ImageFiles {
 
 impl Storage for ImageFiles {
     fn read(&mut self, file: Which, n: u64) -> io::Result<[u8; UNIT]> {
-        let from = self.file(file)?;
-        let length = match file {
-            Which::Log => from.metadata()?.len(),
-            Which::Image => self.length,
-        };
-        unit_at(from, length, place_of(n)?)
+        let at = place_of(n)?;
+        match file {
+            Which::Log => self.log_unit(at),
+            Which::Image => unit_at(self.file(file)?, self.length, at),
+        }
     }
 
     fn write(&mut self, file: Which, first: u64, units: &[[u8; UNIT]]) -> io::Result<()> {
         let written = self.write_at(file, place_of(first)?, units.as_flattened());
         if matches!(file, Which::Log) {
+            self.ahead.bytes.truncate(0);
             if written.is_err() && first <= self.last {
                 self.is_doubtful = true;
             }

@@ -7,6 +7,8 @@ use Rattle.std.specs.Ordering.{nat_cmp}
 use Rattle.std.specs.BTreeMap.{is_at}
 use Rattle.std.specs.Map.{lookup}
 use Rattle.errno.specs.declared.Errno.TheVariants.{EBADF, EINVAL, ENFILE}
+use Rattle.tree.specs.declared.Start.{Start}
+use Rattle.tree.specs.declared.Start.TheVariants.{Root, Inode}
 use Rattle.talks.specs.Refusals.{then_of}
 use Rattle.ninep_fids.specs.Directories.{entries_of}
 use Rattle.ninep_fids.specs.declared.entries.Listed.{Listed}
@@ -64,6 +66,19 @@ by_name file false = Ok file
 
 abbrev pub named : List (ℕ × File) → ℕ → Result File Refused
 named fids fid = then_of (found fids fid) (λ file. by_name file file.gone)
+
+-- Where calls start that look at a file itself or change it: at the root, by its name. Where it has lost that, at its inode, which is the
+-- file's own as long as it is open, and from which only user 0's calls may start.
+abbrev pub by_inode : File → Option ℕ → Result Start Refused
+by_inode file None = Err Stale
+by_inode file (Some fd) = if file.user.uid == 0 then Ok (Inode file.node.inode) else Err Stale
+
+abbrev pub start_for : File → Bool → Result Start Refused
+start_for file false = Ok Root
+start_for file true = by_inode file file.descriptor
+
+abbrev pub start_of : File → Result Start Refused
+start_of file = start_for file file.gone
 
 -- the session and the descriptor of a file, which must be open
 abbrev pub by_descriptor : File → Option ℕ → Result (ℕ × ℕ) Refused

@@ -3,6 +3,10 @@ use Rattle.std.specs.Prelude.{⊤, ◌≡◌, ◌==◌, ◌||◌, ℕ, Bool, tru
 use Rattle.std.specs.List.{list_any}
 use Rattle.std.specs.Str.{bytes_eq}
 use Rattle.errno.specs.declared.Errno.TheVariants.{ENOENT, EINVAL}
+use Rattle.tree.specs.declared.PathFrom.{PathFrom}
+use Rattle.tree.specs.declared.Start.{Start}
+use Rattle.tree.specs.declared.Start.TheVariants.{Root, Inode}
+use Rattle.talks.specs.Plain.{at, from_root}
 use Rattle.talks.specs.declared.refused.Refused.{Refused}
 use Rattle.talks.specs.declared.refused.Refused.TheVariants.{By}
 
@@ -10,6 +14,11 @@ use Rattle.talks.specs.declared.refused.Refused.TheVariants.{By}
 abbrev pub called : List ℕ → List ℕ
 called [] = 47 ∷ []
 called (c ∷ path) = c ∷ path
+
+-- a path as a call has it that starts here: at an inode it has no bytes, and names that itself
+abbrev pub placed : Start → List ℕ → PathFrom
+placed Root path = from_root (called path)
+placed (Inode number) path = record { start = Inode number; bytes = at [] }
 
 -- the path of a name in a directory
 abbrev pub below : List ℕ → List ℕ → List ℕ

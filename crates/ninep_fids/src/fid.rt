@@ -7,7 +7,8 @@ use crate::paths::{joined, rest};
 use crate::users::User;
 use ninep::reply::Qid;
 use std::alloc::Global;
-use tree::{Attributes, MAX_PATH};
+use talks::refused::Refused;
+use tree::{Attributes, MAX_PATH, Start};
 
 /// What kind of node a fid stands on.
 #[derive(Clone, Copy)]
@@ -68,7 +69,7 @@ pub struct Fid {
     pub node: Node,
     /// The descriptor of its user's session, if the fid is open.
     pub descriptor: Option<u32>,
-    /// Whether the node has lost that name: then only the descriptor leads to it.
+    /// Whether the node has lost that name: then the descriptor leads to it, and for user 0 its inode while the fid is open.
     pub gone: bool,
     /// The entries of an open directory, once they were asked for: later offsets of a listing are told from these.
     pub listed: Option<Listed>,
@@ -77,7 +78,7 @@ pub struct Fid {
 impl Fid {
     ghost use Rattle.ninep_fids.specs.Fids.{IsRenamed, IsUnlinked};
     ghost use Rattle.ninep_fids.specs.Directories.{entries_of};
-    ghost use Rattle.ninep_fids.specs.Knowledge.{file_of, file_at, file_open, file_listed};
+    ghost use Rattle.ninep_fids.specs.Knowledge.{file_of, file_at, file_open, file_listed, start_of};
 
     /// A fid that isn't open.
     pub fn closed(user: User, path: Vec<u8>, node: Node) -> Fid
@@ -114,6 +115,20 @@ impl Fid {
         Fid {
             listed: Some(listed),
             ..Fid::open(user, path, node, fd)
+        }
+    }
+
+    /// Where calls start that look at its node or change it: at the root, by its name, or at the inode of a node that has lost that, for
+    /// user 0. ESTALE where the fid isn't open then, so that the inode may be another file's by now, and for another user.
+    pub fn start(&self) -> Result<Start, Refused>
+        ensures { result ≡ start_of (file_of self.now) }
+    {
+        if !self.gone {
+            return Ok(Start::Root);
+        }
+        match self.descriptor {
+            Some(_) if self.user.uid == 0 => Ok(Start::Inode(self.node.inode)),
+            _ => Err(Refused::Stale),
         }
     }
 

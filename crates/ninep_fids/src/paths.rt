@@ -2,18 +2,28 @@
 
 ghost use Rattle.std.specs.Prelude.{◌≡◌, ◌++◌, IfOk, IfSome, IfNone};
 ghost use Rattle.talks.specs.Plain.{from_root, plain_path};
-ghost use Rattle.ninep_fids.specs.Paths.{IsRest, IsElsewhere, is_rest, called, below, parent, checked, leads, stepped, is_here, is_above};
+ghost use Rattle.ninep_fids.specs.Paths.{IsRest, IsElsewhere, is_rest, called, placed, below, parent, checked, leads, stepped, is_here, is_above};
 
 use errno::Errno;
 use std::alloc::{AllocError, Global};
 use talks::refused::Refused;
-use tree::PathFrom;
+use tree::{PathFrom, Start};
 
 /// A path as a call has it: from the root.
 pub fn called(path: &[u8]) -> PathFrom<'_>
     ensures { plain_path result ≡ from_root (called path.now) }
 {
     PathFrom::root(if path.is_empty() { b"/" } else { path })
+}
+
+/// A path as a call has it that starts here: at an inode it has no bytes, and names that itself.
+pub fn placed(start: Start, path: &[u8]) -> PathFrom<'_>
+    ensures { plain_path result ≡ placed start path.now }
+{
+    match start {
+        Start::Root => called(path),
+        Start::Inode(_) => PathFrom { start, bytes: b"" },
+    }
 }
 
 /// The path of a name in a directory.

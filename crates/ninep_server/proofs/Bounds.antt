@@ -10,9 +10,10 @@ use Rattle.ninep.specs.declared.request.Request.{Request}
 use Rattle.ninep.specs.declared.request.Request.TheVariants as request
 use Rattle.tree.specs.declared.OpenFlags.{OpenFlags}
 use Rattle.tree.specs.declared.Attributes.{Attributes}
+use Rattle.tree.specs.declared.PathFrom.{PathFrom}
 use Rattle.tree.specs.declared.Reply.{Reply}
-use Rattle.ninep_fids.specs.Paths.{below, checked, stepped}
-use Rattle.ninep_fids.specs.Knowledge.{Known, File, found, named, opened, new_fid, user_of, closed}
+use Rattle.ninep_fids.specs.Paths.{below, checked, stepped, placed}
+use Rattle.ninep_fids.specs.Knowledge.{Known, File, found, named, start_of, opened, new_fid, user_of, closed}
 use Rattle.talks.specs.Hearing.{done_in, attributes_in, position_in, bytes_in, count_in, room_in, target_in, descriptor_in, session_in, names_heard}
 use Rattle.ninep_fids.specs.Plans.{Plan, closing, with_it}
 use Rattle.talks.specs.Plain.{at}
@@ -206,14 +207,14 @@ few_changes c =
       one_at_most (option_map (λ (times : ℕ × ℕ). change.Times times.0 times.1) c.times),
     )
 
-changing_within : (n session : ℕ) (path : List ℕ) (changes : List Change) → length changes ≤ n → Within (changing session path changes) n
+changing_within : (n session : ℕ) (path : PathFrom) (changes : List Change) → length changes ≤ n → Within (changing session path changes) n
 changing_within n session path [] few = tt
 changing_within zero session path (c ∷ changes) few = absurd (omega (arith, few))
 changing_within (suc n) session path (c ∷ changes) few =
     let fewer : length changes ≤ n = omega (arith, few) in
     λ h. it_within n (done_in h) _ (λ _. changing_within n session path changes fewer)
 
-setting_within : (user : User) (path : List ℕ) (wanted : Wanted) → Within (looking_first user path wanted) 16
+setting_within : (user : User) (path : PathFrom) (wanted : Wanted) → Within (looking_first user path wanted) 16
 setting_within user path wanted = λ h. it_within 15 (attributes_in h) _ (λ a. it_within 15 (changes_wanted wanted a) _
     (λ c. it_within 15 (may_change user.uid a c) _ (λ _. changing_within 15 user.session path (in_order c) (omega (arith, few_changes c)))))
 
@@ -281,8 +282,9 @@ name_within k r = file_within k r
 node_within : (k : Known) (now : ℕ) (r : Request) → Within (of_node k now r) 16
 node_within k now (request.Getattr fid mask) =
     it_within 16 (found k.fids fid) _ (λ file. attributes_within 15 file file.descriptor file.gone)
-node_within k now (request.Setattr fid valid mode uid gid size atime mtime) = it_within 16 (named k.fids fid) _
-    (λ file. it_within 16 (changeable file.node.kind) _ (λ _. setting_within file.user file.path (record {
+node_within k now (request.Setattr fid valid mode uid gid size atime mtime) = it_within 16 (found k.fids fid) _
+    (λ file. it_within 16 (start_of file) _ (λ start. it_within 16 (changeable file.node.kind) _
+    (λ _. setting_within file.user (placed start file.path) (record {
       valid = valid;
       mode = mode;
       uid = uid;
@@ -291,7 +293,7 @@ node_within k now (request.Setattr fid valid mode uid gid size atime mtime) = it
       atime = atime.0;
       mtime = mtime.0;
       now = now;
-    })))
+    }))))
 node_within k now (request.Readlink fid) = it_within 16 (named k.fids fid) _ (λ file h. it_within 15 (target_in h) _ (λ target. tt))
 node_within k now (request.Statfs fid) = it_within 16 (found k.fids fid) _ (λ file h. it_within 15 (room_in h) _ (λ room. tt))
 node_within k now r = name_within k r

@@ -6,6 +6,7 @@ use Rattle.tree.specs.declared.Call.TheVariants as call
 use Rattle.ninep_fids.specs.Knowledge.{Known, known_of}
 use Rattle.ninep_fids.specs.Plans.{Plan, Says, Asks, Changes, OrNoMemory, IsChanged, Follows, body_said, error, refuses, calls}
 use Rattle.talks.specs.Plain.{plain}
+use Rattle.ninep_fids.specs.Paths.{placed}
 use Rattle.ninep_fids.specs.Nodes.{says}
 use Rattle.talks.specs.Changes.{in_order}
 use Rattle.talks.specs.declared.refused.Refused.{Refused}
@@ -117,8 +118,8 @@ abbrev pub left_of_remove : Remove → Plan
 left_of_remove r = removing r.session r.path.items r.directory r.descriptor
 
 abbrev pub left_at_change : Setattr → Option Change → Plan
-left_at_change s None = looking_first s.user s.path.items s.wanted
-left_at_change s (Some c) = changing s.user.session s.path.items (c ∷ in_order s.left)
+left_at_change s None = looking_first s.user (placed s.start s.path.items) s.wanted
+left_at_change s (Some c) = changing s.user.session (placed s.start s.path.items) (c ∷ in_order s.left)
 
 abbrev pub left_of_setattr : Setattr → Plan
 left_of_setattr s = left_at_change s s.change

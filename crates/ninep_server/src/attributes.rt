@@ -2,6 +2,7 @@
 
 ghost use Rattle.std.specs.Prelude.{[], Ok};
 ghost use Rattle.ninep_fids.specs.Knowledge.{Known, known_of};
+ghost use Rattle.ninep_fids.specs.Paths.{placed};
 ghost use Rattle.talks.specs.Changes.{in_order};
 ghost use Rattle.ninep_server.specs.Messages.{telling};
 ghost use Rattle.ninep_server.specs.Settings.{changing, sets};
@@ -11,14 +12,14 @@ use crate::work::{AttributeWork, Next, Work};
 use ninep_fids::answer::NinepAnswer;
 use ninep_fids::checks::check_changeable;
 use ninep_fids::knows::Knows;
-use ninep_fids::paths::called;
+use ninep_fids::paths::{called, placed};
 use ninep_fids::told::told;
 use ninep_fids::users::User;
 use talks::ask::Ask;
 use talks::changes::{Change, Changes, Wanted};
 use talks::heard::Heard;
 use talks::refused::Refused;
-use tree::Call;
+use tree::{Call, Start};
 
 /// The attributes of a fid are asked for: by its descriptor where it is open, else by its path.
 #[derive(Drop)]
@@ -70,6 +71,7 @@ impl Getattr {
 #[derive(Drop)]
 pub(crate) struct Setattr {
     user: User,
+    start: Start,
     path: Vec<u8>,
     wanted: Wanted,
     /// The change that is made; none at the look.
@@ -79,14 +81,17 @@ pub(crate) struct Setattr {
 }
 
 impl Setattr {
-    /// ESTALE where the node has lost its name, EOPNOTSUPP for a symbolic link.
+    /// By the path, or by the inode where the node has lost its name and user 0's fid is open: else it is ESTALE then. EOPNOTSUPP for a
+    /// symbolic link.
     pub(crate) fn begin<'m>(knows: &Knows, fid: u32, wanted: Wanted) -> Result<Next<'m>, Refused>
         ensures { BeginsAs (sets (known_of knows.now) fid wanted) knows.now knows.now result }
     {
-        let file = knows.fids.named(fid)?;
+        let file = knows.fids.get(fid)?;
+        let start = file.start()?;
         check_changeable(file.node.kind)?;
         Ok(Next::Go(Work::Attribute(AttributeWork::Setattr(Setattr {
             user: file.user,
+            start,
             path: file.path.to_vec(knows.alloc)?,
             wanted,
             change: None,
@@ -100,9 +105,9 @@ impl Setattr {
         ensures { AsksNext (left_of_setattr self.now) (Ask.Call self.now.user.session result) }
     {
         match &self.change {
-            Some(change) => change.call(called(&self.path)),
+            Some(change) => change.call(placed(self.start, &self.path)),
             None => Call::Lstat {
-                path: called(&self.path),
+                path: placed(self.start, &self.path),
             },
         }
     }
@@ -118,7 +123,8 @@ impl Setattr {
 
     /// Goes on to what is left to change, or to the end.
     fn onward<'m>(self, left: Changes) -> Next<'m>
-        ensures { (k : Known) → Leaves (changing self.user.session self.path.items (in_order left)) k (left_of_next (Ok result)) k }
+        ensures { (k : Known) → Leaves (changing self.user.session (placed self.start self.path.items) (in_order left)) k
+            (left_of_next (Ok result)) k }
     {
         match left.split_first() {
             Some((change, left)) => Next::Go(Work::Attribute(AttributeWork::Setattr(Setattr {

@@ -23,7 +23,8 @@ pub(crate) const ROOT: u32 = 1;
 /// Whether a node has the number: it is one of the volume's, from 1 on, and in the inode map.
 fn is_marked<B: Blocks>(blocks: &mut B, geometry: &Geometry, number: u32) -> Result<bool, Cut>
     requires on { IsOn B.world geometry.now blocks.old }
-    ensures reads { Reads B.world blocks.old blocks.new (λ d. IfOk result (λ x. x ≡ is_marked geometry.now (pieces geometry.now d) number)) }
+    ensures reads { Reads B.world blocks.old blocks.new (λ d. IfOk result (λ x.
+        x ≡ is_marked geometry.now (pieces geometry.now d) number)) }
     ensures cut { IfErr result (λ c. B.world.over blocks.new c) }
 {
     if number == 0 || number > geometry.inodes {

@@ -81,7 +81,8 @@ fn known<B: Blocks>(
 ) -> Result<Option<u32>, Cut>
     requires on { IsOn B.world geometry.now blocks.old }
     ensures reads { Reads B.world blocks.old blocks.new (λ d. IsDirectoryAt geometry.now (pieces geometry.now d) here inode.now
-        → IfOk result (λ x. IfSome x (λ n. inode_of (directory_of geometry.now (pieces geometry.now d) inode.now).names name.now ≡ Some n))) }
+        → IfOk result (λ x. IfSome x (λ n.
+        inode_of (directory_of geometry.now (pieces geometry.now d) inode.now).names name.now ≡ Some n))) }
     ensures cut { IfErr result (λ c. B.world.over blocks.new c) }
 {
     let Some(known) = names.get(here, name) else {

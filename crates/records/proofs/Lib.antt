@@ -10,9 +10,13 @@ pub mod Rows
 mod DiskRows
 mod ActRows
 pub mod Legality
+mod Looking
+pub mod Settling
+pub mod Quiet
 pub mod Sessions
 pub mod Living
 pub mod LegalRows
+mod SettledRows
 mod ViewRows
 mod SessionRows
 mod ServerRows

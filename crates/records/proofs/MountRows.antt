@@ -46,6 +46,7 @@ busy told ended = record {
   is_busy = true;
   told = told;
   ended = ended;
+  settled = Unit {0};
 }
 
 -- where a file is open, unmounting does nothing, and so takes no End

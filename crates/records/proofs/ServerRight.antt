@@ -32,6 +32,7 @@ server is_busy ended = record {
   is_busy = is_busy;
   told = [];
   ended = ended;
+  settled = Unit {0};
 }
 
 -- of no open files none is open
@@ -108,6 +109,8 @@ right_call = record {
               };
               open_files = let P : Tree → Type 0 = λ t. false ≡ has_open_file t in subst P (sym after) was.open_files;
             };
+        looking = λ true_replies. (s.looking true_replies, λ looks. (s.settled true_replies refl looks).none_written);
+        settled = λ true_replies live looks. record { settled = tt; none_written = refl };
       };
 }
 
@@ -185,5 +188,7 @@ right_open = record {
       reads_back = record { holds = first.holds; covered = record { each = λ place is_unsure. absurd (false_not_true is_unsure) } };
       open_files = sym (no_open_file tree first.closed);
     };
+    looking = λ true_replies. tt;
+    settled = λ true_replies live looks. record { settled = tt; none_written = refl };
   };
 }

@@ -8,9 +8,11 @@ use Rattle.tree.specs.Tree.{Tree}
 use Rattle.tree.specs.Answers.{Answer, refused}
 use Rattle.volume.specs.Reading.{blocks_of}
 use Rattle.records.specs.Marks.{Mark, Took, gave_up, IsBeginning}
+use Rattle.records.specs.Open.{IsWellFormed}
 use Rattle.records.specs.Disk.{Contents, disk_after, unsure}
-use Rattle.records.specs.Legal.{is_sync, is_success, may_lack_memory, tree_after_answer, tree_after, IsSynced, IsLegal}
+use Rattle.records.specs.Legal.{is_sync, is_success, may_lack_memory, tree_after_answer, tree_after, IsAtFirst, IsSynced, IsLegal}
 use Rattle.records.specs.View.{server_view, IsCovered}
+use Rattle.records.specs.Settled.{is_settled, none_written, LookingWritesNothing}
 use Rattle.records.specs.ServerCall.{Outcome}
 use Rattle.records.specs.Session.{calls_of, Seen, IsSession, IsNewSession, SessionState, caller_of, AreCallsOf, IsMadeFor, SessionCallKeeps}
 
@@ -49,6 +51,13 @@ SyncedIsHeld =
     (g : Geometry) (image : Contents) (tree : Tree) (marks : List Mark) (who : Who) (now : ℕ) (call : Call) (answer : Answer)
     → gave_up marks ≡ false → IsTrue (is_sync call) → IsTrue (is_success answer) → IsLegal g image tree (Took who now call answer ∷ marks)
     → IsSynced g image marks (tree_after g tree (Took who now call answer ∷ marks))
+
+-- where calls only looked since the last sync that was answered ok, and no write was issued since the last call, so it is as well
+abbrev pub SettledIsHeld : Type 0
+SettledIsHeld =
+    (g : Geometry) (image : Contents) (tree : Tree) (marks : List Mark) → IsAtFirst g image tree → IsWellFormed marks
+    → IsLegal g image tree marks → LookingWritesNothing g tree marks → is_settled g tree marks ≡ true → none_written marks ≡ true
+    → IsSynced g image marks (tree_after g tree marks)
 
 -- without frames a server would read back the disk, of which nothing may be unsure
 pub record WithoutFrames (g : Geometry) (image : Contents) (marks : List Mark) : Type 0 where

@@ -9,6 +9,7 @@ pub mod Acts
 pub mod Laws
 pub mod Legal
 pub mod View
+pub mod Settled
 pub mod ServerCall
 pub mod Mount
 pub mod Unmount

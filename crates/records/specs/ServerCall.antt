@@ -16,6 +16,7 @@ use Rattle.records.specs.Told.{Told, took_end, took_nothing}
 use Rattle.records.specs.Acts.{Act, Absorbed, Outbox, told_of, has_absorbed, marks_after, outbox_after, IsAtRest, KeepsRules}
 use Rattle.records.specs.Legal.{IsLegal, tree_after}
 use Rattle.records.specs.View.{Frames, ReadsBack}
+use Rattle.records.specs.Settled.{is_settled, none_written, LookingWritesNothing}
 
 -- What is said of a server.
 pub record Serving : Type 1 where
@@ -35,6 +36,8 @@ pub record Serving : Type 1 where
   pub told : List Told
   -- a take gave End
   pub ended : Bool
+  -- no frame is changed, and no write is pending
+  pub settled : Type 0
 
 -- whether some file is open
 abbrev pub has_open_file : Tree → Bool
@@ -45,14 +48,22 @@ pub record HasTree (s : Serving) (image : Contents) (tree : Tree) (marks : List 
   pub reads_back : ReadsBack s.geometry s.frames image tree marks
   pub open_files : s.is_busy ≡ has_open_file (tree_after s.geometry tree marks)
 
+-- nothing is left to write, and no write was issued since the last call
+pub record IsQuiet (s : Serving) (marks : List Mark) : Type 0 where
+  pub settled : s.settled
+  pub none_written : none_written marks ≡ true
+
 -- A server serves a volume: it agrees with the record, which is well formed whatever the link answered, and owes nothing.
--- Over true replies the record is legal, and the tree now is there.
+-- Over true replies the record is legal, calls that look wrote nothing where that is promised, and the tree now is there; while calls only
+-- looked since the last sync that was answered ok, nothing is left to write.
 pub record Serves (s : Serving) (image : Contents) (tree : Tree) (marks : List Mark) : Type 0 where
   pub agrees : s.Agrees image tree marks
   pub well_formed : IsWellFormed marks
   pub at_rest : IsAtRest marks s.outbox
   pub legal : HasTrueReplies image marks → IsLegal s.geometry image tree marks
   pub has_tree : HasTrueReplies image marks → s.ended ≡ false → gave_up marks ≡ false → HasTree s image tree marks
+  pub looking : HasTrueReplies image marks → LookingWritesNothing s.geometry tree marks
+  pub settled : HasTrueReplies image marks → s.ended ≡ false → is_settled s.geometry tree marks ≡ true → IsQuiet s marks
 
 -- these acts lead from one state of a server to the next, and are all that its link was told
 pub record Leads (old : Serving) (acts : List Act) (new : Serving) : Type 0 where

@@ -17,5 +17,6 @@ pub mod TableRules
 mod StepRules
 mod CallRules
 pub mod Joining
+pub mod Reading
 mod Posting
 pub mod NotesLaws

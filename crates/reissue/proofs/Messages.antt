@@ -8,6 +8,7 @@ use Rattle.message.specs.declared.Incoming.TheVariants as incoming
 use Rattle.records.specs.Marks.{Mark, Started, Flush, GaveUp, gave_up}
 use Rattle.records.specs.Disk.{Contents, unsure, disk_after}
 use Rattle.records.specs.Told.{Told, Complained, received, grown, took_end, took_nothing}
+use Rattle.records.specs.Settled.{PostsReads}
 use Rattle.reissue.specs.declared.pending.Pending.{Pending}
 use Rattle.reissue.specs.declared.table.Table.{Table}
 use Rattle.reissue.specs.declared.table.AnswerEffect.{AnswerEffect}
@@ -126,6 +127,11 @@ complaint_quiet : (b : Bool) (e : Endpoint) → took_nothing (cond b (Complained
 complaint_quiet true e = refl
 complaint_quiet false e = refl
 
+-- it asks for nothing
+complaint_unasked : (b : Bool) (e : Endpoint) → PostsReads (cond b (Complained e ∷ []) [])
+complaint_unasked true e = tt
+complaint_unasked false e = tt
+
 -- nor does it end anything
 complaint_ends_none : (b : Bool) (e : Endpoint) (before : List Told) → took_end (cond b (Complained e ∷ []) [] ++ before) ≡ took_end before
 complaint_ends_none true e before = refl
@@ -159,6 +165,7 @@ takes_reply message a r bytes t u before after was is same agrees hears due clos
       complaints = complained r a;
       history = told;
       quiet = complaint_quiet (is_bad r) a.from;
+      unasked = complaint_unasked (is_bad r) a.from;
       silent = λ marks. complaint_silent (is_bad r) a.from marks;
       due = due;
       hears = λ marks h. (hears marks h, current);
@@ -203,6 +210,7 @@ takes_started message e t u history was is items posted issued ids current given
       complaints = [];
       history = refl;
       quiet = refl;
+      unasked = tt;
       silent = λ _. refl;
       due = λ _ _. refl;
       hears = λ marks h. started_hears t u e t.given_up items ids posted issued current (nowhere t marks h);
@@ -224,6 +232,7 @@ takes_flush message t history was is =
       complaints = [];
       history = refl;
       quiet = refl;
+      unasked = tt;
       silent = λ _. refl;
       due = λ _ _. refl;
       hears = λ marks h. (record { pending = refl; ids = refl; posted = refl; issued = refl }, refl);
@@ -245,6 +254,7 @@ takes_gave_up message t u history was is items posted issued ids current given_u
       complaints = [];
       history = refl;
       quiet = refl;
+      unasked = tt;
       silent = λ _. refl;
       due = λ _ _. refl;
       hears = λ marks h. (record { pending = items; ids = ids; posted = posted; issued = issued }, current);
@@ -265,6 +275,7 @@ takes_end message t history was is =
       complaints = [];
       history = refl;
       quiet = refl;
+      unasked = tt;
       silent = λ _. refl;
       due = λ _ _. refl;
       hears = λ marks h. (record { pending = refl; ids = refl; posted = refl; issued = refl }, refl);

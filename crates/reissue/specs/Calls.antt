@@ -6,6 +6,7 @@ use Rattle.message.specs.declared.Incoming.TheVariants as incoming
 use Rattle.records.specs.Marks.{Mark}
 use Rattle.records.specs.Disk.{Contents}
 use Rattle.records.specs.Told.{Told, Received, grown, received, heard, took_end, took_nothing}
+use Rattle.records.specs.Settled.{PostsReads}
 use Rattle.reissue.specs.declared.ask.Ask.{Ask}
 use Rattle.reissue.specs.Settlements.{Settlement}
 use Rattle.reissue.specs.Settlements as settled
@@ -55,6 +56,7 @@ pub record TakesIn (message : Incoming) (result : Settlement) (old mid : Table) 
   pub complaints : List Told
   pub history : after ≡ complaints ++ before
   pub quiet : took_nothing complaints ≡ true
+  pub unasked : PostsReads complaints
   pub silent : (marks : List Mark) → grown complaints marks ≡ marks
   pub due : (marks : List Mark) → Agrees old marks → complaints ≡ complaints_about (due_after message marks)
   pub hears : (marks : List Mark) → Agrees old marks → Hears message old mid marks
@@ -74,6 +76,7 @@ pub record Absorbs (message : Incoming) (result : Settlement) (old new : Table) 
   pub history : after ≡ posts ++ (complaints ++ before)
   pub only_posts : OnlyPosts posts
   pub quiet : took_nothing complaints ≡ true
+  pub unasked : PostsReads complaints
   pub silent : (marks : List Mark) → grown complaints marks ≡ marks
   pub due : (marks : List Mark) → Agrees old marks → complaints ≡ complaints_about (due_after message marks)
   pub hears : (marks : List Mark) → Agrees old marks → Hears message old mid marks
@@ -133,6 +136,7 @@ pub record Steps (result : Settlement) (old new : Table) (before after : List To
   pub complaints : List Told
   pub history : after ≡ posts ++ (complaints ++ heard message before)
   pub only_posts : OnlyPosts posts
+  pub unasked : PostsReads complaints
   pub answer : IsAnswerTo message result
   pub due : (marks : List Mark) → Agrees old marks → complaints ≡ complaints_about (due_after message marks)
   pub hears : (marks : List Mark) → Agrees old marks → Hears message old mid marks

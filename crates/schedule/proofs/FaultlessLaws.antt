@@ -17,8 +17,9 @@ use Rattle.volume.specs.Holds.{HoldsVolume}
 use Rattle.records.specs.Marks.{Mark, Fault, Started, Answered, Flush, GaveUp, Took, Issued, last_started, gave_up, is_endpoint}
 use Rattle.records.specs.Open.{open_requests, greatest, IsWellFormed, MayFollow, IsNew, IsAgain, IsIn, counts, with_id, without_id, moved_of, asked_by, moved_by, MissesAll}
 use Rattle.records.specs.Disk.{Contents, disk_after, unsure, HasTrueReplies, IsTrueAnswer, IsTrueOf, settles, byte_for, covers}
-use Rattle.records.specs.Legal.{IsLegal, IsLegalTook, IsSynced, tree_after, tree_after_answer}
+use Rattle.records.specs.Legal.{IsLegal, IsLegalTook, IsSynced, is_sync, is_success, tree_after, tree_after_answer}
 use Rattle.records.specs.View.{Frames, ReadsBack, server_view, frame_or}
+use Rattle.records.specs.Settled.{only_looks, is_settled, none_written, LookingWritesNothing}
 use Rattle.schedule.specs.Faultless.{without_faults, FaultsChangeNothing, LeaveSameMark}
 
 started : (marks : List Mark) → last_started (without_faults marks) ≡ last_started marks
@@ -202,6 +203,43 @@ back marks g frames image tree r = record {
   covered = record { each = λ place h. r.covered.each place (subst (λ (b : Bool). IsTrue b) (sym (the_sure marks place)) h) };
 }
 
+-- faults are no calls and write nothing
+settled_same : (marks : List Mark) (g : Geometry) (tree : Tree) → is_settled g tree (without_faults marks) ≡ is_settled g tree marks
+settled_same [] g tree = refl
+settled_same (Fault e cause ∷ marks) g tree = settled_same marks g tree
+settled_same (Started e ∷ marks) g tree = settled_same marks g tree
+settled_same (Answered a ∷ marks) g tree = settled_same marks g tree
+settled_same (Flush ∷ marks) g tree = settled_same marks g tree
+settled_same (GaveUp ∷ marks) g tree = settled_same marks g tree
+settled_same (Took who now call answer ∷ marks) g tree =
+    ap (λ (t : Tree). (is_sync call && is_success answer) || (only_looks t who call && is_settled g tree (without_faults marks))) (the_tree marks g tree)
+    ∙ ap (λ (b : Bool). (is_sync call && is_success answer) || (only_looks (tree_after g tree marks) who call && b)) (settled_same marks g tree)
+settled_same (Issued r e ∷ marks) g tree = settled_same marks g tree
+
+written_same : (marks : List Mark) → none_written (without_faults marks) ≡ none_written marks
+written_same [] = refl
+written_same (Fault e cause ∷ marks) = written_same marks
+written_same (Started e ∷ marks) = written_same marks
+written_same (Answered a ∷ marks) = written_same marks
+written_same (Flush ∷ marks) = written_same marks
+written_same (GaveUp ∷ marks) = written_same marks
+written_same (Took who now call answer ∷ marks) = refl
+written_same (Issued r e ∷ marks) = ap (λ (b : Bool). not (is_write r.kind) && b) (written_same marks)
+
+looks : (marks : List Mark) (g : Geometry) (tree : Tree) → LookingWritesNothing g tree (without_faults marks) → LookingWritesNothing g tree marks
+looks [] g tree h = h
+looks (Fault e cause ∷ marks) g tree h = looks marks g tree h
+looks (Started e ∷ marks) g tree h = looks marks g tree h
+looks (Answered a ∷ marks) g tree h = looks marks g tree h
+looks (Flush ∷ marks) g tree h = looks marks g tree h
+looks (GaveUp ∷ marks) g tree h = looks marks g tree h
+looks (Took who now call answer ∷ marks) g tree h = (looks marks g tree h.0, λ k. sym (written_same marks) ∙ h.1 (same ∙ k)) where
+  same : (only_looks (tree_after g tree (without_faults marks)) who call && is_settled g tree (without_faults marks))
+      ≡ (only_looks (tree_after g tree marks) who call && is_settled g tree marks)
+  same = ap (λ (t : Tree). only_looks t who call && is_settled g tree (without_faults marks)) (the_tree marks g tree)
+      ∙ ap (λ (b : Bool). only_looks (tree_after g tree marks) who call && b) (settled_same marks g tree)
+looks (Issued r e ∷ marks) g tree h = looks marks g tree h
+
 pub faults_change_nothing : (marks : List Mark) → FaultsChangeNothing marks
 faults_change_nothing marks = record {
   started = started marks;
@@ -215,6 +253,9 @@ faults_change_nothing marks = record {
   tree_is = the_tree marks;
   legal = is_legal marks;
   reads_back = back marks;
+  looking = looks marks;
+  settled = settled_same marks;
+  written = written_same marks;
 }
 
 counts_by : Bool → Option Endpoint → List BlockRequest → BlockReply → Bool

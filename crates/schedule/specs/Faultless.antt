@@ -9,6 +9,7 @@ use Rattle.records.specs.Told.{received}
 use Rattle.records.specs.Disk.{Contents, disk_after, unsure, HasTrueReplies}
 use Rattle.records.specs.Legal.{IsLegal, tree_after}
 use Rattle.records.specs.View.{Frames, ReadsBack}
+use Rattle.records.specs.Settled.{LookingWritesNothing, is_settled, none_written}
 
 -- the marks but for the faults
 abbrev pub without_faults : List Mark → List Mark
@@ -35,6 +36,9 @@ pub record FaultsChangeNothing (marks : List Mark) : Type 0 where
   pub legal : (g : Geometry) (image : Contents) (tree : Tree) → IsLegal g image tree (without_faults marks) → IsLegal g image tree marks
   pub reads_back : (g : Geometry) (frames : Frames) (image : Contents) (tree : Tree) → ReadsBack g frames image tree (without_faults marks)
       → ReadsBack g frames image tree marks
+  pub looking : (g : Geometry) (tree : Tree) → LookingWritesNothing g tree (without_faults marks) → LookingWritesNothing g tree marks
+  pub settled : (g : Geometry) (tree : Tree) → is_settled g tree (without_faults marks) ≡ is_settled g tree marks
+  pub written : none_written (without_faults marks) ≡ none_written marks
 
 -- a message leaves the same mark in the record without faults, or none in both
 abbrev pub LeaveSameMark : Incoming → List Mark → Type 0

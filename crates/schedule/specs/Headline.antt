@@ -1,5 +1,5 @@
 -- What a run of the server over a schedule promises.
-use Rattle.std.specs.Prelude.{◌≡◌, ℕ, ◌+◌, ◌*◌, ◌<◌, ◌≤◌, ◌⊎◌, List, length, false, Ok, slice_index}
+use Rattle.std.specs.Prelude.{◌≡◌, ℕ, ◌+◌, ◌*◌, ◌<◌, ◌≤◌, ◌⊎◌, List, length, true, false, Ok, slice_index}
 use Rattle.layout.specs.declared.Geometry.{Geometry}
 use Rattle.layout.specs.Places.{geometry_of}
 use Rattle.tree.specs.Tree.{Tree}
@@ -11,6 +11,7 @@ use Rattle.records.specs.Disk.{Contents, disk_after, is_unsure, HasTrueReplies}
 use Rattle.records.specs.Opening.{Range, volume_bytes, volume_in}
 use Rattle.records.specs.Legal.{IsAtFirst, IsLegal}
 use Rattle.records.specs.View.{Frames, ReadsBack}
+use Rattle.records.specs.Settled.{LookingWritesNothing, is_settled, none_written}
 use Rattle.schedule.specs.declared.Sent.{Sent}
 use Rattle.schedule.specs.declared.Event.{Event}
 use Rattle.schedule.specs.Groups.{Group, marks_of, schedule_of}
@@ -26,12 +27,14 @@ pub record Transcript : Type 0 where
   pub image : List ℕ
 
 -- Replies and read-back: the server's record is well formed, what drivers answered is true, each reply is that of the file tree
--- after each earlier call taken once, a sync that answered ok left that tree on the disk alone, and at the end, where the device
--- isn't given up and no call waits, the server would read it back.
+-- after each earlier call taken once, a sync that answered ok left that tree on the disk alone, and while calls only look since the last
+-- such sync no write is issued; at the end, where the device isn't given up and no call waits, the server would read the tree back.
 pub record RepliesHold (g : Geometry) (volume : Contents) (tree : Tree) (t : Transcript) : Type 0 where
   pub well_formed : IsWellFormed t.marks
   pub true_replies : HasTrueReplies volume t.marks
   pub legal : IsLegal g volume tree t.marks
+  pub looking : LookingWritesNothing g tree t.marks
+  pub quiet : t.unanswered ≡ 0 → is_settled g tree t.marks ≡ true → none_written t.marks ≡ true
   pub reads_back : gave_up t.marks ≡ false → t.unanswered ≡ 0 → ReadsBack g t.frames volume tree t.marks
 
 -- a sector of the media that isn't one of the volume's

@@ -42,7 +42,7 @@ pub tick_so : (b : Scene) (result : Option Incoming) (a : Scene) → ActsAt b re
 tick_so b result a e = (e.tells ∙ ap told_of_action e.is, e.after ∙ ap (λ (x : restart.Action). acted x (ruled (tick_event b) b)) e.is)
 
 -- a step that runs an event which does just this leads to just this moment
-leads_to : (m : Moment) (e : Event) (result : Option Incoming) (s : Scene) (a : Moment) → RunsNext m e a
+pub leads_to : (m : Moment) (e : Event) (result : Option Incoming) (s : Scene) (a : Moment) → RunsNext m e a
     → ((r : Option Incoming) (x : Scene) → Occurs m.run.next e (begun e m.run.scene) r x → (r ≡ result) × (x ≡ s))
     → a ≡ moment_after result (after_event e s m.run) m
 leads_to m e result s a runs just =

@@ -85,7 +85,7 @@ writes_first g a b accepted is = record {
 }
 
 -- the two sectors are all of it
-too_far : (k : ℕ) → 512 * suc (suc k) < 1024 → ⊥
+pub too_far : (k : ℕ) → 512 * suc (suc k) < 1024 → ⊥
 too_far k far = omega arith
 
 each_moved : (k : ℕ) → 512 * k < 1024 → IsTrue ((k == 0) || (k == 1))

@@ -1,9 +1,11 @@
 -- What the rules of a run leave open: other runs of the first row's events, which are exact too. The headline excludes the second and the
--- third.
-use Rattle.std.specs.Prelude.{◌≡◌, List, [], ◌∷◌, None, false, refl}
+-- third. And what a driver that hangs may do.
+use Rattle.std.specs.Prelude.{◌≡◌, List, [], ◌∷◌, Some, None, false, refl}
+use Rattle.std.specs.List.{concat}
 use Rattle.std.proofs.Common.{lit≤, inl}
 use Rattle.message.specs.declared.BlockRequest.{BlockRequest}
 use Rattle.message.specs.declared.Incoming.TheVariants as incoming
+use Rattle.bdev.specs.declared.Step.TheVariants.{Done}
 use Rattle.tree.specs.declared.Reply.{Reply}
 use Rattle.tree.specs.declared.Reply.TheVariants as reply
 use Rattle.tree.specs.Answers.{answer_of}
@@ -14,16 +16,18 @@ use Rattle.reincarnate.specs.Watch.{driver}
 use Rattle.records.specs.declared.marks.Cause.TheVariants.{Exit}
 use Rattle.records.specs.Marks.{Started, Answered, Flush, Took, Issued, Fault}
 use Rattle.records.specs.View.{Frames}
+use Rattle.schedule.specs.declared.Sent.{Sent}
 use Rattle.schedule.specs.declared.Event.{Event}
 use Rattle.schedule.specs.declared.Event.TheVariants as event
 use Rattle.schedule.specs.declared.log.LogEntry.TheVariants as entry
+use Rattle.simulated_link.specs.Disks.{Disks, SlotSteps, hung_slot, CurrentSteps, CurrentHangs}
 use Rattle.simulated_link.specs.StateView.{noting}
-use Rattle.simulated_link.specs.Moments.{Moment, Resting, hearing, Step, Begins, Settles, Brings, Replies}
+use Rattle.simulated_link.specs.Moments.{Moment, Resting, hearing, Step, Begins, Settles, Brings, BringsNone, Replies}
 use Rattle.world.specs.Exact.{IsExact}
-use Rattle.tests_exact.proofs.Small.{image, setup, supply, write_both, client, sync}
-use Rattle.tests_exact.proofs.Drivers.{reply_of}
-use Rattle.tests_exact.proofs.Making.{◌▸◌, nothing_after, runs_event, at_rest, between}
-use Rattle.tests_exact.proofs.Beginning.{start, flush_heard, opened}
+use Rattle.tests_exact.proofs.Small.{old_1, new_0, new_1, image, disk, setup, supply, write_both, client, sync}
+use Rattle.tests_exact.proofs.Drivers.{slot, at_second, done, answer, reply_of, ends_write}
+use Rattle.tests_exact.proofs.Making.{◌▸◌, nothing_after, disks_after, runs_event, at_rest, between}
+use Rattle.tests_exact.proofs.Beginning.{start, flush_heard, half_written, opened, writes_half}
 use Rattle.tests_exact.proofs.DeathRow.{events, sync_begun, answer_taken, until_sync, until_answer, transcript, death_is_exact}
 
 -- What the server's frames hold is read off no moment.
@@ -105,3 +109,70 @@ pub any_write_in_a_call : (r : BlockRequest) → r.id ≡ 2
       outbox = record { never_issued = r ∷ []; unposted = r ∷ []; stopped = false; complaint = None };
     })
 any_write_in_a_call r next = Begins r refl (record { next = next; room = lit≤ tt })
+
+-- driver 1 hangs after the first sector, and yet the schedule lets it step
+abbrev hangs : List Event
+hangs = event.Hang 1 ∷ event.Step 1 ∷ event.Deliver 0 ∷ []
+
+abbrev half : Moment
+half = half_written default_policy hangs
+
+-- it hangs
+abbrev hung : Moment
+hung =
+    let d : Disks = record { media = disk new_0 old_1 1; current = hung_slot (slot at_second); older = []; sent = [] } in
+    record half { run = disks_after (event.Hang 1) d half.run }
+
+-- its answer, which was sent at the event with number 3
+abbrev answered_hung : Sent
+answered_hung = record { reply = reply_of 1; place = 3 }
+
+-- it wrote the second sector, and answered
+abbrev worked : Moment
+worked =
+    let d : Disks = record { media = disk new_0 new_1 1; current = hung_slot (slot done); older = []; sent = answered_hung ∷ [] } in
+    record hung { run = disks_after (event.Step 1) d hung.run }
+
+-- that is delivered
+abbrev heard_hung : Moment
+heard_hung = hearing (incoming.Reply (reply_of 1)) (nothing_after (event.Deliver 0) worked.run) worked
+
+-- A driver that hangs beats no more, but it steps where the schedule says so: it writes, answers, and its answer counts.
+pub hung_driver_works : IsExact image (setup default_policy) supply (event.Flush ∷ event.Step 1 ∷ hangs) (record {
+  marks = Answered (reply_of 1) ∷ Issued write_both (driver 1) ∷ Flush ∷ Started (driver 1) ∷ [];
+  sent = answered_hung ∷ [];
+  drivers = done ∷ [];
+  frames = λ block. None;
+  unanswered = 0;
+  image = concat (new_0 ∷ new_1 ∷ []);
+})
+hung_driver_works = record {
+  first = (start default_policy (event.Flush ∷ event.Step 1 ∷ hangs)).run;
+  opened = opened default_policy (event.Flush ∷ event.Step 1 ∷ hangs);
+  last = record heard_hung { doing = Resting };
+  steps = writes_half default_policy hangs ▸ hang ▸ work ▸ hear ▸ rest;
+  over = record { spent = record { events = lit≤ tt; paid = refl }; calm = refl; ends = inl (refl, refl) };
+  read_off = record { marks = refl; sent = refl; drivers = refl; image = refl; unanswered = refl };
+} where
+  hang : Step 0 half hung
+  hang = BringsNone _ (between refl refl refl refl) refl
+      (runs_event (event.Hang 1) _ refl refl refl refl (record { tells = refl; disks = _; does = CurrentHangs refl; after = refl }))
+
+  ends : SlotSteps 1 (hung_slot (slot at_second)) (disk new_0 old_1 1) (Done answer) (hung_slot (slot done)) (disk new_0 new_1 1)
+  ends = let e = ends_write 1 new_0 old_1 refl refl in
+      record { handed = e.handed; hands = e.hands; driver = e.driver; steps = e.steps; after = e.after; lives = refl; hangs = refl }
+
+  work : Step 0 hung worked
+  work = BringsNone _ (between refl refl refl refl) refl (runs_event (event.Step 1) _ refl refl refl refl (record {
+    step = Some (Done answer);
+    disks = _;
+    steps = CurrentSteps (Done answer) (hung_slot (slot done)) (disk new_0 new_1 1) refl refl ends;
+    after = (refl, refl);
+  }))
+
+  hear : Step 0 worked heard_hung
+  hear = Brings (incoming.Reply (reply_of 1)) _ (between refl refl refl refl) refl
+      (runs_event (event.Deliver 0) _ refl refl refl refl (refl, refl))
+
+  rest : Step 0 heard_hung (record heard_hung { doing = Resting })
+  rest = Settles (incoming.Reply (reply_of 1)) refl (at_rest refl refl)

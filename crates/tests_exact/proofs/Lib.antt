@@ -1,6 +1,7 @@
 pub mod Small
 pub mod Making
 pub mod Drivers
+pub mod Reading
 pub mod Beginning
 pub mod DeathRow
 pub mod Only
@@ -8,12 +9,16 @@ pub mod HungRow
 pub mod GivenUpRow
 pub mod CutRow
 pub mod RefusedRow
+pub mod ReadRow
+pub mod LateRow
 pub mod Whole
 pub mod Determined
 pub mod Telling
 pub mod WrongEvents
 pub mod Stepping
-mod WrongSteps
+pub mod WrongSteps
+mod WrongAnswers
+mod WrongTimes
 mod WrongEnds
 mod WrongRuns
 mod LeftOpen

@@ -35,7 +35,7 @@ use Rattle.tests_exact.proofs.GivenUpRow as given_up
 use Rattle.tests_exact.proofs.RefusedRow as refused
 
 -- no step from this moment leads to one of which this holds
-abbrev NoStep : Moment → (Moment → Type 0) → Type 0
+abbrev pub NoStep : Moment → (Moment → Type 0) → Type 0
 NoStep m Holds = (a : Moment) → Step 0 m a → Holds a → ⊥
 
 -- the bytes of these sectors

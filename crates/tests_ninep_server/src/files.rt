@@ -275,6 +275,88 @@ fn attributes_are_changed(rt: HostRuntime) -> Result<(), Fail> {
     with_file(rt.alloc(), &ATTRIBUTES_ARE_CHANGED)
 }
 
+/// The name of `/f` is taken away.
+const UNLINK: Row<'static> = (
+    &[Given::Done],
+    b"\x4c\x07\0\x01\0\0\0\x01\0f\0\0\0\0",
+    "0 unlink /f;",
+    b"\x4d\x07\0",
+);
+
+/// The size of fid 2 becomes 100.
+const SHORTEN: &[u8] =
+    b"\x1a\x01\0\x02\0\0\0\x08\0\0\0\0\0\0\0\0\0\0\0\0\0\0\0\x64\0\0\0\0\0\0\0\0\0\0\0\0\0\0\0\0\0\0\0\0\0\0\0\
+          \0\0\0\0\0\0\0\0\0\0\0\0\0\0\0\0";
+
+/// The answer to a change of a file that has lost its name, where it is refused.
+const STALE: &[u8] = b"\x07\x01\0\x74\0\0\0";
+
+static OPEN_FILES_ARE_CHANGED_WITHOUT_A_NAME: [Row<'static>; 5] = [
+    UNLINK,
+    (
+        &[Given::Node(3, 0o100644), Given::Done],
+        SHORTEN,
+        "0 lstat inode 3 ;0 truncate inode 3  100;",
+        b"\x1b\x01\0",
+    ),
+    (
+        &[Given::Node(3, 0o100644), Given::Done],
+        b"\x1a\x01\0\x02\0\0\0\x01\0\0\0\x80\x01\0\0\0\0\0\0\0\0\0\0\0\0\0\0\0\0\0\0\0\0\0\0\0\0\0\0\0\0\0\0\0\0\0\
+          \0\0\0\0\0\0\0\0\0\0\0\0\0\0\0\0\0",
+        "0 lstat inode 3 ;0 chmod inode 3  384;",
+        b"\x1b\x01\0",
+    ),
+    (
+        &[Given::Refused(Errno::EIO)],
+        b"\x18\x02\0\x02\0\0\0\xff\x07\0\0\0\0\0\0",
+        "0 Fstat { fd: 6 };",
+        b"\x07\x02\0\x05\0\0\0",
+    ),
+    (&[], b"\x46\x01\0\x01\0\0\0\x02\0\0\0\x01\0g", "", STALE),
+];
+
+/// A file that has lost its name, and is open, is changed by its inode; it gets no name.
+#[test]
+fn open_files_are_changed_without_a_name(rt: HostRuntime) -> Result<(), Fail> {
+    with_open_file(rt.alloc(), &OPEN_FILES_ARE_CHANGED_WITHOUT_A_NAME)
+}
+
+static LOST_FILES_STAY: [Row<'static>; 6] = [
+    (
+        &[Given::Node(1, 0o40755)],
+        b"\x68\x03\0\x03\0\0\0\xff\xff\xff\xff\0\0\0\0\xe8\x03\0\0",
+        "enter 1000 1000;1 lstat /;",
+        b"\x69\x03\0\x80\0\0\0\0\x01\0\0\0\0\0\0\0",
+    ),
+    (
+        &[Given::Node(3, 0o100666)],
+        b"\x6e\x05\0\x03\0\0\0\x04\0\0\0\x01\0\x01\0f",
+        "1 lstat /f;",
+        b"\x6f\x05\0\x01\0\0\0\0\0\0\x03\0\0\0\0\0\0\0",
+    ),
+    (
+        &[Given::Descriptor(7)],
+        b"\x0c\x06\0\x04\0\0\0\x02\x80\0\0",
+        "1 open /f 3 0;",
+        b"\x0d\x06\0\0\0\0\0\0\x03\0\0\0\0\0\0\0\0\0\0\0",
+    ),
+    UNLINK,
+    (&[], SHORTEN, "", STALE),
+    (
+        &[],
+        b"\x1a\x01\0\x04\0\0\0\x08\0\0\0\0\0\0\0\0\0\0\0\0\0\0\0\x64\0\0\0\0\0\0\0\0\0\0\0\0\0\0\0\0\0\0\0\0\0\0\0\
+          \0\0\0\0\0\0\0\0\0\0\0\0\0\0\0\0",
+        "",
+        STALE,
+    ),
+];
+
+/// It isn't where the fid isn't open, nor for another user than user 0.
+#[test]
+fn lost_files_stay(rt: HostRuntime) -> Result<(), Fail> {
+    with_file(rt.alloc(), &LOST_FILES_STAY)
+}
+
 static REFUSED_CHANGES_LEAVE_ALL: [Row<'static>; 5] = [
     (
         &[Given::Node(3, 0o100644)],

@@ -14,14 +14,15 @@ use Rattle.cache.proofs.Runs.{same_left, ids_kept}
 use Rattle.block_store.specs.declared.Cut.{Cut as Why}
 use Rattle.block_store.specs.declared.Cut.TheVariants.{Eio, LinkEnded}
 use Rattle.cached_blocks.specs.World.{Leads, Sees}
-use Rattle.cache.specs.Edits.{AllClean}
+use Rattle.cache.specs.Looking.{IsSettled}
+use Rattle.cache.proofs.Looking.{looks_none}
 use Rattle.std.specs.Prelude.{IsTrue}
 use Rattle.descriptors.specs.Files.{Files}
 use Rattle.client_calls.specs.Calls.{DoesCall}
 use Rattle.vfs.specs.Outcomes.{stopped}
 use Rattle.file_server.specs.Over.{CallSpecification, outcome_of}
-use Rattle.vfs.specs.Serving.{MayServe, server_of}
-use Rattle.vfs.proofs.Keeping.{calls_answered, calls_cut, calls_eio}
+use Rattle.vfs.specs.Serving.{LooksOver, MayServe, server_of}
+use Rattle.vfs.proofs.Keeping.{LooksThere, looks_there, calls_answered, calls_cut, calls_eio}
 
 -- nothing happened
 abbrev pub none : (a : AbstractCache) → IsReady a → Leads a a
@@ -55,28 +56,34 @@ stopped_at_once g a n f may who now call why o e h =
     subst (λ (x : TreeOutcome). CallSpecification (server_of g a n f) (server_of g a n f) a.truth a.truth who now call (outcome_of x)) (sym e) (by why h)
   where
     by : (y : Why) → IsWhyCut a y → CallSpecification (server_of g a n f) (server_of g a n f) a.truth a.truth who now call (outcome_of (stopped y))
-    by LinkEnded h = calls_cut g a a n n refl f f may.size may.geometry.sized may.ends (none a may.ready) who now call (λ e. refl) (λ e. refl) h
-    by Eio h = calls_eio g a a n n refl f f may.size may.geometry.sized may.ends (none a may.ready) who now call (λ e. refl) (λ e. refl) h.0 h.1
+    by LinkEnded h = calls_cut g a a n n refl f f may.size may.geometry.sized may.ends (none a may.ready) who now call (λ e. refl) (λ e. refl)
+        (λ image tree marks k tr only. looks_none a) h
+    by Eio h = calls_eio g a a n n refl f f may.size may.geometry.sized may.ends (none a may.ready) who now call (λ e. refl) (λ e. refl)
+        (λ image tree marks k tr only. looks_none a) h.0 h.1
 
 pub false_true : (b : Bool) → b ≡ true → b ≡ false → ⊥
 false_true b h k = cc
 
 -- a call is cut off on its way
 pub stopped_later : (g : Geometry) (a b : AbstractCache) (n m : ℕ) → m ≡ n → (f h : Files) → MayServe g a → IsLive a → (x : Leads a b) (who : Who) (now : ℕ) (call : Call) (why : Why) (o : TreeOutcome)
-    → o ≡ stopped why → IsWhyCut b why → CallSpecification (server_of g a n f) (server_of g b m h) a.truth b.truth who now call (outcome_of o)
-stopped_later g a b n m many f h may l x who now call why o e w =
+    → LooksOver g who call f a b → o ≡ stopped why → IsWhyCut b why → CallSpecification (server_of g a n f) (server_of g b m h) a.truth b.truth who now call (outcome_of o)
+stopped_later g a b n m many f h may l x who now call why o looks e w =
     subst (λ (y : TreeOutcome). CallSpecification (server_of g a n f) (server_of g b m h) a.truth b.truth who now call (outcome_of y)) (sym e) (by why w)
   where
+    there : LooksThere g a b n m many f h may.size may.geometry.sized may.ends x who call
+    there = looks_there g a b n m many f h may.size may.geometry.sized may.ends x who call l.not_ended
+        (λ marks k. sym k.holds.given_up ∙ l.not_given_up) looks
+
     by : (y : Why) → IsWhyCut b y → CallSpecification (server_of g a n f) (server_of g b m h) a.truth b.truth who now call (outcome_of (stopped y))
     by LinkEnded w = calls_cut g a b n m many f h may.size may.geometry.sized may.ends x who now call
-        (λ e. absurd (false_true a.ended e l.not_ended)) (λ e. absurd (false_true a.table.given_up e l.not_given_up)) w
+        (λ e. absurd (false_true a.ended e l.not_ended)) (λ e. absurd (false_true a.table.given_up e l.not_given_up)) there w
     by Eio w = calls_eio g a b n m many f h may.size may.geometry.sized may.ends x who now call
-        (λ e. absurd (false_true a.ended e l.not_ended)) (λ e. absurd (false_true a.table.given_up e l.not_given_up)) w.0 w.1
+        (λ e. absurd (false_true a.ended e l.not_ended)) (λ e. absurd (false_true a.table.given_up e l.not_given_up)) there w.0 w.1
 
 -- a call is answered
 pub ends_well : (g : Geometry) (a b : AbstractCache) (n m : ℕ) → m ≡ n → (f h : Files) → MayServe g a → (x : Leads a b) → IsLive b → (who : Who) (now : ℕ) (call : Call) (answer : Answer)
-    → answer ≢ refused EIO → (IsTrue (is_sync call) → IsTrue (is_success answer) → AllClean b.held)
+    → answer ≢ refused EIO → (IsTrue (is_sync call) → IsTrue (is_success answer) → IsSettled b) → LooksOver g who call f a b
     → ((d e : Disk) → Sees a b d e → DoesCall g who now call answer f h d e)
     → CallSpecification (server_of g a n f) (server_of g b m h) a.truth b.truth who now call (Replied answer)
-ends_well g a b n m many f h may x l who now call answer proper clean does =
-    calls_answered g a b n m many f h may.size may.geometry.sized may.ends x who now call answer l.not_ended l.not_given_up proper clean does
+ends_well g a b n m many f h may x l who now call answer proper clean looks does =
+    calls_answered g a b n m many f h may.size may.geometry.sized may.ends x who now call answer l.not_ended l.not_given_up proper clean looks does

@@ -1,6 +1,7 @@
 -- What a message that is handed over to a server over a cache keeps.
 use Rattle.std.proofs.Common.{◌≡◌, ℕ, ◌<◌, List, [], ◌∷◌, ◌++◌, false, refl, sym, ◌∙◌, ap, subst, Some}
 use Rattle.std.specs.Prelude.{is_some, Option}
+use Rattle.std.proofs.lemmas.List.{append_cancel_right}
 use Rattle.lemmas.proofs.Bools.{from_clash, is_false}
 use Rattle.layout.specs.declared.Geometry.{Geometry}
 use Rattle.message.specs.declared.Incoming.{Incoming}
@@ -10,17 +11,20 @@ use Rattle.volume.specs.Reading.{Disk}
 use Rattle.volume.specs.Holds.{HoldsVolume}
 use Rattle.records.specs.Marks.{Mark, gave_up}
 use Rattle.records.specs.Disk.{Contents, HasTrueReplies}
-use Rattle.records.specs.Told.{Received, received, grown, took_end}
+use Rattle.records.specs.Told.{Told, Received, received, grown, took_end}
 use Rattle.records.specs.Acts.{Absorbed, marks_after}
 use Rattle.records.specs.Legal.{tree_after}
 use Rattle.records.specs.View.{server_view}
 use Rattle.records.specs.ServerCall.{Serving, Serves, AbsorbKeeps}
+use Rattle.records.specs.Settled.{none_written, PostsReads}
+use Rattle.records.proofs.Quiet.{settled_acts, looking_acts, written_received, written_told}
 use Rattle.reissue.specs.Agrees.{Agrees}
 use Rattle.reissue.specs.Moves.{state_after}
 use Rattle.reissue.proofs.TableRules.{at_rest}
 use Rattle.cache.specs.Calls.{AbstractCache, Runs, Serves as Stays, HandsOver}
 use Rattle.cache.specs.Laws.{LeadsBy}
 use Rattle.cache.specs.Frames.{frames_of}
+use Rattle.cache.specs.Looking.{Looks}
 use Rattle.cache.proofs.Runs.{true_before}
 use Rattle.cache.proofs.Leading.{leads_by}
 use Rattle.descriptors.specs.Files.{Files, HasFiles}
@@ -29,7 +33,7 @@ use Rattle.vfs.specs.Serving.{IsServer, server_of}
 use Rattle.vfs.proofs.Keeping.{tree_acts, legal_acts, gone_acts, view_of, covers_of}
 
 module _ (g : Geometry) (a b : AbstractCache) (n k : ℕ) (many : k ≡ n) (f : Files) (m : Incoming) (sized : a.size ≡ g.block_size) (some : 0 < g.block_size)
-    (ends : a.ended ≡ took_end a.told) (h : HandsOver m a b) where
+    (ends : a.ended ≡ took_end a.told) (h : HandsOver m a b) (looks : Looks a b) where
   abbrev x : Runs (Some m) a b (λ w v. Stays a b w v)
   x = h.runs
 
@@ -121,6 +125,17 @@ module _ (g : Geometry) (a b : AbstractCache) (n k : ℕ) (many : k ≡ n) (f : 
                 covered = covers_of g some b sized' image (after marks) (slots tr);
               };
               open_files = sym (ap (λ (z : ℕ → Option OpenFile). some_below (λ j. is_some (z j)) most_open_files) (files image tree marks was tr e u).opened);
+            };
+        looking = λ tr. looking_acts g tree (x.acts ++ Absorbed m ∷ []) marks (k.looking (early image marks was.table tr));
+        settled = λ tr e only.
+            let old = k.settled (early image marks was.table tr) (opened e) (sym (settled_acts g tree (x.acts ++ Absorbed m ∷ []) marks) ∙ only) in
+            let l = looks old.settled in
+            let same : l.told ≡ x.told = append_cancel_right l.told x.told a.told (sym l.history ∙ x.history) in
+            record {
+              settled = l.settled;
+              none_written = ap none_written (grows marks was.table)
+                  ∙ written_told x.told (received m marks) (subst (λ (told : List Told). PostsReads told) same l.reads)
+                  (written_received m marks ∙ old.none_written);
             };
       }
 

@@ -1,7 +1,9 @@
 -- What a call of a server over a cache keeps.
 use Rattle.std.proofs.Common.{◌≡◌, ◌≢◌, ℕ, ◌<◌, List, [], ◌∷◌, Bool, true, false, cond, refl, sym, ◌∙◌, ap, subst, inl, inr, None}
-use Rattle.std.specs.Prelude.{IsTrue, Option, is_some}
-use Rattle.lemmas.proofs.Bools.{from_clash, is_false}
+use Rattle.std.specs.Prelude.{IsTrue, Option, is_some, ◌&&◌}
+use Rattle.std.proofs.lemmas.Bool.{and_parts}
+use Rattle.std.proofs.lemmas.List.{append_cancel_right}
+use Rattle.lemmas.proofs.Bools.{from_clash, is_false, or_cases}
 use Rattle.errno.specs.declared.Errno.TheVariants.{EIO}
 use Rattle.layout.specs.declared.Geometry.{Geometry}
 use Rattle.message.specs.declared.Incoming.{Incoming}
@@ -16,11 +18,13 @@ use Rattle.volume.specs.Holds.{HoldsVolume}
 use Rattle.records.specs.Marks.{Mark, Answered, Took, gave_up}
 use Rattle.records.specs.Open.{counts}
 use Rattle.records.specs.Disk.{Contents, HasTrueReplies}
-use Rattle.records.specs.Told.{Posted, Complained, Received, received, grown, took_end}
+use Rattle.records.specs.Told.{Told, Posted, Complained, Received, received, grown, took_end}
 use Rattle.records.specs.Acts.{Act, Began, Absorbed, AtLink, marks_after}
 use Rattle.records.specs.Legal.{IsLegal, IsLegalTook, is_sync, tree_after, tree_after_answer, is_success, IsSynced}
 use Rattle.records.specs.View.{server_view, IsCovered}
-use Rattle.records.specs.ServerCall.{Serving, Serves, Replied, Cut, CallKeeps}
+use Rattle.records.specs.ServerCall.{Serving, Serves, IsQuiet, Replied, Cut, CallKeeps}
+use Rattle.records.specs.Settled.{only_looks, is_settled, none_written, LookingWritesNothing, PostsReads}
+use Rattle.records.proofs.Quiet.{settled_acts, looking_acts, written_told}
 use Rattle.records.specs.Unmount.{Unmounting, Unmounted, unmounting_of}
 use Rattle.reissue.specs.Agrees.{Agrees}
 use Rattle.reissue.specs.Moves.{state_after}
@@ -35,11 +39,12 @@ use Rattle.cache.proofs.ReadingBack.{frames_read_back}
 use Rattle.cached_blocks.specs.World.{Leads, Sees}
 use Rattle.flusher.proofs.Flushing.{synced}
 use Rattle.cache.specs.Edits.{AllClean}
+use Rattle.cache.specs.Looking.{IsSettled, LooksOn, Looks}
 use Rattle.descriptors.specs.Files.{Files, HasFiles, is_busy}
 use Rattle.client_calls.specs.Calls.{IsDone, DoesCall}
 use Rattle.records.specs.Opening.{Opening, contents_at}
 use Rattle.file_server.specs.Over.{CallSpecification}
-use Rattle.vfs.specs.Serving.{IsServer, server_of}
+use Rattle.vfs.specs.Serving.{IsServer, LooksOver, server_of}
 use Rattle.vfs.specs.UnmountingLaws.{UnmountsOver}
 
 -- ---- acts leave the tree and a legal record (as in the crate `serve`)
@@ -201,9 +206,60 @@ module _ (g : Geometry) (a b : AbstractCache) (n m : ℕ) (many : m ≡ n) (p q 
       → a.truth v marks → b.truth v (after marks)
   heard v tree marks minor k was = subst (λ (ms : List Mark). b.truth v ms) (sym (grows marks k.table)) (x.truth v marks k.table minor was)
 
+  -- only reads were posted since, where nothing was left to write
+  quiet : (marks : List Mark) → Agrees a.table marks → LooksOn a b → none_written marks ≡ true → none_written (after marks) ≡ true
+  quiet marks k l none =
+      let same : l.told ≡ x.told = append_cancel_right l.told x.told a.told (sym l.history ∙ x.history) in
+      ap none_written (grows marks k) ∙ written_told x.told marks (subst (λ (told : List Told). PostsReads told) same l.reads) none
+
+  -- a call that only looks finds nothing to write, after any record
+  abbrev pub LooksThere : Who → Call → Type 0
+  LooksThere who call = (image : Contents) (tree : Tree) (marks : List Mark) → Serves s image tree marks → HasTrueReplies image (after marks)
+      → IsTrue (only_looks (tree_after g tree marks) who call) → Looks a b
+
+  -- the tree is there before it
+  pub looks_there : (who : Who) (call : Call) → a.ended ≡ false → ((marks : List Mark) → Agrees a.table marks → gave_up marks ≡ false)
+      → LooksOver g who call p a b → LooksThere who call
+  looks_there who call live going looks image tree marks k tr only =
+      let first = early image marks k.agrees.table tr in
+      let up = going marks k.agrees.table in
+      let d = view a.size a.held (state_after image marks) in
+      looks d (view b.size b.held (state_after image (after marks))) (seen image tree marks k.agrees tr) (tree_after g tree marks)
+      (subst (λ (y : Disk). HoldsVolume g y (tree_after g tree marks)) (view_of g some a sized image marks) (k.has_tree first live up).reads_back.holds)
+      (k.agrees.files first live up) only
+
+  -- a call that was finished
+  module _ (who : Who) (now : ℕ) (call : Call) (answer : Answer) (unended : a.ended ≡ false) (looks : LooksThere who call) where
+    looked : (image : Contents) (tree : Tree) (marks : List Mark) → Serves s image tree marks → HasTrueReplies image (after marks)
+        → IsTrue (only_looks (tree_after g tree (after marks)) who call && is_settled g tree (after marks))
+        → LooksOn a b × (none_written (after marks) ≡ true)
+    looked image tree marks k tr h =
+        let both = and_parts (only_looks (tree_after g tree (after marks)) who call) (is_settled g tree (after marks)) h in
+        let was = k.settled (early image marks k.agrees.table tr) unended (sym (settled_acts g tree x.acts marks) ∙ both.1) in
+        let only = subst (λ (y : Tree). IsTrue (only_looks y who call)) (tree_acts g tree x.acts marks) both.0 in
+        let l = looks image tree marks k tr only was.settled in
+        (l, quiet marks k.agrees.table l was.none_written)
+
+    took_looking : (image : Contents) (tree : Tree) (marks : List Mark) → Serves s image tree marks → HasTrueReplies image (after marks)
+        → LookingWritesNothing g tree (Took who now call answer ∷ after marks)
+    took_looking image tree marks k tr =
+        (looking_acts g tree x.acts marks (k.looking (early image marks k.agrees.table tr)), λ h. (looked image tree marks k tr h).1)
+
+    took_settled : (image : Contents) (tree : Tree) (marks : List Mark) → Serves s image tree marks → HasTrueReplies image (after marks)
+        → (IsTrue (is_sync call) → IsTrue (is_success answer) → IsSettled b) → is_settled g tree (Took who now call answer ∷ after marks) ≡ true
+        → IsQuiet t (Took who now call answer ∷ after marks)
+    took_settled image tree marks k tr clean h = record {
+      settled = elim (or_cases (is_sync call && is_success answer) _ h) [
+        | inl sync ↦ let both = and_parts (is_sync call) (is_success answer) sync in clean both.0 both.1
+        | inr only ↦ (looked image tree marks k tr only).0.settled
+      ];
+      none_written = refl;
+    }
+
   -- a call that was answered
   module _ (who : Who) (now : ℕ) (call : Call) (answer : Answer) (live : b.ended ≡ false) (going : b.table.given_up ≡ false)
-      (proper : answer ≢ refused EIO) (clean : IsTrue (is_sync call) → IsTrue (is_success answer) → AllClean b.held)
+      (proper : answer ≢ refused EIO) (clean : IsTrue (is_sync call) → IsTrue (is_success answer) → IsSettled b)
+      (looks : LooksOver g who call p a b)
       (does : (d e : Disk) → Sees a b d e → DoesCall g who now call answer p q d e) where
     -- before it the tree was there
     goes_on : (marks : List Mark) → Agrees a.table marks → gave_up marks ≡ false
@@ -211,6 +267,9 @@ module _ (g : Geometry) (a b : AbstractCache) (n m : ℕ) (many : m ≡ n) (p q 
 
     opened : a.ended ≡ false
     opened = is_false a.ended (λ e. from_clash (sym (x.ended e) ∙ live))
+
+    there : LooksThere who call
+    there = looks_there who call opened goes_on looks
 
     abbrev more : List Mark → List Mark
     more marks = Took who now call answer ∷ after marks
@@ -263,7 +322,7 @@ module _ (g : Geometry) (a b : AbstractCache) (n m : ℕ) (many : m ≡ n) (p q 
             legal_acts g image tree x.acts marks (k.legal (early image marks k.agrees.table tr)),
             subst (λ (z : Bool). IsLegalTook g image (tree_after g tree (after marks)) (after marks) z who now call answer)
                 (sym going ∙ given_up marks k.agrees.table)
-                (record { replies = (done image tree marks k tr).replies; syncs = λ is ok. on_disk image tree marks k tr (clean is ok) }),
+                (record { replies = (done image tree marks k tr).replies; syncs = λ is ok. on_disk image tree marks k tr (clean is ok).clean }),
           );
           has_tree = λ tr e u.
               let f = done image tree marks k tr in
@@ -277,6 +336,8 @@ module _ (g : Geometry) (a b : AbstractCache) (n m : ℕ) (many : m ≡ n) (p q 
                 open_files = sym (ap (λ (x : ℕ → Option OpenFile). some_below (λ j. is_some (x j)) most_open_files)
                     (subst (λ (y : Tree). HasFiles q y) (sym (tree_is tree marks k.agrees.table)) f.files).opened);
               };
+          looking = took_looking who now call answer opened there image tree marks k;
+          settled = λ tr e h. took_settled who now call answer opened there image tree marks k tr clean h;
         }
 
     abbrev answered_by : CallKeeps s who now call (Replied answer) t
@@ -300,7 +361,8 @@ module _ (g : Geometry) (a b : AbstractCache) (n m : ℕ) (many : m ≡ n) (p q 
     calls_answered = record { keeps = answered_by; truth = heard }
 
   -- an unmount
-  module _ (stays : q ≡ p) (same : (d e : Disk) → Sees a b d e → e ≡ d) (before : a.ended ≡ true → x.acts ≡ []) (over : a.table.given_up ≡ true → x.acts ≡ []) where
+  module _ (stays : q ≡ p) (same : (d e : Disk) → Sees a b d e → e ≡ d) (before : a.ended ≡ true → x.acts ≡ []) (over : a.table.given_up ≡ true → x.acts ≡ [])
+      (looks : Looks a b) where
     going : (marks : List Mark) → gave_up (after marks) ≡ false → gave_up marks ≡ false
     going marks u = is_false (gave_up marks) (λ e. from_clash (sym (gone_acts x.acts marks e) ∙ u))
 
@@ -350,6 +412,11 @@ module _ (g : Geometry) (a b : AbstractCache) (n m : ℕ) (many : m ≡ n) (p q 
                 open_files = sym (ap (λ (z : ℕ → Option OpenFile). some_below (λ j. is_some (z j)) most_open_files)
                     (files_stay image tree marks k.agrees tr e u).opened);
               };
+          looking = λ tr. looking_acts g tree x.acts marks (k.looking (early image marks k.agrees.table tr));
+          settled = λ tr e h.
+              let was = k.settled (early image marks k.agrees.table tr) (lasts e) (sym (settled_acts g tree x.acts marks) ∙ h) in
+              let l = looks was.settled in
+              record { settled = l.settled; none_written = quiet marks k.agrees.table l was.none_written };
         }
 
     -- where each frame is clean the disk alone holds the tree
@@ -387,7 +454,8 @@ module _ (g : Geometry) (a b : AbstractCache) (n m : ℕ) (many : m ≡ n) (p q 
     }
 
   -- a call that is cut, or answered EIO
-  module _ (who : Who) (now : ℕ) (call : Call) (before : a.ended ≡ true → x.acts ≡ []) (over : a.table.given_up ≡ true → x.acts ≡ []) where
+  module _ (who : Who) (now : ℕ) (call : Call) (before : a.ended ≡ true → x.acts ≡ []) (over : a.table.given_up ≡ true → x.acts ≡ [])
+      (looks : LooksThere who call) where
     over_is : (marks : List Mark) → Agrees a.table marks → gave_up marks ≡ true → x.acts ≡ []
     over_is marks k e = over (k.holds.given_up ∙ e)
 
@@ -410,6 +478,8 @@ module _ (g : Geometry) (a b : AbstractCache) (n m : ℕ) (many : m ≡ n) (p q 
             at_rest = at_rest b.table (after marks) agrees;
             legal = λ tr. legal_acts g image tree x.acts marks (k.legal (early image marks k.agrees.table tr));
             has_tree = λ tr e u. from_clash (sym end ∙ e);
+            looking = λ tr. looking_acts g tree x.acts marks (k.looking (early image marks k.agrees.table tr));
+            settled = λ tr e h. from_clash (sym end ∙ e);
           };
     }
 
@@ -428,6 +498,7 @@ module _ (g : Geometry) (a b : AbstractCache) (n m : ℕ) (many : m ≡ n) (p q 
           let agrees = table marks k.agrees.table in
           let took = agrees_took b.table (after marks) who now call (refused EIO) agrees in
           let up = sym (given_up marks k.agrees.table) ∙ gone in
+          let unended = is_false a.ended (λ e. from_clash (sym (x.ended e) ∙ live)) in
           record {
             agrees = record { table = took; slots = λ tr. slots image tree marks k.agrees tr; files = λ tr e u. from_clash (sym up ∙ u) };
             well_formed = took.holds.well_formed;
@@ -437,6 +508,8 @@ module _ (g : Geometry) (a b : AbstractCache) (n m : ℕ) (many : m ≡ n) (p q 
               subst (λ (z : Bool). IsLegalTook g image (tree_after g tree (after marks)) (after marks) z who now call (refused EIO)) (sym up) refl,
             );
             has_tree = λ tr e u. from_clash (sym up ∙ u);
+            looking = took_looking who now call (refused EIO) unended looks image tree marks k;
+            settled = λ tr e h. took_settled who now call (refused EIO) unended looks image tree marks k tr (λ is ok. from_clash (sym ok)) h;
           };
     }
 

@@ -13,11 +13,12 @@ use Rattle.records.specs.ServerCall.{Replied}
 use Rattle.records.specs.Unmount as legal
 use Rattle.cache.specs.Calls.{AbstractCache, HandsOver, IsLive, IsWhyCut}
 use Rattle.cache.specs.Edits.{AllClean}
+use Rattle.cache.specs.Looking.{IsSettled, Looks}
 use Rattle.cached_blocks.specs.World.{Leads, Sees}
 use Rattle.descriptors.specs.Files.{Files, is_busy}
 use Rattle.client_calls.specs.Calls.{DoesCall}
 use Rattle.file_server.specs.Over.{AbsorbsOver, CallSpecification, outcome_of}
-use Rattle.vfs.specs.Serving.{MayServe, Spends, server_of}
+use Rattle.vfs.specs.Serving.{LooksOver, MayServe, Spends, server_of}
 use Rattle.vfs.specs.Outcomes.{stopped}
 use Rattle.vfs.specs.UnmountingLaws.{UnmountsOver}
 
@@ -31,14 +32,15 @@ StoppedKeeps B caching =
 abbrev pub CutKeeps : (B : Type 0) → (B → AbstractCache) → Type 0
 CutKeeps B caching =
     (g : Geometry) (a b : B) (n : ℕ) (f h : Files) (who : Who) (now : ℕ) (call : Call) (why : Why) → MayServe g (caching a) → IsLive (caching a)
-    → Leads (caching a) (caching b) → IsWhyCut (caching b) why
+    → Leads (caching a) (caching b) → LooksOver g who call f (caching a) (caching b) → IsWhyCut (caching b) why
     → CallSpecification (server_of g (caching a) n f) (server_of g (caching b) n h) (caching a).truth (caching b).truth who now call (outcome_of (stopped why))
 
 -- a call that is answered: it does to what would be read back what the tree's call does
 abbrev pub AnsweredKeeps : (B : Type 0) → (B → AbstractCache) → Type 0
 AnsweredKeeps B caching =
     (g : Geometry) (a b : B) (n : ℕ) (f h : Files) (who : Who) (now : ℕ) (call : Call) (answer : Answer) → MayServe g (caching a)
-    → Leads (caching a) (caching b) → IsLive (caching b) → answer ≢ refused EIO → (IsTrue (is_sync call) → IsTrue (is_success answer) → AllClean (caching b).held)
+    → Leads (caching a) (caching b) → IsLive (caching b) → answer ≢ refused EIO → (IsTrue (is_sync call) → IsTrue (is_success answer) → IsSettled (caching b))
+    → LooksOver g who call f (caching a) (caching b)
     → ((d e : Disk) → Sees (caching a) (caching b) d e → DoesCall g who now call answer f h d e)
     → CallSpecification (server_of g (caching a) n f) (server_of g (caching b) n h) (caching a).truth (caching b).truth who now call (Replied answer)
 
@@ -50,7 +52,7 @@ CallSpends B caching = (a b : B) → Leads (caching a) (caching b) → Spends 0 
 abbrev pub HandedKeeps : (B : Type 0) → (B → AbstractCache) → Type 0
 HandedKeeps B caching =
     (g : Geometry) (a b : B) (n : ℕ) (f : Files) (m : Incoming) → MayServe g (caching a) → HandsOver m (caching a) (caching b)
-    → AbsorbsOver (server_of g (caching a) n f) (server_of g (caching b) n f) (caching a).truth (caching b).truth m
+    → Looks (caching a) (caching b) → AbsorbsOver (server_of g (caching a) n f) (server_of g (caching b) n f) (caching a).truth (caching b).truth m
 
 -- what it spends
 abbrev pub HandedSpends : (B : Type 0) → (B → AbstractCache) → Type 0
@@ -68,4 +70,4 @@ abbrev pub UnmountedKeeps : (B : Type 0) → (B → AbstractCache) → Type 0
 UnmountedKeeps B caching =
     (g : Geometry) (a b : B) (n : ℕ) (f : Files) → MayServe g (caching a) → IsLive (caching a) → is_busy f ≡ false → Leads (caching a) (caching b)
     → ((d e : Disk) → Sees (caching a) (caching b) d e → e ≡ d) → IsLive (caching b) → AllClean (caching b).held
-    → UnmountsOver (server_of g (caching a) n f) (server_of g (caching b) n f) (caching a).truth (caching b).truth legal.Unmounted
+    → Looks (caching a) (caching b) → UnmountsOver (server_of g (caching a) n f) (server_of g (caching b) n f) (caching a).truth (caching b).truth legal.Unmounted

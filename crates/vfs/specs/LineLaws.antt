@@ -21,6 +21,7 @@ stays_by words s l told = record {
   is_busy = refl;
   told = told;
   ended = refl;
+  settled = λ h. record { clean = h.clean; no_write = h.no_write };
 }
 
 -- as many messages are left, or fewer

@@ -1,18 +1,25 @@
 -- A server over a cache, by the geometry of its volume, its cache and its open files.
-use Rattle.std.specs.Prelude.{◌≡◌, ◌≤◌, ℕ, ◌+◌, List, length, false}
+use Rattle.std.specs.Prelude.{◌≡◌, ◌≤◌, ℕ, ◌+◌, List, length, false, IsTrue}
 use Rattle.layout.specs.declared.Geometry.{Geometry}
 use Rattle.layout.specs.Places.{IsGeometry}
+use Rattle.tree.specs.declared.Who.{Who}
+use Rattle.tree.specs.declared.Call.{Call}
 use Rattle.tree.specs.Tree.{Tree}
+use Rattle.volume.specs.Reading.{Disk}
+use Rattle.volume.specs.Holds.{HoldsVolume}
 use Rattle.records.specs.Marks.{Mark, gave_up}
 use Rattle.records.specs.Disk.{Contents, HasTrueReplies}
 use Rattle.records.specs.Told.{took_end}
 use Rattle.records.specs.Legal.{tree_after}
 use Rattle.records.specs.ServerCall.{Serving}
+use Rattle.records.specs.Settled.{only_looks}
 use Rattle.reissue.specs.Agrees.{Agrees}
 use Rattle.reissue.specs.Moves.{state_after}
 use Rattle.reissue.specs.Rules.{outbox_of}
 use Rattle.cache.specs.Calls.{AbstractCache, IsReady, messages_left}
 use Rattle.cache.specs.Frames.{CacheAgrees, frames_of}
+use Rattle.cache.specs.Looking.{IsSettled, Looks}
+use Rattle.cached_blocks.specs.World.{Sees}
 use Rattle.descriptors.specs.Files.{Files, HasFiles, is_busy}
 
 -- calls may be made, on a cache for a volume of this geometry
@@ -40,7 +47,13 @@ server_of g c frames f = record {
   is_busy = is_busy f;
   told = c.told;
   ended = c.ended;
+  settled = IsSettled c;
 }
+
+-- a call that only looks, of some tree that would be read back with these open files, finds nothing to write where nothing was left to write
+abbrev pub LooksOver : Geometry → Who → Call → Files → AbstractCache → AbstractCache → Type 0
+LooksOver g who call f a b =
+    (d e : Disk) → Sees a b d e → (t : Tree) → HoldsVolume g d t → HasFiles f t → IsTrue (only_looks t who call) → Looks a b
 
 -- Messages were taken from those that were left, and each spent an id at most, as did those that were handed over.
 pub record Spends (handed : ℕ) (old new : AbstractCache) : Type 0 where

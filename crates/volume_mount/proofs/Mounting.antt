@@ -32,7 +32,9 @@ use Rattle.vfs.specs.declared.server.Server.{Server}
 use Rattle.vfs.specs.Serving.{server_of}
 use Rattle.vfs.specs.OverLink.{caching_of, serving_over, transfers_of}
 use Rattle.volume_mount.specs.Opening.{IsNewOver}
+use Rattle.records.proofs.Quiet.{looking_acts}
 use Rattle.vfs.proofs.Keeping.{legal_acts, tree_acts}
+use Rattle.volume_mount.proofs.ReadAlone.{writes_none}
 use Rattle.volume_mount.proofs.Opened.{just_made, serves_new}
 use Rattle.volume_mount.specs.Mounted.{IsMounted, IsNotMounted}
 
@@ -154,6 +156,9 @@ mounted {L} words link minor frames clean old new s over agrees owes goes ok r n
     now : Agrees (table_of (transfers_of s)) marks
     now = subst (λ (t : Transfers L). Agrees (table_of t) marks) (sym n.over) (r.went.follows [] agrees).agrees
 
+    did : Mounting minor (words.history (link_of old)) r.went.acts (words.history (link_of new))
+    did = done minor (table_of old) (table_of new) _ _ _ _ agrees owes r.went
+
     same_geometry : s.geometry ≡ clean.geometry
     same_geometry = n.geometry
 
@@ -181,5 +186,7 @@ mounted {L} words link minor frames clean old new s over agrees owes goes ok r n
           (serves_new clean.geometry (caching_of words s) (frame_count s.blocks.cache) (files_of s.opens) image (r.end agrees).1.tree marks
           (r.end agrees).1.sizes.sized n.made.size_is n.made.none n.files now
           (λ tr. let l = r.went.leaves image [] agrees tr in record { disk = λ place. l.disk place; sure = λ place. l.sure place refl })
-          (first image) (tree_acts clean.geometry (r.end agrees).1.tree r.went.acts []) (legal_acts clean.geometry image (r.end agrees).1.tree r.went.acts [] tt));
+          (first image) (tree_acts clean.geometry (r.end agrees).1.tree r.went.acts []) (legal_acts clean.geometry image (r.end agrees).1.tree r.went.acts [] tt)
+          (looking_acts clean.geometry (r.end agrees).1.tree r.went.acts [] tt) (writes_none minor r.went.acts did.only_reads did.keep)
+          (ap (λ (t : Transfers L). (table_of t).pending) n.over ∙ (r.end agrees).1.idle));
     }

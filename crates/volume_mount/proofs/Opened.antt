@@ -15,11 +15,14 @@ use Rattle.records.specs.Legal.{IsAtFirst, IsLegal, tree_after}
 use Rattle.records.specs.View.{Frames, server_view}
 use Rattle.records.specs.Mount.{IsJustMade, OpenKeeps, is_frame_count}
 use Rattle.records.specs.ServerCall.{Serves}
+use Rattle.records.specs.Settled.{none_written, LookingWritesNothing}
 use Rattle.reissue.specs.declared.link.Link.{Ghosts as LinkWords}
 use Rattle.reissue.specs.declared.transfers.Transfers.{Transfers}
 use Rattle.reissue.specs.Transfers.{link_of, table_of}
 use Rattle.reissue.specs.Agrees.{Agrees}
-use Rattle.reissue.specs.Moves.{state_after}
+use Rattle.reissue.specs.declared.pending.Pending.{Pending}
+use Rattle.reissue.specs.Entries.{pending_of}
+use Rattle.reissue.specs.Moves.{Begun, state_after}
 use Rattle.reissue.specs.Rules.{outbox_of}
 use Rattle.reissue.proofs.TableRules.{at_rest}
 use Rattle.cache.specs.declared.slot.Slot.{Slot}
@@ -43,6 +46,9 @@ pub record IsUnchanged (image : Contents) (marks : List Mark) : Type 0 where
 some_none : {s : Slot} → None ≡ Some s → ⊥
 some_none e = cc
 
+none_pending : {r : Begun} → None ≡ Some r → ⊥
+none_pending e = cc
+
 -- no frame is in use
 no_frames : (size : ℕ) (held : ℕ → Option Slot) → ((b : ℕ) → held b ≡ None) → frames_of size held ≡ (λ b. None)
 no_frames size held none = λ i b. frame_of size (none b i)
@@ -59,8 +65,9 @@ none_busy f e = ap (λ (x : Files). is_busy x) e ∙ none_open
 pub serves_new : (g : Geometry) (c : AbstractCache) (n : ℕ) (f : Files) (image : Contents) (tree : Tree) (marks : List Mark)
     → 0 < g.block_size → c.size ≡ g.block_size → ((b : ℕ) → c.held b ≡ None) → f ≡ no_files → Agrees c.table marks
     → (HasTrueReplies image marks → IsUnchanged image marks) → (HasTrueReplies image marks → IsAtFirst g image tree)
-    → tree_after g tree marks ≡ tree → IsLegal g image tree marks → Serves (server_of g c n f) image tree marks
-serves_new g c n f image tree marks some sized none closed agrees same first stays legal = record {
+    → tree_after g tree marks ≡ tree → IsLegal g image tree marks → LookingWritesNothing g tree marks → none_written marks ≡ true
+    → c.table.pending ≡ [] → Serves (server_of g c n f) image tree marks
+serves_new g c n f image tree marks some sized none closed agrees same first stays legal looking quiet idle = record {
   agrees = record { table = agrees; slots = slots; files = λ tr e u. files tr };
   well_formed = agrees.holds.well_formed;
   at_rest = at_rest c.table marks agrees;
@@ -72,6 +79,14 @@ serves_new g c n f image tree marks some sized none closed agrees same first sta
       covered = covers_of g some c sized image marks (slots tr);
     };
     open_files = sym (ap (λ (x : ℕ → Option OpenFile). some_below (λ j. is_some (x j)) most_open_files) (files tr).opened);
+  };
+  looking = λ tr. looking;
+  settled = λ tr e h. record {
+    settled = record {
+      clean = λ b s is. absurd (some_none (sym (none b) ∙ is));
+      no_write = λ t r bytes is write. absurd (none_pending (ap (λ (l : List Pending). pending_of l t) (sym idle) ∙ is));
+    };
+    none_written = quiet;
   };
 }
   where
@@ -103,9 +118,10 @@ just_made words transfers minor g frames s many new = record {
 
 -- what opening promises
 pub opened : {L : Type 0} (words : LinkWords L) (transfers : Transfers L) (link : L) (minor : ℕ) (g : Geometry) (frames : ℕ) (s : Server (Stored L))
-    → link_of transfers ≡ link → Agrees (table_of transfers) [] → outbox_of (table_of transfers) ≡ empty_outbox → is_frame_count frames ≡ true
+    → link_of transfers ≡ link → Agrees (table_of transfers) [] → outbox_of (table_of transfers) ≡ empty_outbox
+    → (table_of transfers).pending ≡ [] → is_frame_count frames ≡ true
     → 0 < g.block_size → IsNewOver words transfers minor g frames s → OpenKeeps g minor frames (words.history link) (serving_over words s)
-opened {L} words transfers link minor g frames s over agrees owes many some new = record {
+opened {L} words transfers link minor g frames s over agrees owes idle many some new = record {
   geometry = new.geometry;
   minor_is = new.made.minor_is;
   told = ap (λ (t : Transfers L). words.history (link_of t)) new.over ∙ ap words.history over;
@@ -117,7 +133,8 @@ opened {L} words transfers link minor g frames s over agrees owes many some new 
       let count = frame_count s.blocks.cache in
       subst (λ (h : Geometry). Serves (server_of h c count (files_of s.opens)) image tree []) (sym new.geometry)
       (serves_new g c count (files_of s.opens) image tree [] some new.made.size_is new.made.none new.files table
-      (λ tr. record { disk = λ place. refl; sure = λ place. refl }) (λ tr. first) refl tt);
+      (λ tr. record { disk = λ place. refl; sure = λ place. refl }) (λ tr. first) refl tt tt refl
+      (ap (λ (t : Transfers L). (table_of t).pending) new.over ∙ idle));
 }
 
 -- what isn't false is true
@@ -128,12 +145,12 @@ not_false false h = absurd (h refl)
 -- and where it is refused
 pub opens_over : {L : Type 0} (words : LinkWords L) (transfers : Transfers L) (link : L) (minor : ℕ) (g : Geometry) (frames : ℕ)
     (result : Result (Server (Stored L)) CacheRefusal) → link_of transfers ≡ link → Agrees (table_of transfers) [] → outbox_of (table_of transfers) ≡ empty_outbox
-    → 0 < g.block_size → IfOk result (IsNewOver words transfers minor g frames) → (IsErrOf result BadFrames ↔ (is_frame_count frames ≡ false))
+    → (table_of transfers).pending ≡ [] → 0 < g.block_size → IfOk result (IsNewOver words transfers minor g frames) → (IsErrOf result BadFrames ↔ (is_frame_count frames ≡ false))
     → Opens words link minor g frames result
-opens_over words transfers link minor g frames (Ok s) over agrees owes some new bad =
-    opened words transfers link minor g frames s over agrees owes (not_false (is_frame_count frames) (λ e. let k = bad.1 e in cc)) some new
-opens_over words transfers link minor g frames (Err BadFrames) over agrees owes some new bad = record { why = bad.0 refl; nothing_told = refl }
-opens_over words transfers link minor g frames (Err OutOfMemory) over agrees owes some new bad =
+opens_over words transfers link minor g frames (Ok s) over agrees owes idle some new bad =
+    opened words transfers link minor g frames s over agrees owes idle (not_false (is_frame_count frames) (λ e. let k = bad.1 e in cc)) some new
+opens_over words transfers link minor g frames (Err BadFrames) over agrees owes idle some new bad = record { why = bad.0 refl; nothing_told = refl }
+opens_over words transfers link minor g frames (Err OutOfMemory) over agrees owes idle some new bad =
     record { why = not_false (is_frame_count frames) (λ e. let k = bad.1 e in cc); nothing_told = refl }
 
 -- nothing is pending in one that was just made, and no Flush is left undone

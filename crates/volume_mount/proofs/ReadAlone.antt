@@ -13,6 +13,8 @@ use Rattle.records.specs.Disk.{Contents, HasTrueReplies, IsTrueAnswer, byte_of, 
 use Rattle.records.specs.Told.{Posted, Complained, Received, received}
 use Rattle.records.specs.Acts.{Act, Began, Absorbed, AtLink, KeepsRules, Outbox, empty_outbox, first_of, marks_after, outbox_after, owed_after_message}
 use Rattle.records.specs.Mount.{OnlyReads}
+use Rattle.records.specs.Settled.{none_written}
+use Rattle.records.proofs.Quiet.{read_issued}
 
 -- what both are one of them is
 one_of : {X : Type 0} (P : X → Type 0) (b : Bool) (x y : X) → P x → P y → P (if b then x else y)
@@ -181,6 +183,20 @@ only_owes minor (AtLink (Posted to r false) ∷ acts) only keep =
 only_owes minor (AtLink (Complained about) ∷ acts) only keep =
     let h = only_owes minor acts only keep.0 in record { issued = h.issued; never = h.never; unposted = h.unposted }
 only_owes minor (AtLink (Received message) ∷ acts) only keep = owed_reads message _ _ (only_owes minor acts only keep.0)
+
+-- so no write was issued
+no_writes : (marks : List Mark) → OnlyReadsIssued marks → none_written marks ≡ true
+no_writes [] h = refl
+no_writes (Issued r e ∷ marks) h = read_issued (is_write r.kind) (none_written marks) h.0 (no_writes marks h.1)
+no_writes (Answered a ∷ marks) h = no_writes marks h
+no_writes (Started e ∷ marks) h = no_writes marks h
+no_writes (Flush ∷ marks) h = no_writes marks h
+no_writes (GaveUp ∷ marks) h = no_writes marks h
+no_writes (Took who now call answer ∷ marks) h = refl
+no_writes (Fault e cause ∷ marks) h = no_writes marks h
+
+pub writes_none : (minor : ℕ) (acts : List Act) → OnlyReads acts → KeepsRules minor acts [] empty_outbox → none_written (marks_after acts []) ≡ true
+writes_none minor acts only keep = no_writes (marks_after acts []) (only_owes minor acts only keep).issued
 
 pub reads_alone : (minor : ℕ) (acts : List Act) (image : Contents) → OnlyReads acts → KeepsRules minor acts [] empty_outbox
     → HasTrueReplies image (marks_after acts []) → (place : ℕ) → is_read (marks_after acts []) place ≡ true

@@ -10,7 +10,8 @@ use Rattle.records.specs.Disk.{HasTrueReplies}
 use Rattle.records.specs.Opening.{Opening, contents_at}
 use Rattle.records.specs.Legal.{IsLegal}
 use Rattle.records.specs.View.{Frames, ReadsBack}
-use Rattle.records.specs.ServerCall.{Serving, HasTree}
+use Rattle.records.specs.Settled.{LookingWritesNothing, is_settled, none_written}
+use Rattle.records.specs.ServerCall.{Serving, HasTree, IsQuiet}
 use Rattle.reissue.specs.Calls.{Truth}
 use Rattle.schedule.specs.Faultless.{without_faults, FaultsChangeNothing}
 use Rattle.schedule.proofs.FaultlessLaws.{faults_change_nothing}
@@ -43,6 +44,12 @@ replies_hold s is v tree marks c t noted frames answered stood kept =
       true_replies = f.true_replies (contents_at v) (subst (λ (m : List Mark). HasTrueReplies (contents_at v) m) same true_here);
       legal = f.legal s.geometry (contents_at v) tree
           (subst (λ (m : List Mark). IsLegal s.geometry (contents_at v) tree m) same (stood.serves.legal true_here));
+      looking = f.looking s.geometry tree
+          (subst (λ (m : List Mark). LookingWritesNothing s.geometry tree m) same (stood.serves.looking true_here));
+      quiet = λ none settled.
+          let quiet : IsQuiet s marks = stood.serves.settled true_here (answered none)
+          (ap (is_settled s.geometry tree) same ∙ f.settled s.geometry tree ∙ settled) in
+          sym f.written ∙ sym (ap none_written same) ∙ quiet.none_written;
       reads_back = λ live none.
           let had : HasTree s (contents_at v) tree marks = stood.serves.has_tree true_here (answered none) (ap gave_up same ∙ f.given_up ∙ live) in
           subst (λ (x : Frames). ReadsBack s.geometry x (contents_at v) tree t.marks) (sym frames)

@@ -10,4 +10,4 @@ returns-clause-turns g c =
     (λ d e f x y. on_ok c.write_bytes.result _ _
     (λ after. was_put c.args.map c.args.geometry.now c.requires.on.geometry d e f c.args.number p.result.block p.result.byte p.result.bit c.in_ok-byte.byte
     b.result c.args.inside c.requires.number p.ensures.block p.ensures.byte p.ensures.bit b.ensures.this b.ensures.others x.0 x.1 after) y)
-    c.in_ok-byte.ensures.reads c.write_bytes.ensures.turns
+    c.in_ok-byte.ensures.reads.turns c.write_bytes.ensures.turns

@@ -49,6 +49,7 @@ pub fn readdir<B: Blocks>(
     requires session { session < most_sessions }
     ensures turns { let f = files_of opens.now in Turns B.world blocks.old blocks.new (λ d e.
         MeetsOrLacks geometry.now (λ t. readdir t session fd) result reply.new (HasFiles f) (HasFiles f) d e) }
+    ensures looks { B.world.looks blocks.old blocks.new }
     ensures halt { IfErr result (λ h. IsHalt B.world blocks.new h) }
     ensures proper { OnOk result (answer_of reply.new ≢ refused Errno.EIO) }
 {

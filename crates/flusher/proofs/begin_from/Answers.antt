@@ -1,7 +1,9 @@
-use Rattle.std.proofs.Common.{refl, ◌∙◌, arith}
+use Rattle.std.proofs.Common.{refl, sym, subst, ◌∙◌, arith}
+use Rattle.cache.specs.Edits.{AllClean}
+use Rattle.cache.specs.Calls.{held_by}
 use Rattle.cache.proofs.Placing.{keeps_none, keeps_then}
 use Rattle.flusher.proofs.Flushing.{posts_none, posts_then}
-use Rattle.flusher.proofs.Ways.{begins_none, begins_more, begins_stopped, begins_all}
+use Rattle.flusher.proofs.Ways.{begins_none, begins_more, begins_stopped, begins_all, next_dirty}
 use Rattle.flusher.proofs.begin_from.Goals as goal
 
 pub frames-init : goal.frames-init
@@ -16,6 +18,7 @@ frames-init g c = record {
   goes = g.met.L.Link.stays _;
   flush = refl;
   uses = refl;
+  at_once = λ clean. refl;
 }
 
 pub frames-preserved : goal.frames-preserved
@@ -33,6 +36,8 @@ frames-preserved g c =
       goes = g.met.L.Link.joins _ _ _ i.goes e.goes;
       flush = e.flush ∙ i.flush;
       uses = e.uses ∙ i.uses;
+      at_once = λ clean. absurd
+          (next_dirty c.args.from c.in-Some.field-0 c.write_next.result _ _ c.in-Some.is e.issued (subst (λ k. AllClean (held_by k)) (sym (i.at_once clean)) clean));
     }
 
 pub returns-in-None-clause-keeps : goal.returns-in-None-clause-keeps
@@ -73,3 +78,9 @@ returns-clause-left g c = c.frames.invariant.messages
 
 pub returns-clause-frames : goal.returns-clause-frames
 returns-clause-frames g c = c.frames.invariant.frames
+
+pub returns-in-None-clause-at_once : goal.returns-in-None-clause-at_once
+returns-in-None-clause-at_once g c = λ clean. c.write_next.ensures.refused c.in-None.is ∙ c.frames.invariant.at_once clean
+
+pub returns-clause-at_once : goal.returns-clause-at_once
+returns-clause-at_once g c = c.frames.invariant.at_once

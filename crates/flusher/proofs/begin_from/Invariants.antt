@@ -1,7 +1,8 @@
 use Rattle.std.proofs.Common.{◌≡◌, ◌≤◌}
 use Rattle.reissue.specs.Entries.{pending_of}
 use Rattle.cache.specs.declared.frame.Frame.{Frame}
-use Rattle.cache.specs.Calls.{caching, frame_count, Keeps, PostsAlone, IsFrame, LinkGoesOn, messages_left}
+use Rattle.cache.specs.Calls.{caching, held_by, frame_count, Keeps, PostsAlone, IsFrame, LinkGoesOn, messages_left}
+use Rattle.cache.specs.Edits.{AllClean}
 use Rattle.cache.specs.Takes.{NoReadBegun}
 use Rattle.flusher.proofs.Ways.{Begins}
 use Rattle.flusher.proofs.begin_from.Given as goal
@@ -18,4 +19,5 @@ invariant-frames g l = record {
   goes : LinkGoesOn g.L.Link l.initial.cache l.cache;
   flush : l.cache.flush ≡ l.initial.cache.flush;
   uses : l.cache.slots.uses ≡ l.initial.cache.slots.uses;
+  at_once : AllClean (held_by l.initial.cache) → l.cache ≡ l.initial.cache;
 }

@@ -1,7 +1,9 @@
-use Rattle.std.proofs.Common.{◌≤◌, refl, ◌∙◌, arith}
+use Rattle.std.proofs.Common.{◌≤◌, refl, sym, subst, ◌∙◌, arith}
 use mathlib.Core.Logic.{inl, inr}
+use Rattle.cache.specs.Edits.{AllClean}
+use Rattle.cache.specs.Calls.{held_by}
 use Rattle.cache.proofs.Placing.{keeps_none, keeps_then}
-use Rattle.flusher.proofs.Flushing.{flushing_none, flushing_more, flushing_end, begins_of, begins_none, run_few, lowest_of, all_of, posts_none, posts_then}
+use Rattle.flusher.proofs.Flushing.{flushing_none, flushing_more, flushing_end, begins_of, begins_none, run_dirty, run_few, lowest_of, all_of, posts_none, posts_then}
 use Rattle.flusher.proofs.begin_runs.Goals as goal
 
 pub runs-init : goal.runs-init
@@ -16,6 +18,7 @@ runs-init g c = record {
   goes = g.met.L.Link.stays _;
   flush = refl;
   uses = refl;
+  at_once = λ clean. refl;
   busy = λ lt. absurd (omega (arith, lt));
   requests = omega arith;
 }
@@ -40,6 +43,8 @@ runs-preserved g c =
       goes = g.met.L.Link.joins _ _ _ i.goes e.goes;
       flush = e.flush ∙ i.flush;
       uses = e.uses ∙ i.uses;
+      at_once = λ clean. absurd
+          (run_dirty c.runs.left c.write_run-begun.result _ _ _ _ _ some e.issued (subst (λ k. AllClean (held_by k)) (sym (i.at_once clean)) clean));
       busy = λ lt. e.busy (omega (arith, some));
       requests =
           let size : 512 ≤ c.runs.cache.shape.block_size = c.runs.cache.shape.least in
@@ -114,3 +119,9 @@ returns-clause-full g c = λ more live.
 
 pub returns-clause-frames : goal.returns-clause-frames
 returns-clause-frames g c = c.runs.invariant.frames
+
+pub returns-then-begun-eq0-clause-at_once : goal.returns-then-begun-eq0-clause-at_once
+returns-then-begun-eq0-clause-at_once g c = λ clean. c.write_run-begun.ensures.refused c.if-begun-eq0.true ∙ c.runs.invariant.at_once clean
+
+pub returns-clause-at_once : goal.returns-clause-at_once
+returns-clause-at_once g c = c.runs.invariant.at_once

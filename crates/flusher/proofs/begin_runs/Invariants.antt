@@ -2,7 +2,8 @@ use Rattle.std.proofs.Common.{◌≡◌, ◌<◌, ◌≤◌, ◌+◌, ◌*◌, l
 use Rattle.reissue.specs.Moves.{IsBusy}
 use Rattle.reissue.specs.Entries.{pending_of}
 use Rattle.cache.specs.declared.frame.Frame.{Frame}
-use Rattle.cache.specs.Calls.{caching, frame_count, Keeps, PostsAlone, IsFrame, LinkGoesOn, messages_left}
+use Rattle.cache.specs.Calls.{caching, held_by, frame_count, Keeps, PostsAlone, IsFrame, LinkGoesOn, messages_left}
+use Rattle.cache.specs.Edits.{AllClean}
 use Rattle.cache.specs.Takes.{NoReadBegun}
 use Rattle.flusher.proofs.Flushing.{Flushing}
 use Rattle.flusher.proofs.begin_runs.Given as goal
@@ -20,6 +21,7 @@ invariant-runs g l = record {
   goes : LinkGoesOn g.L.Link l.initial.cache l.cache;
   flush : l.cache.flush ≡ l.initial.cache.flush;
   uses : l.cache.slots.uses ≡ l.initial.cache.slots.uses;
+  at_once : AllClean (held_by l.initial.cache) → l.cache ≡ l.initial.cache;
   busy : l.left < l.initial.most → IsBusy (pending_of l.cache.transfers.table.pending);
   requests : l.initial.most + 8 * length l.initial.cache.transfers.table.pending ≤ l.left + 8 * length l.cache.transfers.table.pending;
 }

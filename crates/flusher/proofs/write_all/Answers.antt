@@ -60,3 +60,14 @@ returns-then-is_clean-clause-reads g c = λ t r is w. c.messages.invariant.reads
 pub returns-in_err-take_next-clause-reads : goal.returns-in_err-take_next-clause-reads
 returns-in_err-take_next-clause-reads g c = λ t r is w.
     c.messages.invariant.reads t r (c.begin_runs.ensures.reads t r (c.take_next.ensures.reads t r is w) w) w
+
+pub returns-then-is_clean-clause-frames : goal.returns-then-is_clean-clause-frames
+returns-then-is_clean-clause-frames g c = λ f is. c.begin_runs.ensures.frames f (c.messages.invariant.frames f is)
+
+pub returns-in_err-take_next-clause-frames : goal.returns-in_err-take_next-clause-frames
+returns-in_err-take_next-clause-frames g c = λ f is.
+    c.take_next.ensures.frames f (c.begin_runs.ensures.frames f (c.messages.invariant.frames f is))
+
+pub returns-in_err-take_next-clause-goes : goal.returns-in_err-take_next-clause-goes
+returns-in_err-take_next-clause-goes g c =
+    g.met.L.Link.joins _ _ _ (g.met.L.Link.joins _ _ _ c.messages.invariant.goes c.begin_runs.ensures.goes) c.take_next.ensures.goes

@@ -5,7 +5,7 @@ ghost use Rattle.layout.specs.declared.Geometry.{Geometry};
 ghost use Rattle.records.specs.Marks.{Mark};
 ghost use Rattle.records.specs.Disk.{Contents};
 ghost use Rattle.records.specs.Lives.{StillServes};
-ghost use Rattle.records.specs.LegalLaws.{BeginningsAreLegal, OnlyCallsMoveTree, GivenUpStays, NoMemoryLeaves, SyncedIsHeld, WithoutFrames};
+ghost use Rattle.records.specs.LegalLaws.{BeginningsAreLegal, OnlyCallsMoveTree, GivenUpStays, NoMemoryLeaves, SyncedIsHeld, SettledIsHeld, WithoutFrames};
 ghost use Rattle.records.specs.LegalLaws.{OwnCallsGrow, OwnCallsAreByItsUser, NewSessionIsSession};
 
 use crate::legal::Serve;
@@ -38,6 +38,13 @@ pub fn no_memory_leaves()
 #[tactic(auto, using(crate::proofs::Legality::synced_is_held))]
 pub fn synced_is_held()
     ensures { SyncedIsHeld }
+{}
+
+/// While calls only look since a sync that answered ok, and as long as no write is issued after the last of them, nothing is unsure, and the
+/// disk alone holds the tree.
+#[tactic(auto, using(crate::proofs::Settling::settled_is_held))]
+pub fn settled_is_held()
+    ensures { SettledIsHeld }
 {}
 
 /// A server without frames would read back the disk, and where each unsure place has a frame nothing is unsure then.

@@ -174,8 +174,8 @@ fn last_from<B: Blocks>(
 }
 
 /// Lets go all pages from this one on, and each indirect block that has no number then. The work is that of the pages that are let
-/// go, from the last one down: past holes each look goes on from the last place found. Unsound only where the rules are broken, or the number is no marked inode's;
-/// nothing more is said of these.
+/// go, from the last one down: past holes each look goes on from the last place found. Unsound only where the rules are broken, or the
+/// number is no marked inode's; nothing more is said of these.
 pub fn detach_from<B: Blocks>(
     blocks: &mut B,
     geometry: &Geometry,

@@ -1,3 +1,5 @@
+use Rattle.std.proofs.Common.{ap}
+use Rattle.cache.proofs.Looking.{looks_same}
 use Rattle.flusher.specs.Flushing.{Syncs}
 use Rattle.cached_blocks.specs.World.{stored_caching, GoesOn}
 use Rattle.cached_blocks.proofs.Calls.{turns}
@@ -7,3 +9,10 @@ pub returns-clause-turns : goal.returns-clause-turns
 returns-clause-turns g c =
     turns (stored_caching g.L.Link) (GoesOn g.L.Link) _ _ (λ w v. Syncs c.sync.result _ _ w v) _ (λ w v s. s.serves.agrees)
     (λ w v s. s.serves.same) (record { link = c.sync.ensures.goes; frames = c.sync.ensures.count }) c.sync.ensures.runs
+
+-- where each frame is clean nothing is done
+pub returns-clause-looks : goal.returns-clause-looks
+returns-clause-looks g c =
+    let f = stored_caching g.L.Link in
+    looks_same (f c.args.self.now) (f (record { cache = c.sync.new.cache }))
+    (λ clean. ap (λ s. f (record { cache = s })) (c.sync.ensures.at_once clean).1)

@@ -3,6 +3,7 @@ use Rattle.cache.specs.declared.slot.Slot.{Slot}
 use Rattle.flusher.specs.Flushing.{BeginsAll}
 use Rattle.cached_blocks.specs.World.{goes_joins, stored_caching}
 use Rattle.cached_blocks.proofs.Flushes.{hands_then}
+use Rattle.cache.proofs.Looking.{looks_then}
 use Rattle.cached_blocks.proofs.StoredCaches.absorb.Goals as goal
 
 pub returns-then-not-last-clause-hands_over : goal.returns-then-not-last-clause-hands_over
@@ -27,3 +28,9 @@ pub returns-then-not-last-clause-flushed : goal.returns-then-not-last-clause-flu
 returns-then-not-last-clause-flushed g c = λ is live.
     subst (λ (h : ℕ → Option Slot). BeginsAll 16 h (stored_caching g.L.Link c.flush_wanted.new.self)) (c.absorb.ensures.asked is)
     ((c.flush_wanted.ensures.flushed (c.absorb.ensures.wanted.0 is)).stuck live)
+
+pub returns-then-not-last-clause-looks : goal.returns-then-not-last-clause-looks
+returns-then-not-last-clause-looks g c = looks_then _ _ _ c.absorb.ensures.looks c.flush_wanted.ensures.looks
+
+pub returns-else-not-last-clause-looks : goal.returns-else-not-last-clause-looks
+returns-else-not-last-clause-looks g c = c.absorb.ensures.looks

@@ -1,10 +1,11 @@
-use Rattle.std.proofs.Common.{refl}
+use Rattle.std.proofs.Common.{refl, ap, ◌∙◌}
 use Rattle.cache.specs.Slots.{held}
 use Rattle.cache.specs.Edits.{AllClean}
 use Rattle.cache.proofs.Placing.{keeps_none}
 use Rattle.cached_blocks.specs.World.{stored_caching, GoesOn}
 use Rattle.cached_blocks.proofs.Flushes.{stays_clean}
 use Rattle.cached_blocks.proofs.Calls.{turns_kept}
+use Rattle.cache.proofs.Looking.{looks_none, looks_same}
 use Rattle.cached_blocks.proofs.StoredCaches.flush_wanted.Goals as goal
 
 pub returns-then-take_flush-clause-clean : goal.returns-then-take_flush-clause-clean
@@ -41,3 +42,13 @@ returns-then-take_flush-clause-flushed g c = λ wanted. record {
   issued = rw c.take_flush.ensures.done at c.flush_some.ensures.issued;
   stuck = rw c.take_flush.ensures.done at c.flush_some.ensures.stuck;
 }
+
+pub returns-then-take_flush-clause-looks : goal.returns-then-take_flush-clause-looks
+returns-then-take_flush-clause-looks g c =
+    let f = stored_caching g.L.Link in
+    looks_same (f c.args.self.now) (f (record { cache = c.flush_some.new.cache })) (λ clean.
+    let k : AllClean (held c.take_flush.new.self.slots.items.items) = rw c.take_flush.ensures.done clean in
+    ap (λ s. f (record { cache = s })) (c.flush_some.ensures.at_once k ∙ c.take_flush.ensures.done))
+
+pub returns-else-take_flush-clause-looks : goal.returns-else-take_flush-clause-looks
+returns-else-take_flush-clause-looks g c = rw c.take_flush.ensures.done (looks_none _)

@@ -16,7 +16,7 @@ returns-then-mode-gt-MAX_PERMISSIONS-clause-turns g c =
 pub returns-in_err-number-clause-turns : goal.returns-in_err-number-clause-turns
 returns-in_err-number-clause-turns g c =
     let a = c.args in
-    turns_as _ _ _ _ _ (λ d e p f. ends_exit _ _ _ _ _ _ c.from_residual.ensures.1 (λ h. volume_of a.geometry.now d f h) p.1) c.in_err-number.ensures.reads
+    turns_as _ _ _ _ _ (λ d e p f. ends_exit _ _ _ _ _ _ c.from_residual.ensures.1 (λ h. volume_of a.geometry.now d f h) p.1) c.in_err-number.ensures.reads.turns
 
 pub returns-then-not-is_owner-clause-turns : goal.returns-then-not-is_owner-clause-turns
 returns-then-not-is_owner-clause-turns g c =
@@ -27,7 +27,7 @@ returns-then-not-is_owner-clause-turns g c =
     (right_refused a.geometry.now a.user a.path (other_user a.user) (with_mode a.now a.mode) d c.in-Ok.number c.in-Ok.inode
     (found_ok a.geometry.now d a.user a.path _ _ _ c.in-Ok.is p.1) e f p.0
     (λ node is. ap not (sym (c.is_owner.ensures node is) ∙ c.if-not-is_owner.true))))
-    c.in_ok-number.ensures.reads
+    c.in_ok-number.ensures.reads.turns
 
 pub returns-in_err-store-in-Ok-clause-turns : goal.returns-in_err-store-in-Ok-clause-turns
 returns-in_err-store-in-Ok-clause-turns g c =
@@ -36,7 +36,7 @@ returns-in_err-store-in-Ok-clause-turns g c =
     (λ d e h p q f. ends_exit _ _ _ _ _ _ c.from_residual-in_err-store-in-Ok.ensures.1
     (λ t. is_number a.geometry.now a.user a.path (other_user a.user) (with_mode a.now a.mode) d c.in-Ok.number c.in-Ok.inode
     (found_ok a.geometry.now d a.user a.path _ _ _ c.in-Ok.is p.1) f t) q)
-    c.in_ok-number.ensures.reads c.in_err-store-in-Ok.ensures.turns
+    c.in_ok-number.ensures.reads.turns c.in_err-store-in-Ok.ensures.turns
 
 pub returns-in_ok-store-in-Ok-clause-turns : goal.returns-in_ok-store-in-Ok-clause-turns
 returns-in_ok-store-in-Ok-clause-turns g c =
@@ -47,7 +47,7 @@ returns-in_ok-store-in-Ok-clause-turns g c =
     (let k = c.ranges.now.fits in omega (arith, k)) c.requires.on.geometry
     (found_ok a.geometry.now d a.user a.path _ _ _ c.in-Ok.is p.1) p.0
     (λ node is. sym c.if-not-is_owner.false ∙ c.is_owner.ensures node is) q)
-    c.in_ok-number.ensures.reads c.in_ok-store-in-Ok.ensures.turns
+    c.in_ok-number.ensures.reads.turns c.in_ok-store-in-Ok.ensures.turns
 
 pub returns-in-Err-clause-turns : goal.returns-in-Err-clause-turns
 returns-in-Err-clause-turns g c =
@@ -57,4 +57,4 @@ returns-in-Err-clause-turns g c =
     (λ d e p f. chmod_is a.geometry.now a.user a.path a.now a.mode few _ f d e
     (walk_refused a.geometry.now a.user a.path (other_user a.user) (with_mode a.now a.mode) d e c.in-Err.errno f p.0
     (found_err a.geometry.now d a.user a.path _ _ c.in-Err.is p.1)))
-    c.in_ok-number.ensures.reads
+    c.in_ok-number.ensures.reads.turns

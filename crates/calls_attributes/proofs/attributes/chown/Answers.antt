@@ -14,7 +14,7 @@ returns-then-user-ne0-clause-turns g c =
     (λ d e p f. right_refused a.geometry.now a.user a.path (λ node. not (a.user.uid == 0)) (with_owner a.now a.uid a.gid) d c.in-Ok.number
     c.in-Ok.inode
     (found_ok a.geometry.now d a.user a.path _ _ _ c.in-Ok.is p.1) e f p.0 (λ node is. ap not (ne_eqb a.user.uid 0 (search rules))))
-    c.in_ok-number.ensures.reads
+    c.in_ok-number.ensures.reads.turns
 
 pub returns-in_err-store-in-Ok-clause-turns : goal.returns-in_err-store-in-Ok-clause-turns
 returns-in_err-store-in-Ok-clause-turns g c =
@@ -24,7 +24,7 @@ returns-in_err-store-in-Ok-clause-turns g c =
     (λ t. is_number a.geometry.now a.user a.path (λ node. not (a.user.uid == 0)) (with_owner a.now a.uid a.gid) d c.in-Ok.number
     c.in-Ok.inode
     (found_ok a.geometry.now d a.user a.path _ _ _ c.in-Ok.is p.1) f t) q)
-    c.in_ok-number.ensures.reads c.in_err-store-in-Ok.ensures.turns
+    c.in_ok-number.ensures.reads.turns c.in_err-store-in-Ok.ensures.turns
 
 pub returns-in_ok-store-in-Ok-clause-turns : goal.returns-in_ok-store-in-Ok-clause-turns
 returns-in_ok-store-in-Ok-clause-turns g c =
@@ -34,7 +34,7 @@ returns-in_ok-store-in-Ok-clause-turns g c =
     (let k = c.ranges.now.fits in omega (arith, k)) (let k = c.ranges.uid.fits in omega (arith, k))
     (let k = c.ranges.gid.fits in omega (arith, k)) c.requires.on.geometry
     (found_ok a.geometry.now d a.user a.path _ _ _ c.in-Ok.is p.1) p.0 (eq-eqb a.user.uid 0 (search rules)) q)
-    c.in_ok-number.ensures.reads c.in_ok-store-in-Ok.ensures.turns
+    c.in_ok-number.ensures.reads.turns c.in_ok-store-in-Ok.ensures.turns
 
 pub returns-in-Err-clause-turns : goal.returns-in-Err-clause-turns
 returns-in-Err-clause-turns g c =
@@ -42,4 +42,4 @@ returns-in-Err-clause-turns g c =
     turns_as _ _ _ _ _
     (λ d e p f. walk_refused a.geometry.now a.user a.path (λ node. not (a.user.uid == 0)) (with_owner a.now a.uid a.gid) d e
     c.in-Err.errno f p.0 (found_err a.geometry.now d a.user a.path _ _ c.in-Err.is p.1))
-    c.in_ok-number.ensures.reads
+    c.in_ok-number.ensures.reads.turns

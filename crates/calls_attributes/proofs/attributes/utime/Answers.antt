@@ -14,7 +14,7 @@ returns-then-not-is_owner-clause-turns g c =
     c.in-Ok.inode
     (found_ok a.geometry.now d a.user a.path _ _ _ c.in-Ok.is p.1) e f p.0
     (λ node is. ap not (sym (c.is_owner.ensures node is) ∙ c.if-not-is_owner.true)))
-    c.in_ok-number.ensures.reads
+    c.in_ok-number.ensures.reads.turns
 
 pub returns-in_err-store-in-Ok-clause-turns : goal.returns-in_err-store-in-Ok-clause-turns
 returns-in_err-store-in-Ok-clause-turns g c =
@@ -23,7 +23,7 @@ returns-in_err-store-in-Ok-clause-turns g c =
     (λ d e h p q f. ends_exit _ _ _ _ _ _ c.from_residual-in_err-store-in-Ok.ensures.1
     (λ t. is_number a.geometry.now a.user a.path (other_user a.user) (with_times a.now a.atime a.mtime) d c.in-Ok.number c.in-Ok.inode
     (found_ok a.geometry.now d a.user a.path _ _ _ c.in-Ok.is p.1) f t) q)
-    c.in_ok-number.ensures.reads c.in_err-store-in-Ok.ensures.turns
+    c.in_ok-number.ensures.reads.turns c.in_err-store-in-Ok.ensures.turns
 
 pub returns-in_ok-store-in-Ok-clause-turns : goal.returns-in_ok-store-in-Ok-clause-turns
 returns-in_ok-store-in-Ok-clause-turns g c =
@@ -34,7 +34,7 @@ returns-in_ok-store-in-Ok-clause-turns g c =
     (let k = c.ranges.mtime.fits in omega (arith, k)) c.requires.on.geometry
     (found_ok a.geometry.now d a.user a.path _ _ _ c.in-Ok.is p.1) p.0
     (λ node is. sym c.if-not-is_owner.false ∙ c.is_owner.ensures node is) q)
-    c.in_ok-number.ensures.reads c.in_ok-store-in-Ok.ensures.turns
+    c.in_ok-number.ensures.reads.turns c.in_ok-store-in-Ok.ensures.turns
 
 pub returns-in-Err-clause-turns : goal.returns-in-Err-clause-turns
 returns-in-Err-clause-turns g c =
@@ -42,4 +42,4 @@ returns-in-Err-clause-turns g c =
     turns_as _ _ _ _ _
     (λ d e p f. walk_refused a.geometry.now a.user a.path (other_user a.user) (with_times a.now a.atime a.mtime) d e c.in-Err.errno f p.0
     (found_err a.geometry.now d a.user a.path _ _ c.in-Err.is p.1))
-    c.in_ok-number.ensures.reads
+    c.in_ok-number.ensures.reads.turns

@@ -15,7 +15,7 @@ returns-then-not-is_link-clause-turns g c =
     turns_as _ _ _ _ _
     (λ d e p f. readlink_plain v a.user a.path d c.in-Ok.field-0-0 c.in-Ok.inode
     (subst (λ r. FindsLast v d a.user a.path r) c.in-Ok.is p.1) e f p.0 (sym c.is_link.ensures ∙ c.if-not-is_link.true))
-    c.in_ok-inode.ensures.reads
+    c.in_ok-inode.ensures.reads.turns
 
 pub returns-in_ok-target-in-Ok-clause-turns : goal.returns-in_ok-target-in-Ok-clause-turns
 returns-in_ok-target-in-Ok-clause-turns g c =
@@ -28,7 +28,7 @@ returns-in_ok-target-in-Ok-clause-turns g c =
     (λ d e h p q f. readlink_done v a.user a.path d c.in-Ok.field-0-0 i (subst (λ r. FindsLast v d a.user a.path r) c.in-Ok.is p.1)
     h f x (q.0 ∙ p.0) mode c.in_ok-target-in-Ok.ensures.count c.in_ok-target-in-Ok.ensures.room
     (subst (λ (z : Disk). HasFileBytes (file_of v (pieces v z) i) 0 x.length x.bytes) p.0 q.1))
-    c.in_ok-inode.ensures.reads c.in_ok-target-in-Ok.ensures.reads
+    c.in_ok-inode.ensures.reads.turns c.in_ok-target-in-Ok.ensures.reads.turns
 
 pub returns-in-Err-clause-turns : goal.returns-in-Err-clause-turns
 returns-in-Err-clause-turns g c =
@@ -37,4 +37,4 @@ returns-in-Err-clause-turns g c =
     turns_as _ _ _ _ _
     (λ d e p f. readlink_refused v a.user a.path d e c.in-Err.errno f p.0
     (subst (λ r. FindsLast v d a.user a.path r) c.in-Err.is p.1))
-    c.in_ok-inode.ensures.reads
+    c.in_ok-inode.ensures.reads.turns

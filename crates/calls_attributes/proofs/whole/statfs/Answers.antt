@@ -12,4 +12,4 @@ returns-clause-turns g c =
     turns_then _ g.met.B.Blocks.lawful _ _ _ _ _ _
     (λ d e h x y f. statfs_done a c.requires.on.geometry d h f _ _ _ (y.0 ∙ x.0) (search rules) x.1
     (y.1 ∙ ap (λ (z : Disk). count_free_in (pieces a z).inode_map 1 (a.inodes + 1)) x.0))
-    c.in_ok-free_zones.ensures.reads c.in_ok-free_inodes.ensures.reads
+    c.in_ok-free_zones.ensures.reads.turns c.in_ok-free_inodes.ensures.reads.turns

@@ -13,7 +13,7 @@ returns-in_default-clause-turns g c =
     let a = c.args in
     turns_as _ _ _ _ _ (λ d e x. seek_closed a.geometry.now d e x.0 a.session a.fd a.whence a.offset (files_of a.opens.now)
     (found_none _ _ (none_left _ c.in_default.not-Some) c.in_ok-file.ensures.file))
-    c.in_ok-file.ensures.reads
+    c.in_ok-file.ensures.reads.turns
 
 pub returns-then-is_directory-clause-turns : goal.returns-then-is_directory-clause-turns
 returns-then-is_directory-clause-turns g c =
@@ -21,7 +21,7 @@ returns-then-is_directory-clause-turns g c =
     turns_as _ _ _ _ _ (λ d e x. seek_barred a.geometry.now d e x.0 a.session a.fd a.whence a.offset (files_of a.opens.now) c.in-Some.file
     (found_some _ _ _ c.in-Some.is c.in_ok-file.ensures.file) (said_of _ _ _ c.in-Some.is x.1)
     (sym c.is_directory.ensures ∙ c.if-is_directory.true))
-    c.in_ok-file.ensures.reads
+    c.in_ok-file.ensures.reads.turns
 
 pub returns-in-None-clause-turns : goal.returns-in-None-clause-turns
 returns-in-None-clause-turns g c =
@@ -30,7 +30,7 @@ returns-in-None-clause-turns g c =
     (found_some _ _ _ c.in-Some.is c.in_ok-file.ensures.file) (said_of _ _ _ c.in-Some.is x.1)
     (sym c.is_directory.ensures ∙ c.if-is_directory.false) c.place.result
     (c.place.ensures.place ∙ ap (λ z. may_lie (seek_place c.base.result z)) (to_z-of_z w64 a.offset c.ranges.offset) ∙ ap (λ n. may_lie (seek_place n a.offset)) c.base.ensures) c.in-None.is)
-    c.in_ok-file.ensures.reads
+    c.in_ok-file.ensures.reads.turns
 
 pub returns-in-Some-place-clause-turns : goal.returns-in-Some-place-clause-turns
 returns-in-Some-place-clause-turns g c =
@@ -40,4 +40,4 @@ returns-in-Some-place-clause-turns g c =
     (sym c.is_directory.ensures ∙ c.if-is_directory.false) c.place.result
     (c.place.ensures.place ∙ ap (λ z. may_lie (seek_place c.base.result z)) (to_z-of_z w64 a.offset c.ranges.offset) ∙ ap (λ n. may_lie (seek_place n a.offset)) c.base.ensures)
     c.requires.session c.in-Some-place.position (files_of c.set_position.new.self) c.in-Some-place.is c.set_position.ensures)
-    c.in_ok-file.ensures.reads
+    c.in_ok-file.ensures.reads.turns

@@ -16,7 +16,7 @@ returns-then-size-gt-MAX_SIZE-clause-turns g c =
 pub returns-in_err-number-clause-turns : goal.returns-in_err-number-clause-turns
 returns-in_err-number-clause-turns g c =
     let a = c.args in
-    turns_as _ _ _ _ _ (λ d e p f. ends_exit _ _ _ _ _ _ c.from_residual.ensures.1 (λ h. volume_of a.geometry.now d f h) p.1) c.in_err-number.ensures.reads
+    turns_as _ _ _ _ _ (λ d e p f. ends_exit _ _ _ _ _ _ c.from_residual.ensures.1 (λ h. volume_of a.geometry.now d f h) p.1) c.in_err-number.ensures.reads.turns
 
 pub returns-then-is_no_file-clause-turns : goal.returns-then-is_no_file-clause-turns
 returns-then-is_no_file-clause-turns g c =
@@ -24,7 +24,7 @@ returns-then-is_no_file-clause-turns g c =
     turns_as _ _ _ _ _
     (λ d e p f. truncate_no_file a.geometry.now a.user a.path a.now a.size c.if-size-gt-MAX_SIZE.false d c.in-Ok.number c.in-Ok.inode
     (found_ok a.geometry.now d a.user a.path _ _ _ c.in-Ok.is p.1) e f p.0 (sym c.is_no_file.ensures ∙ c.if-is_no_file.true))
-    c.in_ok-number.ensures.reads
+    c.in_ok-number.ensures.reads.turns
 
 pub returns-then-not-may-clause-turns : goal.returns-then-not-may-clause-turns
 returns-then-not-may-clause-turns g c =
@@ -33,7 +33,7 @@ returns-then-not-may-clause-turns g c =
     (λ d e p f. truncate_barred a.geometry.now a.user a.path a.now a.size c.if-size-gt-MAX_SIZE.false d c.in-Ok.number c.in-Ok.inode
     (found_ok a.geometry.now d a.user a.path _ _ _ c.in-Ok.is p.1) (sym c.is_no_file.ensures ∙ c.if-is_no_file.false) c.may.result
     c.may.ensures e f p.0 c.if-not-may.true)
-    c.in_ok-number.ensures.reads
+    c.in_ok-number.ensures.reads.turns
 
 pub returns-in_err-set_size_at-in-Ok-clause-turns : goal.returns-in_err-set_size_at-in-Ok-clause-turns
 returns-in_err-set_size_at-in-Ok-clause-turns g c =
@@ -42,7 +42,7 @@ returns-in_err-set_size_at-in-Ok-clause-turns g c =
     (λ d e h p q f. ends_exit _ _ _ _ _ _ c.from_residual-in_err-set_size_at-in-Ok.ensures.1
     (λ t. may_change_found a.geometry.now a.user a.path a.now a.size c.if-size-gt-MAX_SIZE.false d c.in-Ok.number c.in-Ok.inode
     (found_ok a.geometry.now d a.user a.path _ _ _ c.in-Ok.is p.1) e f c.requires.on.geometry p.0 t) q)
-    c.in_ok-number.ensures.reads c.in_err-set_size_at-in-Ok.ensures.turns
+    c.in_ok-number.ensures.reads.turns c.in_err-set_size_at-in-Ok.ensures.turns
 
 pub returns-in_ok-set_size_at-in-Ok-clause-turns : goal.returns-in_ok-set_size_at-in-Ok-clause-turns
 returns-in_ok-set_size_at-in-Ok-clause-turns g c =
@@ -52,7 +52,7 @@ returns-in_ok-set_size_at-in-Ok-clause-turns g c =
     (found_ok a.geometry.now d a.user a.path _ _ _ c.in-Ok.is p.1) (sym c.is_no_file.ensures ∙ c.if-is_no_file.false) c.may.result
     c.may.ensures x e f c.requires.on.geometry
     (let k = c.ranges.now.fits in omega (arith, k)) p.0 c.if-not-may.false q)
-    c.in_ok-number.ensures.reads c.in_ok-set_size_at-in-Ok.ensures.turns
+    c.in_ok-number.ensures.reads.turns c.in_ok-set_size_at-in-Ok.ensures.turns
 
 pub returns-in-Err-clause-turns : goal.returns-in-Err-clause-turns
 returns-in-Err-clause-turns g c =
@@ -60,4 +60,4 @@ returns-in-Err-clause-turns g c =
     turns_as _ _ _ _ _
     (λ d e p f. truncate_unwalked a.geometry.now a.user a.path a.now a.size c.if-size-gt-MAX_SIZE.false d e c.in-Err.errno f p.0
     (found_err a.geometry.now d a.user a.path _ _ c.in-Err.is p.1))
-    c.in_ok-number.ensures.reads
+    c.in_ok-number.ensures.reads.turns

@@ -14,7 +14,7 @@ returns-in_default-clause-turns g c =
     let a = c.args in
     turns_as _ _ _ _ _ (λ d e x. write_closed a.geometry.now c.requires.on.geometry d a.session a.fd a.now a.bytes (files_of a.opens.now) e x.0
     (found_none _ _ c.in_default.is c.in_ok-file.ensures.file))
-    c.in_ok-file.ensures.reads
+    c.in_ok-file.ensures.reads.turns
 
 pub returns-in-Some-refusal-clause-turns : goal.returns-in-Some-refusal-clause-turns
 returns-in-Some-refusal-clause-turns g c =
@@ -22,7 +22,7 @@ returns-in-Some-refusal-clause-turns g c =
     turns_as _ _ _ _ _ (λ d e x. write_refused a.geometry.now c.requires.on.geometry d a.session a.fd a.now a.bytes (files_of a.opens.now) c.in-Some.file
     (found_some _ _ _ c.in-Some.is c.in_ok-file.ensures.file) (said_of _ _ _ c.in-Some.is x.1) e c.in-Some-refusal.refusal x.0
     (sym c.refusal.ensures ∙ c.in-Some-refusal.is))
-    c.in_ok-file.ensures.reads
+    c.in_ok-file.ensures.reads.turns
 
 pub returns-then-is_empty-clause-turns : goal.returns-then-is_empty-clause-turns
 returns-then-is_empty-clause-turns g c =
@@ -30,7 +30,7 @@ returns-then-is_empty-clause-turns g c =
     let none : length a.bytes.now ≡ 0 = search rules in
     turns_as _ _ _ _ _ (λ d e x. write_none a.geometry.now c.requires.on.geometry d a.session a.fd a.now a.bytes (files_of a.opens.now) c.in-Some.file
     (found_some _ _ _ c.in-Some.is c.in_ok-file.ensures.file) (said_of _ _ _ c.in-Some.is x.1) (sym c.refusal.ensures ∙ c.in_default-refusal.is) e x.0 none)
-    c.in_ok-file.ensures.reads
+    c.in_ok-file.ensures.reads.turns
 
 pub returns-in_err-write_if_room-clause-turns : goal.returns-in_err-write_if_room-clause-turns
 returns-in_err-write_if_room-clause-turns g c =
@@ -41,7 +41,7 @@ returns-in_err-write_if_room-clause-turns g c =
     (subst (λ n. MayChange a.geometry.now (pieces a.geometry.now d) n) (sym c.from.ensures)
     (may_change_held a.geometry.now c.requires.on.geometry d a.session a.fd a.now a.bytes (files_of a.opens.now) c.in-Some.file
     (found_some _ _ _ c.in-Some.is c.in_ok-file.ensures.file) (said_of _ _ _ c.in-Some.is x.1) held))) y)
-    c.in_ok-file.ensures.reads c.in_err-write_if_room.ensures.turns
+    c.in_ok-file.ensures.reads.turns c.in_err-write_if_room.ensures.turns
 
 pub returns-then-not-branch-clause-turns : goal.returns-then-not-branch-clause-turns
 returns-then-not-branch-clause-turns g c =
@@ -52,7 +52,7 @@ returns-then-not-branch-clause-turns g c =
     (found_some _ _ _ c.in-Some.is c.in_ok-file.ensures.file) (said_of _ _ _ c.in-Some.is x.1) (sym c.refusal.ensures ∙ c.in_default-refusal.is)
     some c.write_place-at.result c.write_place-at.ensures h
     (from_start a.geometry.now _ _ _ _ _ _ _ _ _ _ c.from.ensures c.if-not-branch.true x.0 y))
-    c.in_ok-file.ensures.reads c.in_ok-write_if_room.ensures.turns
+    c.in_ok-file.ensures.reads.turns c.in_ok-write_if_room.ensures.turns
 
 pub returns-clause-turns : goal.returns-clause-turns
 returns-clause-turns g c =
@@ -64,4 +64,4 @@ returns-clause-turns g c =
     some c.write_place-at.result c.write_place-at.ensures h (c.write_place-at.result + length a.bytes.now) (files_of c.set_position.new.self) c.requires.session
     (let k = c.ranges.now.fits in omega (arith, k)) (bytes_are_low a.bytes.now c.type_inv.bytes)
     (from_start a.geometry.now _ _ _ _ _ _ _ _ _ _ c.from.ensures c.if-not-branch.false x.0 y) refl c.set_position.ensures)
-    c.in_ok-file.ensures.reads c.in_ok-write_if_room.ensures.turns
+    c.in_ok-file.ensures.reads.turns c.in_ok-write_if_room.ensures.turns

@@ -33,7 +33,7 @@ returns-in_err-place-clause-turns g c =
     (λ d e p f. meets_exit v (λ (t : Tree). mkdir v t a.user a.now a.path a.mode) (λ x. done) (HasFiles f) (HasFiles f) d e p.0 (λ t h. h) _ _
     (λ t. FindsNewPlace v d t a.user a.path) c.from_residual.ensures.1 (λ t holds files. p.1 t holds)
     (λ t x holds h. no_place v c.requires.on.geometry a.user a.now a.mode a.path few t x h))
-    c.in_err-place.ensures.reads
+    c.in_err-place.ensures.reads.turns
 
 pub returns-then-place-ge-MAX_LINKS-clause-turns : goal.returns-then-place-ge-MAX_LINKS-clause-turns
 returns-then-place-ge-MAX_LINKS-clause-turns g c =
@@ -44,7 +44,7 @@ returns-then-place-ge-MAX_LINKS-clause-turns g c =
     turns_as _ _ _ _ _
     (λ d e p f. meets_refused v (λ (t : Tree). mkdir v t a.user a.now a.path a.mode) (HasFiles f) (HasFiles f) d e p.0 (λ t h. h) EMLINK
     (λ t holds. many_links v c.requires.on.geometry a.user a.now a.mode a.path few d t c.in_ok-place.place holds (p.1 t holds) many))
-    c.in_ok-place.ensures.reads
+    c.in_ok-place.ensures.reads.turns
 
 pub returns-in_err-number-clause-turns : goal.returns-in_err-number-clause-turns
 returns-in_err-number-clause-turns g c =
@@ -58,7 +58,7 @@ returns-in_err-number-clause-turns g c =
     (λ t r. (new : IsNewPlace v d t a.user a.path q) × FindsNumber v t q.directory new.parent q.name.now 1 r) c.from_residual-in_err-number.ensures.1
     (λ t holds files. let new = p.1.0 t holds in answers_as (Err c.in_err-number.field-0.0) (λ r. FindsNumber v t q.directory new.parent q.name.now 1 r) (λ r. (x : IsNewPlace v d t a.user a.path q) × FindsNumber v t q.directory x.parent q.name.now 1 r) (λ r h. (new, h)) (p.1.1 t new.parent holds new.vacant))
     (λ t x holds h. no_room v c.requires.on.geometry a.user a.now a.mode a.path few d t q holds h.0 low x h.1))
-    (reads_both _ g.met.B.Blocks.lawful _ _ _ _ _ c.in_ok-place.ensures.reads c.in_err-number.ensures.reads)
+    (reads_both _ g.met.B.Blocks.lawful _ _ _ _ _ c.in_ok-place.ensures.reads c.in_err-number.ensures.reads).turns
 
 pub returns-in_err-put_directory-clause-turns : goal.returns-in_err-put_directory-clause-turns
 returns-in_err-put_directory-clause-turns g c =
@@ -74,7 +74,7 @@ returns-in_err-put_directory-clause-turns g c =
     (λ held. let new = p.1.0 held.tree held.holds in
     subst (λ (z : Disk). MayMakeDirectoryAt v z q n) (sym p.0)
     (may_make v c.requires.on.geometry a.user a.now a.mode a.path few d held.tree q held.holds new low n (p.1.1 held.tree new.parent held.holds new.vacant))))
-    (reads_both _ g.met.B.Blocks.lawful _ _ _ _ _ c.in_ok-place.ensures.reads c.in_ok-number.ensures.reads)
+    (reads_both _ g.met.B.Blocks.lawful _ _ _ _ _ c.in_ok-place.ensures.reads c.in_ok-number.ensures.reads).turns
     c.in_err-put_directory.ensures.turns
 
 pub returns-clause-turns : goal.returns-clause-turns
@@ -93,5 +93,5 @@ returns-clause-turns g c =
     (λ d e h p r f. directory_done v c.requires.on.geometry a.user a.now a.mode a.path few d h q n f small uid gid bytes low
     (λ t holds. let new = p.1.0 t holds in (new, p.1.1 t new.parent holds new.vacant))
     (subst (λ (z : Disk). MakesDirectoryAt v a.user a.now a.mode q n z h) p.0 r))
-    (reads_both _ g.met.B.Blocks.lawful _ _ _ _ _ c.in_ok-place.ensures.reads c.in_ok-number.ensures.reads)
+    (reads_both _ g.met.B.Blocks.lawful _ _ _ _ _ c.in_ok-place.ensures.reads c.in_ok-number.ensures.reads).turns
     c.in_ok-put_directory.ensures.turns

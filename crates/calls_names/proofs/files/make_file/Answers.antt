@@ -40,7 +40,7 @@ returns-in_err-number-clause-turns g c =
     (sym (c.may_write.ensures parent (its_inode v ok t a.user a.now a.mode d a.place.now parent holds vacant)) ∙ c.if-not-may_write.false)
     e errno p.0 full))
     (p.1 t parent holds vacant))
-    c.in_err-number.ensures.reads
+    c.in_err-number.ensures.reads.turns
 
 pub returns-in_err-put_file-clause-turns : goal.returns-in_err-put_file-clause-turns
 returns-in_err-put_file-clause-turns g c =
@@ -53,7 +53,7 @@ returns-in_err-put_file-clause-turns g c =
     (may_make v ok t a.user a.now a.mode d a.place.now parent holds vacant
     (sym (c.may_write.ensures parent (its_inode v ok t a.user a.now a.mode d a.place.now parent holds vacant)) ∙ c.if-not-may_write.false)
     c.in_ok-number.number (p.1 t parent holds vacant))))
-    c.in_ok-number.ensures.reads c.in_err-put_file.ensures.turns
+    c.in_ok-number.ensures.reads.turns c.in_err-put_file.ensures.turns
 
 pub returns-clause-turns : goal.returns-clause-turns
 returns-clause-turns g c =
@@ -67,4 +67,4 @@ returns-clause-turns g c =
     (sym (c.may_write.ensures parent (its_inode v ok t a.user a.now a.mode d a.place.now parent holds vacant)) ∙ c.if-not-may_write.false)
     c.in_ok-number.number (p.1 t parent holds vacant) f
     (subst (λ (z : Disk). MakesFileAt v a.user a.now a.mode a.place.now c.in_ok-number.number z f) p.0 q)))
-    c.in_ok-number.ensures.reads c.in_ok-put_file.ensures.turns
+    c.in_ok-number.ensures.reads.turns c.in_ok-put_file.ensures.turns

@@ -1,4 +1,4 @@
-use Rattle.std.proofs.Common.{◌≡◌, ◌<◌, ◌∙◌, true, sym, subst, arith}
+use Rattle.std.proofs.Common.{◌≡◌, ◌∙◌, true, sym, subst}
 use Rattle.std.specs.Prelude.{Ok}
 use Rattle.tree.specs.IsCall.{IsBytes}
 use Rattle.tree.specs.Walk.{has_last_name, read_path}

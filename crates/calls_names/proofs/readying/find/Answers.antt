@@ -1,4 +1,4 @@
-use Rattle.std.proofs.Common.{Err, Ok, sym, subst, ◌∙◌}
+use Rattle.std.proofs.Common.{Ok, sym, subst, ◌∙◌}
 use Rattle.volume.specs.Pieces.{pieces}
 use Rattle.block_store.proofs.Turns.{reads_as, reads_then}
 use Rattle.zone.proofs.ZoneInodes.{inode_is}

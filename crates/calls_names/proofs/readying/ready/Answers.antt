@@ -1,4 +1,4 @@
-use Rattle.std.proofs.Common.{◌≡◌, ◌<◌, Bool, Err, Ok, sym, subst, arith}
+use Rattle.std.proofs.Common.{◌≡◌, Bool, Err, Ok, sym, subst}
 use Rattle.std.specs.Prelude.{IsTrue, is_some}
 use Rattle.tree.specs.IsCall.{IsBytes}
 use Rattle.tree.specs.Tree.{Tree}
@@ -40,7 +40,7 @@ returns-in_err-number-clause-turns g c =
     (Readies v t (open_named v t a.user a.now a.path a.flags.0 a.mode) a.flags.0 d e) c.from_residual-in_err-number.ensures.1
     (λ errno is. not_looked_up v t a.user a.now a.path a.flags.0 a.mode d e way read errno p.0
     (subst (λ (b : Bool). open_look_up t a.user b way ≡ Err errno) c.only_makes.ensures is)) (p.1 t holds))
-    c.in_err-number.ensures.reads
+    c.in_err-number.ensures.reads.turns
 
 pub returns-in_err-ready_there-in-There-clause-turns : goal.returns-in_err-ready_there-in-There-clause-turns
 returns-in_err-ready_there-in-There-clause-turns g c =
@@ -60,7 +60,7 @@ returns-in_err-ready_there-in-There-clause-turns g c =
     c.from_residual-in_err-ready_there-in-There.ensures.1
     (λ errno x. refused_as v t a.user a.now a.path a.flags.0 a.mode d f way read (is_there n) looked.found errno (x a.mode))
     (readied t holds looked.there))
-    c.in_ok-number.ensures.reads c.in_err-ready_there-in-There.ensures.turns
+    c.in_ok-number.ensures.reads.turns c.in_err-ready_there-in-There.ensures.turns
 
 pub returns-in_ok-ready_there-in-There-clause-turns : goal.returns-in_ok-ready_there-in-There-clause-turns
 returns-in_ok-ready_there-in-There-clause-turns g c =
@@ -77,7 +77,7 @@ returns-in_ok-ready_there-in-There-clause-turns g c =
     → ReadiesThere v u a.user a.now n a.flags.0 z f (Ok tt)) p.0 q in
     ready_as v t a.user a.now a.path a.flags.0 a.mode d f way read (is_there n) looked.found n
     (readied t holds looked.there a.mode))
-    c.in_ok-number.ensures.reads c.in_ok-ready_there-in-There.ensures.turns
+    c.in_ok-number.ensures.reads.turns c.in_ok-ready_there-in-There.ensures.turns
 
 pub returns-in-Missing-clause-turns : goal.returns-in-Missing-clause-turns
 returns-in-Missing-clause-turns g c =
@@ -100,4 +100,4 @@ returns-in-Missing-clause-turns g c =
     (look_missing t a.user (only_makes a.flags.0) way (place_of v d place) looked.0)
     (subst (λ (b : Bool). MakesFileOr v t a.user b a.now a.mode place d f r) c.creates.ensures h))
     (made t parent holds vacant))
-    c.in_ok-number.ensures.reads c.make_file.ensures.turns
+    c.in_ok-number.ensures.reads.turns c.make_file.ensures.turns

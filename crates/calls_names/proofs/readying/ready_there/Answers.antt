@@ -17,7 +17,7 @@ returns-in_err-inode-clause-turns g c =
     turns_as _ _ _ _ _
     (λ d e p t holds there. answers_halted _ _ _ _ _ c.from_residual.ensures.1 p.1
     (inode_is v (pieces v d) a.number (node_there v d t a.number holds there).0))
-    c.in_err-inode.ensures.reads
+    c.in_err-inode.ensures.reads.turns
 
 pub returns-in-Some-clause-turns : goal.returns-in-Some-clause-turns
 returns-in-Some-clause-turns g c =
@@ -27,7 +27,7 @@ returns-in-Some-clause-turns g c =
     (λ d e p t holds there mode. there_refused v c.requires.on.geometry d t holds a.user a.now a.number a.flags.0 there
     c.in_ok-inode.inode p.1 c.refusal.result c.refusal.ensures.barred
     e c.in-Some.errno p.0 c.in-Some.is mode)
-    c.in_ok-inode.ensures.reads
+    c.in_ok-inode.ensures.reads.turns
 
 pub returns-in_err-set_size_at-clause-turns : goal.returns-in_err-set_size_at-clause-turns
 returns-in_err-set_size_at-clause-turns g c =
@@ -37,7 +37,7 @@ returns-in_err-set_size_at-clause-turns g c =
     (λ d e h p q t holds there. answers_halted _ _ _ _ _ c.from_residual-in_err-set_size_at.ensures.1 q
     (subst (λ (z : Disk). MayChange v (pieces v z) a.number) (sym p.0)
     (there_may_change v c.requires.on.geometry d t holds a.user a.now a.number a.flags.0 there c.in_ok-inode.inode p.1 c.refusal.result c.refusal.ensures.barred)))
-    c.in_ok-inode.ensures.reads c.in_err-set_size_at.ensures.turns
+    c.in_ok-inode.ensures.reads.turns c.in_err-set_size_at.ensures.turns
 
 pub returns-in_ok-set_size_at-clause-turns : goal.returns-in_ok-set_size_at-clause-turns
 returns-in_ok-set_size_at-clause-turns g c =
@@ -49,7 +49,7 @@ returns-in_ok-set_size_at-clause-turns g c =
     c.in_ok-inode.inode p.1 c.refusal.result c.refusal.ensures.barred
     c.in_default.is mode (sym c.is_emptied.ensures ∙ c.if-is_emptied.true) small e
     (subst (λ (z : Disk). SetsSizeAt v a.number 0 a.now z e) p.0 q))
-    c.in_ok-inode.ensures.reads c.in_ok-set_size_at.ensures.turns
+    c.in_ok-inode.ensures.reads.turns c.in_ok-set_size_at.ensures.turns
 
 pub returns-else-is_emptied-clause-turns : goal.returns-else-is_emptied-clause-turns
 returns-else-is_emptied-clause-turns g c =
@@ -59,4 +59,4 @@ returns-else-is_emptied-clause-turns g c =
     (λ d e p t holds there mode. there_kept v c.requires.on.geometry d t holds a.user a.now a.number a.flags.0 there
     c.in_ok-inode.inode p.1 c.refusal.result c.refusal.ensures.barred
     c.in_default.is mode e p.0 (sym c.is_emptied.ensures ∙ c.if-is_emptied.false))
-    c.in_ok-inode.ensures.reads
+    c.in_ok-inode.ensures.reads.turns

@@ -38,7 +38,7 @@ returns-in_err-place-clause-turns g c =
     (λ d e p f. meets_exit v call (λ x. done) (HasFiles f) (HasFiles f) d e p.0 (λ t h. h) _ _
     (λ t. FindsNewPlace v d t a.user a.path) c.from_residual-in_err-place.ensures.1 (λ t holds files. p.1 t holds)
     (λ t x holds h. no_place v c.requires.on.geometry a.user a.now a.target a.path fit t x h))
-    c.in_err-place.ensures.reads
+    c.in_err-place.ensures.reads.turns
 
 pub returns-in_err-number-clause-turns : goal.returns-in_err-number-clause-turns
 returns-in_err-number-clause-turns g c =
@@ -56,7 +56,7 @@ returns-in_err-number-clause-turns g c =
     (λ r. (x : IsNewPlace v d t a.user a.path q) × FindsNumber v t q.directory x.parent q.name.now 1 r)
     (λ r h. (new, h)) (p.1.1 t new.parent holds new.vacant))
     (λ t x holds h. no_room v c.requires.on.geometry a.user a.now a.target a.path fit d t q holds h.0 x h.1))
-    (reads_both _ g.met.B.Blocks.lawful _ _ _ _ _ c.in_ok-place.ensures.reads c.in_err-number.ensures.reads)
+    (reads_both _ g.met.B.Blocks.lawful _ _ _ _ _ c.in_ok-place.ensures.reads c.in_err-number.ensures.reads).turns
 
 pub returns-in_err-put_link-clause-turns : goal.returns-in_err-put_link-clause-turns
 returns-in_err-put_link-clause-turns g c =
@@ -73,7 +73,7 @@ returns-in_err-put_link-clause-turns g c =
     subst (λ (z : Disk). MayMakeAt v z q n 1) (sym p.0)
     (may_make v c.requires.on.geometry a.user a.now a.target a.path fit d held.tree q held.holds new n
     (p.1.1 held.tree new.parent held.holds new.vacant))))
-    (reads_both _ g.met.B.Blocks.lawful _ _ _ _ _ c.in_ok-place.ensures.reads c.in_ok-number.ensures.reads)
+    (reads_both _ g.met.B.Blocks.lawful _ _ _ _ _ c.in_ok-place.ensures.reads c.in_ok-number.ensures.reads).turns
     c.in_err-put_link.ensures.turns
 
 pub returns-clause-turns : goal.returns-clause-turns
@@ -94,5 +94,5 @@ returns-clause-turns g c =
     (λ d e h p r f. link_done v c.requires.on.geometry a.user a.now a.target a.path fit d h q n f small uid gid its_bytes bytes
     (λ t holds. let new = p.1.0 t holds in (new, p.1.1 t new.parent holds new.vacant))
     (subst (λ (z : Disk). MakesLinkAt v a.user a.now a.target.now q n z h) p.0 r))
-    (reads_both _ g.met.B.Blocks.lawful _ _ _ _ _ c.in_ok-place.ensures.reads c.in_ok-number.ensures.reads)
+    (reads_both _ g.met.B.Blocks.lawful _ _ _ _ _ c.in_ok-place.ensures.reads c.in_ok-number.ensures.reads).turns
     c.in_ok-put_link.ensures.turns

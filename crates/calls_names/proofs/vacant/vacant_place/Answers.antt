@@ -1,4 +1,4 @@
-use Rattle.std.proofs.Common.{◌≡◌, ◌<◌, true, false, refl, sym, ap, ◌∙◌, arith, Ok}
+use Rattle.std.proofs.Common.{◌≡◌, true, false, refl, sym, ap, ◌∙◌, Ok}
 use Rattle.std.specs.Prelude.{not, is_some, ◌||◌}
 use Rattle.tree.specs.IsCall.{IsBytes}
 use Rattle.tree.specs.Walk.{has_last_name, read_path}

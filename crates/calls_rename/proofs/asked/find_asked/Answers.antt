@@ -2,21 +2,20 @@ use Rattle.std.proofs.Common.{◌≡◌, ◌<◌, ◌∙◌, true, false, sym, a
 use Rattle.std.specs.Prelude.{Ok}
 use Rattle.tree.specs.IsCall.{IsBytes}
 use Rattle.tree.specs.Walk.{has_last_name, read_path}
-use Rattle.block_store.proofs.Turns.{ends_as, reads_as, turns_as, turns_none}
+use Rattle.block_store.proofs.Turns.{ends_as, reads_as, reads_none}
 use Rattle.calls_rename.proofs.Finding.{asked_as_found, named_in_asked, new_not_read, new_unnamed, old_not_read, old_unnamed}
 use Rattle.calls_rename.proofs.asked.find_asked.Goals as goal
 
 pub returns-in-Err-clause-reads : goal.returns-in-Err-clause-reads
 returns-in-Err-clause-reads g c =
     let a = c.args in
-    turns_as _ _ _ _ _ (λ d e p. (p, old_not_read a.geometry.now d a.user a.old a.new c.in-Err.errno (sym c.in-Err.ensures.parsed))) (turns_none _ g.met.B.Blocks.lawful _ c.requires.on.ready)
+    reads_none _ g.met.B.Blocks.lawful _ _ c.requires.on.ready (λ d. old_not_read a.geometry.now d a.user a.old a.new c.in-Err.errno (sym c.in-Err.ensures.parsed))
 
 pub returns-in-Err-parse-clause-reads : goal.returns-in-Err-parse-clause-reads
 returns-in-Err-parse-clause-reads g c =
     let a = c.args in
     let old_read : read_path a.old ≡ Ok c.in-Ok.path = sym c.in-Ok.ensures.parsed in
-    turns_as _ _ _ _ _ (λ d e p. (p, new_not_read a.geometry.now d a.user a.old a.new c.in-Ok.path old_read c.in-Err-parse.errno (sym c.in-Err-parse.ensures.parsed)))
-    (turns_none _ g.met.B.Blocks.lawful _ c.requires.on.ready)
+    reads_none _ g.met.B.Blocks.lawful _ _ c.requires.on.ready (λ d. new_not_read a.geometry.now d a.user a.old a.new c.in-Ok.path old_read c.in-Err-parse.errno (sym c.in-Err-parse.ensures.parsed))
 
 pub returns-then-not-has_last_name-clause-reads : goal.returns-then-not-has_last_name-clause-reads
 returns-then-not-has_last_name-clause-reads g c =
@@ -26,7 +25,7 @@ returns-then-not-has_last_name-clause-reads g c =
     let old_read : read_path a.old ≡ Ok from = sym c.in-Ok.ensures.parsed in
     let new_read : read_path a.new ≡ Ok to = sym c.in-Ok-parse.ensures.parsed in
     let none : has_last_name from ≡ false = sym c.has_last_name.ensures ∙ c.if-not-has_last_name.true in
-    turns_as _ _ _ _ _ (λ d e p. (p, old_unnamed a.geometry.now d a.user a.old a.new from old_read to new_read none)) (turns_none _ g.met.B.Blocks.lawful _ c.requires.on.ready)
+    reads_none _ g.met.B.Blocks.lawful _ _ c.requires.on.ready (λ d. old_unnamed a.geometry.now d a.user a.old a.new from old_read to new_read none)
 
 pub returns-then-not-has_last_name-2-clause-reads : goal.returns-then-not-has_last_name-2-clause-reads
 returns-then-not-has_last_name-2-clause-reads g c =
@@ -37,7 +36,7 @@ returns-then-not-has_last_name-2-clause-reads g c =
     let new_read : read_path a.new ≡ Ok to = sym c.in-Ok-parse.ensures.parsed in
     let last : has_last_name from ≡ true = sym c.has_last_name.ensures ∙ c.if-not-has_last_name.false in
     let none : has_last_name to ≡ false = sym c.has_last_name-2.ensures ∙ c.if-not-has_last_name-2.true in
-    turns_as _ _ _ _ _ (λ d e p. (p, new_unnamed a.geometry.now d a.user a.old a.new from old_read to new_read last none)) (turns_none _ g.met.B.Blocks.lawful _ c.requires.on.ready)
+    reads_none _ g.met.B.Blocks.lawful _ _ c.requires.on.ready (λ d. new_unnamed a.geometry.now d a.user a.old a.new from old_read to new_read last none)
 
 pub returns-clause-reads : goal.returns-clause-reads
 returns-clause-reads g c =

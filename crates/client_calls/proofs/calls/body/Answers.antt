@@ -1,4 +1,3 @@
-use Rattle.std.proofs.Common.{sym, subst, ap, ◌∙◌, Err}
 use Rattle.tree.specs.Answers.{answer_of}
 use Rattle.descriptors.specs.Table.{files_of}
 use Rattle.block_store.proofs.Turns.{turns_as}

@@ -1,4 +1,4 @@
-use Rattle.std.proofs.Common.{◌≡◌, ap, sym, refl, Ok, w64, to_z, of_z, rules}
+use Rattle.std.proofs.Common.{ap, sym, refl, Ok, w64, to_z, of_z, rules}
 use mir.Val.{SFits}
 use Rattle.std.proofs.lemmas.Int.{to_z-of_z}
 use Rattle.tree.specs.declared.User.{User}
@@ -7,9 +7,11 @@ use Rattle.tree.specs.NodeCalls.{truncate, stat, lstat, readlink, chmod, chown, 
 use Rattle.tree.specs.FileCalls.{open_path, write, close, dup, read, seek, fstat, readdir}
 use Rattle.tree.specs.NameCalls.{mkdir, symlink, rename, link, unlink, rmdir}
 use Rattle.tree.specs.Answers.{done}
+use Rattle.tree.specs.Flags.{creates, truncates}
 use Rattle.descriptors.specs.Table.{files_of}
 use Rattle.block_store.proofs.Turns.{turns_none, turns_as}
 use Rattle.client_calls.proofs.Effects.{call_late, kind_meets, kind_meets_or_lacks}
+use Rattle.client_calls.proofs.Looking.{it_changes, it_looks, kind_is, kind_looks, no_empty, no_make}
 use Rattle.client_calls.proofs.calls.perform.Goals as goal
 
 pub returns-then-who-ge-MAX_SESSIONS-clause-turns : goal.returns-then-who-ge-MAX_SESSIONS-clause-turns
@@ -186,3 +188,124 @@ returns-in-Lstat-clause-turns g c =
     turns_as _ _ _ _ _ (λ d e x. kind_meets a.geometry.now a.who a.now (Lstat w.path) early (λ t. lstat t c.user_of-user.result w.path)
     (λ t. ap (λ (u : User). lstat t u w.path) (sym c.user_of-user.ensures)) a.call.now w.is c.lstat.result c.lstat.new.reply f f d e (x f))
     c.lstat.ensures.turns
+
+pub returns-in-Open-clause-looks : goal.returns-in-Open-clause-looks
+returns-in-Open-clause-looks g c =
+    let a = c.args in let w = c.in-Open in
+    kind_looks _ a.geometry.now a.who (files_of a.opens.now) _ _ a.call.now (Open w.path w.flags w.mode) w.is _ c.open.ensures.turns
+    (λ t only. c.open.ensures.looks (no_make (creates w.flags.0) (truncates w.flags.0) only) (no_empty (creates w.flags.0) (truncates w.flags.0) only))
+
+pub returns-in-Close-clause-looks : goal.returns-in-Close-clause-looks
+returns-in-Close-clause-looks g c =
+    let a = c.args in let w = c.in-Close in
+    kind_is _ a.geometry.now a.who (files_of a.opens.now) _ _ a.call.now (Close w.fd) w.is c.close.ensures.looks
+
+pub returns-in-Dup-clause-looks : goal.returns-in-Dup-clause-looks
+returns-in-Dup-clause-looks g c =
+    let a = c.args in let w = c.in-Dup in
+    it_looks _ a.geometry.now a.who (files_of a.opens.now) _ _ a.call.now _ (turns_none _ g.met.B.Blocks.lawful _ c.requires.on.ready) (g.met.B.Blocks.lawful.look _)
+
+pub returns-in-Read-clause-looks : goal.returns-in-Read-clause-looks
+returns-in-Read-clause-looks g c =
+    let a = c.args in let w = c.in-Read in
+    it_looks _ a.geometry.now a.who (files_of a.opens.now) _ _ a.call.now _ c.read.ensures.turns c.read.ensures.looks
+
+pub returns-in-Seek-clause-looks : goal.returns-in-Seek-clause-looks
+returns-in-Seek-clause-looks g c =
+    let a = c.args in let w = c.in-Seek in
+    it_looks _ a.geometry.now a.who (files_of a.opens.now) _ _ a.call.now _ c.seek.ensures.turns c.seek.ensures.looks
+
+pub returns-in-Stat-clause-looks : goal.returns-in-Stat-clause-looks
+returns-in-Stat-clause-looks g c =
+    let a = c.args in let w = c.in-Stat in
+    it_looks _ a.geometry.now a.who (files_of a.opens.now) _ _ a.call.now _ c.stat.ensures.turns c.stat.ensures.looks
+
+pub returns-in-Fstat-clause-looks : goal.returns-in-Fstat-clause-looks
+returns-in-Fstat-clause-looks g c =
+    let a = c.args in let w = c.in-Fstat in
+    it_looks _ a.geometry.now a.who (files_of a.opens.now) _ _ a.call.now _ c.fstat.ensures.turns c.fstat.ensures.looks
+
+pub returns-in-Unlink-clause-looks : goal.returns-in-Unlink-clause-looks
+returns-in-Unlink-clause-looks g c =
+    let a = c.args in let w = c.in-Unlink in
+    kind_looks _ a.geometry.now a.who (files_of a.opens.now) _ _ a.call.now (Unlink w.path) w.is _ c.unlink.ensures.turns (λ t only. it_changes only)
+
+pub returns-in-Rmdir-clause-looks : goal.returns-in-Rmdir-clause-looks
+returns-in-Rmdir-clause-looks g c =
+    let a = c.args in let w = c.in-Rmdir in
+    kind_looks _ a.geometry.now a.who (files_of a.opens.now) _ _ a.call.now (Rmdir w.path) w.is _ c.rmdir.ensures.turns (λ t only. it_changes only)
+
+pub returns-in-Chmod-clause-looks : goal.returns-in-Chmod-clause-looks
+returns-in-Chmod-clause-looks g c =
+    let a = c.args in let w = c.in-Chmod in
+    kind_looks _ a.geometry.now a.who (files_of a.opens.now) _ _ a.call.now (Chmod w.path w.mode) w.is _ c.chmod.ensures.turns (λ t only. it_changes only)
+
+pub returns-in-Chown-clause-looks : goal.returns-in-Chown-clause-looks
+returns-in-Chown-clause-looks g c =
+    let a = c.args in let w = c.in-Chown in
+    kind_looks _ a.geometry.now a.who (files_of a.opens.now) _ _ a.call.now (Chown w.path w.uid w.gid) w.is _ c.chown.ensures.turns (λ t only. it_changes only)
+
+pub returns-in-Utime-clause-looks : goal.returns-in-Utime-clause-looks
+returns-in-Utime-clause-looks g c =
+    let a = c.args in let w = c.in-Utime in
+    kind_looks _ a.geometry.now a.who (files_of a.opens.now) _ _ a.call.now (Utime w.path w.atime w.mtime) w.is _ c.utime.ensures.turns (λ t only. it_changes only)
+
+pub returns-in-Readdir-clause-looks : goal.returns-in-Readdir-clause-looks
+returns-in-Readdir-clause-looks g c =
+    let a = c.args in let w = c.in-Readdir in
+    it_looks _ a.geometry.now a.who (files_of a.opens.now) _ _ a.call.now _ c.readdir.ensures.turns c.readdir.ensures.looks
+
+pub returns-in-Sync-clause-looks : goal.returns-in-Sync-clause-looks
+returns-in-Sync-clause-looks g c =
+    let a = c.args in let w = c.in-Sync in
+    kind_looks _ a.geometry.now a.who (files_of a.opens.now) _ _ a.call.now Sync w.is _ c.sync.ensures.turns (λ t only. it_changes only)
+
+pub returns-in-Statfs-clause-looks : goal.returns-in-Statfs-clause-looks
+returns-in-Statfs-clause-looks g c =
+    let a = c.args in let w = c.in-Statfs in
+    it_looks _ a.geometry.now a.who (files_of a.opens.now) _ _ a.call.now _ c.statfs.ensures.turns c.statfs.ensures.looks
+
+pub returns-in-Write-clause-looks : goal.returns-in-Write-clause-looks
+returns-in-Write-clause-looks g c =
+    let a = c.args in let w = c.in-Write in
+    kind_looks _ a.geometry.now a.who (files_of a.opens.now) _ _ a.call.now (Write w.fd w.bytes) w.is _ c.write.ensures.turns (λ t only. it_changes only)
+
+pub returns-in-Truncate-clause-looks : goal.returns-in-Truncate-clause-looks
+returns-in-Truncate-clause-looks g c =
+    let a = c.args in let w = c.in-Truncate in
+    kind_looks _ a.geometry.now a.who (files_of a.opens.now) _ _ a.call.now (Truncate w.path w.size) w.is _ c.truncate.ensures.turns (λ t only. it_changes only)
+
+pub returns-in-Link-clause-looks : goal.returns-in-Link-clause-looks
+returns-in-Link-clause-looks g c =
+    let a = c.args in let w = c.in-Link in
+    kind_looks _ a.geometry.now a.who (files_of a.opens.now) _ _ a.call.now (Link w.old w.new) w.is _ c.link.ensures.turns (λ t only. it_changes only)
+
+pub returns-in-Mkdir-clause-looks : goal.returns-in-Mkdir-clause-looks
+returns-in-Mkdir-clause-looks g c =
+    let a = c.args in let w = c.in-Mkdir in
+    kind_looks _ a.geometry.now a.who (files_of a.opens.now) _ _ a.call.now (Mkdir w.path w.mode) w.is _ c.mkdir.ensures.turns (λ t only. it_changes only)
+
+pub returns-in-Rename-clause-looks : goal.returns-in-Rename-clause-looks
+returns-in-Rename-clause-looks g c =
+    let a = c.args in let w = c.in-Rename in
+    kind_looks _ a.geometry.now a.who (files_of a.opens.now) _ _ a.call.now (Rename w.old w.new) w.is _ c.rename.ensures.turns (λ t only. it_changes only)
+
+pub returns-in-Symlink-clause-looks : goal.returns-in-Symlink-clause-looks
+returns-in-Symlink-clause-looks g c =
+    let a = c.args in let w = c.in-Symlink in
+    kind_looks _ a.geometry.now a.who (files_of a.opens.now) _ _ a.call.now (Symlink w.target w.path) w.is _ c.symlink.ensures.turns (λ t only. it_changes only)
+
+pub returns-in-Readlink-clause-looks : goal.returns-in-Readlink-clause-looks
+returns-in-Readlink-clause-looks g c =
+    let a = c.args in let w = c.in-Readlink in
+    it_looks _ a.geometry.now a.who (files_of a.opens.now) _ _ a.call.now _ c.readlink.ensures.turns c.readlink.ensures.looks
+
+pub returns-in-Lstat-clause-looks : goal.returns-in-Lstat-clause-looks
+returns-in-Lstat-clause-looks g c =
+    let a = c.args in let w = c.in-Lstat in
+    it_looks _ a.geometry.now a.who (files_of a.opens.now) _ _ a.call.now _ c.lstat.ensures.turns c.lstat.ensures.looks
+
+pub returns-then-who-ge-MAX_SESSIONS-clause-looks : goal.returns-then-who-ge-MAX_SESSIONS-clause-looks
+returns-then-who-ge-MAX_SESSIONS-clause-looks g c =
+    let a = c.args in
+    it_looks _ a.geometry.now a.who (files_of a.opens.now) _ _ a.call.now _ (turns_none _ g.met.B.Blocks.lawful _ c.requires.on.ready) (g.met.B.Blocks.lawful.look _)

@@ -16,7 +16,7 @@ returns-in_err-write_at-clause-turns g c =
     (λ d e f p q. ends_exit _ _ _ _ _ _ c.from_residual-in_err-write_at.ensures.1
     (λ t. subst (λ x. MayWriteAt v (pieces v x) c.args.directory i.size bytes) (sym p.0)
     (may_insert v (pieces v d) c.args.directory c.args.name.now c.args.number bytes i p.1 c.entry_bytes.ensures.many t)) q)
-    c.in_ok-inode.ensures.reads c.in_err-write_at.ensures.turns
+    c.in_ok-inode.ensures.reads.turns c.in_err-write_at.ensures.turns
 
 pub returns-clause-turns : goal.returns-clause-turns
 returns-clause-turns g c =
@@ -30,4 +30,4 @@ returns-clause-turns g c =
     ends_as _ _ _ _ _ (λ x stamps. inserted v n c.args.name.now c.args.number c.args.now bytes i d f h p.1 c.entry_bytes.ensures writes stamps)
     (λ t. may_change_after v (pieces v d) (pieces v f) n _ _ (may_change v (pieces v d) n t.of)
     (writes.becomes (may_insert v (pieces v d) n c.args.name.now c.args.number bytes i p.1 c.entry_bytes.ensures.many t))) r)
-    c.in_ok-inode.ensures.reads c.in_ok-write_at.ensures.turns c.stamp.ensures.turns
+    c.in_ok-inode.ensures.reads.turns c.in_ok-write_at.ensures.turns c.stamp.ensures.turns

@@ -10,7 +10,7 @@ use Rattle.directory.proofs.changes.rename.Goals as goal
 
 pub returns-in_err-place-clause-turns : goal.returns-in_err-place-clause-turns
 returns-in_err-place-clause-turns g c =
-    turns_as _ _ _ _ _ (λ d e p. ends_exit _ _ _ _ _ _ c.from_residual.ensures.1 (λ t. t.1.has) p.1) c.in_err-place.ensures.reads
+    turns_as _ _ _ _ _ (λ d e p. ends_exit _ _ _ _ _ _ c.from_residual.ensures.1 (λ t. t.1.has) p.1) c.in_err-place.ensures.reads.turns
 
 pub returns-in_err-write_at-clause-turns : goal.returns-in_err-write_at-clause-turns
 returns-in_err-write_at-clause-turns g c =
@@ -22,7 +22,7 @@ returns-in_err-write_at-clause-turns g c =
     (λ d e f p q. ends_exit _ _ _ _ _ _ c.from_residual-in_err-write_at.ensures.1
     (λ t. subst (λ x. MayWriteAt v (pieces v x) n (64 * place + 4) bytes) (sym p.0)
     (may_write_name v (pieces v d) n place c.args.old.now bytes c.name_bytes.ensures.many p.1 t.1.has.of)) q)
-    c.in_ok-place.ensures.reads c.in_err-write_at.ensures.turns
+    c.in_ok-place.ensures.reads.turns c.in_err-write_at.ensures.turns
 
 pub returns-clause-turns : goal.returns-clause-turns
 returns-clause-turns g c =
@@ -36,4 +36,4 @@ returns-clause-turns g c =
     ends_as _ _ _ _ _ (λ x stamps. name_written v n place c.args.old.now c.args.new.now c.args.now bytes d f h c.name_bytes.ensures p.1 writes stamps)
     (λ t. may_change_after v (pieces v d) (pieces v f) n _ _ (may_change v (pieces v d) n t.1.has.of)
     (writes.becomes (may_write_name v (pieces v d) n place c.args.old.now bytes c.name_bytes.ensures.many p.1 t.1.has.of))) r)
-    c.in_ok-place.ensures.reads c.in_ok-write_at.ensures.turns c.stamp.ensures.turns
+    c.in_ok-place.ensures.reads.turns c.in_ok-write_at.ensures.turns c.stamp.ensures.turns

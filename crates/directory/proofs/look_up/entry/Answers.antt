@@ -1,7 +1,7 @@
 use Rattle.std.proofs.Common.{◌≡◌, rules, false, length}
 use Rattle.std.specs.Prelude.{IsTrue}
 use Rattle.volume.specs.Reading.{is_data_zone}
-use Rattle.block_store.proofs.Turns.{reads_then, turns_as, if_cut}
+use Rattle.block_store.proofs.Turns.{reads_as, reads_then, if_cut}
 use Rattle.directory.proofs.Pages.{entry_there, entry_missing}
 use Rattle.directory.proofs.look_up.entry.Goals as goal
 
@@ -9,12 +9,9 @@ pub returns-then-not-is_data_zone-clause-reads : goal.returns-then-not-is_data_z
 returns-then-not-is_data_zone-clause-reads g c =
     let outside : is_data_zone c.args.geometry.now c.in_ok-zone.zone ≡ false = search rules in
     let many : length c.no_entry-bytes.result ≡ 64 = search rules in
-    turns_as _ _ _ _ _
-    (λ d e x. (
-      x.0,
-      entry_missing c.args.geometry.now d c.args.inode.now c.args.k c.in_ok-zone.zone c.no_entry-bytes.result
-          c.requires.on.geometry outside many c.no_entry-bytes.ensures x.1,
-    ))
+    reads_as _ _ _ _ _
+    (λ d p. entry_missing c.args.geometry.now d c.args.inode.now c.args.k c.in_ok-zone.zone c.no_entry-bytes.result
+    c.requires.on.geometry outside many c.no_entry-bytes.ensures p)
     c.in_ok-zone.ensures.reads
 
 pub returns-in_err-read_bytes-clause-reads : goal.returns-in_err-read_bytes-clause-reads

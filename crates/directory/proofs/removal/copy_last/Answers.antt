@@ -11,7 +11,7 @@ use Rattle.directory.proofs.removal.copy_last.Goals as goal
 pub returns-in_err-bytes-clause-turns : goal.returns-in_err-bytes-clause-turns
 returns-in_err-bytes-clause-turns g c =
     turns_then _ g.met.B.Blocks.lawful _ _ _ _ _ _ (λ d e f p q. ends_cut_exit _ _ _ _ c.from_residual-in_err-bytes.ensures.1)
-    c.in_ok-inode.ensures.reads c.in_err-bytes.ensures.reads
+    c.in_ok-inode.ensures.reads.turns c.in_err-bytes.ensures.reads.turns
 
 pub returns-in_err-write_at-clause-turns : goal.returns-in_err-write_at-clause-turns
 returns-in_err-write_at-clause-turns g c =
@@ -22,7 +22,7 @@ returns-in_err-write_at-clause-turns g c =
     turns_three _ g.met.B.Blocks.lawful _ _ _ _ _ _ _ _
     (λ d e f h p q r. ends_exit _ _ _ _ _ _ c.from_residual-in_err-write_at.ensures.1
     (λ t. subst (λ x. MayWriteAt v (pieces v x) n (64 * c.args.place) bytes) (sym p.0 ∙ sym q.0) (may_copy v (pieces v d) n c.args.place bytes many t)) r)
-    c.in_ok-inode.ensures.reads c.in_ok-bytes.ensures.reads c.in_err-write_at.ensures.turns
+    c.in_ok-inode.ensures.reads.turns c.in_ok-bytes.ensures.reads.turns c.in_err-write_at.ensures.turns
 
 pub returns-clause-turns : goal.returns-clause-turns
 returns-clause-turns g c =
@@ -34,4 +34,4 @@ returns-clause-turns g c =
     turns_three _ g.met.B.Blocks.lawful _ _ _ _ _ _ _ _
     (λ d e f h p q r. copied v n c.args.place bytes i d h p.1 many (subst (λ x. HasBytes (64 * (i.size / 64 - 1)) bytes (file_byte v (pieces v x) i)) p.0 q.1)
     (subst (λ x. WritesAt v n (64 * c.args.place) bytes x h) (q.0 ∙ p.0) r))
-    c.in_ok-inode.ensures.reads c.in_ok-bytes.ensures.reads c.in_ok-write_at.ensures.turns
+    c.in_ok-inode.ensures.reads.turns c.in_ok-bytes.ensures.reads.turns c.in_ok-write_at.ensures.turns

@@ -46,14 +46,14 @@ returns-in_err-write_chunks-clause-turns g c =
     turns_three _ g.met.B.Blocks.lawful _ _ _ _ _ _ _ _
     (λ d x y f p q r. ends_exit _ _ _ _ _ _ c.from_residual-in_err-write_chunks.ensures.1
     (λ may. may_write_first a.geometry.now d x y a.number a.at c.min-count.result a.bytes.now p.0 q.0 may) r)
-    c.in_ok-inode.ensures.reads c.in_ok-found.ensures.reads c.in_err-write_chunks.ensures.turns
+    c.in_ok-inode.ensures.reads.turns c.in_ok-found.ensures.reads.turns c.in_err-write_chunks.ensures.turns
 
 pub returns-then-held-eq0-clause-turns : goal.returns-then-held-eq0-clause-turns
 returns-then-held-eq0-clause-turns g c =
     let a = c.args in
     turns_three _ g.met.B.Blocks.lawful _ _ _ _ _ _ _ _
     (λ d x y f p q r. first_written a.geometry.now d x y f a.number a.at (take c.min-count.result a.bytes.now) p.0 q.0 r)
-    c.in_ok-inode.ensures.reads c.in_ok-found.ensures.reads c.in_ok-write_chunks.ensures.turns
+    c.in_ok-inode.ensures.reads.turns c.in_ok-found.ensures.reads.turns c.in_ok-write_chunks.ensures.turns
 
 pub returns-in_err-write_held-clause-turns : goal.returns-in_err-write_held-clause-turns
 returns-in_err-write_held-clause-turns g c =
@@ -69,7 +69,7 @@ returns-in_err-write_held-clause-turns g c =
     (λ d x y f p q r. ends_exit _ _ _ _ _ _ c.from_residual-in_err-write_held.ensures.1
     (λ may. may_write_first a.geometry.now d x y a.number a.at c.min-count-2.result a.bytes.now p.0 q.0 may)
     (r a.number (row_held a.geometry.now d x y a.number (a.at / a.geometry.now.block_size) n held i zones p.0 q.0 p.1 q.1 few room some)))
-    c.in_ok-inode.ensures.reads c.in_ok-found.ensures.reads c.in_err-write_held.ensures.turns
+    c.in_ok-inode.ensures.reads.turns c.in_ok-found.ensures.reads.turns c.in_err-write_held.ensures.turns
 
 pub returns-clause-turns : goal.returns-clause-turns
 returns-clause-turns g c =
@@ -84,4 +84,4 @@ returns-clause-turns g c =
     turns_three _ g.met.B.Blocks.lawful _ _ _ _ _ _ _ _
     (λ d x y f p q r. first_written a.geometry.now d x y f a.number a.at (take c.min-count-2.result a.bytes.now) p.0 q.0
     (r a.number (row_held a.geometry.now d x y a.number (a.at / a.geometry.now.block_size) n held i zones p.0 q.0 p.1 q.1 few room some)))
-    c.in_ok-inode.ensures.reads c.in_ok-found.ensures.reads c.in_ok-write_held.ensures.turns
+    c.in_ok-inode.ensures.reads.turns c.in_ok-found.ensures.reads.turns c.in_ok-write_held.ensures.turns

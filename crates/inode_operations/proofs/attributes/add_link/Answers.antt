@@ -10,4 +10,4 @@ returns-clause-turns g c =
     turns_then _ g.met.B.Blocks.lawful _ _ _ _ _ _
     (λ d x e p q. ends_as _ _ _ _ _ (λ y sets. link_added a.geometry.now d x e a.number a.now _ i p.0 p.1 sets refl)
     (λ may. may_set a.geometry.now d x a.number a.now _ i p.0 p.1 may.of) q)
-    c.in_ok-inode.ensures.reads c.set_attributes.ensures.turns
+    c.in_ok-inode.ensures.reads.turns c.set_attributes.ensures.turns

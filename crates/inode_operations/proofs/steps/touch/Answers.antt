@@ -10,7 +10,7 @@ returns-in_err-inode-clause-turns g c =
     let a = c.args in
     turns_as _ _ _ _ _
     (λ d e p. ends_exit _ _ _ _ _ _ c.from_residual.ensures.1 (λ k. inode_is a.geometry.now (pieces a.geometry.now d) a.number (of_there a.geometry.now c.requires.on.geometry a.number a.now d k).marked) p.1)
-    c.in_err-inode.ensures.reads
+    c.in_err-inode.ensures.reads.turns
 
 pub returns-clause-turns : goal.returns-clause-turns
 returns-clause-turns g c =
@@ -20,4 +20,4 @@ returns-clause-turns g c =
     (λ d e f p q. ends_as _ _ _ _ _
     (λ x r. touch_leads v c.requires.on.geometry a.number a.now d e f c.in_ok-inode.inode p.0 p.1 r)
     (λ k. may_touch v c.requires.on.geometry a.number a.now d e c.in_ok-inode.inode p.0 p.1 k) q)
-    c.in_ok-inode.ensures.reads c.set_attributes.ensures.turns
+    c.in_ok-inode.ensures.reads.turns c.set_attributes.ensures.turns

@@ -17,7 +17,7 @@ returns-in_err-drop_in_block-clause-turns g t c =
     turns_then _ g.met.B.Blocks.lawful _ _ _ _ _ _
     (λ d i e p q. ends_exit _ _ _ _ _ _ c.from_residual-in_err-drop_in_block.ensures.1
     (λ may. may_drop_number a.geometry.now d i e a.inode a.level a.place _ _ _ c.requires.level c.if-level-eq3.false c.first_places-first.ensures c.numbers_in_zone-width.ensures c.if-place-first.false p.0 p.1 may) q)
-    c.in_ok-block.ensures.reads c.in_err-drop_in_block.ensures.turns
+    c.in_ok-block.ensures.reads.turns c.in_err-drop_in_block.ensures.turns
 
 pub returns-in-Some-clause-turns : goal.returns-in-Some-clause-turns
 returns-in-Some-clause-turns g t c =
@@ -25,7 +25,7 @@ returns-in-Some-clause-turns g t c =
     turns_then _ g.met.B.Blocks.lawful _ _ _ _ _ _
     (λ d i e p q. word_released a.geometry.now d i e a.inode a.level a.place _ _ _ c.requires.level c.if-level-eq3.false c.first_places-first.ensures c.numbers_in_zone-width.ensures c.if-place-first.false p.0 p.1
     _ _ c.in-Some.is q)
-    c.in_ok-block.ensures.reads c.in_ok-drop_in_block.ensures.turns
+    c.in_ok-block.ensures.reads.turns c.in_ok-drop_in_block.ensures.turns
 
 pub returns-in-None-clause-turns : goal.returns-in-None-clause-turns
 returns-in-None-clause-turns g t c =
@@ -36,4 +36,4 @@ returns-in-None-clause-turns g t c =
     z _ c.in-None.is q gone)
     (λ may. may_go_on a.geometry.now d i e a.inode a.level a.place _ _ _ c.requires.level c.if-level-eq3.false c.first_places-first.ensures c.numbers_in_zone-width.ensures c.if-place-first.false p.0 p.1
     _ c.in-None.is q may) r)
-    c.in_ok-block.ensures.reads c.in_ok-drop_in_block.ensures.turns c.release.ensures.turns
+    c.in_ok-block.ensures.reads.turns c.in_ok-drop_in_block.ensures.turns c.release.ensures.turns

@@ -1,7 +1,7 @@
 use Rattle.std.proofs.Common.{rules, ◌≡◌, ◌<◌, ℕ, length, false}
 use Rattle.std.specs.Prelude.{IsTrue, slice_index}
 use Rattle.volume.specs.Reading.{is_data_zone}
-use Rattle.block_store.proofs.Turns.{turns_as, turns_seen, reads_none}
+use Rattle.block_store.proofs.Turns.{reads_by, turns_as, turns_seen, reads_none}
 use Rattle.zone.proofs.Rows.{numbers_inside, numbers_outside}
 use Rattle.zone.proofs.numbers.numbers.Goals as goal
 
@@ -16,6 +16,6 @@ pub returns-clause-reads : goal.returns-clause-reads
 returns-clause-reads g c =
     let a = c.args in
     let is : IsTrue (is_data_zone a.geometry.now a.zone) = search rules in
-    turns_as _ _ _ _ _
+    reads_by _ _ _ _ c.fetch.ensures.looks (turns_as _ _ _ _ _
     (λ d e x. (x.0, numbers_inside a.geometry.now c.requires.on.geometry d a.zone a.from c.bytes.result.now c.read_words.new.into is x.1 c.read_words.ensures))
-    (turns_seen _ g.met.B.Blocks.lawful _ _ a.zone c.bytes.result.now (c.bytes.ensures.bytes a.zone c.in_ok-frame.ensures.frame) c.fetch.ensures.turns)
+    (turns_seen _ g.met.B.Blocks.lawful _ _ a.zone c.bytes.result.now (c.bytes.ensures.bytes a.zone c.in_ok-frame.ensures.frame) c.fetch.ensures.turns))

@@ -12,6 +12,7 @@ use Rattle.reissue.specs.Settlements.{Settlement, settlement}
 use Rattle.reissue.specs.Settlements as settled
 use Rattle.cache.specs.Slots.{held}
 use Rattle.cache.specs.Settling.{Settles}
+use Rattle.cache.proofs.Looking.{absorb_looks}
 use Rattle.cache.proofs.cache.Cache.absorb.Goals as goal
 
 pub returns : goal.returns
@@ -34,6 +35,7 @@ returns g c =
           (λ end. subst (λ (u : Transfers _). HasRoom (table_of u) (r (link_of u))) (sym (x.ended end)) (c.requires.ready.room alive))) x.closed
           (λ end. ap (λ (u : Transfers _). h (link_of u)) (x.ended end));
       silent = λ idle. silent c.args.message came old new x.absorbs idle;
+      looks = absorb_looks c.args.message came old new s.slots.items.items items x.absorbs (e.slots bytes) refl refl;
       goes = x.goes;
       stay = e.stay;
       reads = none_begun came _ _ x.absorbs.closes;

@@ -5,10 +5,11 @@ use Rattle.cache.proofs.Edits.{leaves_none, leaves_then}
 use Rattle.cache.proofs.Placing.{keeps_none, keeps_then, keeps_took}
 use Rattle.cache.proofs.Staying.{all_none, all_then}
 use Rattle.cache.proofs.Flushes.{follows_none, follows_then}
+use Rattle.cache.proofs.Looking.{looks_none, looks_then}
 use Rattle.cache.proofs.cache.Cache.begin_read.Goals as goal
 
 pub tries-init : goal.tries-init
-tries-init g c = record { keeps = keeps_none _ c.requires.ready; leaves = leaves_none _; stay = all_none _; flush = follows_none _ _; goes = g.met.L.Link.stays _ }
+tries-init g c = record { keeps = keeps_none _ c.requires.ready; leaves = leaves_none _; stay = all_none _; flush = follows_none _ _; goes = g.met.L.Link.stays _; looks = looks_none _ }
 
 pub returns-in-Some-clause-keeps : goal.returns-in-Some-clause-keeps
 returns-in-Some-clause-keeps g c = keeps_then _ _ _ c.tries.invariant.keeps c.try_read.ensures.keeps
@@ -21,6 +22,7 @@ tries-preserved g c = record {
   stay = all_then _ _ _ c.tries.invariant.stay (subst (λ (s : Slots). AllStay s c.take.new.self.slots) c.try_read.ensures.slots c.take.ensures.stay);
   flush = follows_then _ _ _ _ _ _ (follows_then _ _ _ _ _ _ c.tries.invariant.flush c.try_read.ensures.flush) c.take.ensures.flush;
   goes = g.met.L.Link.joins _ _ _ (g.met.L.Link.joins _ _ _ c.tries.invariant.goes c.try_read.ensures.goes) c.take.ensures.goes;
+  looks = looks_then _ _ _ (looks_then _ _ _ c.tries.invariant.looks c.try_read.ensures.looks) c.take.ensures.looks;
 }
 
 pub returns-in_err-take-clause-keeps : goal.returns-in_err-take-clause-keeps
@@ -54,3 +56,12 @@ pub returns-in_err-take-clause-leaves : goal.returns-in_err-take-clause-leaves
 returns-in_err-take-clause-leaves g c =
     leaves_then _ _ _ c.tries.invariant.leaves
     (subst (λ (s : Slots). Leaves s.items.items c.take.new.self.slots.items.items) c.try_read.ensures.slots c.take.ensures.leaves)
+
+pub returns-in-Some-clause-looks : goal.returns-in-Some-clause-looks
+returns-in-Some-clause-looks g c = looks_then _ _ _ c.tries.invariant.looks c.try_read.ensures.looks
+
+pub returns-in_err-live-clause-looks : goal.returns-in_err-live-clause-looks
+returns-in_err-live-clause-looks g c = c.tries.invariant.looks
+
+pub returns-in_err-take-clause-looks : goal.returns-in_err-take-clause-looks
+returns-in_err-take-clause-looks g c = looks_then _ _ _ (looks_then _ _ _ c.tries.invariant.looks c.try_read.ensures.looks) c.take.ensures.looks

@@ -1,5 +1,6 @@
 use Rattle.cache.specs.Calls.{caching, Keeps, WantsFlush, LinkGoesOn, messages_left}
 use Rattle.cache.specs.Edits.{Leaves, AllStay}
+use Rattle.cache.specs.Looking.{Looks}
 use Rattle.cache.proofs.cache.Cache.begin_read.Given as goal
 
 abbrev pub invariant-tries : goal.invariant-tries
@@ -9,6 +10,7 @@ invariant-tries g l = record {
   stay : AllStay l.fn.self.slots l.self.slots;
   flush : WantsFlush g.L.Link l.fn.self l.self;
   goes : LinkGoesOn g.L.Link l.fn.self l.self;
+  looks : Looks (caching g.L.Link l.fn.self) (caching g.L.Link l.self);
 }
 
 abbrev pub decreases-tries : goal.decreases-tries

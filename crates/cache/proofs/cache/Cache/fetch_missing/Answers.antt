@@ -9,6 +9,7 @@ use Rattle.cache.specs.Calls.{caching, caching_of}
 use Rattle.cache.proofs.Placing.{keeps_then, keeps_read, reads_after, placed}
 use Rattle.cache.proofs.Fetching.{misses_cut, misses_filled}
 use Rattle.cache.proofs.Flushes.{follows_then}
+use Rattle.cache.proofs.Looking.{looks_then, looks_slots, filled_clean}
 use Rattle.cache.proofs.cache.Cache.fetch_missing.Goals as goal
 
 pub returns-in_err-read-clause-keeps : goal.returns-in_err-read-clause-keeps
@@ -68,3 +69,17 @@ returns-in_err-read-clause-goes g c = g.met.L.Link.joins _ _ _ c.make_room.ensur
 
 pub returns-clause-goes : goal.returns-clause-goes
 returns-clause-goes g c = g.met.L.Link.joins _ _ _ c.make_room.ensures.goes c.read.ensures.goes
+
+pub returns-in_err-read-clause-looks : goal.returns-in_err-read-clause-looks
+returns-in_err-read-clause-looks g c = looks_then _ _ _ c.make_room.ensures.looks c.read.ensures.looks
+
+pub returns-clause-looks : goal.returns-clause-looks
+returns-clause-looks g c =
+    let m = c.read.new.self in
+    looks_then (caching g.L.Link c.args.self.now) (caching g.L.Link m)
+    (caching_of g.L.Link m.transfers m.shape c.fill.new.self.items.items m.ended)
+    (looks_then _ _ _ c.make_room.ensures.looks c.read.ensures.looks)
+    (looks_slots _ _ refl refl (λ clean.
+    filled_clean m.slots.items.items c.fill.new.self.items.items c.in_ok-at.at c.args.block _ m.slots.distinct
+    (c.read.ensures.leaves.free c.in_ok-at.at c.in_ok-at.ensures.free)
+    (c.read.ensures.leaves.none c.args.block (c.make_room.ensures.none c.args.block c.requires.missing)) c.fill.ensures.filled clean))

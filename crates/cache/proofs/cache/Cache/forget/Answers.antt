@@ -3,6 +3,7 @@ use Rattle.cache.specs.Calls.{caching, caching_of}
 use Rattle.cache.proofs.Placing.{keeps_none, vacated, clean_passes, forgotten_clean, forgotten_other, forgotten_none}
 use Rattle.cache.proofs.Staying.{frame_stays}
 use Rattle.cache.proofs.Fetching.{found_there}
+use Rattle.cache.proofs.Looking.{looks_slots, vacated_clean}
 use Rattle.cache.proofs.cache.Cache.forget.Goals as goal
 
 pub returns-then-is_clean-clause-keeps : goal.returns-then-is_clean-clause-keeps
@@ -50,3 +51,10 @@ returns-else-is_clean-clause-goes g c = g.met.L.Link.stays _
 
 pub returns-in-None-clause-goes : goal.returns-in-None-clause-goes
 returns-in-None-clause-goes g c = g.met.L.Link.stays _
+
+pub returns-then-is_clean-clause-looks : goal.returns-then-is_clean-clause-looks
+returns-then-is_clean-clause-looks g c =
+    let s = c.args.self.now in
+    looks_slots (caching g.L.Link s) (caching_of g.L.Link s.transfers s.shape c.vacate.new.self.items.items s.ended) refl refl
+    (λ clean. vacated_clean s.slots.items.items c.vacate.new.self.items.items c.in-Some.frame.at c.get.result.now s.slots.distinct c.get.ensures
+    c.vacate.ensures.set clean)

@@ -1,9 +1,10 @@
-use Rattle.std.proofs.Common.{refl}
+use Rattle.std.proofs.Common.{refl, ap}
 use Rattle.cache.specs.Calls.{caching, caching_of}
 use Rattle.cache.proofs.Filling.{free_at, vacated_none}
 use Rattle.cache.proofs.Placing.{keeps_then, vacated}
 use Rattle.cache.proofs.Staying.{but_then, set_others}
 use Rattle.cache.proofs.Fetching.{no_place}
+use Rattle.cache.proofs.Looking.{looks_then, looks_same, looks_slots, none_unclean, vacated_clean}
 use Rattle.cache.proofs.cache.Cache.make_room.Goals as goal
 
 pub returns-clause-keeps : goal.returns-clause-keeps
@@ -39,3 +40,20 @@ returns-clause-made g c = record {
   stay = but_then c.victim-at.result _ _ _ c.clean.ensures.others
       (record { uses = c.vacate.ensures.uses; each = set_others _ _ c.victim-at.result _ c.vacate.ensures.set });
 }
+
+pub returns-in_err-clean-clause-looks : goal.returns-in_err-clean-clause-looks
+returns-in_err-clean-clause-looks g c =
+    let s = c.args.self.now in
+    looks_same (caching g.L.Link s) (caching g.L.Link c.clean.new.self)
+    (λ clean. ap (caching g.L.Link) (c.clean.ensures.at_once (none_unclean s.slots.items.items c.victim-at.result s.slots.distinct c.victim-at.ensures.in_range clean)).0)
+
+pub returns-clause-looks : goal.returns-clause-looks
+returns-clause-looks g c =
+    let s = c.args.self.now in
+    let m = c.clean.new.self in
+    let f = c.in_ok-clean.ensures.clean in
+    looks_then (caching g.L.Link s) (caching g.L.Link m) (caching_of g.L.Link m.transfers m.shape c.vacate.new.self.items.items m.ended)
+    (looks_same (caching g.L.Link s) (caching g.L.Link m)
+    (λ clean. ap (caching g.L.Link) (c.clean.ensures.at_once (none_unclean s.slots.items.items c.victim-at.result s.slots.distinct c.victim-at.ensures.in_range clean)).0))
+    (looks_slots _ _ refl refl
+    (λ clean. vacated_clean m.slots.items.items c.vacate.new.self.items.items c.victim-at.result f.slot m.slots.distinct f.is c.vacate.ensures.set clean))

@@ -3,6 +3,7 @@ use Rattle.cache.proofs.Taking.{read_cut_off}
 use Rattle.cache.proofs.Staying.{all_then}
 use Rattle.cache.proofs.Flushes.{follows_then}
 use Rattle.cache.proofs.Edits.{leaves_then}
+use Rattle.cache.proofs.Looking.{looks_then}
 use Rattle.cache.proofs.cache.Cache.read.Goals as goal
 
 pub returns-in_err-reading-clause-runs : goal.returns-in_err-reading-clause-runs
@@ -23,3 +24,6 @@ returns-clause-goes g c = g.met.L.Link.joins _ _ _ c.begin_read.ensures.goes c.w
 
 pub returns-clause-leaves : goal.returns-clause-leaves
 returns-clause-leaves g c = leaves_then _ _ _ c.begin_read.ensures.leaves c.wait.ensures.leaves
+
+pub returns-clause-looks : goal.returns-clause-looks
+returns-clause-looks g c = looks_then _ _ _ c.begin_read.ensures.looks c.wait.ensures.looks

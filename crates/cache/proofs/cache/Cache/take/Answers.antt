@@ -8,6 +8,7 @@ use Rattle.cache.proofs.Runs.{runs_none}
 use Rattle.cache.proofs.Staying.{all_none}
 use Rattle.cache.proofs.Taking.{cut_off, takes_none, takes_one, leaves_settled, reads_stay}
 use Rattle.cache.proofs.Flushes.{follows_none, follows_take, wanted_for}
+use Rattle.cache.proofs.Looking.{take_looks}
 use Rattle.cache.proofs.cache.Cache.take.Goals as goal
 
 pub returns-in_err-live-clause-runs : goal.returns-in_err-live-clause-runs
@@ -60,3 +61,11 @@ returns-in_err-live-clause-flush g c = follows_none _ _
 
 pub returns-clause-leaves : goal.returns-clause-leaves
 returns-clause-leaves g c = leaves_settled _ _ _ (c.settle.ensures.slots c.step-settled.new.into)
+
+pub returns-clause-looks : goal.returns-clause-looks
+returns-clause-looks g c =
+    let bytes = c.step-settled.new.into in
+    let items = c.settle.new.slots.items.items in
+    take_looks (settlement c.step-settled.result bytes) (caching g.L.Link c.args.self.now)
+    (caching_of g.L.Link c.step-settled.new.self c.args.self.now.shape items c.is_end-self.result) c.args.self.now.slots.items.items items
+    c.step-settled.ensures.steps (c.settle.ensures.slots bytes) refl refl

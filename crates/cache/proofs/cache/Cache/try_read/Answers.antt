@@ -3,6 +3,7 @@ use Rattle.cache.specs.Calls.{AbstractCache, caching, caching_of, Keeps}
 use Rattle.cache.proofs.Beginning.{read_one, read_is_at, busy_begun}
 use Rattle.cache.proofs.Placing.{keeps_none}
 use Rattle.cache.proofs.Flushes.{follows_posts}
+use Rattle.cache.proofs.Looking.{begin_looks}
 use Rattle.cache.proofs.cache.Cache.try_read.Goals as goal
 
 pub returns-in-Ok-clause-keeps : goal.returns-in-Ok-clause-keeps
@@ -38,3 +39,10 @@ pub returns-in-Err-clause-flush : goal.returns-in-Err-clause-flush
 returns-in-Err-clause-flush g c =
     let x = c.in-Err.ensures.begins in
     follows_posts _ _ x.posts _ _ refl x.history x.only_posts
+
+pub returns-in-Ok-clause-looks : goal.returns-in-Ok-clause-looks
+returns-in-Ok-clause-looks g c =
+    let s = c.args.self.now in
+    let x = c.in-Ok.ensures in
+    begin_looks c.read-ask.result (caching g.L.Link s) (caching_of g.L.Link c.begin.new.self s.shape s.slots.items.items s.ended) c.in-Ok.ticket
+    refl c.read-ask.ensures.kind x.adds x.opens

@@ -9,6 +9,7 @@ use Rattle.cache.proofs.Placing.{keeps_none, keeps_took, reads_cut, still_readin
 use Rattle.cache.proofs.Taking.{read_cut_off}
 use Rattle.cache.proofs.Staying.{all_none, all_then}
 use Rattle.cache.proofs.Flushes.{follows_none, follows_then}
+use Rattle.cache.proofs.Looking.{looks_none, looks_then}
 use Rattle.cache.proofs.cache.Cache.wait.Goals as goal
 
 pub messages-init : goal.messages-init
@@ -19,6 +20,7 @@ messages-init g c = record {
   pending = c.requires.reading;
   flush = follows_none _ _;
   goes = g.met.L.Link.stays _;
+  looks = looks_none _;
 }
 
 pub returns-in_err-settled-clause-runs : goal.returns-in_err-settled-clause-runs
@@ -35,6 +37,7 @@ messages-preserved-in_default g c = record {
       c.messages.invariant.pending;
   flush = follows_then _ _ _ _ _ _ c.messages.invariant.flush c.take.ensures.flush;
   goes = g.met.L.Link.joins _ _ _ c.messages.invariant.goes c.take.ensures.goes;
+  looks = looks_then _ _ _ c.messages.invariant.looks c.take.ensures.looks;
 }
 
 pub returns-then-eq-clause-runs : goal.returns-then-eq-clause-runs
@@ -57,6 +60,7 @@ messages-preserved g c = record {
       ∙ (sym c.eq.ensures ∙ c.if-eq.false)) c.messages.invariant.pending;
   flush = follows_then _ _ _ _ _ _ c.messages.invariant.flush c.take.ensures.flush;
   goes = g.met.L.Link.joins _ _ _ c.messages.invariant.goes c.take.ensures.goes;
+  looks = looks_then _ _ _ c.messages.invariant.looks c.take.ensures.looks;
 }
 
 pub returns-in_err-settled-clause-flush : goal.returns-in_err-settled-clause-flush
@@ -79,3 +83,9 @@ returns-then-eq-clause-leaves g c = leaves_then _ _ _ c.messages.invariant.leave
 
 pub returns-in_err-settled-clause-stay : goal.returns-in_err-settled-clause-stay
 returns-in_err-settled-clause-stay g c = all_then _ _ _ c.messages.invariant.stay c.take.ensures.stay
+
+pub returns-in_err-settled-clause-looks : goal.returns-in_err-settled-clause-looks
+returns-in_err-settled-clause-looks g c = looks_then _ _ _ c.messages.invariant.looks c.take.ensures.looks
+
+pub returns-then-eq-clause-looks : goal.returns-then-eq-clause-looks
+returns-then-eq-clause-looks g c = looks_then _ _ _ c.messages.invariant.looks c.take.ensures.looks

@@ -2,6 +2,7 @@ use Rattle.reissue.specs.Transfers.{begun_in}
 use Rattle.cache.specs.Calls.{caching, Keeps, WantsFlush, LinkGoesOn, messages_left}
 use Rattle.cache.specs.Edits.{Leaves, AllStay}
 use Rattle.cache.specs.Takes.{IsBlockRead}
+use Rattle.cache.specs.Looking.{Looks}
 use Rattle.cache.proofs.cache.Cache.wait.Given as goal
 
 abbrev pub invariant-messages : goal.invariant-messages
@@ -12,6 +13,7 @@ invariant-messages g l = record {
   pending : IsBlockRead (begun_in l.self.transfers) l.reading.ticket l.reading.block l.fn.self.shape.block_size;
   flush : WantsFlush g.L.Link l.fn.self l.self;
   goes : LinkGoesOn g.L.Link l.fn.self l.self;
+  looks : Looks (caching g.L.Link l.fn.self) (caching g.L.Link l.self);
 }
 
 abbrev pub decreases-messages : goal.decreases-messages

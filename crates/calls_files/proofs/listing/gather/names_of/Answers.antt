@@ -1,4 +1,4 @@
-use Rattle.std.proofs.Common.{◌≡◌, ◌<◌, ◌≤◌, ◌/◌, arith, rules}
+use Rattle.std.proofs.Common.{◌<◌, ◌≤◌, ◌/◌, arith, rules}
 use Rattle.volume.specs.Pieces.{pieces}
 use Rattle.volume.specs.Nodes.{file_byte, entry_count_of}
 use Rattle.block_store.proofs.Turns.{reads_none, reads_then}

@@ -10,4 +10,4 @@ returns-clause-turns g c =
     (λ d x y f p q r. ends_as c.store.result _ _ _ _
     (λ u h. resizes a.geometry.now d x y f a.number a.size c.in_ok-inode.inode p q.0 q.1 h)
     (λ may. may_store a.geometry.now d x y a.number a.size p q.0 may) r)
-    c.in_ok-pad_rest.ensures.turns c.in_ok-inode.ensures.reads c.store.ensures.turns
+    c.in_ok-pad_rest.ensures.turns c.in_ok-inode.ensures.reads.turns c.store.ensures.turns

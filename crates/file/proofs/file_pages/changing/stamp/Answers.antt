@@ -10,4 +10,4 @@ returns-clause-turns g c =
     turns_then _ g.met.B.Blocks.lawful _ _ _ _ _ _
     (λ d e f p q. ends_as c.store.result _ _ _ _ (λ u h. stamps a.geometry.now d e f a.number a.now c.in_ok-inode.inode p.0 p.1 h)
     (λ may. inode_is a.geometry.now (pieces a.geometry.now d) a.number may.marked) q)
-    c.in_ok-inode.ensures.reads c.store.ensures.turns
+    c.in_ok-inode.ensures.reads.turns c.store.ensures.turns

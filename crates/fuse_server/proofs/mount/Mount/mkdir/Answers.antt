@@ -1,12 +1,9 @@
-use Rattle.fuse_server.proofs.Asking.{goes_on}
+use Rattle.fuse_server.proofs.Asking.{goes_on, on_err}
 use Rattle.fuse_server.proofs.Telling.{shown_after, entry_behind}
 use Rattle.fuse_server.proofs.mount.Mount.mkdir.Goals as goal
 
 pub returns-in_err-entry-clause-asked : goal.returns-in_err-entry-clause-asked
-returns-in_err-entry-clause-asked g c = goes_on c.ask_done.ensures.asked c.tell_made.ensures.asked
-
-pub returns-clause-asked : goal.returns-clause-asked
-returns-clause-asked g c = goes_on c.ask_done.ensures.asked c.tell_made.ensures.asked
+returns-in_err-entry-clause-asked g c = on_err _ (goes_on c.ask_done.ensures.asked c.tell_made.ensures.asked)
 
 pub returns-clause-behind : goal.returns-clause-behind
 returns-clause-behind g c = entry_behind c.args.work.reach c.args.name.now c.in_ok-entry.entry c.in_ok-path.path c.in_ok-path.ensures.at

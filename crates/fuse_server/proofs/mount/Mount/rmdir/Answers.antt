@@ -1,13 +1,17 @@
-use Rattle.fuse_server.proofs.Asking.{goes_on, after}
+use Rattle.std.proofs.Common.{Some, sym, subst}
+use Rattle.fuse_nodes.specs.Known.{Known, known_of}
+use Rattle.fuse_nodes.specs.Laws.{IsLost}
+use Rattle.fuse_nodes.proofs.Losing.{lost_is_lost}
+use Rattle.fuse_server.proofs.Asking.{goes_on, looking, looked_before, on_err}
 use Rattle.fuse_server.proofs.Telling.{removed_behind}
 use Rattle.fuse_server.proofs.mount.Mount.rmdir.Goals as goal
 
-pub returns-in_err-ask_done-clause-asked : goal.returns-in_err-ask_done-clause-asked
-returns-in_err-ask_done-clause-asked g c = goes_on c.look.ensures.asked c.ask_done.ensures.asked
-
-pub returns-clause-asked : goal.returns-clause-asked
-returns-clause-asked g c = goes_on c.look.ensures.asked c.ask_done.ensures.asked
+pub returns-in_err-take-clause-asked : goal.returns-in_err-take-clause-asked
+returns-in_err-take-clause-asked g c = on_err _ (goes_on c.look.ensures.asked c.in_err-take.ensures.asked)
 
 pub returns-clause-behind : goal.returns-clause-behind
-returns-clause-behind g c = removed_behind c.args.work.reach c.args.name.now c.in_ok-path.path c.in_ok-path.ensures.at
-    (after c.look.ensures.asked c.in_ok-ask_done.ensures.done)
+returns-clause-behind g c =
+    let P : Known → Type 0 = λ k. IsLost k c.in_ok-was.was'.inode in
+    removed_behind c.args.work.reach c.args.name.now c.in_ok-path.path c.in_ok-was.was' c.in_ok-path.ensures.at
+    (looked_before (looking (Some c.in_ok-was.was') c.in_ok-was.ensures.seen) c.in_ok-take.ensures.done)
+    (subst P (sym c.lost.ensures) (lost_is_lost (known_of c.args.self.now.nodes) c.in_ok-was.was'.inode))

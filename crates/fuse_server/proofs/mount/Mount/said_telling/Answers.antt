@@ -11,7 +11,7 @@ use Rattle.fuse_server.proofs.mount.Mount.said_telling.Goals as goal
 pub returns-in-Lookup-clause-asked : goal.returns-in-Lookup-clause-asked
 returns-in-Lookup-clause-asked g c =
     as_lookup (MayHear (CalledFrom c.args.work.reach g.S.Sessions.called) g.S.Sessions.entered g.S.Sessions.left c.args.work.now)
-    c.args.work.reach c.args.sessions.now c.lookup.result c.lookup.new.sessions c.args.message.now.request c.in-Lookup.name c.in-Lookup.is
+    c.args.work.reach (known_of c.lookup.new.self.nodes) c.args.sessions.now c.lookup.result c.lookup.new.sessions c.args.message.now.request c.in-Lookup.name c.in-Lookup.is
     c.lookup.ensures.asked
 
 pub returns-in-Lookup-clause-told : goal.returns-in-Lookup-clause-told

@@ -7,4 +7,4 @@ returns-in-Ok-clause-behind g c = c.in-Ok.ensures.behind
 
 pub returns-in-Err-clause-behind : goal.returns-in-Err-clause-behind
 returns-in-Err-clause-behind g c = refused_behind c.args.work.reach (telling c.args.message.now.request) c.in-Err.refused
-    c.on_nodes.ensures.asked
+    c.in-Err.ensures.asked

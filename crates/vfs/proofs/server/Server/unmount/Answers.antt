@@ -1,5 +1,6 @@
 use Rattle.std.proofs.Common.{◌≡◌, sym, ◌∙◌}
 use Rattle.block_store.proofs.Turns.{turns_then}
+use Rattle.cache.proofs.Looking.{looks_then}
 use Rattle.descriptors.specs.Table.{files_of}
 use Rattle.vfs.proofs.Letting.{busy_at_once, unmounted}
 use Rattle.vfs.proofs.Refusing.{refused_at_once, refused_later}
@@ -34,6 +35,7 @@ returns-in-Err-sync-clause-unmounts g c =
     (files_of s.opens) c.requires.may (k.live s.blocks c.in_default.ensures.live) (sym c.is_busy.ensures ∙ c.if-is_busy.false)
     (k.leads s.blocks b c.sync.ensures.turns.leads) (λ d e x. c.sync.ensures.turns.related d e (k.sees s.blocks b d e x))
     c.in-Err-sync.cut c.from-in-Err-sync.result c.from-in-Err-sync.ensures (k.over b c.in-Err-sync.cut c.in-Err-sync.ensures.cut)
+    (k.looks s.blocks b c.sync.ensures.looks)
 
 pub returns-in-Err-live-clause-unmounts : goal.returns-in-Err-live-clause-unmounts
 returns-in-Err-live-clause-unmounts g c =
@@ -48,6 +50,7 @@ returns-in-Err-live-clause-unmounts g c =
     (files_of s.opens) c.requires.may (k.live s.blocks c.in_default.ensures.live) (sym c.is_busy.ensures ∙ c.if-is_busy.false)
     (k.leads s.blocks b whole.leads) (λ d e x. whole.related d e (k.sees s.blocks b d e x))
     c.in-Err-live.cut c.from-in-Err-live.result c.from-in-Err-live.ensures (k.over b c.in-Err-live.cut c.in-Err-live.ensures.cut)
+    (looks_then (F s.blocks) (F c.sync.new.self) (F b) (k.looks s.blocks c.sync.new.self c.sync.ensures.looks) c.flush_wanted.ensures.looks)
 
 pub returns-in-Ok-clause-unmounts : goal.returns-in-Ok-clause-unmounts
 returns-in-Ok-clause-unmounts g c =
@@ -61,4 +64,5 @@ returns-in-Ok-clause-unmounts g c =
     unmounted s.geometry (F s.blocks) (F b) (N s.blocks) (N b) (g.met.B.Caches.counts s.blocks b (k.on s.blocks b whole.leads))
     (files_of s.opens) c.requires.may (k.live s.blocks c.in_default.ensures.live) (sym c.is_busy.ensures ∙ c.if-is_busy.false)
     (k.leads s.blocks b whole.leads) (λ d e x. whole.related d e (k.sees s.blocks b d e x))
-    (k.live b c.in-Ok.ensures.live) (c.flush_wanted.ensures.clean (k.synced c.sync.new.self c.in_default-sync.ensures.synced))
+    (k.live b c.in-Ok.ensures.live) (c.flush_wanted.ensures.looks (k.synced c.sync.new.self c.in_default-sync.ensures.synced)).settled.clean
+    (looks_then (F s.blocks) (F c.sync.new.self) (F b) (k.looks s.blocks c.sync.new.self c.sync.ensures.looks) c.flush_wanted.ensures.looks)

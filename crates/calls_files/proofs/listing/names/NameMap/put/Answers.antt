@@ -1,4 +1,4 @@
-use Rattle.std.proofs.Common.{◌≡◌, ap, sym, ◌∙◌, map, List, ℕ, rules}
+use Rattle.std.proofs.Common.{◌≡◌, ap, ◌∙◌, map, List, rules}
 use Rattle.tree.specs.Names.{Name, Names, with_name}
 use Rattle.calls_files.specs.Pairs.{pair_of}
 use Rattle.calls_files.proofs.Putting.{put_is}
