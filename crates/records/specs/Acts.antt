@@ -7,7 +7,7 @@ use Rattle.message.specs.declared.Incoming.{Incoming}
 use Rattle.message.specs.declared.Incoming.TheVariants as incoming
 use Rattle.records.specs.Marks.{Mark, last_started, gave_up}
 use Rattle.records.specs.Open.{open_requests, greatest, counts, moved_by, has_none, without_id}
-use Rattle.records.specs.Opening.{FitsMinor}
+use Rattle.records.specs.Area.{Area, FitsArea}
 use Rattle.records.specs.Told.{Told, Posted, Complained, Received, received, with_told}
 
 -- A request becomes pending; a message is handed over between two calls; the link is told or gives something.
@@ -124,13 +124,14 @@ pub record MayBegin (marks : List Mark) (o : Outbox) (r : BlockRequest) : Type 0
   pub next : r.id ≡ greatest marks + length o.never_issued + 1
   pub room : length (open_requests marks) + length o.never_issued < 16
 
--- a post is of the first unposted request, to the driver of the last start while the device isn't given up, after the complaint and while none is refused
-pub record MayPost (minor : ℕ) (marks : List Mark) (o : Outbox) (to : Endpoint) (r : BlockRequest) : Type 0 where
+-- a post is of the first unposted request, which fits the area, to the driver of the last start while the device isn't given up, after the
+-- complaint and while none is refused
+pub record MayPost (area : Area) (marks : List Mark) (o : Outbox) (to : Endpoint) (r : BlockRequest) : Type 0 where
   pub complained : o.complaint ≡ None
   pub endpoint : target marks ≡ Some to
   pub not_stopped : o.stopped ≡ false
   pub first : first_of o.unposted ≡ Some r
-  pub fits : FitsMinor minor r
+  pub fits : FitsArea area r
 
 -- a take is made when nothing is due, one is needed, and the device isn't given up
 pub record MayTake (marks : List Mark) (o : Outbox) : Type 0 where
@@ -139,15 +140,15 @@ pub record MayTake (marks : List Mark) (o : Outbox) : Type 0 where
   pub needed : IsTrue (needs_message marks o)
 
 -- an act that the rules allow, the marks and what is owed being those before it
-abbrev pub MayAct : ℕ → List Mark → Outbox → Act → Type 0
-MayAct minor marks o (Began r) = MayBegin marks o r
-MayAct minor marks o (Absorbed message) = IsAtRest marks o
-MayAct minor marks o (AtLink (Posted to r accepted)) = MayPost minor marks o to r
-MayAct minor marks o (AtLink (Complained about)) = o.complaint ≡ Some about
-MayAct minor marks o (AtLink (Received message)) = MayTake marks o
+abbrev pub MayAct : Area → List Mark → Outbox → Act → Type 0
+MayAct area marks o (Began r) = MayBegin marks o r
+MayAct area marks o (Absorbed message) = IsAtRest marks o
+MayAct area marks o (AtLink (Posted to r accepted)) = MayPost area marks o to r
+MayAct area marks o (AtLink (Complained about)) = o.complaint ≡ Some about
+MayAct area marks o (AtLink (Received message)) = MayTake marks o
 
 -- each of these acts is one that the rules allow
-abbrev pub KeepsRules : ℕ → List Act → List Mark → Outbox → Type 0
-KeepsRules minor [] marks o = Unit {0}
-KeepsRules minor (act ∷ acts) marks o =
-    KeepsRules minor acts marks o × MayAct minor (marks_after acts marks) (outbox_after acts marks o) act
+abbrev pub KeepsRules : Area → List Act → List Mark → Outbox → Type 0
+KeepsRules area [] marks o = Unit {0}
+KeepsRules area (act ∷ acts) marks o =
+    KeepsRules area acts marks o × MayAct area (marks_after acts marks) (outbox_after acts marks o) act

@@ -13,6 +13,8 @@ use Rattle.records.specs.Marks.{Mark, Started, Answered, Flush, GaveUp, Took, Is
 use Rattle.records.specs.Open.{open_requests, greatest, asked_by, moved_by, Misses, IsIn, IsWhole, IsWellFormed}
 use Rattle.records.specs.Disk.{Contents, disk_after, unsure, is_unsure, covers, settles}
 use Rattle.records.specs.Told.{received, grown}
+use Rattle.layout.specs.declared.Geometry.{Geometry}
+use Rattle.records.specs.Area.{Area, area_of, no_area, WritesInside, IsHeadOrTail}
 use Rattle.records.specs.Acts.{Act, Outbox, told_of, marks_after, has_absorbed, outbox_after, KeepsRules}
 
 -- a well-formed record has well-formed beginnings
@@ -132,13 +134,32 @@ UnwrittenIsImage =
     (image : Contents) (marks : List Mark) (place : ℕ) → is_written marks place ≡ false → disk_after image marks place ≡ image place
 
 -- acts, and then later acts: the marks, what was told and what is owed are those of both, and both keep the rules
-pub record ActsCompose (minor : ℕ) (later acts : List Act) (marks : List Mark) (o : Outbox) : Type 0 where
+pub record ActsCompose (area : Area) (later acts : List Act) (marks : List Mark) (o : Outbox) : Type 0 where
   pub record_after : marks_after (later ++ acts) marks ≡ marks_after later (marks_after acts marks)
   pub told : told_of (later ++ acts) ≡ told_of later ++ told_of acts
   pub owed : outbox_after (later ++ acts) marks o ≡ outbox_after later (marks_after acts marks) (outbox_after acts marks o)
-  pub keep : KeepsRules minor acts marks o → KeepsRules minor later (marks_after acts marks) (outbox_after acts marks o)
-      → KeepsRules minor (later ++ acts) marks o
+  pub keep : KeepsRules area acts marks o → KeepsRules area later (marks_after acts marks) (outbox_after acts marks o)
+      → KeepsRules area (later ++ acts) marks o
 
 -- where no message was handed over, the marks follow from what the link was told and gave
 abbrev pub MarksAreTold : Type 0
 MarksAreTold = (acts : List Act) (marks : List Mark) → has_absorbed acts ≡ false → marks_after acts marks ≡ grown (told_of acts) marks
+
+-- acts that keep the rules of a volume issue writes inside alone
+abbrev pub ActsWriteInside : Type 0
+ActsWriteInside = (g : Geometry) (minor : ℕ) (acts : List Act) (marks : List Mark) (o : Outbox) → KeepsRules (area_of g minor) acts marks o
+    → WritesInside g marks → WritesInside g (marks_after acts marks)
+
+-- acts that keep the rules and write nothing keep those of any area of the minor
+abbrev pub WiderRulesAreKept : Type 0
+WiderRulesAreKept = (area : Area) (acts : List Act) (marks : List Mark) (o : Outbox) → KeepsRules (no_area area.minor) acts marks o
+    → KeepsRules area acts marks o
+
+-- where each write lies inside, the first two blocks and what lies behind the last zone are the image's, and no write to them is pending
+pub record Stays (image : Contents) (marks : List Mark) (place : ℕ) : Type 0 where
+  pub same : disk_after image marks place ≡ image place
+  pub sure : unsure marks place ≡ false
+
+abbrev pub HeadAndTailStay : Type 0
+HeadAndTailStay = (g : Geometry) (image : Contents) (marks : List Mark) (place : ℕ) → WritesInside g marks → IsHeadOrTail g place
+    → Stays image marks place

@@ -4,6 +4,7 @@ pub mod Marks
 pub mod Open
 pub mod Disk
 pub mod Opening
+pub mod Area
 pub mod Told
 pub mod Acts
 pub mod Laws

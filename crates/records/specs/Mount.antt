@@ -12,6 +12,7 @@ use Rattle.records.specs.Marks.{Mark, gave_up}
 use Rattle.records.specs.Disk.{Contents, HasTrueReplies, bytes_read, is_read}
 use Rattle.records.specs.Told.{Told, took_end}
 use Rattle.records.specs.Acts.{Act, Began, Absorbed, AtLink, told_of, has_absorbed, marks_after, empty_outbox, outbox_after, IsAtRest, KeepsRules}
+use Rattle.records.specs.Area.{no_area}
 use Rattle.records.specs.Legal.{IsAtFirst}
 use Rattle.records.specs.ServerCall.{Serving, Serves}
 
@@ -73,7 +74,7 @@ pub record Mounting (minor : ℕ) (before : List Told) (acts : List Act) (after 
   pub told : after ≡ told_of acts ++ before
   pub none_absorbed : has_absorbed acts ≡ false
   pub only_reads : OnlyReads acts
-  pub keep : KeepsRules minor acts [] empty_outbox
+  pub keep : KeepsRules (no_area minor) acts [] empty_outbox
 
 -- A server that was mounted. The whole volume was read; what was read is clean, and holds the tree that is served, over any link; over
 -- true replies the image holds it.

@@ -16,6 +16,7 @@ use Rattle.records.specs.Told.{Told, took_end, took_nothing}
 use Rattle.records.specs.Acts.{Act, Absorbed, Outbox, told_of, has_absorbed, marks_after, outbox_after, IsAtRest, KeepsRules}
 use Rattle.records.specs.Legal.{IsLegal, tree_after}
 use Rattle.records.specs.View.{Frames, ReadsBack}
+use Rattle.records.specs.Area.{area_of, WritesInside}
 use Rattle.records.specs.Settled.{is_settled, none_written, LookingWritesNothing}
 
 -- What is said of a server.
@@ -53,12 +54,14 @@ pub record IsQuiet (s : Serving) (marks : List Mark) : Type 0 where
   pub settled : s.settled
   pub none_written : none_written marks ≡ true
 
--- A server serves a volume: it agrees with the record, which is well formed whatever the link answered, and owes nothing.
+-- A server serves a volume: it agrees with the record, which is well formed whatever the link answered, each write in it lies in the
+-- volume behind its first two blocks, and nothing is owed.
 -- Over true replies the record is legal, calls that look wrote nothing where that is promised, and the tree now is there; while calls only
 -- looked since the last sync that was answered ok, nothing is left to write.
 pub record Serves (s : Serving) (image : Contents) (tree : Tree) (marks : List Mark) : Type 0 where
   pub agrees : s.Agrees image tree marks
   pub well_formed : IsWellFormed marks
+  pub inside : WritesInside s.geometry marks
   pub at_rest : IsAtRest marks s.outbox
   pub legal : HasTrueReplies image marks → IsLegal s.geometry image tree marks
   pub has_tree : HasTrueReplies image marks → s.ended ≡ false → gave_up marks ≡ false → HasTree s image tree marks
@@ -73,9 +76,10 @@ pub record Leads (old : Serving) (acts : List Act) (new : Serving) : Type 0 wher
   pub told : new.told ≡ told_of acts ++ old.told
   pub ended : new.ended ≡ (took_end (told_of acts) || old.ended)
 
--- from a record that the server agrees with, the acts keep the rules on posts, complaints and takes, and give what is owed afterwards
+-- from a record that the server agrees with, the acts keep the rules on posts, complaints and takes, each write lies in the volume behind
+-- its first two blocks, and they give what is owed afterwards
 pub record Rules (old : Serving) (acts : List Act) (new : Serving) (marks : List Mark) : Type 0 where
-  pub keep : KeepsRules old.minor acts marks old.outbox
+  pub keep : KeepsRules (area_of old.geometry old.minor) acts marks old.outbox
   pub outbox : new.outbox ≡ outbox_after acts marks old.outbox
 
 -- What a call gives back: an answer, or that the link ended.
