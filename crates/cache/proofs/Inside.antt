@@ -4,11 +4,12 @@ use mathlib.Core.Logic.{inl, inr}
 use Rattle.std.specs.Prelude.{if◌then◌else◌}
 use Rattle.std.proofs.Math.Nat.{mul-le-mul_right, suc-mul}
 use Rattle.layout.specs.declared.Geometry.{Geometry}
+use Rattle.message.specs.declared.Incoming.{Incoming}
 use Rattle.message.specs.declared.Kind.{Kind}
 use Rattle.message.specs.declared.Kind.TheVariants as kind
 use Rattle.records.specs.Area.{Area, LiesIn, area_of}
 use Rattle.reissue.specs.declared.ask.Ask.{Ask}
-use Rattle.reissue.specs.Moves.{put}
+use Rattle.reissue.specs.Moves.{DiskState, put}
 use Rattle.reissue.specs.Settlements.{Settlement}
 use Rattle.reissue.specs.Settlements as settled
 use Rattle.reissue.specs.Calls.{AsksIn}
@@ -20,6 +21,7 @@ use Rattle.cache.specs.Slots.{held, written, is_clean, is_under}
 use Rattle.cache.specs.Edits.{AreBegun, held_after_write, after_write}
 use Rattle.cache.specs.Settling.{Settles}
 use Rattle.cache.specs.Frames.{IsWritable, AllInside}
+use Rattle.cache.specs.Calls.{AbstractCache, IsMade, AreWritable, Runs}
 use Rattle.cache.proofs.Tied.{within_or, place_past}
 
 -- each block of a volume behind the first two
@@ -35,6 +37,17 @@ pub writable_still : (area area' : Area) (size size' block : ℕ) → area' ≡ 
     → IsWritable area' size' block
 writable_still area area' size size' block same whole h =
     subst (λ (r : Area). IsWritable r size' block) (sym same) (subst (λ (n : ℕ). IsWritable area n block) (sym whole) h)
+
+-- so it is of a cache just made
+pub writable_made : (g : Geometry) (minor : ℕ) (c : AbstractCache) → IsMade (area_of g minor) g.block_size c → AreWritable g.zones c
+writable_made g minor c made = λ block from to.
+    writable_still (area_of g minor) c.area g.block_size c.size block made.area_is made.size_is (writable_of g minor block from to)
+
+-- and after a call
+pub writable_runs : (m : Option Incoming) (count : ℕ) (old new : AbstractCache) (R : DiskState → DiskState → Type 0) → Runs m old new R
+    → AreWritable count old → AreWritable count new
+writable_runs m count old new R x inside = λ block from to.
+    writable_still old.area new.area old.size new.size block x.area x.size (inside block from to)
 
 -- ---- slots
 
