@@ -18,10 +18,11 @@ use Rattle.bdev.specs.declared.Answer.{Answer}
 use Rattle.bdev.specs.declared.Step.TheVariants.{Working, Done}
 use Rattle.bdev.specs.DriverState.{DriverState, Work, chunk, fresh}
 use Rattle.bdev.specs.Promises.{IsDriver, Takes, StepKeeps}
-use Rattle.records.specs.Opening.{FitsMinor}
+use Rattle.records.specs.Area.{FitsArea}
 use Rattle.synchronous_driver.specs.Steps.{HandsOver}
 use Rattle.true_replies.specs.Events as events
 use Rattle.simulated_link.specs.Disks.{SlotSteps}
+use Rattle.tests_exact.proofs.Small.{area}
 use Rattle.tests_exact.proofs.Drivers.{slot, too_far}
 
 -- its sectors, on which generation g may write
@@ -70,9 +71,9 @@ zeros = replicate 4096 0
 abbrev pub read : BlockRequest
 read = record { id = 1; kind = Read; minor = 0; position = 4096; count = 1024; bytes = zeros }
 
-pub read_fits : FitsMinor 0 read
+pub read_fits : FitsArea area read
 unfolding zeros
-read_fits = record { minor_is = refl; count = lit≤ tt; bytes = refl }
+read_fits = record { fits = record { minor_is = refl; count = lit≤ tt; bytes = refl }; lies = tt }
 
 -- the read in work, of which nothing was read, one sector, both
 abbrev pub untouched : Work
