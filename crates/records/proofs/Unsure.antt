@@ -24,7 +24,7 @@ moved_le count n (Ok m) e =
 moved_le count n (Err x) e = cc
 
 -- a place that a request covers lies between its ends
-covers_bounds : (r : BlockRequest) (p : ℕ) → covers r p ≡ true → (r.position ≤ p) × (p < r.position + r.count)
+pub covers_bounds : (r : BlockRequest) (p : ℕ) → covers r p ≡ true → (r.position ≤ p) × (p < r.position + r.count)
 covers_bounds r p t = (grind (arith, nat_tests), grind (arith, nat_tests))
 
 -- each place of an open write is unsure

@@ -14,7 +14,8 @@ use Rattle.reissue.specs.declared.pending.Pending.{Pending}
 use Rattle.reissue.specs.declared.table.Table.{Table}
 use Rattle.records.specs.Opening.{Opening}
 use Rattle.reissue.specs.Moves.{IsBusy, Spares, Closes, state_after, IsRequestFor, begun_by}
-use Rattle.reissue.specs.Entries.{pending_of, begun_of, AllOfMinor}
+use Rattle.records.specs.Area.{Area, LiesIn}
+use Rattle.reissue.specs.Entries.{pending_of, begun_of, AllOfMinor, AllIn}
 use Rattle.reissue.specs.Agrees.{Agrees}
 use Rattle.records.specs.Acts.{Act, Absorbed, told_of, has_absorbed}
 use Rattle.reissue.specs.Rules.{KeepsRulesBy, BeganAmong, acts_on}
@@ -65,7 +66,7 @@ pub record TakesIn (message : Incoming) (result : Settlement) (old mid : Table) 
   pub ended : took_end after ≡ took_end before
   pub closes : Closes result (pending_of old.pending) (pending_of mid.pending)
   pub closing : (marks : List Mark) → Agrees old marks → Closing result old.pending mid.pending marks (received message marks)
-  pub minors : (minor : ℕ) → AllOfMinor minor old.pending → AllOfMinor minor mid.pending
+  pub minors : (area : Area) → AllIn area old.pending → AllIn area mid.pending
   pub truth : (opening : Opening) (marks : List Mark) → was opening marks → is opening marks
 
 -- what is done on a message: the complaint that is due, and then the posts
@@ -92,11 +93,11 @@ pub record Absorbs (message : Incoming) (result : Settlement) (old new : Table) 
   pub closes : Closes result (pending_of old.pending) (pending_of new.pending)
   pub closing : (marks : List Mark) → Agrees old marks
       → Closing result old.pending new.pending marks (grown posts (received message marks))
-  pub minors : (minor : ℕ) → AllOfMinor minor old.pending → AllOfMinor minor new.pending
+  pub minors : (area : Area) → AllIn area old.pending → AllIn area new.pending
   pub truth : (opening : Opening) (marks : List Mark) → Agrees old marks → AllOfMinor opening.minor old.pending
       → was opening (received message marks) → is opening (grown posts (received message marks))
-  pub rules : (minor : ℕ) (marks : List Mark) → Agrees old marks → AllOfMinor minor old.pending
-      → KeepsRulesBy (acts_on posts old mid complaints (Absorbed message ∷ [])) minor old new before after marks (grown posts (received message marks))
+  pub rules : (area : Area) (marks : List Mark) → Agrees old marks → AllIn area old.pending
+      → KeepsRulesBy (acts_on posts old mid complaints (Absorbed message ∷ [])) area old new before after marks (grown posts (received message marks))
 
 -- a reply settles a request or nothing
 abbrev pub IsOfReply : Settlement → Type 0
@@ -151,12 +152,16 @@ pub record Steps (result : Settlement) (old new : Table) (before after : List To
   pub closes : Closes result (pending_of old.pending) (pending_of new.pending)
   pub closing : (marks : List Mark) → Agrees old marks
       → Closing result old.pending new.pending marks (grown posts (received message marks))
-  pub minors : (minor : ℕ) → AllOfMinor minor old.pending → AllOfMinor minor new.pending
+  pub minors : (area : Area) → AllIn area old.pending → AllIn area new.pending
   pub truth : (opening : Opening) (marks : List Mark) → Agrees old marks → AllOfMinor opening.minor old.pending → was opening marks
       → is opening (grown posts (received message marks))
-  pub rules : (minor : ℕ) (marks : List Mark) → Agrees old marks → AllOfMinor minor old.pending → IsBusy (pending_of old.pending)
+  pub rules : (area : Area) (marks : List Mark) → Agrees old marks → AllIn area old.pending → IsBusy (pending_of old.pending)
       → old.given_up ≡ false
-      → KeepsRulesBy acts minor old new before after marks (grown posts (received message marks))
+      → KeepsRulesBy acts area old new before after marks (grown posts (received message marks))
+
+-- what is asked is for the area's minor, and if it writes, inside
+abbrev pub AsksIn : Area → Ask → Type 0
+AsksIn area ask = (ask.minor ≡ area.minor) × LiesIn area ask.kind ask.position ask.count
 
 -- a request was taken up, or refused
 pub record Begins (ask : Ask) (old new : Table) (before after : List Told) (was is : Truth) : Type 0 where
@@ -174,11 +179,11 @@ pub record Begins (ask : Ask) (old new : Table) (before after : List Told) (was 
   pub agrees : (marks : List Mark) → Agrees old marks → Agrees new (grown posts marks)
   pub spares : (image : Contents) (marks : List Mark) → Agrees old marks
       → Spares (pending_of new.pending) (state_after image marks) (state_after image (grown posts marks))
-  pub minors : (minor : ℕ) → ask.minor ≡ minor → AllOfMinor minor old.pending → AllOfMinor minor new.pending
+  pub minors : (area : Area) → AsksIn area ask → AllIn area old.pending → AllIn area new.pending
   pub truth : (opening : Opening) (marks : List Mark) → Agrees old marks → ask.minor ≡ opening.minor
       → AllOfMinor opening.minor old.pending → was opening marks → is opening (grown posts marks)
-  pub rules : (minor : ℕ) (marks : List Mark) → Agrees old marks → AllOfMinor minor old.pending → ask.minor ≡ minor
-      → KeepsRulesBy acts minor old new before after marks (grown posts marks)
+  pub rules : (area : Area) (marks : List Mark) → Agrees old marks → AllIn area old.pending → AsksIn area ask
+      → KeepsRulesBy acts area old new before after marks (grown posts marks)
 
 -- where each earlier one was posted, the new request is posted; where not, it waits behind them
 abbrev pub PostsNew : Table → BlockRequest → List Told → List Told → Type 0

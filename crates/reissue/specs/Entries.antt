@@ -3,6 +3,7 @@ use Rattle.std.specs.Prelude.{◌≡◌, ◌≢◌, ◌⊎◌, ℕ, ◌+◌, ◌
 use Rattle.std.proofs.Common.{refl}
 use Rattle.std.proofs.Math.Bridge.{le_prop}
 use Rattle.message.specs.declared.BlockRequest.{BlockRequest}
+use Rattle.records.specs.Area.{Area, LiesIn}
 use Rattle.reissue.specs.Moves.{Begun, written_by}
 use Rattle.reissue.specs.declared.pending.Pending.{Pending}
 
@@ -84,6 +85,12 @@ IsAmong q (p ∷ ps) = (q ≡ p) ⊎ IsAmong q ps
 abbrev pub AllOfMinor : ℕ → List Pending → Type 0
 AllOfMinor minor [] = Unit {0}
 AllOfMinor minor (p ∷ ps) = (p.request.minor ≡ minor) × AllOfMinor minor ps
+
+-- each is for the area's minor, and if it writes, inside
+abbrev pub AllIn : Area → List Pending → Type 0
+AllIn area [] = Unit {0}
+AllIn area (p ∷ ps) =
+    ((p.request.minor ≡ area.minor) × LiesIn area p.request.kind p.request.position p.request.count) × AllIn area ps
 
 -- the place is in what is left of one of them
 abbrev pub IsLeft : List Pending → ℕ → Type 0

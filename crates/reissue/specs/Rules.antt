@@ -2,6 +2,7 @@
 use Rattle.std.specs.Prelude.{◌≡◌, ℕ, ◌-◌, List, [], ◌∷◌, ◌++◌, length, drop, ◌&&◌, nat_lt, is_some, None, if◌then◌else◌}
 use Rattle.records.specs.Marks.{Mark}
 use Rattle.records.specs.Told.{Told}
+use Rattle.records.specs.Area.{Area}
 use Rattle.records.specs.Acts.{Act, Began, Absorbed, AtLink, Outbox, KeepsRules, outbox_after, marks_after, told_of}
 use Rattle.reissue.specs.declared.pending.Pending.{Pending}
 use Rattle.reissue.specs.declared.table.Table.{Table}
@@ -44,8 +45,8 @@ acts_on posts old mid complaints arrived = at_link posts ++ (began_on old mid ++
 
 -- these acts are what the link was told and gave, each is one that the rules allow, and they lead to the record and from what the one
 -- table owes to what the other does
-pub record KeepsRulesBy (acts : List Act) (minor : ℕ) (old new : Table) (before after : List Told) (marks more : List Mark) : Type 0 where
+pub record KeepsRulesBy (acts : List Act) (area : Area) (old new : Table) (before after : List Told) (marks more : List Mark) : Type 0 where
   pub told : after ≡ told_of acts ++ before
   pub grows : marks_after acts marks ≡ more
-  pub keeps : KeepsRules minor acts marks (outbox_of old)
+  pub keeps : KeepsRules area acts marks (outbox_of old)
   pub owes : outbox_after acts marks (outbox_of old) ≡ outbox_of new

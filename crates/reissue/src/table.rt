@@ -220,7 +220,8 @@ impl Table {
     ghost use Rattle.records.specs.Acts.{complaint_due};
     ghost use Rattle.reissue.specs.declared.pending.Pending.{Pending};
     ghost use Rattle.reissue.specs.Moves.{Closes, begun_by, put, IsRequestFor};
-    ghost use Rattle.reissue.specs.Entries.{AllOfMinor, begun_of};
+    ghost use Rattle.records.specs.Area.{Area};
+    ghost use Rattle.reissue.specs.Entries.{AllIn, begun_of};
     ghost use Rattle.reissue.specs.Agrees.{Agrees};
     ghost use Rattle.reissue.specs.Answers.{complaints_about, is_bad, settled_of, complained};
     ghost use Rattle.reissue.specs.Hears.{IsAnswered, HearsAnswer, counted_move};
@@ -253,7 +254,7 @@ impl Table {
             → moved_by reply.now marks ≡ Some n
             → IsTrue (is_endpoint reply.now.from self.old.current)
             → Closing (settled_of result into.new) self.old.pending self.new.pending marks (Answered reply.now ∷ marks) }
-        ensures minors { (minor : ℕ) → AllOfMinor minor self.old.pending → AllOfMinor minor self.new.pending }
+        ensures minors { (area : Area) → AllIn area self.old.pending → AllIn area self.new.pending }
         ensures ids { self.new.ids ≤ self.old.ids + 1 }
         ensures closed { self.new.ids + length self.old.pending ≤ self.old.ids + length self.new.pending + 1 }
         ensures current { self.new.current ≡ self.old.current }
@@ -295,7 +296,7 @@ impl Table {
         ensures closing { (marks : List Mark) → Agrees self.old marks
             → Closing (settled_of result into.new) self.old.pending self.new.pending marks
             (received (incoming.Reply reply.now) marks) }
-        ensures minors { (minor : ℕ) → AllOfMinor minor self.old.pending → AllOfMinor minor self.new.pending }
+        ensures minors { (area : Area) → AllIn area self.old.pending → AllIn area self.new.pending }
         ensures ids { self.new.ids ≤ self.old.ids + 1 }
         ensures closed { self.new.ids + length self.old.pending ≤ self.old.ids + length self.new.pending + 1 }
         ensures current { self.new.current ≡ self.old.current }
