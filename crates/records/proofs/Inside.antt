@@ -1,5 +1,5 @@
 -- Where each write lies in the volume behind its first two blocks, those blocks and what lies behind the last zone stay.
-use Rattle.std.proofs.Common.{◌≡◌, ◌⊎◌, ℕ, ◌+◌, ◌*◌, ◌<◌, ◌≤◌, List, [], ◌∷◌, ◌++◌, Bool, true, false, cond, refl, sym, ◌∙◌, ap, subst, inl, inr, arith, Option, Some, None}
+use Rattle.std.proofs.Common.{◌≡◌, ℕ, ◌+◌, ◌<◌, ◌≤◌, List, [], ◌∷◌, ◌++◌, Bool, true, false, cond, refl, sym, ◌∙◌, ap, subst, inl, inr, arith, Option, Some, None}
 use Rattle.std.proofs.lemmas.Bool.Decides.{nat_tests}
 use Rattle.std.proofs.lemmas.Bool.{and_parts}
 use Rattle.std.specs.Prelude.{nat_lt, nat_le, ◌==◌, ◌&&◌, ◌||◌, not, is_some}
@@ -14,11 +14,11 @@ use Rattle.message.specs.declared.Incoming.{Incoming}
 use Rattle.message.specs.declared.Incoming.TheVariants as incoming
 use Rattle.records.specs.Marks.{Mark, Issued, Started, Answered, Flush, GaveUp, Took, Fault}
 use Rattle.records.specs.Open.{greatest, open_requests, counts, asked_by, moved_by, moved_of, with_id, without_id}
-use Rattle.records.specs.Disk.{Contents, disk_after, unsure, covers, settles, byte_for}
-use Rattle.records.specs.Told.{Told, Posted, Complained, Received, received}
-use Rattle.records.specs.Acts.{Act, Began, Absorbed, AtLink, Outbox, marks_after, outbox_after, KeepsRules}
+use Rattle.records.specs.Disk.{disk_after, unsure, covers, settles, byte_for}
+use Rattle.records.specs.Told.{Posted, Complained, Received, received}
+use Rattle.records.specs.Acts.{Began, Absorbed, AtLink, marks_after}
 use Rattle.records.specs.Area.{Area, LiesIn, FitsArea, area_of, no_area, WritesInside, IsHeadOrTail}
-use Rattle.records.specs.Laws.{ActsWriteInside, WiderRulesAreKept, Stays, HeadAndTailStay}
+use Rattle.records.specs.Laws.{ActsWriteInside, WiderRulesAreKept, HeadAndTailStay}
 use Rattle.records.proofs.OpenRequests.{cond_has}
 use Rattle.records.proofs.Unsure.{moved_le, covers_bounds}
 
