@@ -235,8 +235,8 @@ pub runs_join : (area : Area) (x y z : Moment) → Runs area x y → Runs area y
 runs_join area x y _ first Starts = first
 runs_join area x y z first (Then m _ next last) = Then m z (runs_join area x y m first next) last
 
-pub runs_at : (n m : ℕ) (x y : Moment) → n ≡ m → Runs n x y → Runs m x y
-runs_at n m x y same runs = subst (λ (k : ℕ). Runs k x y) same runs
+pub runs_at : (n m : Area) (x y : Moment) → n ≡ m → Runs n x y → Runs m x y
+runs_at n m x y same runs = subst (λ (k : Area). Runs k x y) same runs
 
 -- a message that was handed over comes before what is done then
 pub record ActsAfter (area : Area) (acts : List Act) (message : Incoming) (marks : List Mark) (o : Outbox) : Type 0 where
