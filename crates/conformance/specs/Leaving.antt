@@ -21,7 +21,7 @@ abbrev pub CallsAsDue : Event → List Mark → List Group → Type 0
 CallsAsDue event group earlier = CallsSoFar ((event, group) ∷ earlier)
 
 -- the line of a driver that lives has room for each post that the rules allow
-abbrev pub HasRoom : ℕ → Moment → Type 0
+abbrev pub HasRoom : Area → Moment → Type 0
 HasRoom area m = (to : Endpoint) (r : BlockRequest) → MayPost area (record_of m.run) m.outbox to r → is_at to m.run.scene.disks ≡ true
     → length m.run.scene.disks.current.line < 32
 

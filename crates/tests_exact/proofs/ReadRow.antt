@@ -38,7 +38,7 @@ use Rattle.world.specs.Starts.{at_first}
 use Rattle.world.specs.Exact.{IsExact, media_with}
 use Rattle.tests_exact.proofs.Small.{client}
 use Rattle.tests_exact.proofs.Drivers.{slot}
-use Rattle.tests_exact.proofs.Reading.{media_of, ready, five, read, read_fits, has_one, done, answer, reply_of, begins_read, ends_read}
+use Rattle.tests_exact.proofs.Reading.{area, sizes, media_of, ready, five, read, read_fits, has_one, done, answer, reply_of, begins_read, ends_read}
 use Rattle.tests_exact.proofs.Reading.{sectors_joined}
 use Rattle.tests_exact.proofs.Making.{◌▸◌, after_event, nothing_after, disks_after, runs_event, at_rest, between, posts}
 
@@ -284,7 +284,7 @@ transcript image = record {
 }
 
 -- the run is the schedule's, exactly
-pub read_is_exact : (image : List ℕ) → length image ≡ 65536 → IsExact image setup supply events (transcript image)
+pub read_is_exact : (image : List ℕ) → length image ≡ 65536 → IsExact sizes image setup supply events (transcript image)
 read_is_exact image long = record {
   first = (start image).run;
   opened = opened image;
