@@ -18,7 +18,7 @@ use Rattle.records.specs.View.{server_view}
 use Rattle.records.specs.ServerCall.{Serving, Serves, AbsorbKeeps}
 use Rattle.records.specs.Settled.{none_written, PostsReads}
 use Rattle.records.proofs.Quiet.{settled_acts, looking_acts, written_received, written_told}
-use Rattle.records.specs.Area.{area_of}
+use Rattle.records.specs.Area.{Area, area_of}
 use Rattle.records.proofs.Inside.{acts_write_inside}
 use Rattle.reissue.specs.Agrees.{Agrees}
 use Rattle.reissue.specs.Moves.{state_after}
@@ -67,8 +67,13 @@ module _ (g : Geometry) (a b : AbstractCache) (n k : ℕ) (many : k ≡ n) (f : 
     rules = x.rules;
   }
 
+  -- its area stays
+  stays_within : b.area ≡ area_of g b.area.minor
+  stays_within = x.area ∙ within ∙ ap (λ (w : Area). area_of g w.minor) (sym x.area)
+
   led : LeadsBy (x.acts ++ Absorbed m ∷ []) s a t
-  led = leads_by (Some m) a b s t (record { minor = refl; outbox = refl; told = refl; ended = refl }) (record { minor = refl; outbox = refl; told = refl; ended = refl })
+  led = leads_by (Some m) a b s t (record { area = sym within; outbox = refl; told = refl; ended = refl })
+      (record { area = sym stays_within; outbox = refl; told = refl; ended = refl })
       refl many ends bare
 
   abbrev after : List Mark → List Mark

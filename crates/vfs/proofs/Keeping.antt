@@ -25,7 +25,7 @@ use Rattle.records.specs.View.{server_view, IsCovered}
 use Rattle.records.specs.ServerCall.{Serving, Serves, IsQuiet, Replied, Cut, CallKeeps}
 use Rattle.records.specs.Settled.{only_looks, is_settled, none_written, LookingWritesNothing, PostsReads}
 use Rattle.records.proofs.Quiet.{settled_acts, looking_acts, written_told}
-use Rattle.records.specs.Area.{WritesInside, area_of}
+use Rattle.records.specs.Area.{Area, WritesInside, area_of}
 use Rattle.records.proofs.Inside.{acts_write_inside}
 use Rattle.records.specs.Unmount.{Unmounting, Unmounted, unmounting_of}
 use Rattle.reissue.specs.Agrees.{Agrees}
@@ -161,9 +161,14 @@ module _ (g : Geometry) (a b : AbstractCache) (n m : ℕ) (many : m ≡ n) (p q 
     rules = x.rules;
   }
 
+  -- its area stays
+  stays_within : b.area ≡ area_of g b.area.minor
+  stays_within = x.area ∙ within ∙ ap (λ (w : Area). area_of g w.minor) (sym x.area)
+
   -- its acts are the server's
   led : LeadsBy x.acts s a t
-  led = leads_by None a b s t (record { minor = refl; outbox = refl; told = refl; ended = refl }) (record { minor = refl; outbox = refl; told = refl; ended = refl })
+  led = leads_by None a b s t (record { area = sym within; outbox = refl; told = refl; ended = refl })
+      (record { area = sym stays_within; outbox = refl; told = refl; ended = refl })
       refl many ends bare
 
   abbrev after : List Mark → List Mark
