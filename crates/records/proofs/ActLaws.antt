@@ -1,9 +1,10 @@
 -- Acts one after the other.
-use Rattle.std.specs.Prelude.{◌≡◌, ℕ, List, [], ◌∷◌, ◌++◌, false, refl}
+use Rattle.std.specs.Prelude.{◌≡◌, List, [], ◌∷◌, ◌++◌, false, refl}
 use Rattle.std.proofs.Common.{ap}
 use Rattle.records.specs.Marks.{Mark}
 use Rattle.records.specs.Told.{Told, grown, with_told}
 use Rattle.records.specs.Acts.{Act, Began, Absorbed, AtLink, Outbox, told_of, with_act, marks_after, has_absorbed, outbox_after, KeepsRules}
+use Rattle.records.specs.Area.{Area}
 use Rattle.records.specs.Laws.{ActsCompose}
 
 -- the marks after both are those after the later ones
@@ -25,21 +26,21 @@ told_of_both (Absorbed message ∷ later) acts = told_of_both later acts
 told_of_both (AtLink told ∷ later) acts = ap (λ (ts : List Told). told ∷ ts) (told_of_both later acts)
 
 -- and where both keep the rules, they do together
-keep_both : (minor : ℕ) (later acts : List Act) (marks : List Mark) (o : Outbox) → KeepsRules minor acts marks o
-    → KeepsRules minor later (marks_after acts marks) (outbox_after acts marks o) → KeepsRules minor (later ++ acts) marks o
-keep_both minor [] acts marks o first then = first
-keep_both minor (act ∷ later) acts marks o first then = (
-  keep_both minor later acts marks o first then.0,
+keep_both : (area : Area) (later acts : List Act) (marks : List Mark) (o : Outbox) → KeepsRules area acts marks o
+    → KeepsRules area later (marks_after acts marks) (outbox_after acts marks o) → KeepsRules area (later ++ acts) marks o
+keep_both area [] acts marks o first then = first
+keep_both area (act ∷ later) acts marks o first then = (
+  keep_both area later acts marks o first then.0,
   rw (marks_after_both later acts marks, owed_after_both later acts marks o) then.1,
 )
 
 -- all of these together
-pub acts_compose : (minor : ℕ) (later acts : List Act) (marks : List Mark) (o : Outbox) → ActsCompose minor later acts marks o
-acts_compose minor later acts marks o = record {
+pub acts_compose : (area : Area) (later acts : List Act) (marks : List Mark) (o : Outbox) → ActsCompose area later acts marks o
+acts_compose area later acts marks o = record {
   record_after = marks_after_both later acts marks;
   told = told_of_both later acts;
   owed = owed_after_both later acts marks o;
-  keep = keep_both minor later acts marks o;
+  keep = keep_both area later acts marks o;
 }
 
 -- the marks of what is no handed message are those of what the link was told

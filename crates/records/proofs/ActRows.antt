@@ -9,7 +9,7 @@ use Rattle.records.specs.Marks.{Mark, last_started, gave_up}
 use Rattle.records.specs.Open.{greatest, open_requests}
 use Rattle.records.specs.Told.{Posted, Complained, Received}
 use Rattle.records.specs.Acts.{Act, Began, Absorbed, AtLink, marks_after, outbox_after, empty_outbox, is_post_due, needs_message, first_of, KeepsRules, IsAtRest, MayBegin, MayPost, MayTake, Outbox, target}
-use Rattle.records.specs.Opening.{FitsMinor}
+use Rattle.records.specs.Area.{FitsArea, no_area}
 use Rattle.records.proofs.Rows.{driver, answer}
 
 -- a block's bytes
@@ -21,13 +21,13 @@ abbrev pub ask : ℕ → ℕ → ℕ → BlockRequest
 ask id position count = record { id = id; kind = Read; minor = 0; position = position; count = count; bytes = block }
 
 -- a block has 4096 bytes
-block_length : length block ≡ 4096
+pub block_length : length block ≡ 4096
 unfolding block
 block_length = refl
 
--- up to 4096 bytes fit
-fits : (id position count : ℕ) → count ≤ 4096 → FitsMinor 0 (ask id position count)
-fits id position count small = record { minor_is = refl; count = small; bytes = block_length }
+-- up to 4096 bytes fit, also where nothing may be written
+fits : (id position count : ℕ) → count ≤ 4096 → FitsArea (no_area 0) (ask id position count)
+fits id position count small = record { fits = record { minor_is = refl; count = small; bytes = block_length }; lies = tt }
 
 -- the request became pending
 abbrev pub began : ℕ → ℕ → ℕ → Act
@@ -55,7 +55,7 @@ complained g = AtLink (Complained (driver g))
 
 -- the rules, for the whole media and from the empty record on
 abbrev pub Keeps : List Act → Type 0
-Keeps acts = KeepsRules 0 acts [] empty_outbox
+Keeps acts = KeepsRules (no_area 0) acts [] empty_outbox
 
 -- nothing is owed after these
 abbrev pub Rests : List Act → Type 0
@@ -83,7 +83,7 @@ posts : (acts : List Act) (g id position count : ℕ) → count ≤ 4096
     → target (marks_after acts []) ≡ Some (driver g)
     → (outbox_after acts [] empty_outbox).stopped ≡ false
     → first_of (outbox_after acts [] empty_outbox).unposted ≡ Some (ask id position count)
-    → MayPost 0 (marks_after acts []) (outbox_after acts [] empty_outbox) (driver g) (ask id position count)
+    → MayPost (no_area 0) (marks_after acts []) (outbox_after acts [] empty_outbox) (driver g) (ask id position count)
 posts acts g id position count small complaint last stopped first = record {
   complained = complaint;
   endpoint = last;
@@ -304,11 +304,11 @@ absorbed_keeps = (tt, rests refl refl)
 skipped : Keeps (began 2 16384 4096 ∷ []) → ⊥
 skipped h = let e : ◌≡◌ {A = ℕ} 2 1 = h.1.next in absurd (omega arith)
 
-other_minor : KeepsRules 1 one_posted [] empty_outbox → ⊥
-other_minor h = let e : ◌≡◌ {A = ℕ} 0 1 = h.1.fits.minor_is in absurd (omega arith)
+other_minor : KeepsRules (no_area 1) one_posted [] empty_outbox → ⊥
+other_minor h = let e : ◌≡◌ {A = ℕ} 0 1 = h.1.fits.fits.minor_is in absurd (omega arith)
 
 too_long : Keeps (posted 1 1 16384 8192 ∷ started 1 ∷ began 1 16384 8192 ∷ []) → ⊥
-too_long h = let small : 8192 ≤ 4096 = h.1.fits.count in absurd (omega arith)
+too_long h = let small : 8192 ≤ 4096 = h.1.fits.fits.count in absurd (omega arith)
 
 -- once the device is given up nothing is posted, not even to a driver that is started all the same
 abbrev given_up : List Act
@@ -317,7 +317,7 @@ given_up = AtLink (Received (incoming.Started (driver 2))) ∷ AtLink (Received 
 given_up_rests : Rests given_up
 given_up_rests = rests refl refl
 
-not_posted_after_giving_up : MayPost 0 (marks_after given_up []) (outbox_after given_up [] empty_outbox) (driver 2) (ask 1 16384 4096) → ⊥
+not_posted_after_giving_up : MayPost (no_area 0) (marks_after given_up []) (outbox_after given_up [] empty_outbox) (driver 2) (ask 1 16384 4096) → ⊥
 not_posted_after_giving_up may = let h : ◌≡◌ {A = Option Endpoint} None (Some (driver 2)) = may.endpoint in cc
 
 -- and no message is taken, though a request is open

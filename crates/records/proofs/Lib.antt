@@ -6,9 +6,11 @@ pub mod Growing
 pub mod FirstIssue
 pub mod Changes
 pub mod ActLaws
+pub mod Inside
 pub mod Rows
 mod DiskRows
 mod ActRows
+mod InsideRows
 pub mod Legality
 mod Looking
 pub mod Settling

@@ -1,5 +1,5 @@
 -- What is done at a link is no call, and no write where only reads are posted.
-use Rattle.std.proofs.Common.{◌≡◌, ℕ, List, [], ◌∷◌, Bool, true, false, cond, refl, sym, ◌∙◌, ap}
+use Rattle.std.proofs.Common.{◌≡◌, List, [], ◌∷◌, Bool, true, false, cond, refl, ◌∙◌}
 use Rattle.std.specs.Prelude.{not, ◌&&◌}
 use Rattle.layout.specs.declared.Geometry.{Geometry}
 use Rattle.message.specs.Good.{is_write}

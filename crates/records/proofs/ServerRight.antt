@@ -97,6 +97,7 @@ right_call = record {
       record {
         agrees = (stays_fresh tree marks s.agrees.0 s.agrees.1, s.agrees.1);
         well_formed = (s.well_formed, tt);
+        inside = s.inside;
         at_rest = record { complaint = refl; post = s.at_rest.post };
         legal = λ true_replies. (s.legal true_replies, legal_took image tree marks s.agrees.0 s.agrees.1);
         has_tree = λ true_replies live not_given_up.
@@ -182,6 +183,7 @@ right_open = record {
   serves = λ image tree first. record {
     agrees = refl;
     well_formed = tt;
+    inside = tt;
     at_rest = record { complaint = refl; post = refl };
     legal = λ true_replies. tt;
     has_tree = λ true_replies live not_given_up. record {

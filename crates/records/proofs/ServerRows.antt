@@ -14,6 +14,7 @@ use Rattle.records.specs.Marks.{Mark, Started, GaveUp}
 use Rattle.records.specs.Open.{IsWellFormed}
 use Rattle.records.specs.Disk.{Contents, HasTrueReplies}
 use Rattle.records.specs.Told.{Told, Complained, Received}
+use Rattle.records.specs.Area.{Area, area_of, no_area}
 use Rattle.records.specs.Acts.{Act, AtLink, marks_after, empty_outbox, KeepsRules, Outbox}
 use Rattle.records.specs.Legal.{IsLegal}
 use Rattle.records.specs.ServerCall.{Serving, Outcome, Replied, Cut, with_outcome, CallKeeps}
@@ -42,12 +43,12 @@ not_true : IsTrue false → ⊥
 not_true h = let e : ◌≡◌ {A = Bool} false true = h in cc
 
 -- the rules refuse the complaint
-no_complaint : (minor : ℕ) → KeepsRules minor complaint [] empty_outbox → ⊥
-no_complaint minor h = none_is_some (driver 1) h.1
+no_complaint : (area : Area) → KeepsRules area complaint [] empty_outbox → ⊥
+no_complaint area h = none_is_some (driver 1) h.1
 
 -- and the take
-no_take : (minor : ℕ) → KeepsRules minor take [] empty_outbox → ⊥
-no_take minor h = not_true h.1.needed
+no_take : (area : Area) → KeepsRules area take [] empty_outbox → ⊥
+no_take area h = not_true h.1.needed
 
 -- an open that told its link something
 talking_open : (g : Geometry) (minor frames : ℕ) (new : Serving) → OpenKeeps g minor frames [] new → new.told ≡ Complained (driver 1) ∷ [] → ⊥
@@ -59,19 +60,19 @@ talking_open g minor frames new keeps told = let e : ◌≡◌ {A = List Told} [
 -- a mount that complains of nothing, and one that takes with nothing pending
 complaining_mount : (minor frames : ℕ) (before : List Told) (new : Serving) (keeps : MountKeeps minor frames before new) → keeps.acts ≡ complaint → ⊥
 complaining_mount minor frames before new keeps acts =
-    let P : List Act → Type 0 = λ done. KeepsRules minor done [] empty_outbox in no_complaint minor (subst P acts keeps.mounting.keep)
+    let P : List Act → Type 0 = λ done. KeepsRules (no_area minor) done [] empty_outbox in no_complaint (no_area minor) (subst P acts keeps.mounting.keep)
 
 taking_mount : (minor frames : ℕ) (before : List Told) (new : Serving) (keeps : MountKeeps minor frames before new) → keeps.acts ≡ take → ⊥
 taking_mount minor frames before new keeps acts =
-    let P : List Act → Type 0 = λ done. KeepsRules minor done [] empty_outbox in no_take minor (subst P acts keeps.mounting.keep)
+    let P : List Act → Type 0 = λ done. KeepsRules (no_area minor) done [] empty_outbox in no_take (no_area minor) (subst P acts keeps.mounting.keep)
 
 -- an unmount that complains of nothing, from a server that owes nothing
 complaining_unmount : (old new : Serving) (keeps : UnmountKeeps old Unmounted new) (image : Contents) (tree : Tree) → old.Agrees image tree []
     → old.outbox ≡ empty_outbox → keeps.acts ≡ complaint → ⊥
 complaining_unmount old new keeps image tree agrees nothing acts =
-    let P : List Act → Type 0 = λ done. KeepsRules old.minor done [] old.outbox in
-    let Q : Outbox → Type 0 = λ o. KeepsRules old.minor complaint [] o in
-    no_complaint old.minor (subst Q nothing (subst P acts (keeps.rules image tree [] agrees).keep))
+    let P : List Act → Type 0 = λ done. KeepsRules (area_of old.geometry old.minor) done [] old.outbox in
+    let Q : Outbox → Type 0 = λ o. KeepsRules (area_of old.geometry old.minor) complaint [] o in
+    no_complaint (area_of old.geometry old.minor) (subst Q nothing (subst P acts (keeps.rules image tree [] agrees).keep))
 
 -- a mount that is refused for its layout, or for what the check finds, though it read nothing
 unread_layout : IsWhyNotMounted 64 [] false (Layout BadMagic) → ⊥

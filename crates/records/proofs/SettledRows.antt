@@ -1,5 +1,5 @@
 -- Short records, worked by hand: where calls that look may have no write before them.
-use Rattle.std.specs.Prelude.{◌≡◌, ℕ, List, [], ◌∷◌, Bool, true, false, IsTrue, refl}
+use Rattle.std.specs.Prelude.{◌≡◌, List, [], ◌∷◌, true, false, refl}
 use Rattle.std.proofs.Common.{codes}
 use Rattle.errno.specs.declared.Errno.TheVariants.{EIO}
 use Rattle.lemmas.proofs.Bools.{false_not_true}

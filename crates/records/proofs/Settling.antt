@@ -1,10 +1,9 @@
 -- Where calls only looked since the last sync, and no write was issued since, the disk alone holds the tree.
-use Rattle.std.proofs.Common.{◌≡◌, ℕ, ◌+◌, ◌<◌, ◌≤◌, List, [], ◌∷◌, Bool, true, false, cond, refl, sym, ◌∙◌, ap, subst, inl, inr, arith, Option, Some, None}
+use Rattle.std.proofs.Common.{◌≡◌, ℕ, ◌+◌, ◌≤◌, List, [], ◌∷◌, Bool, true, false, cond, refl, sym, ◌∙◌, ap, subst, inl, inr, arith, Option, Some, None}
 use Rattle.std.proofs.lemmas.Bool.Decides.{nat_tests}
 use Rattle.std.specs.Prelude.{nat_lt, nat_le, ◌&&◌, ◌||◌, not, IsTrue}
 use Rattle.std.proofs.lemmas.Bool.{and_parts}
 use Rattle.lemmas.proofs.Bools.{from_clash, is_false, false_not_true, or_cases}
-use Rattle.errno.specs.declared.Errno.TheVariants.{EIO}
 use Rattle.layout.specs.declared.Geometry.{Geometry}
 use Rattle.message.specs.Good.{is_write}
 use Rattle.message.specs.declared.BlockRequest.{BlockRequest}
@@ -12,13 +11,13 @@ use Rattle.message.specs.declared.BlockReply.{BlockReply}
 use Rattle.tree.specs.declared.Who.{Who}
 use Rattle.tree.specs.declared.Call.{Call}
 use Rattle.tree.specs.Tree.{Tree}
-use Rattle.tree.specs.Answers.{Answer, refused}
+use Rattle.tree.specs.Answers.{Answer}
 use Rattle.volume.specs.Reading.{blocks_of}
 use Rattle.volume.specs.Holds.{HoldsVolume}
 use Rattle.records.specs.Marks.{Mark, Started, Answered, Flush, GaveUp, Took, Issued, Fault, gave_up}
-use Rattle.records.specs.Open.{open_requests, asked_by, moved_by, moved_of, with_id, IsIn, IsWellFormed}
-use Rattle.records.specs.Disk.{Contents, disk_after, unsure, covers, settles, byte_for, IsSure}
-use Rattle.records.specs.Legal.{is_sync, is_success, tree_after, tree_after_answer, IsAtFirst, IsSynced, IsLegal, IsLegalTook}
+use Rattle.records.specs.Open.{open_requests, asked_by, moved_by, moved_of, IsWellFormed}
+use Rattle.records.specs.Disk.{Contents, disk_after, unsure, covers, settles, byte_for}
+use Rattle.records.specs.Legal.{is_sync, is_success, tree_after, tree_after_answer, IsSynced, IsLegal, IsLegalTook}
 use Rattle.records.specs.Settled.{only_looks, is_settled, none_written, LookingWritesNothing}
 use Rattle.records.specs.LegalLaws.{SettledIsHeld}
 use Rattle.records.proofs.OpenRequests.{with_id_in}

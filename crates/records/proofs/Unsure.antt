@@ -1,5 +1,5 @@
 -- The places of open writes are unsure.
-use Rattle.std.proofs.Common.{◌≡◌, ◌⊎◌, ℕ, ◌+◌, ◌<◌, ◌≤◌, List, [], ◌∷◌, Bool, true, false, cond, refl, sym, ◌∙◌, ap, subst, inl, inr, arith, Option, Some, None, Result, Ok, Err}
+use Rattle.std.proofs.Common.{◌≡◌, ◌⊎◌, ℕ, ◌+◌, ◌<◌, ◌≤◌, List, [], ◌∷◌, true, refl, sym, ◌∙◌, ap, subst, inl, inr, arith, Option, Some, None, Result, Ok, Err}
 use Rattle.std.proofs.lemmas.Bool.Decides.{nat_tests}
 use Rattle.std.specs.Prelude.{nat_lt, nat_le, ◌==◌, ◌&&◌, ◌||◌, not, ◌%◌}
 use Rattle.lemmas.proofs.Options.{cond_some}
@@ -24,7 +24,7 @@ moved_le count n (Ok m) e =
 moved_le count n (Err x) e = cc
 
 -- a place that a request covers lies between its ends
-covers_bounds : (r : BlockRequest) (p : ℕ) → covers r p ≡ true → (r.position ≤ p) × (p < r.position + r.count)
+pub covers_bounds : (r : BlockRequest) (p : ℕ) → covers r p ≡ true → (r.position ≤ p) × (p < r.position + r.count)
 covers_bounds r p t = (grind (arith, nat_tests), grind (arith, nat_tests))
 
 -- each place of an open write is unsure

@@ -1,5 +1,5 @@
 -- When a server writes nothing: while calls only look.
-use Rattle.std.specs.Prelude.{◌≡◌, ℕ, List, [], ◌∷◌, Bool, true, false, not, ◌&&◌, ◌||◌, nat_lt, Option, Some, None, Ok, Err, IsTrue}
+use Rattle.std.specs.Prelude.{◌≡◌, ℕ, List, [], ◌∷◌, Bool, true, false, not, ◌&&◌, ◌||◌, nat_lt, Some, None, Ok, Err, IsTrue}
 use Rattle.layout.specs.declared.Geometry.{Geometry}
 use Rattle.message.specs.Good.{is_write}
 use Rattle.tree.specs.declared.Who.{Who}

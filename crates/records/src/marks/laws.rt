@@ -1,12 +1,13 @@
 //! Laws of the record, each a function whose contract is the law.
 
-ghost use Rattle.std.specs.Prelude.{ℕ, List};
+ghost use Rattle.std.specs.Prelude.{List};
 ghost use Rattle.records.specs.Marks.{Mark};
+ghost use Rattle.records.specs.Area.{Area};
 ghost use Rattle.records.specs.Acts.{Act, Outbox};
 ghost use Rattle.records.specs.Laws.{BeginningsAreWellFormed, ReceivedIsWellFormed, EachCountedOnce, OpenedByFirstIssue, OpenAreWhole};
 ghost use Rattle.records.specs.Laws.{OpenAreNumbered, OpenAreRising, OneOpenForEachId, OpenAreApart, OpenWritesAreUnsure};
 ghost use Rattle.records.specs.Laws.{SectorsAreUnsureTogether, NothingIsUnsureAtFirst, MarksChangeDisk, UnwrittenIsImage, ActsCompose};
-ghost use Rattle.records.specs.Laws.{MarksAreTold};
+ghost use Rattle.records.specs.Laws.{MarksAreTold, ActsWriteInside, WiderRulesAreKept, HeadAndTailStay};
 
 /// A well-formed record has well-formed beginnings.
 #[tactic(auto, using(crate::proofs::Growing::well_formed_beginning))]
@@ -94,11 +95,28 @@ pub fn unwritten_is_image()
 
 /// What a server does in two calls, one after the other, keeps the rules where both do.
 pub fn acts_compose()
-    ensures { (minor : ℕ) (later acts : List Act) (marks : List Mark) (o : Outbox) → ActsCompose minor later acts marks o }
+    ensures { (area : Area) (later acts : List Act) (marks : List Mark) (o : Outbox) → ActsCompose area later acts marks o }
 {}
 
 /// The marks of a call follow from what its link was told and gave.
 #[tactic(auto, using(crate::proofs::ActLaws::marks_are_told))]
 pub fn marks_are_told()
     ensures { MarksAreTold }
+{}
+
+/// Where a server keeps the rules of its volume, each write that it issues lies in the volume, behind its first two blocks.
+#[tactic(auto, using(crate::proofs::Inside::acts_write_inside))]
+pub fn acts_write_inside()
+    ensures { ActsWriteInside }
+{}
+
+/// What keeps the rules without writing keeps those of each area.
+#[tactic(auto, using(crate::proofs::Inside::wider_rules))]
+pub fn wider_rules_are_kept()
+    ensures { WiderRulesAreKept }
+{}
+
+/// Where each write lies so, the first two blocks and what lies behind the last zone stay as they were, and no write to them is pending.
+pub fn head_and_tail_stay()
+    ensures { HeadAndTailStay }
 {}
