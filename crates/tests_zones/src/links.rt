@@ -4,7 +4,7 @@
 ghost use Rattle.std.specs.Prelude.{◌≡◌, IfOk};
 ghost use Rattle.layout.specs.Places.{IsGeometry};
 ghost use Rattle.block_store.specs.Volume.{IsOn};
-ghost use Rattle.cache.specs.Calls.{IsReady};
+ghost use Rattle.cache.specs.Calls.{IsReady, AreWritable};
 ghost use Rattle.cached_blocks.specs.World.{stored_caching};
 
 use bitmap::{Map, count_free, lowest_free};
@@ -162,6 +162,7 @@ fn blocks_over(
     requires { IsGeometry geometry.now }
     ensures ready { IfOk result (λ r. IfOk r (λ s. IsReady (stored_caching ⟦<ListLink as Link>⟧ s))) }
     ensures size { IfOk result (λ r. IfOk r (λ s. s.cache.shape.block_size ≡ geometry.now.block_size)) }
+    ensures inside { IfOk result (λ r. IfOk r (λ s. AreWritable geometry.now.zones (stored_caching ⟦<ListLink as Link>⟧ s))) }
 {
     let transfers = Transfers::new(alloc, ListLink::new(alloc, messages)?)?;
     Ok(match Cache::new(alloc, transfers, 0, geometry, 32) {
