@@ -157,12 +157,10 @@ impl<R: Clock + Copy> Watch<R> {
             self.later.fetch_add(1, Ordering::SeqCst);
         }
     }
-}
 
-impl<R: Clock + Copy + Send + Sync> Watch<R> {
     // A turn of the flusher.
     fn turn(&self, end: &Bell) {
-        self.ticking.pass_or_end(Point::FlusherTurn, end);
+        self.ticking.turn(end);
         if !self.is_held(Point::FlusherTurn, &self.flusher_came, end) {
             self.flusher_came.fetch_add(1, Ordering::SeqCst);
         }
@@ -199,7 +197,9 @@ impl<R: Clock + Copy + Send + Sync> Gate for Watch<R> {
         match at {
             Point::DriverStep(_) => self.step(at, end),
             Point::FlusherTurn => self.turn(end),
-            Point::Tick => self.ticking.pass_or_end(at, end),
+            Point::Tick => {
+                self.ticking.tick(end);
+            }
         }
     }
 }

@@ -8,18 +8,10 @@ use std::sync::atomic::{AtomicBool, Ordering};
 
 /// A gate with the pace of a program's, under which no tick passes while time stands: no driver counts as hung then, however long its thread
 /// waits for a processor.
+#[derive(Drop)]
 pub(crate) struct Standing<R: Wait + Copy> {
     paced: Paced<R>,
     stands: AtomicBool,
-}
-
-impl<R: Wait + Copy> Drop for Standing<R> {
-    fn drop(self) {
-        let Self {
-            paced: _,
-            stands: _,
-        } = self;
-    }
 }
 
 impl<R: Wait + Copy> Standing<R> {
@@ -37,18 +29,6 @@ impl<R: Wait + Copy> Standing<R> {
     }
 }
 
-impl<R: Wait + Copy + Send + Sync> Standing<R> {
-    // Waits while time stands, unless the thread is told to end.
-    fn stay(&self, end: &Bell) {
-        for _ in 0..u64::MAX {
-            if end.is_rung() || !self.stands.load(Ordering::SeqCst) {
-                return;
-            }
-            self.paced.pass_or_end(Point::Tick, end);
-        }
-    }
-}
-
 impl<R: Wait + Copy + Send + Sync> Gate for Standing<R> {
     fn pass(&self, at: Point) {
         self.pass_or_end(at, &Bell::new());
@@ -56,8 +36,11 @@ impl<R: Wait + Copy + Send + Sync> Gate for Standing<R> {
 
     fn pass_or_end(&self, at: Point, end: &Bell) {
         self.paced.pass_or_end(at, end);
-        if at == Point::Tick {
-            self.stay(end);
+        for _ in 0..u64::MAX {
+            if at != Point::Tick || end.is_rung() || !self.stands.load(Ordering::SeqCst) {
+                return;
+            }
+            self.paced.pass_or_end(at, end);
         }
     }
 }

@@ -41,7 +41,7 @@ const MOST_SMALL: usize = 1040;
 const ASKS: u32 = 256;
 
 /// How often all sizes are gone through, at most, until nothing is found: other threads may give memory back meanwhile.
-const ROUNDS: u32 = 50;
+const ROUNDS: u32 = 30;
 
 /// Whether a small request is granted.
 fn is_granted(alloc: Global) -> bool {
@@ -315,7 +315,7 @@ fn are_same(with: &[Outcome], without: &[Outcome]) -> Result<bool, Fail> {
 }
 
 /// How often memory is taken away, at most. It is done again where some was left, or a read was granted what another thread gave back.
-const TRIALS: u32 = 50;
+const TRIALS: u32 = 30;
 
 /// It is so on a volume with blocks of this size.
 fn are_made_without<R: Threads + Wait + Copy + Send + Sync + 'static>(
