@@ -1,5 +1,5 @@
 -- Pending requests that lie in an area.
-use Rattle.std.proofs.Common.{◌≡◌, ℕ, suc, zero, ◌+◌, ◌^◌, ◌<◌, ◌≤◌, List, [], ◌∷◌, ◌++◌, length, get_or, sym, ◌∙◌, ap, subst, arith}
+use Rattle.std.proofs.Common.{◌≡◌, ℕ, suc, zero, ◌+◌, ◌^◌, ◌<◌, ◌≤◌, List, [], ◌∷◌, ◌++◌, length, get_or, sym, ◌∙◌, subst, arith}
 use Rattle.std.specs.Prelude.{remove}
 use Rattle.message.specs.declared.Kind.{Kind}
 use Rattle.message.specs.declared.Kind.TheVariants.{Read, Write}
@@ -57,7 +57,7 @@ pub rest_is_in : (area : Area) (p q : Pending) (n : ℕ) → q.request.kind ≡ 
 rest_is_in area p q n kind minor at left h = (
   minor ∙ h.0,
   subst (λ (k : Kind). LiesIn area k q.request.position q.request.count) (sym kind)
-  (lies_left area p.request.kind p.request.position p.request.count q.request.position q.request.count n at left h.1),
+      (lies_left area p.request.kind p.request.position p.request.count q.request.position q.request.count n at left h.1),
 )
 
 -- the request for what is asked inside is inside
@@ -65,7 +65,7 @@ pub ask_is_in : (area : Area) (ask : Ask) (id : ℕ) (p : Pending) → IsRequest
 ask_is_in area ask id p is h = (
   is.minor ∙ h.0,
   subst (λ (k : Kind). LiesIn area k p.request.position p.request.count) (sym is.kind)
-  (lies_left area ask.kind ask.position ask.count p.request.position p.request.count 0 (omega (arith, is.position)) (omega (arith, is.count)) h.1),
+      (lies_left area ask.kind ask.position ask.count p.request.position p.request.count 0 (omega (arith, is.position)) (omega (arith, is.count)) h.1),
 )
 
 -- ---- an area in which all of a minor is
