@@ -41,7 +41,12 @@ turns_after w k a b c T x y = turns_then w k a b c (λ d e. e ≡ d) T T (λ d e
 -- blocks stay a volume's
 pub on_after : {B : Type 0} (w : World B) → IsWorld w → (g : Geometry) (a b : B) (R : Disk → Disk → Type 0)
     → IsOn w g a → Turns w a b R → IsOn w g b
-on_after w k g a b R on x = record { ready = k.ready a b x.leads; size = k.size a b x.leads ∙ on.size; geometry = on.geometry }
+on_after w k g a b R on x = record {
+  ready = k.ready a b x.leads;
+  size = k.size a b x.leads ∙ on.size;
+  geometry = on.geometry;
+  inside = λ block low high. k.writable a b x.leads block (on.inside block low high);
+}
 
 -- the bytes of a frame are what would be read back
 pub turns_seen : {B : Type 0} (w : World B) → IsWorld w → (a b : B) (block : ℕ) (bytes : List ℕ)

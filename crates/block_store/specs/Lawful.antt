@@ -61,4 +61,5 @@ is_world = record {
   );
   look = λ a. refl;
   look_on = λ a b c x y. y ∙ x;
+  writable = λ a b x block w. w;
 }

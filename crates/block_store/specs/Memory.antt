@@ -25,4 +25,5 @@ memory_world = record {
   live = λ m. Unit {0};
   synced = λ m. Unit {0};
   looks = λ a b. b ≡ a;
+  writable = λ m block. Unit {0};
 }

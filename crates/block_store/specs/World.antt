@@ -23,6 +23,8 @@ pub record World (B : Type 0) : Type 1 where
   pub synced : B → Type 0
   -- a call that only looks leads from one to the other
   pub looks : B → B → Type 0
+  -- the block may be changed
+  pub writable : B → ℕ → Type 0
 
 -- What would be read back before and after is related so.
 pub record Turns {B : Type 0} (w : World B) (a b : B) (R : Disk → Disk → Type 0) : Type 0 where
@@ -56,6 +58,8 @@ pub record IsWorld {B : Type 0} (w : World B) : Type 0 where
   -- a call that does nothing looks, and so do two that do
   pub look : (a : B) → w.looks a a
   pub look_on : (a b c : B) → w.looks a b → w.looks b c → w.looks a c
+  -- what may be changed may still be after a call
+  pub writable : (a b : B) → w.leads a b → (block : ℕ) → w.writable a block → w.writable b block
 
 -- A call only looks: what would be read back stays, and this is said of it.
 pub record Reads {B : Type 0} (w : World B) (a b : B) (P : Disk → Type 0) : Type 0 where

@@ -39,18 +39,19 @@ pub trait Blocks {
         ensures bytes { (block : ℕ) → names self.now frame block → world.frames self.now block ≡ Some result.now }
         ensures whole { length result.now ≡ world.size self.now };
 
-    /// Changes these bytes of a frame.
+    /// Changes these bytes of a frame, whose block may be changed.
     fn change(&mut self, frame: Self::Frame, from: usize, bytes: &[u8])
         requires ready { world.ready self.old }
-        requires frame { (block : ℕ) × names self.old frame block }
+        requires frame { (block : ℕ) × names self.old frame block × world.writable self.old block }
         requires within { from + length bytes.now ≤ world.size self.old }
         ensures turns { (block : ℕ) → names self.old frame block
             → Turns world self.old self.new (λ d e. e ≡ written block from bytes.now d) }
         ensures frames { (f : _) (block : ℕ) → names self.old f block → names self.new f block };
 
-    /// The frame of a block, with zero bytes in place of its own.
+    /// The frame of a block that may be changed, with zero bytes in place of its own.
     fn fresh(&mut self, block: u32) -> Result<Self::Frame, Cut>
         requires ready { world.ready self.old }
+        requires writable { world.writable self.old block }
         ensures turns { Turns world self.old self.new (λ d e. OnOk result (e ≡ cleared block d)) }
         ensures frame { IfOk result (λ f. names self.new f block) }
         ensures cut { IfErr result (λ c. world.over self.new c) };

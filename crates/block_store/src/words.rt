@@ -55,6 +55,7 @@ pub fn read_bytes<B: Blocks>(
 /// The frame of a block all of whose bytes are to be replaced: one that is at hand stays as it is, another gets zeros, and isn't read.
 fn frame_to_fill<B: Blocks>(blocks: &mut B, block: u32) -> Result<B::Frame, Cut>
     requires ready { B.world.ready blocks.old }
+    requires writable { B.world.writable blocks.old block }
     ensures turns { Turns B.world blocks.old blocks.new (λ d e. OnOk result ((e ≡ d) ⊎ (e ≡ cleared block d))) }
     ensures frame { IfOk result (λ f. B.names blocks.new f block) }
     ensures cut { IfErr result (λ c. B.world.over blocks.new c) }
@@ -69,6 +70,7 @@ fn frame_to_fill<B: Blocks>(blocks: &mut B, block: u32) -> Result<B::Frame, Cut>
 /// Writes these bytes into a block, all that it has.
 fn replace<B: Blocks>(blocks: &mut B, block: u32, bytes: &[u8]) -> Result<(), Cut>
     requires ready { B.world.ready blocks.old }
+    requires writable { B.world.writable blocks.old block }
     requires whole { length bytes.now ≡ B.world.size blocks.old }
     ensures turns { Turns B.world blocks.old blocks.new (λ d e. OnOk result (e ≡ written block 0 bytes.now d)) }
     ensures cut { IfErr result (λ c. B.world.over blocks.new c) }
@@ -86,6 +88,7 @@ pub fn write_bytes<B: Blocks>(
     bytes: &[u8],
 ) -> Result<(), Cut>
     requires ready { B.world.ready blocks.old }
+    requires writable { B.world.writable blocks.old block }
     requires within { from + length bytes.now ≤ B.world.size blocks.old }
     ensures turns { Turns B.world blocks.old blocks.new (λ d e. OnOk result (e ≡ written block from bytes.now d)) }
     ensures cut { IfErr result (λ c. B.world.over blocks.new c) }
@@ -101,6 +104,7 @@ pub fn write_bytes<B: Blocks>(
 /// Writes a number into four bytes of a block, the low byte first.
 pub fn write_u32<B: Blocks>(blocks: &mut B, block: u32, from: usize, number: u32) -> Result<(), Cut>
     requires ready { B.world.ready blocks.old }
+    requires writable { B.world.writable blocks.old block }
     requires within { from + 4 ≤ B.world.size blocks.old }
     ensures turns { Turns B.world blocks.old blocks.new (λ d e. OnOk result (e ≡ written block from (to_le_bytes w32 number) d)) }
     ensures cut { IfErr result (λ c. B.world.over blocks.new c) }
@@ -111,6 +115,7 @@ pub fn write_u32<B: Blocks>(blocks: &mut B, block: u32, from: usize, number: u32
 /// Makes all bytes of a block zero, without reading it.
 pub fn clear<B: Blocks>(blocks: &mut B, block: u32) -> Result<(), Cut>
     requires ready { B.world.ready blocks.old }
+    requires writable { B.world.writable blocks.old block }
     ensures turns { Turns B.world blocks.old blocks.new (λ d e. OnOk result (e ≡ cleared block d)) }
     ensures cut { IfErr result (λ c. B.world.over blocks.new c) }
 {

@@ -9,10 +9,11 @@ use Rattle.records.specs.Disk.{Contents, HasTrueReplies}
 use Rattle.records.specs.Told.{Told, Received, grown, received, took_end, took_nothing}
 use Rattle.records.specs.Acts.{Act, Absorbed, told_of, has_absorbed}
 use Rattle.records.specs.Opening.{Opening}
+use Rattle.records.specs.Area.{Area}
 use Rattle.reissue.specs.declared.link.Link.{Ghosts as LinkWords}
 use Rattle.reissue.specs.declared.table.Table.{Table}
 use Rattle.reissue.specs.Moves.{DiskState, state_after, put, IsBusy}
-use Rattle.reissue.specs.Entries.{pending_of, meets, AllOfMinor}
+use Rattle.reissue.specs.Entries.{pending_of, meets, AllIn}
 use Rattle.reissue.specs.Agrees.{Agrees}
 use Rattle.reissue.specs.Posts.{HasRoom, OnlyPosts}
 use Rattle.reissue.specs.Rules.{KeepsRulesBy}
@@ -28,12 +29,12 @@ use Rattle.block_store.specs.declared.Cut.{Cut}
 use Rattle.block_store.specs.declared.Cut.TheVariants.{Eio, LinkEnded}
 use Rattle.cache.specs.Slots.{held, is_clean}
 use Rattle.cache.specs.Edits.{IsAt, NoneDirty}
-use Rattle.cache.specs.Frames.{Tied, CacheAgrees, view}
+use Rattle.cache.specs.Frames.{Tied, AllInside, CacheAgrees, view}
 
 -- What is said of a cache.
 pub record AbstractCache : Type 1 where
-  -- the range of the media that its requests name, and the bytes of a block
-  pub minor : ℕ
+  -- where its writes lie, in the range of the media that its requests name, and the bytes of a block
+  pub area : Area
   pub size : ℕ
   -- the slot of each block that has one
   pub held : ℕ → Option Slot
@@ -47,12 +48,16 @@ pub record AbstractCache : Type 1 where
   -- a take gave End
   pub ended : Bool
 
+-- where a volume of this shape may be changed: behind its first two blocks
+abbrev pub area_in : Shape → Area
+area_in shape = record { minor = shape.minor; from = 2 * shape.block_size; to = shape.zones * shape.block_size }
+
 -- a cache with these parts
 abbrev pub caching_of : {L : Type 0} → LinkWords L → Transfers L → Shape → List Slot → Bool → AbstractCache
 caching_of words transfers shape items ended =
     let link = link_of transfers in
     record {
-      minor = shape.minor;
+      area = area_in shape;
       size = shape.block_size;
       held = held items;
       table = table_of transfers;
@@ -79,10 +84,12 @@ frame_count cache = length cache.slots.items.items
 abbrev pub LinkGoesOn : {L : Type 0} → LinkWords L → Cache L → Cache L → Type 0
 LinkGoesOn words old new = words.goes_on (link_of old.transfers) (link_of new.transfers)
 
--- its requests are for its range, its slots are tied to them, and while the link hasn't ended it has room and ids are left
+-- its requests are for its area, its slots are tied to them, those that aren't clean are of blocks in the area, and while the link hasn't
+-- ended it has room and ids are left
 pub record IsReady (c : AbstractCache) : Type 0 where
-  pub minors : AllOfMinor c.minor c.table.pending
+  pub minors : AllIn c.area c.table.pending
   pub tied : Tied c.size c.held (pending_of c.table.pending)
+  pub inside : AllInside c.area c.size c.held
   pub room : c.ended ≡ false → HasRoom c.table c.room
   pub ids : c.ended ≡ false → c.table.ids + c.budget + 16 < 2 ^ 60 + length c.table.pending
 
@@ -115,7 +122,7 @@ pub record Runs (message : Option Incoming) (old new : AbstractCache) (Related :
   pub acts : List Act
   pub done : new.told ≡ told_of acts ++ old.told
   pub none_absorbed : has_absorbed acts ≡ false
-  pub minor : new.minor ≡ old.minor
+  pub area : new.area ≡ old.area
   pub size : new.size ≡ old.size
   pub ended : old.ended ≡ true → new.ended ≡ true
   -- messages are taken from those that are left; each one, and one that is handed over, spends an id at most, also once the link has ended
@@ -127,10 +134,10 @@ pub record Runs (message : Option Incoming) (old new : AbstractCache) (Related :
   pub related : (image : Contents) (marks : List Mark) → Agrees old.table marks
       → HasTrueReplies image (grown told (after_message message marks))
       → Related (state_after image marks) (state_after image (grown told (after_message message marks)))
-  pub truth : (opening : Opening) (marks : List Mark) → Agrees old.table marks → opening.minor ≡ old.minor
+  pub truth : (opening : Opening) (marks : List Mark) → Agrees old.table marks → opening.minor ≡ old.area.minor
       → old.truth opening (after_message message marks) → new.truth opening (grown told (after_message message marks))
   pub rules : (marks : List Mark) → Agrees old.table marks
-      → KeepsRulesBy (with_handed message acts) old.minor old.table new.table old.told new.told marks (grown told (after_message message marks))
+      → KeepsRulesBy (with_handed message acts) old.area old.table new.table old.told new.told marks (grown told (after_message message marks))
 
 -- a call on a cache, which relates the disk before and after so
 abbrev pub Does : {L : Type 0} → LinkWords L → Cache L → Cache L → (AbstractCache → AbstractCache → DiskState → DiskState → Type 0) → Type 0
@@ -197,8 +204,8 @@ abbrev pub forgotten : ℕ → (ℕ → Option Slot) → ℕ → Option Slot
 forgotten block held = put held block (unless_clean (held block))
 
 -- a cache just made: no frame is in use, and the link hasn't ended
-pub record IsMade (minor size : ℕ) (c : AbstractCache) : Type 0 where
-  pub minor_is : c.minor ≡ minor
+pub record IsMade (area : Area) (size : ℕ) (c : AbstractCache) : Type 0 where
+  pub area_is : c.area ≡ area
   pub size_is : c.size ≡ size
   pub none : (b : ℕ) → c.held b ≡ None
   pub not_ended : c.ended ≡ false

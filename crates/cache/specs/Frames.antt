@@ -1,11 +1,12 @@
 -- What a cache keeps true of its slots, of the pending requests and of the disk, and what would be read back.
 use Rattle.std.specs.Prelude.{◌≡◌, ◌⊎◌, ℕ, ◌+◌, ◌*◌, ◌<◌, ◌≤◌, ◌-◌, ◌&&◌, nat_lt, nat_le, List, length, take, Option, Some, None, false, if◌then◌else◌, slice_index}
 use Rattle.volume.specs.Reading.{Disk}
+use Rattle.records.specs.Area.{Area}
 use Rattle.records.specs.View.{Frames, frame_or}
 use Rattle.reissue.specs.Moves.{DiskState, Begun}
 use Rattle.cache.specs.declared.state.State.TheVariants.{Clean, Writing, Changed}
 use Rattle.cache.specs.declared.slot.Slot.{Slot}
-use Rattle.cache.specs.Slots.{ticket_of}
+use Rattle.cache.specs.Slots.{ticket_of, is_clean}
 
 -- the bytes of the write that is under way, from this one on, are the slot's, unless they were changed since it was issued
 pub record IsUnderWay (size : ℕ) (slot : Slot) (ticket from : ℕ) (bytes : List ℕ) : Type 0 where
@@ -40,6 +41,14 @@ pub record HasWrite (size : ℕ) (pending : ℕ → Option Begun) (block ticket 
 pub record Tied (size : ℕ) (held : ℕ → Option Slot) (pending : ℕ → Option Begun) : Type 0 where
   pub writes : (t : ℕ) (r : Begun) (bytes : List ℕ) → pending t ≡ Some r → r.written ≡ Some bytes → IsRun size held t r bytes
   pub issued : (b t : ℕ) (s : Slot) → held b ≡ Some s → ticket_of s.state ≡ Some t → HasWrite size pending b t
+
+-- the block lies in the area: it may be changed
+abbrev pub IsWritable : Area → ℕ → ℕ → Type 0
+IsWritable area size block = (area.from ≤ block * size) × (block * size + size ≤ area.to)
+
+-- each block whose slot isn't clean lies in the area
+abbrev pub AllInside : Area → ℕ → (ℕ → Option Slot) → Type 0
+AllInside area size held = (b : ℕ) (s : Slot) → held b ≡ Some s → is_clean s.state ≡ false → IsWritable area size b
 
 -- the disk has this byte there, and is sure of it
 pub record HasSure (w : DiskState) (place byte : ℕ) : Type 0 where

@@ -3,6 +3,7 @@ use Rattle.std.specs.Prelude.{◌≡◌, ℕ, ◌<◌, List, Option}
 use Rattle.layout.specs.declared.Geometry.{Geometry}
 use Rattle.records.specs.Marks.{Mark}
 use Rattle.records.specs.Disk.{Contents}
+use Rattle.records.specs.Area.{area_of}
 use Rattle.message.specs.declared.Incoming.{Incoming}
 use Rattle.records.specs.Told.{took_end}
 use Rattle.records.specs.Acts.{Act}
@@ -23,7 +24,7 @@ FramesReadBack = (g : Geometry) (held : ℕ → Option Slot) (image : Contents) 
 
 -- what a server is at its link is what its cache is
 pub record IsOver (s : Serving) (c : AbstractCache) : Type 0 where
-  pub minor : s.minor ≡ c.minor
+  pub area : area_of s.geometry s.minor ≡ c.area
   pub outbox : s.outbox ≡ outbox_of c.table
   pub told : s.told ≡ c.told
   pub ended : s.ended ≡ c.ended

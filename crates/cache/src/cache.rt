@@ -8,6 +8,7 @@ ghost use Rattle.std.specs.Borrow.{Lends, sem};
 ghost use Rattle.layout.specs.Places.{is_block_size};
 ghost use Rattle.reissue.specs.Transfers.{table_of, link_of, begun_in};
 ghost use Rattle.records.specs.Mount.{is_frame_count};
+ghost use Rattle.records.specs.Area.{area_of};
 ghost use Rattle.reissue.specs.Room.{room_needed};
 ghost use Rattle.reissue.specs.Posts.{is_message, HasRoom};
 ghost use Rattle.reissue.specs.Moves.{IsBusy};
@@ -52,10 +53,10 @@ impl<L: Link> Cache<L> {
     ghost use Rattle.cache.specs.Edits.{AllClean, SomeUnclean, IsIssued, IsWritten, IsSlotAt, IsFreeAt, IsAt, Leaves};
     ghost use Rattle.cache.specs.Edits.{AllStay, StayBut, IsChangedAt, AreDirty, NoneDirtyFrom, BeginsNext};
     ghost use Rattle.cache.specs.Order.{IsDue};
-    ghost use Rattle.cache.specs.Frames.{frames_of, view, with_bytes};
+    ghost use Rattle.cache.specs.Frames.{frames_of, view, with_bytes, IsWritable};
     ghost use Rattle.cache.specs.Calls.{caching, held_by, frame_count, IsReady, IsIdle, IsLive, IsWhyCut, IsFrame, IsFrameOf, IsMade, IsStuck};
     ghost use Rattle.cache.specs.Calls.{IsRefusing, PostsAlone, messages_left, Does, Keeps, HandsOver, Blanks, Rewrites, LinkGoesOn};
-    ghost use Rattle.cache.specs.Calls.{WantsFlush, forgotten, with_cache_link, without_flush};
+    ghost use Rattle.cache.specs.Calls.{WantsFlush, forgotten, with_cache_link, without_flush, area_in};
     ghost use Rattle.cache.specs.Settling.{IsWantedFor, taking_in};
     ghost use Rattle.cache.specs.Runs.{IsRunBegun, BeginsRun};
     ghost use Rattle.cache.specs.contracts.cache.Cache.{the_row};
@@ -83,7 +84,7 @@ impl<L: Link> Cache<L> {
         ensures bad_frames { IsErrOf result CacheRefusal.BadFrames ↔ (is_frame_count frames ≡ false) }
         ensures over { IfOk result (λ c. c.transfers ≡ transfers) }
         ensures ready { IfOk result (λ c. IsReady (caching L.Link c)) }
-        ensures made { IfOk result (λ c. IsMade minor geometry.now.block_size (caching L.Link c)) }
+        ensures made { IfOk result (λ c. IsMade (area_of geometry.now minor) geometry.now.block_size (caching L.Link c)) }
         ensures frames { IfOk result (λ c. frame_count c ≡ frames) }
         ensures flush { IfOk result (λ c. c.flush ≡ false) }
     {
@@ -97,7 +98,7 @@ impl<L: Link> Cache<L> {
         Ok(Cache {
             transfers,
             slots,
-            shape: Shape::new(minor, geometry.block_size),
+            shape: Shape::new(minor, geometry.block_size, geometry.zones),
             ended: false,
             flush: false,
             message: Incoming::End,
@@ -461,9 +462,11 @@ impl<L: Link> Cache<L> {
         Ok(Frame { block, at })
     }
 
-    /// The frame of a block with zero bytes in place of its own, which aren't read.
+    /// The frame of a block with zero bytes in place of its own, which aren't read. The block is one that the volume has, but not its
+    /// first two.
     pub fn fresh(&mut self, block: u32) -> Result<Frame, Cut>
         requires ready { IsReady (caching L.Link self.old) }
+        requires writable { IsWritable (area_in self.old.shape) self.old.shape.block_size block }
         ensures runs { Does L.Link self.old self.new (Blanks result block) }
         ensures goes { LinkGoesOn L.Link self.old self.new }
         ensures count { frame_count self.new ≡ frame_count self.old }
@@ -487,6 +490,7 @@ impl<L: Link> Cache<L> {
     #[inline(never)]
     fn fresh_missing(&mut self, block: u32) -> Result<Frame, Cut>
         requires ready { IsReady (caching L.Link self.old) }
+        requires writable { IsWritable (area_in self.old.shape) self.old.shape.block_size block }
         requires missing { held self.old.slots.items.items block ≡ None }
         ensures runs { Does L.Link self.old self.new (Blanks result block) }
         ensures goes { LinkGoesOn L.Link self.old self.new }
@@ -520,10 +524,11 @@ impl<L: Link> Cache<L> {
         &self.slots.get(frame.at).bytes[..self.shape.block_size as usize]
     }
 
-    /// Changes these bytes of a frame, from this place on, and no others.
+    /// Changes these bytes of a frame, from this place on, and no others. Its block is one that the volume has, but not its first two.
     pub fn change(&mut self, frame: Frame, from: usize, bytes: &[u8])
         requires ready { IsReady (caching L.Link self.old) }
         requires frame { IsFrame self.old frame }
+        requires writable { IsWritable (area_in self.old.shape) self.old.shape.block_size frame.block }
         requires within { from + length bytes.now ≤ self.old.shape.block_size }
         ensures runs { Does L.Link self.old self.new (Rewrites frame.block (with_bytes from bytes.now)) }
         ensures goes { LinkGoesOn L.Link self.old self.new }

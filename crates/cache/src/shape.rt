@@ -6,26 +6,33 @@ ghost use Rattle.message.specs.declared.Kind.TheVariants.{Read, Write};
 
 use reissue::Ask;
 
-/// The range of the media that a volume takes, and the size of its blocks.
+/// The range of the media that a volume takes, and its blocks.
 #[derive(Clone, Copy)]
 pub struct Shape {
     /// The range of the media: 0 is the whole, 1 to 4 are the entries of the partition table.
     pub minor: u8,
     /// Bytes of a block: 1024, 2048 or 4096.
     pub block_size: u32,
+    /// How many blocks the volume has.
+    pub zones: u32,
     pub ghost least: { 512 ≤ block_size },
     pub ghost most: { block_size ≤ 4096 },
     pub ghost whole: { block_size % 512 ≡ 0 },
 }
 
 impl Shape {
-    /// The shape of a volume with blocks of this size.
-    pub fn new(minor: u8, block_size: u32) -> Shape
+    /// The shape of a volume with so many blocks of this size.
+    pub fn new(minor: u8, block_size: u32, zones: u32) -> Shape
         requires { IsTrue (is_block_size block_size) }
         ensures minor { result.minor ≡ minor }
         ensures block_size { result.block_size ≡ block_size }
+        ensures zones { result.zones ≡ zones }
     {
-        Shape { minor, block_size }
+        Shape {
+            minor,
+            block_size,
+            zones,
+        }
     }
 
     /// A request to read a block.

@@ -14,6 +14,7 @@ pub ready_over : {L : Type 0} (words : LinkWords L) → ReadyOverLink words
 ready_over words s link room budget ready = record {
   minors = ready.minors;
   tied = ready.tied;
+  inside = ready.inside;
   room = λ alive. room_over s.cache.transfers.table _ _ room (ready.room alive);
   ids = λ alive. let i = ready.ids alive in omega (arith, budget, i);
 }

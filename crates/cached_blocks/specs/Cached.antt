@@ -1,9 +1,10 @@
 -- Blocks in the frames of a cache.
-use Rattle.std.specs.Prelude.{◌≡◌, ◌+◌, ◌<◌, ◌≤◌, ◌^◌, length, false}
+use Rattle.std.specs.Prelude.{◌≡◌, ℕ, ◌+◌, ◌<◌, ◌≤◌, ◌^◌, length, false}
 use Rattle.std.proofs.Common.{refl}
 use Rattle.message.specs.declared.Incoming.{Incoming}
 use Rattle.volume.specs.Reading.{Disk}
 use Rattle.reissue.specs.Room.{room_needed}
+use Rattle.cache.specs.Frames.{IsWritable}
 use Rattle.cache.specs.Looking.{IsSettled, Looks}
 use Rattle.cache.specs.Calls.{AbstractCache, IsReady, IsLive, IsWhyCut}
 use Rattle.flusher.specs.Flushing.{WritesLowest, BeginsAll}
@@ -22,6 +23,7 @@ pub record IsCached {B : Type 0} (w : World B) (f : B → AbstractCache) (goes :
   pub live : (a : B) → w.live a → IsLive (f a)
   pub synced : (a : B) → w.synced a → IsSettled (f a)
   pub looks : (a b : B) → w.looks a b → Looks (f a) (f b)
+  pub writable : (a : B) (block : ℕ) → IsWritable (f a).area (f a).size block → w.writable a block
 
 -- so it is of blocks that are made of one
 pub stored_is_cached : {B : Type 0} (f : B → AbstractCache) (goes : B → B → Type 0) → IsCached (world_by f goes) f goes
@@ -35,6 +37,7 @@ stored_is_cached f goes = record {
   live = λ a x. x;
   synced = λ a x. x;
   looks = λ a b x. x;
+  writable = λ a block x. x;
 }
 
 -- a message may be handed over: an id and the link's room are left for it

@@ -8,12 +8,13 @@ use Rattle.volume.specs.Reading.{Disk}
 use Rattle.records.specs.Marks.{Mark}
 use Rattle.records.specs.Told.{Told, grown}
 use Rattle.records.specs.Disk.{Contents, HasTrueReplies}
+use Rattle.records.specs.Area.{Area}
 use Rattle.reissue.specs.Moves.{DiskState, state_after}
 use Rattle.reissue.proofs.Joining.{grown_append}
 use Rattle.cache.specs.declared.slot.Slot.{Slot}
 use Rattle.records.specs.View.{frame_or}
 use Rattle.cache.specs.Calls.{AbstractCache, IsReady}
-use Rattle.cache.specs.Frames.{CacheAgrees, frames_of, frame_of, view, disk_block}
+use Rattle.cache.specs.Frames.{CacheAgrees, IsWritable, frames_of, frame_of, view, disk_block}
 use Rattle.cache.proofs.Runs.{runs_none, runs_then, true_before}
 use Rattle.cache.proofs.Looking.{looks_none, looks_then}
 use Rattle.block_store.specs.World.{IsWorld, IsBlocks, IsShown}
@@ -98,6 +99,9 @@ is_world f goes stays joins = record {
   );
   look = λ a. looks_none (f a);
   look_on = λ a b c x y. looks_then (f a) (f b) (f c) x y;
+  writable = λ a b x block h.
+      subst (λ (r : Area). IsWritable r (f b).size block) (sym x.runs.area)
+      (subst (λ (n : ℕ). IsWritable (f a).area n block) (sym x.runs.size) h);
 }
   where
     subst_disk : (size : ℕ) (d e : Disk) → d ≡ e → IsBlocks size d → IsBlocks size e

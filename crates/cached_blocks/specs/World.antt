@@ -11,7 +11,7 @@ use Rattle.reissue.specs.declared.link.Link.{Ghosts as LinkWords}
 use Rattle.reissue.specs.Transfers.{link_of}
 use Rattle.cache.specs.Calls.{AbstractCache, caching, frame_count, with_cache_link, Runs, IsReady, IsLive, IsWhyCut, LinkGoesOn}
 use Rattle.cache.specs.Looking.{IsSettled, Looks}
-use Rattle.cache.specs.Frames.{CacheAgrees, frames_of, view}
+use Rattle.cache.specs.Frames.{CacheAgrees, IsWritable, frames_of, view}
 use Rattle.block_store.specs.World.{World}
 use Rattle.cached_blocks.specs.declared.Stored.{Stored}
 
@@ -48,6 +48,7 @@ world_by f goes = record {
   live = λ c. IsLive (f c);
   synced = λ c. IsSettled (f c);
   looks = λ a b. Looks (f a) (f b);
+  writable = λ c block. IsWritable (f c).area (f c).size block;
 }
 
 -- the cache that is stored

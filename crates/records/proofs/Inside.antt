@@ -62,13 +62,16 @@ pub wider_rules : WiderRulesAreKept
 wider_rules area [] marks o keep = tt
 wider_rules area (Began r ∷ acts) marks o keep = (wider_rules area acts marks o keep.0, keep.1)
 wider_rules area (Absorbed m ∷ acts) marks o keep = (wider_rules area acts marks o keep.0, keep.1)
-wider_rules area (AtLink (Posted to r accepted) ∷ acts) marks o keep = (wider_rules area acts marks o keep.0, record {
-  complained = keep.1.complained;
-  endpoint = keep.1.endpoint;
-  not_stopped = keep.1.not_stopped;
-  first = keep.1.first;
-  fits = wider area r keep.1.fits;
-})
+wider_rules area (AtLink (Posted to r accepted) ∷ acts) marks o keep = (
+  wider_rules area acts marks o keep.0,
+  record {
+    complained = keep.1.complained;
+    endpoint = keep.1.endpoint;
+    not_stopped = keep.1.not_stopped;
+    first = keep.1.first;
+    fits = wider area r keep.1.fits;
+  },
+)
 wider_rules area (AtLink (Complained e) ∷ acts) marks o keep = (wider_rules area acts marks o keep.0, keep.1)
 wider_rules area (AtLink (Received m) ∷ acts) marks o keep = (wider_rules area acts marks o keep.0, keep.1)
 
@@ -146,9 +149,9 @@ none_settles g marks a place inside there = is_false _ (λ h. at (asked_by a mar
 none_covers : (g : Geometry) (r : BlockRequest) (place : ℕ) → LiesIn (area_of g r.minor) r.kind r.position r.count → IsHeadOrTail g place
     → (is_write r.kind && covers r place) ≡ false
 none_covers g r place lies there = is_false _ (λ h.
-  let both = and_parts (is_write r.kind) (covers r place) h in
-  let bounds = covers_bounds r place both.1 in
-  not_there g r place lies both.0 bounds.0 bounds.1 there)
+    let both = and_parts (is_write r.kind) (covers r place) h in
+    let bounds = covers_bounds r place both.1 in
+    not_there g r place lies both.0 bounds.0 bounds.1 there)
 
 pub head_and_tail_stay : HeadAndTailStay
 head_and_tail_stay g image [] place inside there = record { same = refl; sure = refl }

@@ -17,8 +17,9 @@ use Rattle.reissue.specs.declared.pending.Pending.{Pending}
 use Rattle.reissue.specs.declared.table.Table.{Table}
 use Rattle.records.specs.Opening.{Opening}
 use Rattle.reissue.specs.Room.{room_needed}
-use Rattle.reissue.specs.Moves.{Closes, Spares, state_after}
-use Rattle.reissue.specs.Entries.{pending_of, request_of, AllOfMinor, IsAmong}
+use Rattle.reissue.specs.Moves.{Closes, Spares, state_after, IsRequestFor}
+use Rattle.records.specs.Area.{Area}
+use Rattle.reissue.specs.Entries.{pending_of, request_of, AllOfMinor, AllIn, IsAmong}
 use Rattle.reissue.specs.Agrees.{Agrees, unposted}
 use Rattle.reissue.specs.Posts.{OnlyPosts, PostsInOrder, PostsAfter, is_message}
 use Rattle.reissue.specs.Calls.{Truth, Leads, TakesIn, Absorbs, Steps, Begins, PostsNew, IsAnswerTo, more_may_come}
@@ -26,7 +27,7 @@ use Rattle.reissue.proofs.Posting.{closing_posted}
 use Rattle.reissue.specs.Rules.{BeganAmong, at_link, all_began, began_on, acts_on}
 use Rattle.reissue.proofs.StepRules.{arrival}
 use Rattle.reissue.proofs.CallRules.{absorb_rules, step_rules, begin_rules}
-use Rattle.reissue.proofs.Settling.{minors_push}
+use Rattle.reissue.proofs.Inside.{IsIn, of_minor, in_push, ask_is_in, wide, is_in_wide, in_wide}
 
 -- the record after both
 pub grown_append : (es fs : List Told) (marks : List Mark) → grown (es ++ fs) marks ≡ grown es (grown fs marks)
@@ -210,9 +211,9 @@ absorbs_then m res s t u before between after was mid is x l posts current =
       current = current;
       given_up = l.given_up ∙ x.given_up;
       ended = ended_after l.posts between after l.only_posts l.history ∙ x.ended;
-      rules = λ minor marks h minors.
-          absorb_rules minor m s t u marks before after l.posts x.complaints h (x.agrees marks h) (x.hears marks h)
-          (x.minors minor minors) (x.due marks h) in_order history l.same l.posted l.issued current;
+      rules = λ area marks h minors.
+          absorb_rules area m s t u marks before after l.posts x.complaints h (x.agrees marks h) (x.hears marks h)
+          (x.minors area minors) (x.due marks h) in_order history l.same l.posted l.issued current;
       mid = t;
       posts = l.posts;
       complaints = x.complaints;
@@ -233,9 +234,10 @@ absorbs_then m res s t u before between after was mid is x l posts current =
           closing_posted res s.pending t.pending u.pending marks (received m marks) l.posts l.only_posts l.same x.closes
           (λ image tr. true_before l.posts image (received m marks) l.only_posts tr)
           (λ image. l.spares image (received m marks) (x.agrees marks h)) (x.closing marks h);
-      minors = λ minor h. subst (λ (ls : List Pending). AllOfMinor minor ls) (sym l.same) (x.minors minor h);
+      minors = λ area h. subst (λ (ls : List Pending). AllIn area ls) (sym l.same) (x.minors area h);
       truth = λ opening marks h minors k.
-          l.truth opening (received m marks) (x.agrees marks h) (x.minors opening.minor minors) (x.truth opening (received m marks) k);
+          l.truth opening (received m marks) (x.agrees marks h)
+          (of_minor (wide opening.minor) t.pending (x.minors (wide opening.minor) (in_wide opening.minor s.pending minors))) (x.truth opening (received m marks) k);
     }
 
 -- a message taken, and what was done on it
@@ -247,9 +249,9 @@ steps_one m res t u before taken after was mid is told truth x answer =
     let in_order = subst (λ (h : List Told). PostsAfter m x.mid (x.complaints ++ h) after) told x.in_order in
     let history = x.history ∙ ap (λ (h : List Told). x.posts ++ (x.complaints ++ h)) told in
     record {
-      rules = λ minor marks h minors busy going.
-          step_rules minor m t x.mid u marks before after x.posts x.complaints h (x.heard marks h) (x.hears marks h)
-          (subst (λ (ls : List Pending). AllOfMinor minor ls) x.same (x.minors minor minors)) (x.due marks h) in_order history
+      rules = λ area marks h minors busy going.
+          step_rules area m t x.mid u marks before after x.posts x.complaints h (x.heard marks h) (x.hears marks h)
+          (subst (λ (ls : List Pending). AllIn area ls) x.same (x.minors area minors)) (x.due marks h) in_order history
           x.same x.posted x.issued x.current busy going;
       acts = acts_on x.posts t x.mid x.complaints (arrival m before);
       told = history ∙ sym (told_on x.posts t x.mid x.complaints m before);
@@ -285,17 +287,19 @@ steps_one m res t u before taken after was mid is told truth x answer =
 -- a request is added, and posted or not
 pub begins_add : (ask : Ask) (s t u : Table) (p : Pending) (due : Bool) (before after : List Told) (was is : Truth)
     → ((marks : List Mark) → Agrees s marks → Agrees t marks)
-    → t.pending ≡ s.pending ++ p ∷ [] → t.posted ≡ s.posted → t.issued ≡ s.issued → p.request.minor ≡ ask.minor
-    → t.current ≡ s.current → u.current ≡ t.current → t.given_up ≡ s.given_up → p.request.id ≡ s.ids + 1 → length s.pending < 16
+    → t.pending ≡ s.pending ++ p ∷ [] → t.posted ≡ s.posted → t.issued ≡ s.issued → IsRequestFor ask (s.ids + 1) p.request
+    → t.current ≡ s.current → u.current ≡ t.current → t.given_up ≡ s.given_up → length s.pending < 16
     → due ≡ (s.posted == length s.pending)
     → MatchBool due (PostsInOrder t.current (unposted t) before after) (after ≡ before)
     → Leads t u before after was is → Begins ask s u before after was is
-begins_add ask s t u p due before after was is agrees items posted issued minor here there up id few is_due in_order l =
-    let minors : (n : ℕ) → ask.minor ≡ n → AllOfMinor n s.pending → AllOfMinor n t.pending = λ n e h.
-    subst (λ (ls : List Pending). AllOfMinor n ls) (sym items) (minors_push n s.pending p h (minor ∙ e)) in
+begins_add ask s t u p due before after was is agrees items posted issued asked here there up few is_due in_order l =
+    let added : (area : Area) → IsIn area p → AllIn area s.pending → AllIn area t.pending = λ area e h.
+    subst (λ (ls : List Pending). AllIn area ls) (sym items) (in_push area s.pending p h e) in
+    let wider : (n : ℕ) → ask.minor ≡ n → AllOfMinor n s.pending → AllOfMinor n t.pending = λ n e h.
+    of_minor (wide n) t.pending (added (wide n) (is_in_wide n p (asked.minor ∙ e)) (in_wide n s.pending h)) in
     record {
-      rules = λ n marks h m e.
-          begin_rules n s t u p due marks before after l.posts h m (minor ∙ e) items posted issued here there id few is_due in_order l.history
+      rules = λ area marks h m e.
+          begin_rules area s t u p due marks before after l.posts h m (ask_is_in area ask (s.ids + 1) p asked e) items posted issued here there asked.number few is_due in_order l.history
           l.same l.posted l.issued;
       acts = at_link l.posts ++ Began p.request ∷ [];
       told = told_began l.posts before after p.request l.history;
@@ -313,8 +317,8 @@ begins_add ask s t u p due before after was is agrees items posted issued minor 
       spares = λ image marks h.
           subst (λ (x : List Pending). Spares (pending_of x) (state_after image marks) (state_after image (grown l.posts marks))) (sym l.same)
           (l.spares image marks (agrees marks h));
-      minors = λ n e h. subst (λ (ls : List Pending). AllOfMinor n ls) (sym l.same) (minors n e h);
-      truth = λ opening marks h e m k. l.truth opening marks (agrees marks h) (minors opening.minor e m) k;
+      minors = λ area e h. subst (λ (ls : List Pending). AllIn area ls) (sym l.same) (added area (ask_is_in area ask (s.ids + 1) p asked e) h);
+      truth = λ opening marks h e m k. l.truth opening marks (agrees marks h) (wider opening.minor e m) k;
     }
 
 -- nothing is begun
@@ -333,9 +337,9 @@ begins_none ask t history was = record {
   issued = omega (arith, t.order);
   agrees = λ marks h. h;
   spares = λ image marks h. record { disk = λ p q. refl; sure = λ p q s. s };
-  minors = λ n e h. h;
+  minors = λ area e h. h;
   truth = λ opening marks h e m k. k;
-  rules = λ n marks h m e. record { told = refl; grows = refl; keeps = tt; owes = refl };
+  rules = λ area marks h m e. record { told = refl; grows = refl; keeps = tt; owes = refl };
 }
 
 -- behind these stands the last

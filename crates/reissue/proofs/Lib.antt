@@ -9,6 +9,7 @@ pub mod Answering
 mod Closing
 pub mod Settling
 mod Steps
+pub mod Inside
 mod Messages
 pub mod Taking
 mod Order

@@ -17,7 +17,8 @@ use Rattle.reissue.specs.Settlements.{Settlement}
 use Rattle.reissue.specs.Settlements as settled
 use Rattle.records.specs.Opening.{Opening}
 use Rattle.reissue.specs.Moves.{Closes}
-use Rattle.reissue.specs.Entries.{pending_of, AllOfMinor}
+use Rattle.records.specs.Area.{Area}
+use Rattle.reissue.specs.Entries.{pending_of, AllIn}
 use Rattle.reissue.specs.Agrees.{Agrees, AllReadDisk}
 use Rattle.reissue.specs.Hears.{HearsStart, HearsAnswer, counted_move}
 use Rattle.records.specs.Acts.{complaint_due, target}
@@ -153,7 +154,7 @@ pub takes_reply : (message : Incoming) (a : BlockReply) (r : AnswerEffect) (byte
     → ((marks : List Mark) → Agrees t marks → complained r a ≡ complaints_about (complaint_due a marks))
     → Closes (settled_of r bytes) (pending_of t.pending) (pending_of u.pending)
     → ((marks : List Mark) → Agrees t marks → Closing (settled_of r bytes) t.pending u.pending marks (received (incoming.Reply a) marks))
-    → ((minor : ℕ) → AllOfMinor minor t.pending → AllOfMinor minor u.pending)
+    → ((area : Area) → AllIn area t.pending → AllIn area u.pending)
     → u.current ≡ t.current → u.given_up ≡ t.given_up
     → after ≡ complained r a ++ before
     → ((opening : Opening) (marks : List Mark) → was opening marks → is opening marks)
@@ -218,7 +219,7 @@ takes_started message e t u history was is items posted issued ids current given
       closes = ap pending_of items;
       closing = λ marks h. closing_same settled.Nothing t.pending u.pending marks (Started e ∷ marks) (λ _ _. refl) (λ _. refl)
           (reads_none t.pending u.pending marks (Started e ∷ marks) items (λ _. refl) (λ _. refl));
-      minors = λ minor h. rw items h;
+      minors = λ area h. rw items h;
       truth = λ opening marks k. k;
     })
 
@@ -239,7 +240,7 @@ takes_flush message t history was is =
       agrees = λ marks h. agrees_flushed t marks h;
       closes = refl;
       closing = λ marks h. record { moves = λ image tr. record { spares = record { disk = λ p q. refl; sure = λ p q s. s }; tells = tt }; joins = tt; leaves = tt; reads = reads_none t.pending t.pending marks (Flush ∷ marks) refl (λ _. refl) (λ _. refl) };
-      minors = λ minor h. h;
+      minors = λ area h. h;
       truth = λ opening marks k. k;
     })
 
@@ -261,7 +262,7 @@ takes_gave_up message t u history was is items posted issued ids current given_u
       agrees = λ marks h. agrees_gave_up t u marks h items issued ids current given_up;
       closes = ap pending_of items;
       closing = λ marks h. record { moves = λ image tr. record { spares = record { disk = λ p q. refl; sure = λ p q s. s }; tells = tt }; joins = tt; leaves = tt; reads = reads_none t.pending u.pending marks (GaveUp ∷ marks) items (λ _. refl) (λ _. refl) };
-      minors = λ minor h. rw items h;
+      minors = λ area h. rw items h;
       truth = λ opening marks k. k;
     })
 
@@ -282,6 +283,6 @@ takes_end message t history was is =
       agrees = λ marks h. h;
       closes = refl;
       closing = λ marks h. record { moves = λ image tr. record { spares = record { disk = λ p q. refl; sure = λ p q s. s }; tells = tt }; joins = tt; leaves = tt; reads = reads_none t.pending t.pending marks marks refl (λ _. refl) (λ _. refl) };
-      minors = λ minor h. h;
+      minors = λ area h. h;
       truth = λ opening marks k. k;
     })

@@ -8,14 +8,14 @@ use Rattle.message.specs.declared.BlockRequest.{BlockRequest}
 use Rattle.records.specs.Marks.{Mark, Issued}
 use Rattle.records.specs.Open.{without_id}
 use Rattle.records.specs.Told.{Told, Posted, Complained, Received}
+use Rattle.records.specs.Area.{Area, FitsArea}
 use Rattle.records.specs.Acts.{Act, AtLink, Outbox, KeepsRules, outbox_after, target, told_of}
-use Rattle.records.specs.Opening.{FitsMinor}
 use Rattle.records.proofs.ActLaws.{acts_compose}
 use Rattle.reissue.specs.declared.pending.Pending.{Pending}
-use Rattle.reissue.specs.Entries.{AreRising, AllOfMinor, request_of}
+use Rattle.reissue.specs.Entries.{AreRising, AllIn, request_of}
 use Rattle.reissue.specs.Posts.{ArePostedTo, accepted_of}
 use Rattle.reissue.specs.Rules.{at_link}
-use Rattle.reissue.proofs.Steps.{fits_minor}
+use Rattle.reissue.proofs.Inside.{IsIn, fits_area}
 use Rattle.reissue.proofs.Tickets.{rising_lower}
 use Rattle.reissue.proofs.Order.{without_lower}
 
@@ -51,36 +51,36 @@ accepted_more (Complained e ∷ told) to r = accepted_more told to r
 accepted_more (Received m ∷ told) to r = accepted_more told to r
 
 -- a first post that was accepted, and then these
-pub record Then (minor : ℕ) (posts : List Told) (marks : List Mark) (to : Endpoint) (r : BlockRequest) (ns ms us : List BlockRequest) : Type 0 where
-  pub keeps : KeepsRules minor (at_link (posts ++ Posted to r true ∷ [])) marks (box ns (r ∷ us) false)
+pub record Then (area : Area) (posts : List Told) (marks : List Mark) (to : Endpoint) (r : BlockRequest) (ns ms us : List BlockRequest) : Type 0 where
+  pub keeps : KeepsRules area (at_link (posts ++ Posted to r true ∷ [])) marks (box ns (r ∷ us) false)
   pub owes : outbox_after (at_link (posts ++ Posted to r true ∷ [])) marks (box ns (r ∷ us) false)
       ≡ outbox_after (at_link posts) (Issued r to ∷ marks) (box ms us false)
 
 -- an accepted post, and then the others
-post_then : (minor : ℕ) (posts : List Told) (marks : List Mark) (to : Endpoint) (r : BlockRequest) (ns ms us : List BlockRequest)
-    → target marks ≡ Some to → FitsMinor minor r → without_id r.id ns ≡ ms
-    → KeepsRules minor (at_link posts) (Issued r to ∷ marks) (box ms us false)
-    → Then minor posts marks to r ns ms us
-post_then minor posts marks to r ns ms us started fits left keeps =
+post_then : (area : Area) (posts : List Told) (marks : List Mark) (to : Endpoint) (r : BlockRequest) (ns ms us : List BlockRequest)
+    → target marks ≡ Some to → FitsArea area r → without_id r.id ns ≡ ms
+    → KeepsRules area (at_link posts) (Issued r to ∷ marks) (box ms us false)
+    → Then area posts marks to r ns ms us
+post_then area posts marks to r ns ms us started fits left keeps =
     let one : List Act = AtLink (Posted to r true) ∷ [] in
     let o = box ns (r ∷ us) false in
     let after : box (without_id r.id ns) (without_id r.id (r ∷ us)) false ≡ box ms us false =
     box_same (without_id r.id ns) ms (without_id r.id (r ∷ us)) us false false left (without_head r us) refl in
-    let c = acts_compose minor (at_link posts) (AtLink (Posted to r true) ∷ []) marks o in
-    let first : KeepsRules minor (AtLink (Posted to r true) ∷ []) marks o =
+    let c = acts_compose area (at_link posts) (AtLink (Posted to r true) ∷ []) marks o in
+    let first : KeepsRules area (AtLink (Posted to r true) ∷ []) marks o =
     (tt, record { complained = refl; endpoint = started; not_stopped = refl; first = refl; fits = fits }) in
-    let second : KeepsRules minor (at_link posts) (Issued r to ∷ marks) (box (without_id r.id ns) (without_id r.id (r ∷ us)) false) =
-    subst (λ (x : Outbox). KeepsRules minor (at_link posts) (Issued r to ∷ marks) x) (sym after) keeps in
+    let second : KeepsRules area (at_link posts) (Issued r to ∷ marks) (box (without_id r.id ns) (without_id r.id (r ∷ us)) false) =
+    subst (λ (x : Outbox). KeepsRules area (at_link posts) (Issued r to ∷ marks) x) (sym after) keeps in
     record {
       keeps = rw (at_link_append posts (Posted to r true ∷ [])) (c.keep first second);
       owes = rw (at_link_append posts (Posted to r true ∷ [])) (c.owed ∙ ap (λ (x : Outbox). outbox_after (at_link posts) (Issued r to ∷ marks) x) after);
     }
 
 -- the issued ones of those that aren't posted, and then those never issued, were posted
-pub record IsPosted (minor : ℕ) (fs ws : List Pending) (marks : List Mark) (before after : List Told) : Type 0 where
+pub record IsPosted (area : Area) (fs ws : List Pending) (marks : List Mark) (before after : List Told) : Type 0 where
   pub posts : List Told
   pub history : after ≡ posts ++ before
-  pub keeps : KeepsRules minor (at_link posts) marks (box (map request_of ws) (map request_of (fs ++ ws)) false)
+  pub keeps : KeepsRules area (at_link posts) marks (box (map request_of ws) (map request_of (fs ++ ws)) false)
   pub owes : outbox_after (at_link posts) marks (box (map request_of ws) (map request_of (fs ++ ws)) false)
       ≡ box (map request_of (drop (accepted_of posts - length fs) ws)) (map request_of (drop (accepted_of posts) (fs ++ ws)))
       (nat_lt (accepted_of posts) (length (fs ++ ws)))
@@ -103,13 +103,13 @@ rising_suffix low ids [] ws h = h
 rising_suffix low ids (f ∷ fs) ws h = rising_lower low f.request.id ids ws (omega (arith, h.0)) (rising_suffix f.request.id ids fs ws h.2)
 
 -- the first is refused
-refused_first : (minor : ℕ) (to : Endpoint) (fs ws : List Pending) (p : Pending) (ps : List Pending) (marks : List Mark) (before after : List Told)
-    → fs ++ ws ≡ p ∷ ps → target marks ≡ Some to → p.request.minor ≡ minor
-    → after ≡ Posted to p.request false ∷ before → IsPosted minor fs ws marks before after
-refused_first minor to fs ws p ps marks before after is started m e = record {
+refused_first : (area : Area) (to : Endpoint) (fs ws : List Pending) (p : Pending) (ps : List Pending) (marks : List Mark) (before after : List Told)
+    → fs ++ ws ≡ p ∷ ps → target marks ≡ Some to → IsIn area p
+    → after ≡ Posted to p.request false ∷ before → IsPosted area fs ws marks before after
+refused_first area to fs ws p ps marks before after is started m e = record {
   posts = Posted to p.request false ∷ [];
   history = e;
-  keeps = (tt, record { complained = refl; endpoint = started; not_stopped = refl; first = rw is refl; fits = fits_minor minor p m });
+  keeps = (tt, record { complained = refl; endpoint = started; not_stopped = refl; first = rw is refl; fits = fits_area area p m });
   owes =
       let none : 0 - length fs ≡ 0 = omega arith in
       box_same (map request_of ws) (map request_of (drop (0 - length fs) ws)) (map request_of (fs ++ ws)) (map request_of (fs ++ ws)) true
@@ -117,14 +117,14 @@ refused_first minor to fs ws p ps marks before after is started m e = record {
 }
 
 -- posts in order, up to the first that is refused, keep the rules
-pub posted_keep : (minor low ids : ℕ) (to : Endpoint) (fs ws : List Pending) (marks : List Mark) (before after : List Told)
-    → AreRising low ids (fs ++ ws) → AllOfMinor minor (fs ++ ws) → target marks ≡ Some to
-    → ArePostedTo to (map request_of (fs ++ ws)) before after → IsPosted minor fs ws marks before after
-posted_keep minor low ids to [] [] marks before after h m s e = record { posts = []; history = e; keeps = tt; owes = refl }
-posted_keep minor low ids to [] (w ∷ ws) marks before after h m s (inl e) = refused_first minor to [] (w ∷ ws) w ws marks before after refl s m.0 e
-posted_keep minor low ids to [] (w ∷ ws) marks before after h m s (inr e) =
-    let x = posted_keep minor w.request.id ids to [] ws (Issued w.request to ∷ marks) (Posted to w.request true ∷ before) after h.2 m.1 s e in
-    let t = post_then minor x.posts marks to w.request (map request_of (w ∷ ws)) (map request_of ws) (map request_of ws) s (fits_minor minor w m.0)
+pub posted_keep : (area : Area) (low ids : ℕ) (to : Endpoint) (fs ws : List Pending) (marks : List Mark) (before after : List Told)
+    → AreRising low ids (fs ++ ws) → AllIn area (fs ++ ws) → target marks ≡ Some to
+    → ArePostedTo to (map request_of (fs ++ ws)) before after → IsPosted area fs ws marks before after
+posted_keep area low ids to [] [] marks before after h m s e = record { posts = []; history = e; keeps = tt; owes = refl }
+posted_keep area low ids to [] (w ∷ ws) marks before after h m s (inl e) = refused_first area to [] (w ∷ ws) w ws marks before after refl s m.0 e
+posted_keep area low ids to [] (w ∷ ws) marks before after h m s (inr e) =
+    let x = posted_keep area w.request.id ids to [] ws (Issued w.request to ∷ marks) (Posted to w.request true ∷ before) after h.2 m.1 s e in
+    let t = post_then area x.posts marks to w.request (map request_of (w ∷ ws)) (map request_of ws) (map request_of ws) s (fits_area area w m.0)
     (without_head w.request (map request_of ws)) x.keeps in
     let k : accepted_of (x.posts ++ Posted to w.request true ∷ []) ≡ suc (accepted_of x.posts) = omega (arith, accepted_more x.posts to w.request) in
     let same : accepted_of x.posts - 0 ≡ accepted_of x.posts = omega arith in
@@ -138,10 +138,10 @@ posted_keep minor low ids to [] (w ∷ ws) marks before after h m s (inr e) =
           (map request_of (drop (accepted_of x.posts) ws)) (map request_of (drop (accepted_of x.posts) ws))
           (nat_lt (accepted_of x.posts) (length ws)) (nat_lt (suc (accepted_of x.posts)) (suc (length ws))) refl refl (less_suc (accepted_of x.posts) (length ws)));
     }
-posted_keep minor low ids to (f ∷ fs) ws marks before after h m s (inl e) = refused_first minor to (f ∷ fs) ws f (fs ++ ws) marks before after refl s m.0 e
-posted_keep minor low ids to (f ∷ fs) ws marks before after h m s (inr e) =
-    let x = posted_keep minor f.request.id ids to fs ws (Issued f.request to ∷ marks) (Posted to f.request true ∷ before) after h.2 m.1 s e in
-    let t = post_then minor x.posts marks to f.request (map request_of ws) (map request_of ws) (map request_of (fs ++ ws)) s (fits_minor minor f m.0)
+posted_keep area low ids to (f ∷ fs) ws marks before after h m s (inl e) = refused_first area to (f ∷ fs) ws f (fs ++ ws) marks before after refl s m.0 e
+posted_keep area low ids to (f ∷ fs) ws marks before after h m s (inr e) =
+    let x = posted_keep area f.request.id ids to fs ws (Issued f.request to ∷ marks) (Posted to f.request true ∷ before) after h.2 m.1 s e in
+    let t = post_then area x.posts marks to f.request (map request_of ws) (map request_of ws) (map request_of (fs ++ ws)) s (fits_area area f m.0)
     (without_lower f.request.id f.request.id ids ws (rising_suffix f.request.id ids fs ws h.2) (omega arith)) x.keeps in
     let k : accepted_of (x.posts ++ Posted to f.request true ∷ []) ≡ suc (accepted_of x.posts) = omega (arith, accepted_more x.posts to f.request) in
     let one : suc (accepted_of x.posts) - suc (length fs) ≡ accepted_of x.posts - length fs = omega arith in

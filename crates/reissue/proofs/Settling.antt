@@ -1,11 +1,10 @@
 -- What an answer does to the entries, exactly.
-use Rattle.std.proofs.Common.{◌≡◌, ℕ, suc, zero, ◌+◌, ◌-◌, ◌<◌, List, [], ◌∷◌, ◌++◌, length, get_or, Bool, false, cond, sym, ◌∙◌, ap, subst, arith}
+use Rattle.std.proofs.Common.{◌≡◌, ℕ, ◌+◌, ◌-◌, ◌<◌, [], ◌∷◌, ◌++◌, length, get_or, Bool, false, cond, sym, subst, arith}
 use Rattle.std.proofs.lemmas.Bool.Decides.{nat_tests}
 use Rattle.std.specs.Prelude.{nat_lt, remove}
 use Rattle.lemmas.proofs.Numbers.{less_holds}
 use Rattle.reissue.specs.declared.pending.Pending.{Pending}
 use Rattle.reissue.specs.declared.table.Table.{Table}
-use Rattle.reissue.specs.Entries.{AllOfMinor}
 use Rattle.reissue.specs.Hears.{IsRest, LeavesRest, IsAnswered}
 
 -- an issued place is a place
@@ -45,22 +44,3 @@ answered_part t v id at n e r lt is same part items ids rest posted issued = rec
   posted = posted;
   issued_left = issued;
 }
-
--- the minors of the others
-pub minors_rest : (minor : ℕ) (ps : List Pending) (at : ℕ) → AllOfMinor minor ps → AllOfMinor minor (remove ps at)
-minors_rest minor [] zero h = tt
-minors_rest minor [] (suc at) h = tt
-minors_rest minor (p ∷ ps) zero h = h.1
-minors_rest minor (p ∷ ps) (suc at) h = (h.0, minors_rest minor ps at h.1)
-
--- and of one more
-pub minors_push : (minor : ℕ) (ps : List Pending) (q : Pending) → AllOfMinor minor ps → q.request.minor ≡ minor → AllOfMinor minor (ps ++ q ∷ [])
-minors_push minor [] q h e = (e, tt)
-minors_push minor (p ∷ ps) q h e = (h.0, minors_push minor ps q h.1 e)
-
--- the minor of the entry at a place
-pub minor_there : (minor : ℕ) (ps : List Pending) (at : ℕ) (e : Pending) → at < length ps → e ≡ get_or ps at e → AllOfMinor minor ps
-    → e.request.minor ≡ minor
-minor_there minor [] at e lt is h = absurd (omega arith)
-minor_there minor (p ∷ ps) zero e lt is h = ap (λ (x : Pending). x.request.minor) is ∙ h.0
-minor_there minor (p ∷ ps) (suc at) e lt is h = minor_there minor ps at e (omega arith) is h.1

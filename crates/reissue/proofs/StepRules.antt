@@ -13,6 +13,7 @@ use Rattle.message.specs.declared.Incoming.TheVariants as incoming
 use Rattle.records.specs.Marks.{Mark, gave_up}
 use Rattle.records.specs.Open.{open_requests, greatest, counts, moved_by, without_id}
 use Rattle.records.specs.Told.{Told, Complained, Received, received, took_end}
+use Rattle.records.specs.Area.{Area}
 use Rattle.records.specs.Acts.{Act, Began, AtLink, Outbox, KeepsRules, MayAct, outbox_after, marks_after, told_of, with_act, owed_after_act, owed_after_message, complaint_due, without_answered}
 use Rattle.reissue.specs.declared.pending.Pending.{Pending}
 use Rattle.reissue.specs.declared.table.Table.{Table}
@@ -32,24 +33,24 @@ arrival incoming.End before = cond (took_end before) [] (AtLink (Received incomi
 arrival m before = AtLink (Received m) ∷ []
 
 -- a message that arrives: what this act adds to the record and to what is owed
-pub record Arrives (minor : ℕ) (act : Act) (m : Incoming) (marks : List Mark) (o : Outbox) : Type 0 where
+pub record Arrives (area : Area) (act : Act) (m : Incoming) (marks : List Mark) (o : Outbox) : Type 0 where
   pub grows : with_act act marks ≡ received m marks
   pub owed : owed_after_act act marks o ≡ owed_after_message m marks o
-  pub may : MayAct minor marks o act
+  pub may : MayAct area marks o act
 
 -- what is done on it before the posts
-pub record Heard (begun : List Act) (minor : ℕ) (act : Act) (m : Incoming) (marks : List Mark) (o next : Outbox) : Type 0 where
+pub record Heard (begun : List Act) (area : Area) (act : Act) (m : Incoming) (marks : List Mark) (o next : Outbox) : Type 0 where
   pub acts : List Act
   pub are : acts ≡ begun ++ (at_link (complaints_about (due_after m marks)) ++ act ∷ [])
   pub told : told_of acts ≡ complaints_about (due_after m marks) ++ told_of (act ∷ [])
-  pub keeps : KeepsRules minor acts marks o
+  pub keeps : KeepsRules area acts marks o
   pub owes : outbox_after acts marks o ≡ next
   pub grows : marks_after acts marks ≡ received m marks
 
 -- nothing but the message
-heard_alone : (minor : ℕ) (act : Act) (m : Incoming) (marks : List Mark) (o next : Outbox) → Arrives minor act m marks o
-    → due_after m marks ≡ None → owed_after_message m marks o ≡ next → Heard [] minor act m marks o next
-heard_alone minor act m marks o next a due e = record {
+heard_alone : (area : Area) (act : Act) (m : Incoming) (marks : List Mark) (o next : Outbox) → Arrives area act m marks o
+    → due_after m marks ≡ None → owed_after_message m marks o ≡ next → Heard [] area act m marks o next
+heard_alone area act m marks o next a due e = record {
   acts = act ∷ [];
   are = rw due refl;
   told = rw due refl;
@@ -59,12 +60,12 @@ heard_alone minor act m marks o next a due e = record {
 }
 
 -- an answer that isn't good, or doesn't count: a complaint where one is due
-heard_complaint : (minor : ℕ) (act : Act) (m : Incoming) (marks : List Mark) (o : Outbox) (ns us : List BlockRequest) → Arrives minor act m marks o
+heard_complaint : (area : Area) (act : Act) (m : Incoming) (marks : List Mark) (o : Outbox) (ns us : List BlockRequest) → Arrives area act m marks o
     → owed_after_message m marks o ≡ record { never_issued = ns; unposted = us; stopped = false; complaint = due_after m marks }
-    → Heard [] minor act m marks o (box ns us false)
-heard_complaint minor act m marks o ns us a e = by (due_after m marks) refl where
-  by : (c : Option Endpoint) → due_after m marks ≡ c → Heard [] minor act m marks o (box ns us false)
-  by None d = heard_alone minor act m marks o (box ns us false) a d (e ∙ rw d refl)
+    → Heard [] area act m marks o (box ns us false)
+heard_complaint area act m marks o ns us a e = by (due_after m marks) refl where
+  by : (c : Option Endpoint) → due_after m marks ≡ c → Heard [] area act m marks o (box ns us false)
+  by None d = heard_alone area act m marks o (box ns us false) a d (e ∙ rw d refl)
   by (Some about) d =
       let owed : owed_after_act act marks o ≡ record { never_issued = ns; unposted = us; stopped = false; complaint = Some about } = a.owed ∙ e ∙ rw d refl in
       record {
@@ -77,14 +78,14 @@ heard_complaint minor act m marks o ns us a e = by (due_after m marks) refl wher
       }
 
 -- a good answer to part of a request: the rest becomes pending
-heard_rest : (minor : ℕ) (act : Act) (m : Incoming) (marks : List Mark) (o : Outbox) (ns us : List BlockRequest) (r : BlockRequest)
-    → Arrives minor act m marks o → due_after m marks ≡ None → owed_after_message m marks o ≡ box ns us false
+heard_rest : (area : Area) (act : Act) (m : Incoming) (marks : List Mark) (o : Outbox) (ns us : List BlockRequest) (r : BlockRequest)
+    → Arrives area act m marks o → due_after m marks ≡ None → owed_after_message m marks o ≡ box ns us false
     → r.id ≡ greatest (received m marks) + length ns + 1 → length (open_requests (received m marks)) + length ns < 16
-    → Heard (Began r ∷ []) minor act m marks o (box (ns ++ r ∷ []) (us ++ r ∷ []) false)
-heard_rest minor act m marks o ns us r a due e next room =
+    → Heard (Began r ∷ []) area act m marks o (box (ns ++ r ∷ []) (us ++ r ∷ []) false)
+heard_rest area act m marks o ns us r a due e next room =
     let owed : owed_after_act act marks o ≡ box ns us false = a.owed ∙ e in
-    let T : List Mark → Outbox → Type 0 = λ ms x. MayAct minor ms x (Began r) in
-    let may : MayAct minor (received m marks) (box ns us false) (Began r) = record { next = next; room = room } in
+    let T : List Mark → Outbox → Type 0 = λ ms x. MayAct area ms x (Began r) in
+    let may : MayAct area (received m marks) (box ns us false) (Began r) = record { next = next; room = room } in
     record {
       acts = Began r ∷ act ∷ [];
       are = rw due refl;
@@ -145,16 +146,16 @@ length_removed (p ∷ ps) (suc at) lt =
     omega (arith, rest, more)
 
 -- where no id was given
-none_began : {minor : ℕ} {act : Act} {m : Incoming} {marks : List Mark} {o next : Outbox} (old mid : Table) → mid.ids ≡ old.ids
-    → Heard [] minor act m marks o next → Heard (began_on old mid) minor act m marks o next
-none_began {minor} {act} {m} {marks} {o} {next} old mid same h =
-    subst (λ (begun : List Act). Heard begun minor act m marks o next) (sym (began_none old mid same)) h
+none_began : {area : Area} {act : Act} {m : Incoming} {marks : List Mark} {o next : Outbox} (old mid : Table) → mid.ids ≡ old.ids
+    → Heard [] area act m marks o next → Heard (began_on old mid) area act m marks o next
+none_began {area} {act} {m} {marks} {o} {next} old mid same h =
+    subst (λ (begun : List Act). Heard begun area act m marks o next) (sym (began_none old mid same)) h
 
 -- an answer that settles a request or a part of it
-heard_answer : (minor : ℕ) (act : Act) (a : BlockReply) (n : ℕ) (old mid : Table) (marks : List Mark)
-    → Arrives minor act (incoming.Reply a) marks (outbox_of old) → Agrees mid (received (incoming.Reply a) marks)
-    → counted_move marks a ≡ Some n → IsAnswered old mid a.id n → Heard (began_on old mid) minor act (incoming.Reply a) marks (outbox_of old) (loose mid)
-heard_answer minor act a n old mid marks arrives h moves x = by (nat_lt n x.entry.request.count) x.left where
+heard_answer : (area : Area) (act : Act) (a : BlockReply) (n : ℕ) (old mid : Table) (marks : List Mark)
+    → Arrives area act (incoming.Reply a) marks (outbox_of old) → Agrees mid (received (incoming.Reply a) marks)
+    → counted_move marks a ≡ Some n → IsAnswered old mid a.id n → Heard (began_on old mid) area act (incoming.Reply a) marks (outbox_of old) (loose mid)
+heard_answer area act a n old mid marks arrives h moves x = by (nat_lt n x.entry.request.count) x.left where
   within : x.at < length old.pending
   within = omega (arith, x.issued, old.within)
 
@@ -179,8 +180,8 @@ heard_answer minor act a n old mid marks arrives h moves x = by (nat_lt n x.entr
   less : length (remove old.pending x.at) + 1 ≡ length old.pending
   less = length_removed old.pending x.at within
 
-  by : (b : Bool) → LeavesRest old mid x.at x.entry n b → Heard (began_on old mid) minor act (incoming.Reply a) marks (outbox_of old) (loose mid)
-  by false l = none_began old mid l.1 (heard_alone minor act (incoming.Reply a) marks (outbox_of old) (loose mid) arrives due (owed
+  by : (b : Bool) → LeavesRest old mid x.at x.entry n b → Heard (began_on old mid) area act (incoming.Reply a) marks (outbox_of old) (loose mid)
+  by false l = none_began old mid l.1 (heard_alone area act (incoming.Reply a) marks (outbox_of old) (loose mid) arrives due (owed
       ∙ box_same (map request_of (drop mid.issued (remove old.pending x.at))) (never_issued mid)
       (map request_of (drop mid.posted (remove old.pending x.at))) (unposted mid) false false
       (ends_same mid.issued mid.issued (remove old.pending x.at) mid.pending refl (sym l.0))
@@ -195,34 +196,34 @@ heard_answer minor act a n old mid marks arrives h moves x = by (nat_lt n x.entr
       let both : length h.opened + length h.waiting ≡ length mid.pending = sym (length-append h.opened h.waiting) ∙ ap (λ (l : List Pending). length l) (sym h.holds.items) in
       let open_count : length (open_requests (received (incoming.Reply a) marks)) ≡ mid.issued =
       ap (λ (l : List BlockRequest). length l) (sym h.holds.requests) ∙ length-map h.opened request_of ∙ sym h.holds.issued in
-      subst (λ (x : Outbox). Heard (began_on old mid) minor act (incoming.Reply a) marks (outbox_of old) x)
+      subst (λ (x : Outbox). Heard (began_on old mid) area act (incoming.Reply a) marks (outbox_of old) x)
       (box_same (map request_of (drop mid.issued rs) ++ r.request ∷ []) (never_issued mid) (map request_of (drop mid.posted rs) ++ r.request ∷ []) (unposted mid) false false
       (sym (map-append request_of (drop mid.issued rs) (r ∷ [])) ∙ ap (λ (l : List Pending). map request_of l) (sym (drop_push mid.issued rs r issued_le))
       ∙ ends_same mid.issued mid.issued (rs ++ r ∷ []) mid.pending refl (sym l.1))
       (sym (map-append request_of (drop mid.posted rs) (r ∷ [])) ∙ ap (λ (l : List Pending). map request_of l) (sym (drop_push mid.posted rs r posted_le))
       ∙ ends_same mid.posted mid.posted (rs ++ r ∷ []) mid.pending refl (sym l.1)) refl)
-      (subst (λ (begun : List Act). Heard begun minor act (incoming.Reply a) marks (outbox_of old) (box (map request_of (drop mid.issued rs) ++ r.request ∷ []) (map request_of (drop mid.posted rs) ++ r.request ∷ []) false))
-      (sym (began_one old mid rs r l.3 l.1)) (heard_rest minor act (incoming.Reply a) marks (outbox_of old) (map request_of (drop mid.issued rs)) (map request_of (drop mid.posted rs)) r.request arrives due owed
+      (subst (λ (begun : List Act). Heard begun area act (incoming.Reply a) marks (outbox_of old) (box (map request_of (drop mid.issued rs) ++ r.request ∷ []) (map request_of (drop mid.posted rs) ++ r.request ∷ []) false))
+      (sym (began_one old mid rs r l.3 l.1)) (heard_rest area act (incoming.Reply a) marks (outbox_of old) (map request_of (drop mid.issued rs)) (map request_of (drop mid.posted rs)) r.request arrives due owed
       (l.2.number ∙ omega (arith, l.3, h.holds.ids, h.holds.issued, both, items, never, less, x.issued_left))
       (omega (arith, open_count, never, less, old.few, x.issued_left, old.within))))
 
 -- a reply
-heard_reply : (minor : ℕ) (act : Act) (a : BlockReply) (old mid : Table) (marks : List Mark)
-    → Arrives minor act (incoming.Reply a) marks (outbox_of old) → Agrees mid (received (incoming.Reply a) marks)
-    → HearsAnswer old mid a.id (counted_move marks a) → Heard (began_on old mid) minor act (incoming.Reply a) marks (outbox_of old) (loose mid)
-heard_reply minor act a old mid marks arrives h x = by (counted_move marks a) refl x where
-  by : (m : Option ℕ) → counted_move marks a ≡ m → HearsAnswer old mid a.id m → Heard (began_on old mid) minor act (incoming.Reply a) marks (outbox_of old) (loose mid)
-  by None e x = subst (λ (o : Outbox). Heard (began_on old mid) minor act (incoming.Reply a) marks (outbox_of old) o) (loose_same old mid x)
-      (none_began old mid x.ids (heard_complaint minor act (incoming.Reply a) marks (outbox_of old) (never_issued old) (unposted old) arrives
+heard_reply : (area : Area) (act : Act) (a : BlockReply) (old mid : Table) (marks : List Mark)
+    → Arrives area act (incoming.Reply a) marks (outbox_of old) → Agrees mid (received (incoming.Reply a) marks)
+    → HearsAnswer old mid a.id (counted_move marks a) → Heard (began_on old mid) area act (incoming.Reply a) marks (outbox_of old) (loose mid)
+heard_reply area act a old mid marks arrives h x = by (counted_move marks a) refl x where
+  by : (m : Option ℕ) → counted_move marks a ≡ m → HearsAnswer old mid a.id m → Heard (began_on old mid) area act (incoming.Reply a) marks (outbox_of old) (loose mid)
+  by None e x = subst (λ (o : Outbox). Heard (began_on old mid) area act (incoming.Reply a) marks (outbox_of old) o) (loose_same old mid x)
+      (none_began old mid x.ids (heard_complaint area act (incoming.Reply a) marks (outbox_of old) (never_issued old) (unposted old) arrives
       (ap (λ (l : List BlockRequest). record { never_issued = never_issued old; unposted = l; stopped = false; complaint = complaint_due a marks })
       (left_after marks a (unposted old) None e))))
-  by (Some n) e x = heard_answer minor act a n old mid marks arrives h e x
+  by (Some n) e x = heard_answer area act a n old mid marks arrives h e x
 
 -- a start, before the device is given up
-heard_start : (minor : ℕ) (act : Act) (e : Endpoint) (old mid : Table) (marks : List Mark)
-    → Arrives minor act (incoming.Started e) marks (outbox_of old) → Agrees old marks → gave_up marks ≡ false
-    → HearsStart old mid e false → Heard (began_on old mid) minor act (incoming.Started e) marks (outbox_of old) (loose mid)
-heard_start minor act e old mid marks arrives h g x =
+heard_start : (area : Area) (act : Act) (e : Endpoint) (old mid : Table) (marks : List Mark)
+    → Arrives area act (incoming.Started e) marks (outbox_of old) → Agrees old marks → gave_up marks ≡ false
+    → HearsStart old mid e false → Heard (began_on old mid) area act (incoming.Started e) marks (outbox_of old) (loose mid)
+heard_start area act e old mid marks arrives h g x =
     let waiting : drop old.issued old.pending ≡ h.waiting =
     ap (λ (k : ℕ). drop k old.pending) h.holds.issued ∙ ap (λ (l : List Pending). drop (length h.opened) l) h.holds.items
     ∙ drop-append_seam h.opened h.waiting in
@@ -231,31 +232,31 @@ heard_start minor act e old mid marks arrives h g x =
     ∙ ap (λ (l : List Pending). map request_of h.opened ++ map request_of l) waiting
     ∙ sym (map-append request_of h.opened h.waiting) ∙ ap (λ (l : List Pending). map request_of l) (sym h.holds.items)
     ∙ ends_same 0 mid.posted old.pending mid.pending (sym x.2) (sym x.0) in
-    none_began old mid x.1 (heard_alone minor act (incoming.Started e) marks (outbox_of old) (loose mid) arrives refl
+    none_began old mid x.1 (heard_alone area act (incoming.Started e) marks (outbox_of old) (loose mid) arrives refl
     (ap (λ (b : Bool). cond b (record (outbox_of old) { stopped = false }) (record (outbox_of old) { unposted = open_requests marks ++ never_issued old; stopped = false })) g
     ∙ box_same (never_issued old) (never_issued mid) (open_requests marks ++ never_issued old) (unposted mid) false false
     (ends_same old.issued mid.issued old.pending mid.pending (sym x.3) (sym x.0)) all refl))
 
 -- a start after the device was given up
-heard_late_start : (minor : ℕ) (act : Act) (e : Endpoint) (old mid : Table) (marks : List Mark)
-    → Arrives minor act (incoming.Started e) marks (outbox_of old) → gave_up marks ≡ true
-    → IsUnanswered old mid → Heard (began_on old mid) minor act (incoming.Started e) marks (outbox_of old) (loose mid)
-heard_late_start minor act e old mid marks arrives g x =
-    none_began old mid x.ids (heard_alone minor act (incoming.Started e) marks (outbox_of old) (loose mid) arrives refl
+heard_late_start : (area : Area) (act : Act) (e : Endpoint) (old mid : Table) (marks : List Mark)
+    → Arrives area act (incoming.Started e) marks (outbox_of old) → gave_up marks ≡ true
+    → IsUnanswered old mid → Heard (began_on old mid) area act (incoming.Started e) marks (outbox_of old) (loose mid)
+heard_late_start area act e old mid marks arrives g x =
+    none_began old mid x.ids (heard_alone area act (incoming.Started e) marks (outbox_of old) (loose mid) arrives refl
     (ap (λ (b : Bool). cond b (record (outbox_of old) { stopped = false }) (record (outbox_of old) { unposted = open_requests marks ++ never_issued old; stopped = false })) g
     ∙ loose_same old mid x))
 
 -- a message but End
-pub heard : (minor : ℕ) (act : Act) (m : Incoming) (old mid : Table) (marks : List Mark)
-    → Arrives minor act m marks (outbox_of old) → Agrees old marks → Agrees mid (received m marks) → Hears m old mid marks
-    → is_message m ≡ true → Heard (began_on old mid) minor act m marks (outbox_of old) (loose mid)
-heard minor act (incoming.Reply a) old mid marks arrives h k x e = heard_reply minor act a old mid marks arrives k x.0
-heard minor act (incoming.Started d) old mid marks arrives h k x e = by old.given_up (sym h.holds.given_up) x where
-  by : (b : Bool) → gave_up marks ≡ b → HearsStart old mid d b → Heard (began_on old mid) minor act (incoming.Started d) marks (outbox_of old) (loose mid)
-  by true g x = heard_late_start minor act d old mid marks arrives g x.0
-  by false g x = heard_start minor act d old mid marks arrives h g x
-heard minor act incoming.GaveUp old mid marks arrives h k x e =
-    none_began old mid x.0.ids (heard_alone minor act incoming.GaveUp marks (outbox_of old) (loose mid) arrives refl (loose_same old mid x.0))
-heard minor act incoming.Flush old mid marks arrives h k x e =
-    none_began old mid x.0.ids (heard_alone minor act incoming.Flush marks (outbox_of old) (loose mid) arrives refl (loose_same old mid x.0))
-heard minor act incoming.End old mid marks arrives h k x e = cc
+pub heard : (area : Area) (act : Act) (m : Incoming) (old mid : Table) (marks : List Mark)
+    → Arrives area act m marks (outbox_of old) → Agrees old marks → Agrees mid (received m marks) → Hears m old mid marks
+    → is_message m ≡ true → Heard (began_on old mid) area act m marks (outbox_of old) (loose mid)
+heard area act (incoming.Reply a) old mid marks arrives h k x e = heard_reply area act a old mid marks arrives k x.0
+heard area act (incoming.Started d) old mid marks arrives h k x e = by old.given_up (sym h.holds.given_up) x where
+  by : (b : Bool) → gave_up marks ≡ b → HearsStart old mid d b → Heard (began_on old mid) area act (incoming.Started d) marks (outbox_of old) (loose mid)
+  by true g x = heard_late_start area act d old mid marks arrives g x.0
+  by false g x = heard_start area act d old mid marks arrives h g x
+heard area act incoming.GaveUp old mid marks arrives h k x e =
+    none_began old mid x.0.ids (heard_alone area act incoming.GaveUp marks (outbox_of old) (loose mid) arrives refl (loose_same old mid x.0))
+heard area act incoming.Flush old mid marks arrives h k x e =
+    none_began old mid x.0.ids (heard_alone area act incoming.Flush marks (outbox_of old) (loose mid) arrives refl (loose_same old mid x.0))
+heard area act incoming.End old mid marks arrives h k x e = cc

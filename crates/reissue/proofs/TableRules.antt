@@ -8,10 +8,11 @@ use Rattle.message.specs.declared.endpoint.Endpoint.{Endpoint}
 use Rattle.records.specs.Marks.{Mark, last_started, gave_up}
 use Rattle.records.specs.Open.{open_requests, has_none}
 use Rattle.records.specs.Told.{Told}
+use Rattle.records.specs.Area.{Area}
 use Rattle.records.specs.Acts.{Outbox, KeepsRules, outbox_after, IsAtRest, needs_message, target}
 use Rattle.reissue.specs.declared.pending.Pending.{Pending}
 use Rattle.reissue.specs.declared.table.Table.{Table}
-use Rattle.reissue.specs.Entries.{AreRising, AllOfMinor, request_of, pending_of}
+use Rattle.reissue.specs.Entries.{AreRising, AllIn, request_of, pending_of}
 use Rattle.reissue.specs.Moves.{Begun, IsBusy}
 use Rattle.reissue.specs.Agrees.{Agrees, unposted, never_issued}
 use Rattle.reissue.specs.Posts.{ArePostedTo, PostsInOrder, accepted_of}
@@ -27,30 +28,30 @@ loose t = box (never_issued t) (unposted t) false
 pub ends_same : (n m : ℕ) (ps qs : List Pending) → n ≡ m → ps ≡ qs → map request_of (drop n ps) ≡ map request_of (drop m qs)
 ends_same n m ps qs e f = ap (λ (k : ℕ). map request_of (drop k ps)) e ∙ ap (λ (l : List Pending). map request_of (drop m l)) f
 
--- the minors of an end
-minors_drop : (minor n : ℕ) (ps : List Pending) → AllOfMinor minor ps → AllOfMinor minor (drop n ps)
-minors_drop minor zero ps h = h
-minors_drop minor (suc n) [] h = tt
-minors_drop minor (suc n) (p ∷ ps) h = minors_drop minor n ps h.1
+-- so is an end of them
+in_drop : (area : Area) (n : ℕ) (ps : List Pending) → AllIn area ps → AllIn area (drop n ps)
+in_drop area zero ps h = h
+in_drop area (suc n) [] h = tt
+in_drop area (suc n) (p ∷ ps) h = in_drop area n ps h.1
 
 -- less by as many on both sides
 less_shift : (k p l m : ℕ) → m ≡ l - p → p ≤ l → nat_lt k m ≡ nat_lt (p + k) l
 less_shift k p l m e le = elim (leb_tells l (p + k)) [ inl h ↦ grind (arith, nat_tests) | inr h ↦ grind (arith, nat_tests) ]
 
 -- what a table's posts keep, and what it owes then
-pub record PostsKeep (minor : ℕ) (mid new : Table) (marks : List Mark) (posts : List Told) : Type 0 where
-  pub keeps : KeepsRules minor (at_link posts) marks (loose mid)
+pub record PostsKeep (area : Area) (mid new : Table) (marks : List Mark) (posts : List Told) : Type 0 where
+  pub keeps : KeepsRules area (at_link posts) marks (loose mid)
   pub owes : outbox_after (at_link posts) marks (loose mid) ≡ outbox_of new
 
 -- with nowhere to post to
-none_posted : (minor : ℕ) (mid new : Table) (marks : List Mark) (between after posts : List Told)
+none_posted : (area : Area) (mid new : Table) (marks : List Mark) (between after posts : List Told)
     → new.current ≡ None → after ≡ between → after ≡ posts ++ between
     → new.pending ≡ mid.pending → new.posted ≡ mid.posted + accepted_of posts → new.issued ≡ max mid.issued new.posted
-    → PostsKeep minor mid new marks posts
-none_posted minor mid new marks between after posts current e history pending posted issued =
+    → PostsKeep area mid new marks posts
+none_posted area mid new marks between after posts current e history pending posted issued =
     let none : posts ≡ [] = append_cancel posts [] between (sym history ∙ e) in
     let zero_more : accepted_of posts ≡ 0 = ap accepted_of none in
-    let P : List Told → Type 0 = λ ts. PostsKeep minor mid new marks ts in
+    let P : List Told → Type 0 = λ ts. PostsKeep area mid new marks ts in
     subst P (sym none) (record {
       keeps = tt;
       owes = box_same (never_issued mid) (never_issued new) (unposted mid) (unposted new) false (is_some new.current && nat_lt new.posted (length new.pending))
@@ -60,20 +61,20 @@ none_posted minor mid new marks between after posts current e history pending po
     })
 
 -- with an endpoint to post to
-some_posted : (minor : ℕ) (mid new : Table) (to : Endpoint) (marks : List Mark) (between after posts : List Told)
-    → new.current ≡ Some to → target marks ≡ Some to → AllOfMinor minor mid.pending
+some_posted : (area : Area) (mid new : Table) (to : Endpoint) (marks : List Mark) (between after posts : List Told)
+    → new.current ≡ Some to → target marks ≡ Some to → AllIn area mid.pending
     → ArePostedTo to (unposted mid) between after → after ≡ posts ++ between
     → new.pending ≡ mid.pending → new.posted ≡ mid.posted + accepted_of posts → new.issued ≡ max mid.issued new.posted
-    → PostsKeep minor mid new marks posts
-some_posted minor mid new to marks between after posts current started minors h history pending posted issued =
+    → PostsKeep area mid new marks posts
+some_posted area mid new to marks between after posts current started minors h history pending posted issued =
     let n = mid.issued - mid.posted in
     let us = drop mid.posted mid.pending in
     let fs = take n us in
     let ws = drop n us in
     let whole : fs ++ ws ≡ us = take-append-drop n us in
-    let x = posted_keep minor 0 mid.ids to fs ws marks between after
+    let x = posted_keep area 0 mid.ids to fs ws marks between after
     (subst (λ (l : List Pending). AreRising 0 mid.ids l) (sym whole) (rising_drop 0 mid.ids mid.posted mid.pending mid.numbers.rising))
-    (subst (λ (l : List Pending). AllOfMinor minor l) (sym whole) (minors_drop minor mid.posted mid.pending minors)) started
+    (subst (λ (l : List Pending). AllIn area l) (sym whole) (in_drop area mid.posted mid.pending minors)) started
     (subst (λ (l : List Pending). ArePostedTo to (map request_of l) between after) (sym whole) h) in
     let same : x.posts ≡ posts = append_cancel x.posts posts between (sym x.history ∙ history) in
     let count : accepted_of x.posts ≡ accepted_of posts = ap accepted_of same in
@@ -103,8 +104,8 @@ some_posted minor mid new to marks between after posts current started minors h 
     ∙ less_shift (accepted_of x.posts) mid.posted (length mid.pending) (length us) long (omega (arith, mid.order, mid.within))
     ∙ rw (current, posted, pending, count) refl) in
     record {
-      keeps = subst (λ (ts : List Told). KeepsRules minor (at_link ts) marks (loose mid)) same
-          (subst (λ (o : Outbox). KeepsRules minor (at_link x.posts) marks o) first x.keeps);
+      keeps = subst (λ (ts : List Told). KeepsRules area (at_link ts) marks (loose mid)) same
+          (subst (λ (o : Outbox). KeepsRules area (at_link x.posts) marks o) first x.keeps);
       owes = subst (λ (ts : List Told). outbox_after (at_link ts) marks (loose mid) ≡ outbox_of new) same
           (subst (λ (o : Outbox). outbox_after (at_link x.posts) marks o ≡ outbox_of new) first (x.owes ∙ last));
     }
@@ -114,16 +115,16 @@ started_of : (marks : List Mark) (o : Option Endpoint) → o ≡ target marks �
 started_of marks o e g = sym (e ∙ rw g refl)
 
 -- the posts of a table keep the rules
-pub table_posts : (minor : ℕ) (mid new : Table) (marks : List Mark) (between after posts : List Told)
-    → mid.current ≡ target marks → new.current ≡ mid.current → AllOfMinor minor mid.pending
+pub table_posts : (area : Area) (mid new : Table) (marks : List Mark) (between after posts : List Told)
+    → mid.current ≡ target marks → new.current ≡ mid.current → AllIn area mid.pending
     → PostsInOrder mid.current (unposted mid) between after → after ≡ posts ++ between
     → new.pending ≡ mid.pending → new.posted ≡ mid.posted + accepted_of posts → new.issued ≡ max mid.issued new.posted
-    → PostsKeep minor mid new marks posts
-table_posts minor mid new marks between after posts current same minors h history pending posted issued =
+    → PostsKeep area mid new marks posts
+table_posts area mid new marks between after posts current same minors h history pending posted issued =
     by mid.current refl h where
-      by : (o : Option Endpoint) → mid.current ≡ o → PostsInOrder o (unposted mid) between after → PostsKeep minor mid new marks posts
-      by None e h = none_posted minor mid new marks between after posts (same ∙ e) h history pending posted issued
-      by (Some to) e h = some_posted minor mid new to marks between after posts (same ∙ e) (sym current ∙ e) minors h history pending posted issued
+      by : (o : Option Endpoint) → mid.current ≡ o → PostsInOrder o (unposted mid) between after → PostsKeep area mid new marks posts
+      by None e h = none_posted area mid new marks between after posts (same ∙ e) h history pending posted issued
+      by (Some to) e h = some_posted area mid new to marks between after posts (same ∙ e) (sym current ∙ e) minors h history pending posted issued
 
 -- between two calls nothing is due
 none_left : (n : ℕ) (ps : List Pending) → length ps ≤ n → has_none (map request_of (drop n ps)) ≡ true

@@ -1,5 +1,5 @@
 -- What each call of transfers adds to the record, and what it does to the disk, to those that are pending, and to what the link guarantees.
-use Rattle.std.specs.Prelude.{◌≡◌, ℕ, ◌+◌, List, [], ◌∷◌, ◌++◌, length, max, Bool, true, false, not, ◌||◌, ◌==◌, MatchBool}
+use Rattle.std.specs.Prelude.{◌≡◌, ◌+◌, List, [], ◌∷◌, ◌++◌, length, max, Bool, true, false, not, ◌||◌, ◌==◌, MatchBool}
 use Rattle.message.specs.declared.BlockRequest.{BlockRequest}
 use Rattle.message.specs.declared.Incoming.{Incoming}
 use Rattle.message.specs.declared.Incoming.TheVariants as incoming

@@ -1,5 +1,5 @@
 -- What transfers do at their link, as acts, and what they owe it between two calls.
-use Rattle.std.specs.Prelude.{◌≡◌, ℕ, ◌-◌, List, [], ◌∷◌, ◌++◌, length, drop, ◌&&◌, nat_lt, is_some, None, if◌then◌else◌}
+use Rattle.std.specs.Prelude.{◌≡◌, ◌-◌, List, [], ◌∷◌, ◌++◌, length, drop, ◌&&◌, nat_lt, is_some, None, if◌then◌else◌}
 use Rattle.records.specs.Marks.{Mark}
 use Rattle.records.specs.Told.{Told}
 use Rattle.records.specs.Area.{Area}

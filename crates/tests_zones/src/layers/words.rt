@@ -13,6 +13,7 @@ use std::test::Fail;
 fn words<B: Blocks>(blocks: &mut B) -> Result<(u8, u32, u32, [u8; 5]), Cut>
     requires ready { B.world.ready blocks.old }
     requires size { B.world.size blocks.old ≡ 1024 }
+    requires writable { B.world.writable blocks.old 1 }
 {
     let byte = read_byte(blocks, 1, 1023)?;
     write_u32(blocks, 1, 4, 0x0403_0201)?;
@@ -46,6 +47,7 @@ fn is_cut(came: Result<(), Cut>) -> bool {
 fn ends_with_the_last<B: Blocks>(blocks: &mut B, into: &mut [u8; 3]) -> bool
     requires ready { B.world.ready blocks.old }
     requires size { B.world.size blocks.old ≡ 1024 }
+    requires writable { B.world.writable blocks.old 3 }
 {
     is_cut(read_bytes(blocks, 3, 0, into))
         && is_cut(clear(blocks, 3))

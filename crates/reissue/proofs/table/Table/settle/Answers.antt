@@ -8,7 +8,8 @@ use Rattle.reissue.proofs.Answering.{taken, agrees_rest, agrees_done, done_reads
 use Rattle.reissue.proofs.Writes.{spares_answered}
 use Rattle.reissue.proofs.Closing.{tickets_out, closes_rest, closes_read, closes_written, closing_nothing, closing_read, closing_written, among_here, done_writes}
 use Rattle.reissue.proofs.Left.{reads_out, reads_rest}
-use Rattle.reissue.proofs.Settling.{issued_within, answered_whole, answered_part, minors_rest, minors_push, minor_there}
+use Rattle.reissue.proofs.Settling.{issued_within, answered_whole, answered_part}
+use Rattle.reissue.proofs.Inside.{in_rest, in_push, in_there, rest_is_in}
 use Rattle.reissue.proofs.table.Table.settle.Goals as goal
 
 pub push-requires-clause-fresh : goal.push-requires-clause-fresh
@@ -85,13 +86,14 @@ returns-then-goes_on-clause-closing c = λ marks h place m from.
     c.answer.ensures.position (omega (arith, part c, c.answer.ensures.count)))
 
 pub returns-then-goes_on-clause-minors : goal.returns-then-goes_on-clause-minors
-returns-then-goes_on-clause-minors c = λ minor h.
+returns-then-goes_on-clause-minors c = λ area h.
     let o = c.take_out.ensures in
     let w = c.answer.ensures in
     let lt = issued_within c.args.self.now c.args.at c.requires.at in
     rw (c.push.ensures.items, o.items)
-    (minors_push minor _ c.answer.new.self (minors_rest minor c.args.self.now.pending c.args.at h)
-    (w.minor ∙ minor_there minor c.args.self.now.pending c.args.at c.deref_mut.result.now lt (rw c.deref_mut.ensures.value o.value) h))
+    (in_push area _ c.answer.new.self (in_rest area c.args.self.now.pending c.args.at h)
+    (rest_is_in area c.deref_mut.result.now c.answer.new.self c.args.n w.kind w.minor w.position w.count
+    (in_there area c.args.self.now.pending c.args.at c.deref_mut.result.now lt (rw c.deref_mut.ensures.value o.value) h)))
 
 -- where no less was moved than was left, nothing is left
 all : (n count : ℕ) → nat_lt n count ≡ false → n ≤ count → n ≡ count
@@ -143,7 +145,7 @@ returns-in-Read-clause-closing c = λ marks h place m from.
     x.there m x.within lt (rw c.deref-done.ensures o.value) o.items (rw x.holds.items x.apart))
 
 pub returns-in-Read-clause-minors : goal.returns-in-Read-clause-minors
-returns-in-Read-clause-minors c = λ minor h. rw c.take_out.ensures.items (minors_rest minor c.args.self.now.pending c.args.at h)
+returns-in-Read-clause-minors c = λ area h. rw c.take_out.ensures.items (in_rest area c.args.self.now.pending c.args.at h)
 
 pub returns-in-Write-clause-agrees : goal.returns-in-Write-clause-agrees
 returns-in-Write-clause-agrees c = λ marks h place m from.
@@ -186,4 +188,4 @@ returns-in-Write-clause-closing c = λ marks h place m from.
     x.there m x.within lt (rw c.deref-done.ensures o.value) o.items (rw x.holds.items x.apart))
 
 pub returns-in-Write-clause-minors : goal.returns-in-Write-clause-minors
-returns-in-Write-clause-minors c = λ minor h. rw c.take_out.ensures.items (minors_rest minor c.args.self.now.pending c.args.at h)
+returns-in-Write-clause-minors c = λ area h. rw c.take_out.ensures.items (in_rest area c.args.self.now.pending c.args.at h)

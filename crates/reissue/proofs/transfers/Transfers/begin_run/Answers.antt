@@ -34,8 +34,8 @@ returns-clause-opens g c =
 pub returns-clause-begins : goal.returns-clause-begins
 returns-clause-begins g c =
     let a = c.add-ticket.ensures in
-    begins_add _ c.args.self.now.table c.add-ticket.new.self _ a.added.0 _ _ _ _ _ a.agrees a.added.1 a.posted a.issued a.added.3.minor
-    a.current c.post_if.ensures.current a.given_up a.added.3.number (search rules) c.is_posted-due.ensures c.post_if.ensures.posts c.post_if.ensures.leads
+    begins_add _ c.args.self.now.table c.add-ticket.new.self _ a.added.0 _ _ _ _ _ a.agrees a.added.1 a.posted a.issued a.added.3
+    a.current c.post_if.ensures.current a.given_up (search rules) c.is_posted-due.ensures c.post_if.ensures.posts c.post_if.ensures.leads
 
 pub returns-then-is_full-clause-begins : goal.returns-then-is_full-clause-begins
 returns-then-is_full-clause-begins g c = begins_none _ _ _ _
