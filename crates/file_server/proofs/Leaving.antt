@@ -10,6 +10,7 @@ use Rattle.records.specs.Open.{open_requests, greatest, has_none}
 use Rattle.records.specs.Opening.{contents_at}
 use Rattle.records.specs.Told.{Told, Posted, Complained, Received, took_end}
 use Rattle.records.specs.Acts.{Act, Began, Absorbed, AtLink, Outbox, told_of, marks_after, has_absorbed, outbox_after, owed_after_act, with_act, needs_message, target, MayPost, KeepsRules}
+use Rattle.records.specs.Area.{Area, area_of}
 use Rattle.records.specs.ServerCall.{Serving, Rules}
 use Rattle.reissue.specs.Calls.{Truth}
 use Rattle.file_server.specs.Leaving.{IsEndLast, CutLeaves}
@@ -69,9 +70,9 @@ waits_begun marks o r waits = record {
 }
 
 -- where a post may be made some request is open
-open_at_post : (minor : ℕ) (marks : List Mark) (o : Outbox) (to : Endpoint) (r : BlockRequest) → MayPost minor marks o to r → Waits marks o
+open_at_post : (area : Area) (marks : List Mark) (o : Outbox) (to : Endpoint) (r : BlockRequest) → MayPost area marks o to r → Waits marks o
     → has_none (open_requests marks) ≡ false
-open_at_post minor marks o to r may waits =
+open_at_post area marks o to r may waits =
     let started : last_started marks ≡ Some to = rw waits.live at may.endpoint in
     needs_answer (has_none (open_requests marks)) (is_some (last_started marks)) o.stopped (has_none o.unposted) (has_none o.never_issued)
     (ap (λ (e : Option Endpoint). is_some e) started) may.not_stopped waits.needed
@@ -82,40 +83,40 @@ open_more true rs r some = more_is_some rs r
 open_more false rs r some = some
 
 -- and so it is after the post
-waits_posted : (minor : ℕ) (marks : List Mark) (o : Outbox) (to : Endpoint) (r : BlockRequest) (accepted : Bool) → MayPost minor marks o to r
+waits_posted : (area : Area) (marks : List Mark) (o : Outbox) (to : Endpoint) (r : BlockRequest) (accepted : Bool) → MayPost area marks o to r
     → Waits marks o → Waits (with_act (AtLink (Posted to r accepted)) marks) (owed_after_act (AtLink (Posted to r accepted)) marks o)
-waits_posted minor marks o to r true may waits = record {
-  needed = answer_needs _ _ (open_more (nat_lt (greatest marks) r.id) (open_requests marks) r (open_at_post minor marks o to r may waits));
+waits_posted area marks o to r true may waits = record {
+  needed = answer_needs _ _ (open_more (nat_lt (greatest marks) r.id) (open_requests marks) r (open_at_post area marks o to r may waits));
   live = waits.live;
 }
-waits_posted minor marks o to r false may waits = record {
-  needed = answer_needs _ _ (open_at_post minor marks o to r may waits);
+waits_posted area marks o to r false may waits = record {
+  needed = answer_needs _ _ (open_at_post area marks o to r may waits);
   live = waits.live;
 }
 
 -- from the End on a message is needed
-waits_after : (minor : ℕ) (acts : List Act) (earlier : List Told) (marks : List Mark) (o : Outbox) → has_absorbed acts ≡ false
-    → took_end (told_of acts) ≡ true → IsEndLast (told_of acts ++ earlier) → KeepsRules minor acts marks o
+waits_after : (area : Area) (acts : List Act) (earlier : List Told) (marks : List Mark) (o : Outbox) → has_absorbed acts ≡ false
+    → took_end (told_of acts) ≡ true → IsEndLast (told_of acts ++ earlier) → KeepsRules area acts marks o
     → Waits (marks_after acts marks) (outbox_after acts marks o)
-waits_after minor [] earlier marks o none ended last keep = cc
-waits_after minor (Began r ∷ acts) earlier marks o none ended last keep =
-    waits_begun (marks_after acts marks) (outbox_after acts marks o) r (waits_after minor acts earlier marks o none ended last keep.0)
-waits_after minor (Absorbed message ∷ acts) earlier marks o none ended last keep = cc
-waits_after minor (AtLink (Posted to r accepted) ∷ acts) earlier marks o none ended last keep =
-    waits_posted minor (marks_after acts marks) (outbox_after acts marks o) to r accepted keep.1
-    (waits_after minor acts earlier marks o none ended last keep.0)
-waits_after minor (AtLink (Complained about) ∷ acts) earlier marks o none ended last keep =
-    let waits : Waits (marks_after acts marks) (outbox_after acts marks o) = waits_after minor acts earlier marks o none ended last keep.0 in
+waits_after area [] earlier marks o none ended last keep = cc
+waits_after area (Began r ∷ acts) earlier marks o none ended last keep =
+    waits_begun (marks_after acts marks) (outbox_after acts marks o) r (waits_after area acts earlier marks o none ended last keep.0)
+waits_after area (Absorbed message ∷ acts) earlier marks o none ended last keep = cc
+waits_after area (AtLink (Posted to r accepted) ∷ acts) earlier marks o none ended last keep =
+    waits_posted area (marks_after acts marks) (outbox_after acts marks o) to r accepted keep.1
+    (waits_after area acts earlier marks o none ended last keep.0)
+waits_after area (AtLink (Complained about) ∷ acts) earlier marks o none ended last keep =
+    let waits : Waits (marks_after acts marks) (outbox_after acts marks o) = waits_after area acts earlier marks o none ended last keep.0 in
     record { needed = waits.needed; live = waits.live }
-waits_after minor (AtLink (Received (incoming.Reply a)) ∷ acts) earlier marks o none ended last keep =
+waits_after area (AtLink (Received (incoming.Reply a)) ∷ acts) earlier marks o none ended last keep =
     let was = end_stays (told_of acts) earlier ended in cc
-waits_after minor (AtLink (Received (incoming.Started e)) ∷ acts) earlier marks o none ended last keep =
+waits_after area (AtLink (Received (incoming.Started e)) ∷ acts) earlier marks o none ended last keep =
     let was = end_stays (told_of acts) earlier ended in cc
-waits_after minor (AtLink (Received incoming.GaveUp) ∷ acts) earlier marks o none ended last keep =
+waits_after area (AtLink (Received incoming.GaveUp) ∷ acts) earlier marks o none ended last keep =
     let was = end_stays (told_of acts) earlier ended in cc
-waits_after minor (AtLink (Received incoming.Flush) ∷ acts) earlier marks o none ended last keep =
+waits_after area (AtLink (Received incoming.Flush) ∷ acts) earlier marks o none ended last keep =
     let was = end_stays (told_of acts) earlier ended in cc
-waits_after minor (AtLink (Received incoming.End) ∷ acts) earlier marks o none ended last keep = record {
+waits_after area (AtLink (Received incoming.End) ∷ acts) earlier marks o none ended last keep = record {
   needed = keep.1.needed;
   live = keep.1.live;
 }
@@ -133,6 +134,6 @@ cut_leaves serving link_truth s t l m who now call v tree marks calls live last 
     or_false (took_end (told_of calls.keeps.acts)) ∙ ap (λ (b : Bool). took_end (told_of calls.keeps.acts) || b) (sym live)
     ∙ sym calls.keeps.leads.ended ∙ calls.keeps.cut.0 refl in
     let waits : Waits (marks_after calls.keeps.acts marks) (outbox_after calls.keeps.acts marks (serving s).outbox) =
-    waits_after (serving s).minor calls.keeps.acts (serving s).told marks (serving s).outbox calls.keeps.none_absorbed ended
-    (subst IsEndLast calls.keeps.leads.told last) rules.keep in
+    waits_after (area_of (serving s).geometry (serving s).minor) calls.keeps.acts (serving s).told marks (serving s).outbox
+    calls.keeps.none_absorbed ended (subst IsEndLast calls.keeps.leads.told last) rules.keep in
     (subst (λ (o : Outbox). IsTrue (needs_message (marks_after calls.keeps.acts marks) o)) (sym rules.outbox) waits.needed, waits.live)

@@ -6,6 +6,7 @@ use Rattle.records.specs.Marks.{Mark, Took}
 use Rattle.records.specs.Disk.{Contents}
 use Rattle.records.specs.Opening.{contents_at}
 use Rattle.records.specs.Acts.{Outbox, IsAtRest, marks_after}
+use Rattle.records.specs.Area.{WritesInside}
 use Rattle.records.specs.Legal.{IsLegal, tree_after}
 use Rattle.records.specs.View.{Frames, ReadsBack}
 use Rattle.records.specs.ServerCall.{Serving, Serves, IsQuiet, HasTree, has_open_file}
@@ -19,6 +20,7 @@ pub serves_same : (old new : Serving) (image : Contents) (tree : Tree) (marks : 
 serves_same old new image tree marks same s = record {
   agrees = same.agrees image tree marks s.agrees;
   well_formed = s.well_formed;
+  inside = subst (λ (g : Geometry). WritesInside g marks) (sym same.geometry) s.inside;
   at_rest = subst (λ (o : Outbox). IsAtRest marks o) (sym same.outbox) s.at_rest;
   legal = λ replies. subst (λ (g : Geometry). IsLegal g image tree marks) (sym same.geometry) (s.legal replies);
   has_tree = λ replies live not_given_up.

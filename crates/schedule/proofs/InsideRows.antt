@@ -23,13 +23,15 @@ abbrev synced_with : BlockRequest → List Mark
 synced_with r = Took (client 0) 100 Sync done ∷ Answered (answer_of 1) ∷ Issued r (driver 1) ∷ Started (driver 1) ∷ []
 
 -- the boot block is written
-row_boot_written : (volume : Contents) (tree : Tree) (t : Transcript) → t.marks ≡ synced_with (zeros_at 0) → RepliesHold small volume tree t → ⊥
+row_boot_written : (volume : Contents) (tree : Tree) (t : Transcript) → t.marks ≡ synced_with (zeros_at 0)
+    → RepliesHold small volume tree t → ⊥
 row_boot_written volume tree t is holds =
     let inside : WritesInside small (synced_with (zeros_at 0)) = subst (λ (m : List Mark). WritesInside small m) is holds.inside in
     let h : 2048 ≤ 0 = inside.0.0 in omega (arith, h)
 
 -- what lies behind the last zone is written
-row_behind_written : (volume : Contents) (tree : Tree) (t : Transcript) → t.marks ≡ synced_with (zeros_at 65536) → RepliesHold small volume tree t → ⊥
+row_behind_written : (volume : Contents) (tree : Tree) (t : Transcript) → t.marks ≡ synced_with (zeros_at 65536)
+    → RepliesHold small volume tree t → ⊥
 row_behind_written volume tree t is holds =
     let inside : WritesInside small (synced_with (zeros_at 65536)) = subst (λ (m : List Mark). WritesInside small m) is holds.inside in
     let h : 65536 + 1024 ≤ 65536 = inside.0.1 in omega (arith, h)
@@ -44,11 +46,11 @@ row_boot_changed : (range : Range) (image : List ℕ) (t : Transcript) (place : 
 row_boot_changed range image t place low other holds = other (holds.head place (omega (arith, low)))
 
 -- in the block of the superblock, behind its fields
-row_super_changed : (range : Range) (image : List ℕ) (t : Transcript) (place : ℕ) → 1055 ≤ place → place < 2048 → IsOther range image t place
-    → MediaHold small range image t → ⊥
+row_super_changed : (range : Range) (image : List ℕ) (t : Transcript) (place : ℕ) → 1055 ≤ place → place < 2048
+    → IsOther range image t place → MediaHold small range image t → ⊥
 row_super_changed range image t place past low other holds = other (holds.head place low)
 
 -- behind the last zone
-row_behind_changed : (range : Range) (image : List ℕ) (t : Transcript) (place : ℕ) → 65536 ≤ place → place < 512 * range.count → IsOther range image t place
-    → MediaHold small range image t → ⊥
+row_behind_changed : (range : Range) (image : List ℕ) (t : Transcript) (place : ℕ) → 65536 ≤ place → place < 512 * range.count
+    → IsOther range image t place → MediaHold small range image t → ⊥
 row_behind_changed range image t place past low other holds = other (holds.tail place past low)

@@ -29,8 +29,8 @@ pub record Transcript : Type 0 where
 
 -- Replies and read-back: the server's record is well formed, each write lies in the volume behind its first two blocks, what drivers
 -- answered is true, each reply is that of the file tree after each earlier call taken once, a sync that answered ok left that tree on the
--- disk alone, and while calls only look since the last such sync no write is issued; at the end, where the device isn't given up and no call
--- waits, the server would read the tree back.
+-- disk alone, and while calls only look since the last such sync no write is issued; at the end, where the device isn't given up and no
+-- call waits, the server would read the tree back.
 pub record RepliesHold (g : Geometry) (volume : Contents) (tree : Tree) (t : Transcript) : Type 0 where
   pub well_formed : IsWellFormed t.marks
   pub inside : WritesInside g t.marks

@@ -5,6 +5,7 @@ use Rattle.tree.specs.declared.Call.{Call}
 use Rattle.records.specs.Marks.{Mark}
 use Rattle.records.specs.Disk.{HasTrueReplies}
 use Rattle.records.specs.Acts.{KeepsRules, empty_outbox, marks_after, told_of}
+use Rattle.records.specs.Area.{no_area}
 use Rattle.records.specs.Opening.{Opening, contents_at}
 use Rattle.records.specs.Told.{Told}
 use Rattle.bdev.specs.DriverState.{DriverState}
@@ -80,7 +81,7 @@ refused_over v frames minor before after e none same r = record {
       told = r.mounting.told ∙ ap (λ (told : List Told). told_of r.acts ++ told) none;
       none_absorbed = r.mounting.none_absorbed;
       only_reads = r.mounting.only_reads;
-      keep = subst (λ (n : ℕ). KeepsRules n r.acts [] empty_outbox) same r.mounting.keep;
+      keep = subst (λ (n : ℕ). KeepsRules (no_area n) r.acts [] empty_outbox) same r.mounting.keep;
     };
     at_rest = r.at_rest;
     bad_frames = λ is. let b = r.bad_frames is in (b.0, b.1 ∙ none);

@@ -1,6 +1,6 @@
 -- The bytes of media at a run's end.
 use Rattle.std.proofs.Common.{◌≡◌, ℕ, zero, suc, ◌⊎◌, ◌+◌, ◌*◌, ◌<◌, ◌≤◌, ◌/◌, List, [], length, get_or, sym, ◌∙◌, ap, arith, inl, inr}
-use Rattle.std.specs.Prelude.{slice_index, take, drop, ◌%◌}
+use Rattle.std.specs.Prelude.{slice_index, drop, ◌%◌}
 use Rattle.std.specs.List.{concat}
 use Rattle.std.proofs.lemmas.List.{get_or_past, get_or-take, get_or-drop}
 use Rattle.layout.specs.declared.Geometry.{Geometry}

@@ -16,6 +16,7 @@ use Rattle.schedule.specs.Headline.{Transcript, MediaHold}
 -- as they were handed in, and so is what lies behind the last zone.
 abbrev pub ImageShows : Type 0
 ImageShows =
-    (g : Geometry) (v : Opening) (media : MediaState) (t : Transcript) → IsOnMedia v → IsWhole media.sectors → length media.sectors ≡ length (sectors_of v.media)
-    → 2 * g.block_size ≤ 512 * v.count → IsWellFormed t.marks → WritesInside g t.marks → by_sector.MediaHold v (contents_at v) media t.marks
-    → OutsideHolds v (opening_media v) media → t.image ≡ concat media.sectors → MediaHold g (opening_range v) v.media t
+    (g : Geometry) (v : Opening) (media : MediaState) (t : Transcript) → IsOnMedia v → IsWhole media.sectors
+    → length media.sectors ≡ length (sectors_of v.media) → 2 * g.block_size ≤ 512 * v.count → IsWellFormed t.marks → WritesInside g t.marks
+    → by_sector.MediaHold v (contents_at v) media t.marks → OutsideHolds v (opening_media v) media → t.image ≡ concat media.sectors
+    → MediaHold g (opening_range v) v.media t

@@ -18,8 +18,11 @@ use Rattle.records.specs.View.{server_view}
 use Rattle.records.specs.ServerCall.{Serving, Serves, AbsorbKeeps}
 use Rattle.records.specs.Settled.{none_written, PostsReads}
 use Rattle.records.proofs.Quiet.{settled_acts, looking_acts, written_received, written_told}
+use Rattle.records.specs.Area.{Area, area_of}
+use Rattle.records.proofs.Inside.{acts_write_inside}
 use Rattle.reissue.specs.Agrees.{Agrees}
 use Rattle.reissue.specs.Moves.{state_after}
+use Rattle.reissue.specs.Rules.{outbox_of}
 use Rattle.reissue.proofs.TableRules.{at_rest}
 use Rattle.cache.specs.Calls.{AbstractCache, Runs, Serves as Stays, HandsOver}
 use Rattle.cache.specs.Laws.{LeadsBy}
@@ -33,7 +36,7 @@ use Rattle.vfs.specs.Serving.{IsServer, server_of}
 use Rattle.vfs.proofs.Keeping.{tree_acts, legal_acts, gone_acts, view_of, covers_of}
 
 module _ (g : Geometry) (a b : AbstractCache) (n k : ℕ) (many : k ≡ n) (f : Files) (m : Incoming) (sized : a.size ≡ g.block_size) (some : 0 < g.block_size)
-    (ends : a.ended ≡ took_end a.told) (h : HandsOver m a b) (looks : Looks a b) where
+    (within : a.area ≡ area_of g a.area.minor) (ends : a.ended ≡ took_end a.told) (h : HandsOver m a b) (looks : Looks a b) where
   abbrev x : Runs (Some m) a b (λ w v. Stays a b w v)
   x = h.runs
 
@@ -52,7 +55,7 @@ module _ (g : Geometry) (a b : AbstractCache) (n k : ℕ) (many : k ≡ n) (f : 
     acts = x.acts;
     done = x.done;
     none_absorbed = x.none_absorbed;
-    minor = x.minor;
+    area = x.area;
     size = x.size;
     ended = x.ended;
     left = x.left;
@@ -64,8 +67,13 @@ module _ (g : Geometry) (a b : AbstractCache) (n k : ℕ) (many : k ≡ n) (f : 
     rules = x.rules;
   }
 
+  -- its area stays
+  stays_within : b.area ≡ area_of g b.area.minor
+  stays_within = x.area ∙ within ∙ ap (λ (w : Area). area_of g w.minor) (sym x.area)
+
   led : LeadsBy (x.acts ++ Absorbed m ∷ []) s a t
-  led = leads_by (Some m) a b s t (record { minor = refl; outbox = refl; told = refl; ended = refl }) (record { minor = refl; outbox = refl; told = refl; ended = refl })
+  led = leads_by (Some m) a b s t (record { area = sym within; outbox = refl; told = refl; ended = refl })
+      (record { area = sym stays_within; outbox = refl; told = refl; ended = refl })
       refl many ends bare
 
   abbrev after : List Mark → List Mark
@@ -110,6 +118,7 @@ module _ (g : Geometry) (a b : AbstractCache) (n k : ℕ) (many : k ≡ n) (f : 
       record {
         agrees = record { table = agrees; slots = slots; files = files image tree marks was };
         well_formed = agrees.holds.well_formed;
+        inside = acts_write_inside g a.area.minor (x.acts ++ Absorbed m ∷ []) marks (outbox_of a.table) (led.rules marks was.table).keep k.inside;
         at_rest = at_rest b.table (after marks) agrees;
         legal = λ tr. legal_acts g image tree (x.acts ++ Absorbed m ∷ []) marks (k.legal (early image marks was.table tr));
         has_tree = λ tr e u.

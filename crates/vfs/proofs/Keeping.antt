@@ -25,9 +25,12 @@ use Rattle.records.specs.View.{server_view, IsCovered}
 use Rattle.records.specs.ServerCall.{Serving, Serves, IsQuiet, Replied, Cut, CallKeeps}
 use Rattle.records.specs.Settled.{only_looks, is_settled, none_written, LookingWritesNothing, PostsReads}
 use Rattle.records.proofs.Quiet.{settled_acts, looking_acts, written_told}
+use Rattle.records.specs.Area.{Area, WritesInside, area_of}
+use Rattle.records.proofs.Inside.{acts_write_inside}
 use Rattle.records.specs.Unmount.{Unmounting, Unmounted, unmounting_of}
 use Rattle.reissue.specs.Agrees.{Agrees}
 use Rattle.reissue.specs.Moves.{state_after}
+use Rattle.reissue.specs.Rules.{outbox_of}
 use Rattle.reissue.proofs.TableRules.{at_rest}
 use Rattle.reissue.proofs.Taking.{agrees_took}
 use Rattle.cache.specs.Calls.{AbstractCache, Runs}
@@ -130,7 +133,7 @@ covers_of g some c e image marks k = subst (λ n. IsCovered g (frames_of n c.hel
 -- ---- a call over a cache
 
 module _ (g : Geometry) (a b : AbstractCache) (n m : ℕ) (many : m ≡ n) (p q : Files)
-    (sized : a.size ≡ g.block_size) (some : 0 < g.block_size) (ends : a.ended ≡ took_end a.told) (x : Leads a b) where
+    (sized : a.size ≡ g.block_size) (some : 0 < g.block_size) (within : a.area ≡ area_of g a.area.minor) (ends : a.ended ≡ took_end a.told) (x : Leads a b) where
   abbrev s : Serving
   s = server_of g a n p
 
@@ -146,7 +149,7 @@ module _ (g : Geometry) (a b : AbstractCache) (n m : ℕ) (many : m ≡ n) (p q 
     acts = x.acts;
     done = x.done;
     none_absorbed = x.none_absorbed;
-    minor = x.minor;
+    area = x.area;
     size = x.size;
     ended = x.ended;
     left = x.left;
@@ -158,9 +161,14 @@ module _ (g : Geometry) (a b : AbstractCache) (n m : ℕ) (many : m ≡ n) (p q 
     rules = x.rules;
   }
 
+  -- its area stays
+  stays_within : b.area ≡ area_of g b.area.minor
+  stays_within = x.area ∙ within ∙ ap (λ (w : Area). area_of g w.minor) (sym x.area)
+
   -- its acts are the server's
   led : LeadsBy x.acts s a t
-  led = leads_by None a b s t (record { minor = refl; outbox = refl; told = refl; ended = refl }) (record { minor = refl; outbox = refl; told = refl; ended = refl })
+  led = leads_by None a b s t (record { area = sym within; outbox = refl; told = refl; ended = refl })
+      (record { area = sym stays_within; outbox = refl; told = refl; ended = refl })
       refl many ends bare
 
   abbrev after : List Mark → List Mark
@@ -186,6 +194,10 @@ module _ (g : Geometry) (a b : AbstractCache) (n m : ℕ) (many : m ≡ n) (p q 
   given_up : (marks : List Mark) → Agrees a.table marks → b.table.given_up ≡ gave_up (after marks)
   given_up marks k = (table marks k).holds.given_up
 
+  -- each write lies in the volume, behind its first two blocks
+  inside : (marks : List Mark) → Agrees a.table marks → WritesInside g marks → WritesInside g (after marks)
+  inside marks k w = acts_write_inside g a.area.minor x.acts marks (outbox_of a.table) (led.rules marks k).keep w
+
   -- what would be read back before and after
   seen : (image : Contents) (tree : Tree) (marks : List Mark) → IsServer g a p image tree marks → HasTrueReplies image (after marks)
       → Sees a b (view a.size a.held (state_after image marks)) (view b.size b.held (state_after image (after marks)))
@@ -202,7 +214,7 @@ module _ (g : Geometry) (a b : AbstractCache) (n m : ℕ) (many : m ≡ n) (p q 
   }
 
   -- what the link guarantees goes on
-  heard : (v : Opening) (tree : Tree) (marks : List Mark) → v.minor ≡ a.minor → IsServer g a p (contents_at v) tree marks
+  heard : (v : Opening) (tree : Tree) (marks : List Mark) → v.minor ≡ a.area.minor → IsServer g a p (contents_at v) tree marks
       → a.truth v marks → b.truth v (after marks)
   heard v tree marks minor k was = subst (λ (ms : List Mark). b.truth v ms) (sym (grows marks k.table)) (x.truth v marks k.table minor was)
 
@@ -317,6 +329,7 @@ module _ (g : Geometry) (a b : AbstractCache) (n m : ℕ) (many : m ≡ n) (p q 
             files = λ tr e u. subst (λ (y : Tree). HasFiles q y) (sym (tree_is tree marks k.agrees.table)) (done image tree marks k tr).files;
           };
           well_formed = took.holds.well_formed;
+          inside = inside marks k.agrees.table k.inside;
           at_rest = at_rest b.table (more marks) took;
           legal = λ tr. (
             legal_acts g image tree x.acts marks (k.legal (early image marks k.agrees.table tr)),
@@ -399,6 +412,7 @@ module _ (g : Geometry) (a b : AbstractCache) (n m : ℕ) (many : m ≡ n) (p q 
             files = λ tr e u. files_stay image tree marks k.agrees tr e u;
           };
           well_formed = agrees.holds.well_formed;
+          inside = inside marks k.agrees.table k.inside;
           at_rest = at_rest b.table (after marks) agrees;
           legal = λ tr. legal_acts g image tree x.acts marks (k.legal (early image marks k.agrees.table tr));
           has_tree = λ tr e u.
@@ -475,6 +489,7 @@ module _ (g : Geometry) (a b : AbstractCache) (n m : ℕ) (many : m ≡ n) (p q 
           record {
             agrees = record { table = agrees; slots = λ tr. slots image tree marks k.agrees tr; files = λ tr e u. from_clash (sym end ∙ e) };
             well_formed = agrees.holds.well_formed;
+            inside = inside marks k.agrees.table k.inside;
             at_rest = at_rest b.table (after marks) agrees;
             legal = λ tr. legal_acts g image tree x.acts marks (k.legal (early image marks k.agrees.table tr));
             has_tree = λ tr e u. from_clash (sym end ∙ e);
@@ -502,6 +517,7 @@ module _ (g : Geometry) (a b : AbstractCache) (n m : ℕ) (many : m ≡ n) (p q 
           record {
             agrees = record { table = took; slots = λ tr. slots image tree marks k.agrees tr; files = λ tr e u. from_clash (sym up ∙ u) };
             well_formed = took.holds.well_formed;
+            inside = inside marks k.agrees.table k.inside;
             at_rest = at_rest b.table (Took who now call (refused EIO) ∷ after marks) took;
             legal = λ tr. (
               legal_acts g image tree x.acts marks (k.legal (early image marks k.agrees.table tr)),

@@ -42,6 +42,7 @@ ready_by words s l told room budget ready = record {
     geometry = ready.may.geometry;
     ready = ready_over words s.blocks l room budget ready.may.ready;
     size = ready.may.size;
+    area = ready.may.area;
     ends = ready.may.ends ∙ sym (ap (λ (h : List Told). took_end h) told);
   };
   ids = record { enough = enough _ _ _ _ (fewer (caching_of words s).ended _ _ budget) ready.ids.enough };

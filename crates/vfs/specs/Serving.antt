@@ -10,6 +10,7 @@ use Rattle.volume.specs.Holds.{HoldsVolume}
 use Rattle.records.specs.Marks.{Mark, gave_up}
 use Rattle.records.specs.Disk.{Contents, HasTrueReplies}
 use Rattle.records.specs.Told.{took_end}
+use Rattle.records.specs.Area.{area_of}
 use Rattle.records.specs.Legal.{tree_after}
 use Rattle.records.specs.ServerCall.{Serving}
 use Rattle.records.specs.Settled.{only_looks}
@@ -22,11 +23,12 @@ use Rattle.cache.specs.Looking.{IsSettled, Looks}
 use Rattle.cached_blocks.specs.World.{Sees}
 use Rattle.descriptors.specs.Files.{Files, HasFiles, is_busy}
 
--- calls may be made, on a cache for a volume of this geometry
+-- calls may be made, on a cache for a volume of this geometry, which writes behind its first two blocks alone
 pub record MayServe (g : Geometry) (c : AbstractCache) : Type 0 where
   pub geometry : IsGeometry g
   pub ready : IsReady c
   pub size : c.size ≡ g.block_size
+  pub area : c.area ≡ area_of g c.area.minor
   pub ends : c.ended ≡ took_end c.told
 
 -- what a server's fields say: its table of the record, its slots of the disk, its open files of the tree
@@ -39,7 +41,7 @@ pub record IsServer (g : Geometry) (c : AbstractCache) (f : Files) (image : Cont
 abbrev pub server_of : Geometry → AbstractCache → ℕ → Files → Serving
 server_of g c frames f = record {
   geometry = g;
-  minor = c.minor;
+  minor = c.area.minor;
   Agrees = IsServer g c f;
   frames = frames_of c.size c.held;
   frame_count = frames;

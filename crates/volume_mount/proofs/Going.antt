@@ -13,10 +13,11 @@ use Rattle.records.specs.Opening.{Opening}
 use Rattle.records.specs.Told.{Told, Posted, Complained, Received, received, grown}
 use Rattle.records.specs.Acts.{Act, Began, Absorbed, AtLink, Outbox, told_of, has_absorbed, marks_after, outbox_after, KeepsRules}
 use Rattle.records.proofs.ActLaws.{acts_compose}
+use Rattle.records.specs.Area.{no_area}
 use Rattle.records.specs.Mount.{OnlyReads}
 use Rattle.reissue.specs.declared.pending.Pending.{Pending}
 use Rattle.reissue.specs.declared.table.Table.{Table}
-use Rattle.reissue.specs.Entries.{AreDistinct as HaveTickets, IsAmong, IsLeft, pending_of, begun_of, AllOfMinor}
+use Rattle.reissue.specs.Entries.{AreDistinct as HaveTickets, IsAmong, IsLeft, pending_of, begun_of, AllIn}
 use Rattle.reissue.specs.Agrees.{Agrees}
 use Rattle.reissue.specs.Moves.{Begun, IsQuiet, Spares, Touches, state_after, written_by}
 use Rattle.reissue.specs.Posts.{OnlyPosts}
@@ -108,7 +109,7 @@ went_none minor t told was none = record {
   told = refl;
   none_absorbed = refl;
   only_reads = tt;
-  minors = subst (λ (l : List Pending). AllOfMinor minor l) (sym none) tt;
+  minors = subst (λ (l : List Pending). AllIn (no_area minor) l) (sym none) tt;
   follows = λ marks h. record { keep = tt; owes = refl; agrees = h };
   leaves = λ image marks h true. record { disk = λ place. refl; sure = λ place sure. sure };
   truth = λ v marks same h k. k;
@@ -121,19 +122,20 @@ pub record Further (minor : ℕ) (t u : Table) (between after : List Told) (mid 
   pub told : after ≡ told_of acts ++ between
   pub none_absorbed : has_absorbed acts ≡ false
   pub only_reads : OnlyReads acts
-  pub minors : AllOfMinor minor t.pending → AllOfMinor minor u.pending
-  pub rules : (marks : List Mark) → Agrees t marks → AllOfMinor minor t.pending → KeepsRulesBy acts minor t u between after marks (more marks)
+  pub minors : AllIn (no_area minor) t.pending → AllIn (no_area minor) u.pending
+  pub rules : (marks : List Mark) → Agrees t marks → AllIn (no_area minor) t.pending
+      → KeepsRulesBy acts (no_area minor) t u between after marks (more marks)
   pub agrees : (marks : List Mark) → Agrees t marks → Agrees u (more marks)
   pub leaves : (image : Contents) (marks : List Mark) → Agrees t marks → HasTrueReplies image (more marks) → LeavesDisk image marks (more marks)
   pub before : (image : Contents) (marks : List Mark) → HasTrueReplies image (more marks) → HasTrueReplies image marks
-  pub truth : (v : Opening) (marks : List Mark) → v.minor ≡ minor → Agrees t marks → AllOfMinor minor t.pending → mid v marks → is v (more marks)
+  pub truth : (v : Opening) (marks : List Mark) → v.minor ≡ minor → Agrees t marks → AllIn (no_area minor) t.pending → mid v marks → is v (more marks)
 
 -- the record after both
 pub grows_on : (minor : ℕ) (s t u : Table) (before between after : List Told) (was mid is : Truth)
     (r : Went minor s t before between was mid) (x : Further minor t u between after mid is) (marks : List Mark) → Agrees s marks
     → marks_after (x.acts ++ r.acts) marks ≡ x.more (marks_after r.acts marks)
 grows_on minor s t u before between after was mid is r x marks h =
-    (acts_compose minor x.acts r.acts marks (outbox_of s)).record_after ∙ (x.rules (marks_after r.acts marks) (r.follows marks h).agrees r.minors).grows
+    (acts_compose (no_area minor) x.acts r.acts marks (outbox_of s)).record_after ∙ (x.rules (marks_after r.acts marks) (r.follows marks h).agrees r.minors).grows
 
 -- what was done, and then these
 unfoldable pub went_on : (minor : ℕ) (s t u : Table) (before between after : List Told) (was mid is : Truth)
@@ -141,17 +143,17 @@ unfoldable pub went_on : (minor : ℕ) (s t u : Table) (before between after : L
 went_on minor s t u before between after was mid is r x = record {
   acts = x.acts ++ r.acts;
   told = x.told ∙ ap (λ (l : List Told). told_of x.acts ++ l) r.told ∙ sym (append_assoc (told_of x.acts) (told_of r.acts) before)
-      ∙ ap (λ (l : List Told). l ++ before) (sym (acts_compose minor x.acts r.acts [] (outbox_of s)).told);
+      ∙ ap (λ (l : List Told). l ++ before) (sym (acts_compose (no_area minor) x.acts r.acts [] (outbox_of s)).told);
   none_absorbed = none_both x.acts r.acts x.none_absorbed r.none_absorbed;
   only_reads = reads_both x.acts r.acts x.only_reads r.only_reads;
   minors = x.minors r.minors;
   follows = λ marks h.
       let f = r.follows marks h in
       let k = x.rules (marks_after r.acts marks) f.agrees r.minors in
-      let c = acts_compose minor x.acts r.acts marks (outbox_of s) in
+      let c = acts_compose (no_area minor) x.acts r.acts marks (outbox_of s) in
       let grows = grows_on minor s t u before between after was mid is r x marks h in
       record {
-        keep = c.keep f.keep (subst (λ (o : Outbox). KeepsRules minor x.acts (marks_after r.acts marks) o) (sym f.owes) k.keeps);
+        keep = c.keep f.keep (subst (λ (o : Outbox). KeepsRules (no_area minor) x.acts (marks_after r.acts marks) o) (sym f.owes) k.keeps);
         owes = c.owed ∙ ap (λ (o : Outbox). outbox_after x.acts (marks_after r.acts marks) o) f.owes ∙ k.owes;
         agrees = subst (λ (ms : List Mark). Agrees u ms) (sym grows) (x.agrees (marks_after r.acts marks) f.agrees);
       };

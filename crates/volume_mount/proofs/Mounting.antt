@@ -8,6 +8,7 @@ use Rattle.records.specs.Marks.{Mark}
 use Rattle.records.specs.Disk.{Contents, HasTrueReplies}
 use Rattle.records.specs.Told.{Told, Posted, Complained, Received, took_end}
 use Rattle.records.specs.Acts.{Act, Outbox, IsAtRest, KeepsRules, empty_outbox, marks_after, outbox_after, told_of}
+use Rattle.records.specs.Area.{Area, WritesInside, area_of, no_area}
 use Rattle.records.specs.Legal.{IsAtFirst}
 use Rattle.records.specs.Mount.{IsWhyNotMounted, MountKeeps, MountRefused, Mounting, is_frame_count}
 use Rattle.records.specs.Mount as words
@@ -32,6 +33,7 @@ use Rattle.vfs.specs.declared.server.Server.{Server}
 use Rattle.vfs.specs.Serving.{server_of}
 use Rattle.vfs.specs.OverLink.{caching_of, serving_over, transfers_of}
 use Rattle.volume_mount.specs.Opening.{IsNewOver}
+use Rattle.records.proofs.Inside.{acts_write_inside, wider_rules}
 use Rattle.records.proofs.Quiet.{looking_acts}
 use Rattle.vfs.proofs.Keeping.{legal_acts, tree_acts}
 use Rattle.volume_mount.proofs.ReadAlone.{writes_none}
@@ -68,7 +70,7 @@ module _ (minor : ℕ) (old new : Table) (before after : List Told) (was is : Tr
     told = w.told;
     none_absorbed = w.none_absorbed;
     only_reads = w.only_reads;
-    keep = subst (λ (o : Outbox). KeepsRules minor w.acts [] o) owes (w.follows [] agrees).keep;
+    keep = subst (λ (o : Outbox). KeepsRules (no_area minor) w.acts [] o) owes (w.follows [] agrees).keep;
   }
 
   owed : outbox_of new ≡ outbox_after w.acts [] empty_outbox
@@ -159,6 +161,11 @@ mounted {L} words link minor frames clean old new s over agrees owes goes ok r n
     did : Mounting minor (words.history (link_of old)) r.went.acts (words.history (link_of new))
     did = done minor (table_of old) (table_of new) _ _ _ _ agrees owes r.went
 
+    -- the acts wrote nothing, and so nothing outside
+    inside : WritesInside clean.geometry marks
+    inside = acts_write_inside clean.geometry minor r.went.acts [] empty_outbox
+        (wider_rules (area_of clean.geometry minor) r.went.acts [] empty_outbox did.keep) tt
+
     same_geometry : s.geometry ≡ clean.geometry
     same_geometry = n.geometry
 
@@ -170,7 +177,7 @@ mounted {L} words link minor frames clean old new s over agrees owes goes ok r n
       acts = r.went.acts;
       mounting = subst (λ (t : Transfers L). Mounting minor (words.history (link_of old)) r.went.acts (words.history (link_of t))) (sym n.over)
           (done minor (table_of old) (table_of new) _ _ _ _ agrees owes r.went);
-      minor_is = n.made.minor_is;
+      minor_is = ap (λ (w : Area). w.minor) n.made.area_is;
       geometry = n.geometry ∙ (r.end agrees).1.geometry;
       is_new = just_made words new minor clean.geometry frames s ok n;
       none_ended = (r.end agrees).0;
@@ -187,6 +194,6 @@ mounted {L} words link minor frames clean old new s over agrees owes goes ok r n
           (r.end agrees).1.sizes.sized n.made.size_is n.made.none n.files now
           (λ tr. let l = r.went.leaves image [] agrees tr in record { disk = λ place. l.disk place; sure = λ place. l.sure place refl })
           (first image) (tree_acts clean.geometry (r.end agrees).1.tree r.went.acts []) (legal_acts clean.geometry image (r.end agrees).1.tree r.went.acts [] tt)
-          (looking_acts clean.geometry (r.end agrees).1.tree r.went.acts [] tt) (writes_none minor r.went.acts did.only_reads did.keep)
+          (looking_acts clean.geometry (r.end agrees).1.tree r.went.acts [] tt) (writes_none (no_area minor) r.went.acts did.only_reads did.keep) inside
           (ap (λ (t : Transfers L). (table_of t).pending) n.over ∙ (r.end agrees).1.idle));
     }

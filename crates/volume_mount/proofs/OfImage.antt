@@ -9,6 +9,7 @@ use Rattle.records.specs.Marks.{Mark}
 use Rattle.records.specs.Disk.{Contents, HasTrueReplies, bytes_read}
 use Rattle.records.specs.Told.{Told}
 use Rattle.records.specs.Acts.{Act, marks_after}
+use Rattle.records.specs.Area.{no_area}
 use Rattle.records.specs.Mount.{AreRead, IsHeadRefused, MountKeeps, MountRefused, MountRefusal, Layout, Inconsistent, OutOfMemory, Eio, LinkEnded, BadFrames, Mounting, first_bytes, geometry_read, head_read, volume_read, volume_size}
 use Rattle.records.specs.ServerCall.{Serving}
 use Rattle.volume_mount.specs.Laws.{IsSaidOf, sizes_in, volume_of}
@@ -23,7 +24,7 @@ module _ (minor : ℕ) (before after : List Told) (acts : List Act) (m : Mountin
 
   -- so many of its first bytes
   read_bytes : (n : ℕ) → AreRead marks n → first_bytes (bytes_read marks) n ≡ first_bytes image n
-  read_bytes n read = first_alike (bytes_read marks) image n (λ k lt. reads_alone minor acts image m.only_reads m.keep replies k (read.each k lt))
+  read_bytes n read = first_alike (bytes_read marks) image n (λ k lt. reads_alone (no_area minor) acts image m.only_reads m.keep replies k (read.each k lt))
 
   head_is : AreRead marks 2048 → head_read marks ≡ first_bytes image 2048
   head_is read = read_bytes 2048 read

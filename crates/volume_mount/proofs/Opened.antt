@@ -11,6 +11,7 @@ use Rattle.volume.specs.Holds.{HoldsVolume}
 use Rattle.records.specs.Marks.{Mark}
 use Rattle.records.specs.Disk.{Contents, HasTrueReplies, disk_after, unsure}
 use Rattle.records.specs.Acts.{empty_outbox}
+use Rattle.records.specs.Area.{Area, WritesInside}
 use Rattle.records.specs.Legal.{IsAtFirst, IsLegal, tree_after}
 use Rattle.records.specs.View.{Frames, server_view}
 use Rattle.records.specs.Mount.{IsJustMade, OpenKeeps, is_frame_count}
@@ -66,10 +67,11 @@ pub serves_new : (g : Geometry) (c : AbstractCache) (n : ℕ) (f : Files) (image
     → 0 < g.block_size → c.size ≡ g.block_size → ((b : ℕ) → c.held b ≡ None) → f ≡ no_files → Agrees c.table marks
     → (HasTrueReplies image marks → IsUnchanged image marks) → (HasTrueReplies image marks → IsAtFirst g image tree)
     → tree_after g tree marks ≡ tree → IsLegal g image tree marks → LookingWritesNothing g tree marks → none_written marks ≡ true
-    → c.table.pending ≡ [] → Serves (server_of g c n f) image tree marks
-serves_new g c n f image tree marks some sized none closed agrees same first stays legal looking quiet idle = record {
+    → WritesInside g marks → c.table.pending ≡ [] → Serves (server_of g c n f) image tree marks
+serves_new g c n f image tree marks some sized none closed agrees same first stays legal looking quiet inside idle = record {
   agrees = record { table = agrees; slots = slots; files = λ tr e u. files tr };
   well_formed = agrees.holds.well_formed;
+  inside = inside;
   at_rest = at_rest c.table marks agrees;
   legal = λ tr. legal;
   has_tree = λ tr e u. record {
@@ -123,7 +125,7 @@ pub opened : {L : Type 0} (words : LinkWords L) (transfers : Transfers L) (link 
     → 0 < g.block_size → IsNewOver words transfers minor g frames s → OpenKeeps g minor frames (words.history link) (serving_over words s)
 opened {L} words transfers link minor g frames s over agrees owes idle many some new = record {
   geometry = new.geometry;
-  minor_is = new.made.minor_is;
+  minor_is = ap (λ (w : Area). w.minor) new.made.area_is;
   told = ap (λ (t : Transfers L). words.history (link_of t)) new.over ∙ ap words.history over;
   is_new = just_made words transfers minor g frames s many new;
   outbox = ap (λ (t : Transfers L). outbox_of (table_of t)) new.over ∙ owes;
@@ -133,7 +135,7 @@ opened {L} words transfers link minor g frames s over agrees owes idle many some
       let count = frame_count s.blocks.cache in
       subst (λ (h : Geometry). Serves (server_of h c count (files_of s.opens)) image tree []) (sym new.geometry)
       (serves_new g c count (files_of s.opens) image tree [] some new.made.size_is new.made.none new.files table
-      (λ tr. record { disk = λ place. refl; sure = λ place. refl }) (λ tr. first) refl tt tt refl
+      (λ tr. record { disk = λ place. refl; sure = λ place. refl }) (λ tr. first) refl tt tt refl tt
       (ap (λ (t : Transfers L). (table_of t).pending) new.over ∙ idle));
 }
 

@@ -12,6 +12,7 @@ use Rattle.records.specs.Open.{asked_by, counts, greatest, moved_by, open_reques
 use Rattle.records.specs.Disk.{Contents, HasTrueReplies, IsTrueAnswer, byte_of, bytes_read, covers, disk_after, fetches, is_read, settles, unsure}
 use Rattle.records.specs.Told.{Posted, Complained, Received, received}
 use Rattle.records.specs.Acts.{Act, Began, Absorbed, AtLink, KeepsRules, Outbox, empty_outbox, first_of, marks_after, outbox_after, owed_after_message}
+use Rattle.records.specs.Area.{Area}
 use Rattle.records.specs.Mount.{OnlyReads}
 use Rattle.records.specs.Settled.{none_written}
 use Rattle.records.proofs.Quiet.{read_issued}
@@ -168,21 +169,21 @@ owed_reads incoming.Flush marks o h = record { issued = h.issued; never = h.neve
 owed_reads incoming.End marks o h = h
 
 -- where only reads became pending, only reads are issued
-only_owes : (minor : ℕ) (acts : List Act) → OnlyReads acts → KeepsRules minor acts [] empty_outbox
+only_owes : (area : Area) (acts : List Act) → OnlyReads acts → KeepsRules area acts [] empty_outbox
     → OnlyOwes (marks_after acts []) (outbox_after acts [] empty_outbox)
-only_owes minor [] only keep = record { issued = tt; never = tt; unposted = tt }
-only_owes minor (Began r ∷ acts) only keep =
-    let h = only_owes minor acts only.1 keep.0 in
+only_owes area [] only keep = record { issued = tt; never = tt; unposted = tt }
+only_owes area (Began r ∷ acts) only keep =
+    let h = only_owes area acts only.1 keep.0 in
     record { issued = h.issued; never = both _ (r ∷ []) h.never (only.0, tt); unposted = both _ (r ∷ []) h.unposted (only.0, tt) }
-only_owes minor (Absorbed message ∷ acts) only keep = owed_reads message _ _ (only_owes minor acts only keep.0)
-only_owes minor (AtLink (Posted to r true) ∷ acts) only keep =
-    let h = only_owes minor acts only keep.0 in
+only_owes area (Absorbed message ∷ acts) only keep = owed_reads message _ _ (only_owes area acts only keep.0)
+only_owes area (AtLink (Posted to r true) ∷ acts) only keep =
+    let h = only_owes area acts only keep.0 in
     record { issued = (first_read _ r h.unposted keep.1.first, h.issued); never = without r.id _ h.never; unposted = without r.id _ h.unposted }
-only_owes minor (AtLink (Posted to r false) ∷ acts) only keep =
-    let h = only_owes minor acts only keep.0 in record { issued = h.issued; never = h.never; unposted = h.unposted }
-only_owes minor (AtLink (Complained about) ∷ acts) only keep =
-    let h = only_owes minor acts only keep.0 in record { issued = h.issued; never = h.never; unposted = h.unposted }
-only_owes minor (AtLink (Received message) ∷ acts) only keep = owed_reads message _ _ (only_owes minor acts only keep.0)
+only_owes area (AtLink (Posted to r false) ∷ acts) only keep =
+    let h = only_owes area acts only keep.0 in record { issued = h.issued; never = h.never; unposted = h.unposted }
+only_owes area (AtLink (Complained about) ∷ acts) only keep =
+    let h = only_owes area acts only keep.0 in record { issued = h.issued; never = h.never; unposted = h.unposted }
+only_owes area (AtLink (Received message) ∷ acts) only keep = owed_reads message _ _ (only_owes area acts only keep.0)
 
 -- so no write was issued
 no_writes : (marks : List Mark) → OnlyReadsIssued marks → none_written marks ≡ true
@@ -195,11 +196,11 @@ no_writes (GaveUp ∷ marks) h = no_writes marks h
 no_writes (Took who now call answer ∷ marks) h = refl
 no_writes (Fault e cause ∷ marks) h = no_writes marks h
 
-pub writes_none : (minor : ℕ) (acts : List Act) → OnlyReads acts → KeepsRules minor acts [] empty_outbox → none_written (marks_after acts []) ≡ true
-writes_none minor acts only keep = no_writes (marks_after acts []) (only_owes minor acts only keep).issued
+pub writes_none : (area : Area) (acts : List Act) → OnlyReads acts → KeepsRules area acts [] empty_outbox → none_written (marks_after acts []) ≡ true
+writes_none area acts only keep = no_writes (marks_after acts []) (only_owes area acts only keep).issued
 
-pub reads_alone : (minor : ℕ) (acts : List Act) (image : Contents) → OnlyReads acts → KeepsRules minor acts [] empty_outbox
+pub reads_alone : (area : Area) (acts : List Act) (image : Contents) → OnlyReads acts → KeepsRules area acts [] empty_outbox
     → HasTrueReplies image (marks_after acts []) → (place : ℕ) → is_read (marks_after acts []) place ≡ true
     → bytes_read (marks_after acts []) place ≡ image place
-reads_alone minor acts image only keep true_replies place read =
-    read_is image (marks_after acts []) (only_owes minor acts only keep).issued true_replies place read
+reads_alone area acts image only keep true_replies place read =
+    read_is image (marks_after acts []) (only_owes area acts only keep).issued true_replies place read

@@ -9,6 +9,7 @@ use Rattle.records.specs.Marks.{Mark}
 use Rattle.records.specs.Disk.{Contents, HasTrueReplies, disk_after, unsure}
 use Rattle.records.specs.Told.{Told, received, grown, took_end}
 use Rattle.records.specs.Acts.{marks_after}
+use Rattle.records.specs.Area.{LiesIn, no_area}
 use Rattle.reissue.specs.declared.ask.Ask.{Ask}
 use Rattle.reissue.specs.Settlements.{Settlement}
 use Rattle.reissue.specs.Settlements as settled
@@ -20,7 +21,8 @@ use Rattle.reissue.specs.Entries.{AllAsk, AllOfMinor, IsLeft, pending_of}
 use Rattle.reissue.specs.Agrees.{Agrees}
 use Rattle.reissue.specs.Moves.{Begun, IsBusy, WasRead, begun_by, written_by, put}
 use Rattle.reissue.specs.Closing.{Closing}
-use Rattle.reissue.specs.Calls.{Truth, Begins, Steps}
+use Rattle.reissue.specs.Calls.{Truth, AsksIn, Begins, Steps}
+use Rattle.reissue.proofs.Inside.{of_minor}
 use Rattle.reissue.specs.Transfers.{table_of, link_of}
 use Rattle.reissue.proofs.Maps.{put-same, put_cases}
 use Rattle.reissue.proofs.Tickets.{pending_here}
@@ -64,20 +66,24 @@ midway_none minor start size bytes t told was none = record {
 
 -- what a begun read is as further acts
 begins_further : (minor start size : ℕ) (asked : List Sought) (ask : Ask) (t u : Table) (between after : List Told) (mid is : Truth)
-    → ask.minor ≡ minor → pending_of u.pending ≡ pieces_of start size asked → Begins ask t u between after mid is → Further minor t u between after mid is
-begins_further minor start size asked ask t u between after mid is m same b = record {
+    → ask.minor ≡ minor → ask.kind ≡ Read → pending_of u.pending ≡ pieces_of start size asked → Begins ask t u between after mid is
+    → Further minor t u between after mid is
+begins_further minor start size asked ask t u between after mid is m kind same b = record {
   acts = b.acts;
   more = λ marks. grown b.posts marks;
   told = b.told;
   none_absorbed = b.none_absorbed;
   only_reads = began_reads start size b.acts u.pending asked u.numbers.distinct same b.began;
-  minors = λ h. b.minors minor m h;
-  rules = λ marks h all. b.rules minor marks h all m;
+  minors = λ h. b.minors (no_area minor) asks h;
+  rules = λ marks h all. b.rules (no_area minor) marks h all asks;
   agrees = b.agrees;
   leaves = λ image marks h true. leaves_quiet image marks (grown b.posts marks) (pending_of u.pending) (quiet_pieces start size u.pending asked same) (b.spares image marks h);
   before = λ image marks h. true_posted b.posts image marks b.only_posts h;
-  truth = λ v marks same h all k. b.truth v marks h (m ∙ sym same) (subst (λ (n : ℕ). AllOfMinor n t.pending) (sym same) all) k;
+  truth = λ v marks same h all k. b.truth v marks h (m ∙ sym same) (subst (λ (n : ℕ). AllOfMinor n t.pending) (sym same) (of_minor (no_area minor) t.pending all)) k;
 }
+  where
+    asks : AsksIn (no_area minor) ask
+    asks = (m, subst (λ (k : Kind). LiesIn (no_area minor) k ask.position ask.count) (sym kind) tt)
 
 -- what a message is as further acts
 steps_further : (minor start size : ℕ) (asked more : List Sought) (res : Settlement) (t u : Table) (between after : List Told) (mid is : Truth)
@@ -89,13 +95,13 @@ steps_further minor start size asked more res t u between after mid is same now 
   told = x.told;
   none_absorbed = x.none_absorbed;
   only_reads = began_reads start size x.acts u.pending more u.numbers.distinct now x.began;
-  minors = λ h. x.minors minor h;
-  rules = λ marks h all. x.rules minor marks h all busy live;
+  minors = λ h. x.minors (no_area minor) h;
+  rules = λ marks h all. x.rules (no_area minor) marks h all busy live;
   agrees = x.agrees;
   leaves = λ image marks h true. leaves_quiet image marks (grown x.posts (received x.message marks)) (pending_of t.pending)
       (quiet_pieces start size t.pending asked same) ((x.closing marks h).moves image true).spares;
   before = λ image marks h. true_step x.posts x.message image marks x.only_posts h;
-  truth = λ v marks same h all k. x.truth v marks h (subst (λ (n : ℕ). AllOfMinor n t.pending) (sym same) all) k;
+  truth = λ v marks same h all k. x.truth v marks h (subst (λ (n : ℕ). AllOfMinor n t.pending) (sym same) (of_minor (no_area minor) t.pending all)) k;
 }
 
 -- Midway, after further acts.
@@ -128,7 +134,7 @@ midway_begins {L} link minor start size next after asked more bytes s old new be
     midway_on minor start size next after asked more bytes bytes s (table_of old) (table_of new) before (link.history (link_of old)) (link.history (link_of new))
     was (link.truth (link_of old)) (link.truth (link_of new)) m
     (begins_further minor start size more x.ask (table_of old) (table_of new) (link.history (link_of old)) (link.history (link_of new))
-    (link.truth (link_of old)) (link.truth (link_of new)) x.minor_is same x.begins)
+    (link.truth (link_of old)) (link.truth (link_of new)) x.minor_is x.kind same x.begins)
     same (subst SoughtDistinct (sym x.sought) (distinct_new asked sought free m.distinct))
     (subst (AreBefore size after) (sym x.sought) (before_new size after asked sought (before_later size next after asked (omega (arith, x.after_is)) m.within)
     (omega (arith, x.within)) (omega (arith, x.after_is))))

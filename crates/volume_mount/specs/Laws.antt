@@ -8,12 +8,13 @@ use Rattle.volume.specs.Verdict.{Found, verdict_of}
 use Rattle.records.specs.Disk.{Contents, HasTrueReplies, bytes_read, is_read}
 use Rattle.records.specs.Told.{Told}
 use Rattle.records.specs.Acts.{Act, KeepsRules, empty_outbox, marks_after}
+use Rattle.records.specs.Area.{Area}
 use Rattle.records.specs.Mount.{AreRead, MountRefused, MountRefusal, Mounting, Layout, Inconsistent, OnlyReads, first_bytes, geometry_read}
 
 -- where only reads became pending, what was read with true replies are the image's bytes
 abbrev pub ReadsAlone : Type 0
 ReadsAlone =
-    (minor : ℕ) (acts : List Act) (image : Contents) → OnlyReads acts → KeepsRules minor acts [] empty_outbox
+    (area : Area) (acts : List Act) (image : Contents) → OnlyReads acts → KeepsRules area acts [] empty_outbox
     → HasTrueReplies image (marks_after acts []) → (place : ℕ) → is_read (marks_after acts []) place ≡ true
     → bytes_read (marks_after acts []) place ≡ image place
 

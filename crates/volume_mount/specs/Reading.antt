@@ -5,11 +5,12 @@ use Rattle.records.specs.Disk.{Contents, HasTrueReplies, bytes_read, is_read, di
 use Rattle.records.specs.Opening.{Opening}
 use Rattle.records.specs.Told.{Told, took_end}
 use Rattle.records.specs.Acts.{Act, told_of, has_absorbed, marks_after, outbox_after, KeepsRules}
+use Rattle.records.specs.Area.{no_area}
 use Rattle.records.specs.Mount.{OnlyReads}
 use Rattle.reissue.specs.declared.table.Table.{Table}
 use Rattle.reissue.specs.declared.pending.Pending.{Pending}
 use Rattle.reissue.specs.Agrees.{Agrees}
-use Rattle.reissue.specs.Entries.{pending_of, AllOfMinor, AllAsk, IsLeft}
+use Rattle.reissue.specs.Entries.{pending_of, AllIn, AllAsk, IsLeft}
 use Rattle.message.specs.declared.Kind.TheVariants.{Read}
 use Rattle.reissue.specs.declared.ask.Ask.{Ask}
 use Rattle.reissue.specs.declared.link.Link.{Ghosts as LinkWords}
@@ -23,9 +24,9 @@ use Rattle.volume_mount.specs.declared.reading.Stop.{Stop}
 use Rattle.volume_mount.specs.declared.reading.Stop.TheVariants.{OutOfMemory, GaveUp, Ended}
 use Rattle.volume_mount.specs.Sought.{piece, piece_size, pieces_of, AreDistinct, AreBefore}
 
--- from a record that the one table agrees with, the acts keep the rules, and lead to one that the other agrees with and to what it owes
+-- from a record that the one table agrees with, the acts keep the rules and write nothing, and lead to one that the other agrees with and to what it owes
 pub record Follows (minor : ℕ) (acts : List Act) (old new : Table) (marks : List Mark) : Type 0 where
-  pub keep : KeepsRules minor acts marks (outbox_of old)
+  pub keep : KeepsRules (no_area minor) acts marks (outbox_of old)
   pub owes : outbox_after acts marks (outbox_of old) ≡ outbox_of new
   pub agrees : Agrees new (marks_after acts marks)
 
@@ -41,7 +42,7 @@ pub record Went (minor : ℕ) (old new : Table) (before after : List Told) (was 
   pub told : after ≡ told_of acts ++ before
   pub none_absorbed : has_absorbed acts ≡ false
   pub only_reads : OnlyReads acts
-  pub minors : AllOfMinor minor new.pending
+  pub minors : AllIn (no_area minor) new.pending
   pub follows : (marks : List Mark) → Agrees old marks → Follows minor acts old new marks
   pub leaves : (image : Contents) (marks : List Mark) → Agrees old marks → HasTrueReplies image (marks_after acts marks)
       → LeavesDisk image marks (marks_after acts marks)

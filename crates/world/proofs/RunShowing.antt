@@ -13,5 +13,6 @@ runs_are_shown g frames v tree s t on fits of_run runs =
     let held : MediaHeld v s t.marks = subst (λ (m : List Mark). MediaHeld v s m) (sym of_run.marks) runs.media in
     record {
       replies = replies;
-      media = image_shows g v s.disks.media t on of_run.whole of_run.number fits replies.well_formed replies.inside held.inside held.outside of_run.image;
+      media = image_shows g v s.disks.media t on of_run.whole of_run.number fits replies.well_formed replies.inside held.inside held.outside
+          of_run.image;
     }

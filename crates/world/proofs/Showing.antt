@@ -5,7 +5,7 @@ use Rattle.layout.specs.declared.Geometry.{Geometry}
 use Rattle.layout.specs.Places.{IsGeometry, geometry_of}
 use Rattle.layout.proofs.Parsed.{geometry_fits}
 use Rattle.tree.specs.Tree.{Tree}
-use Rattle.std.specs.Prelude.{All, ◌⊎◌, None, Some, Ok, take}
+use Rattle.std.specs.Prelude.{All, ◌⊎◌, None, Some, Ok, take, drop}
 use Rattle.bdev.specs.DriverState.{DriverState, is_fresh, range_while_fresh, range_of as range_of_driver}
 use Rattle.media.specs.Contents.{IsWhole, MediaState, sectors_of}
 use Rattle.reincarnate.specs.declared.policy.Setup.{Setup}
@@ -73,7 +73,8 @@ at_most (suc n) [] = omega arith
 at_most (suc n) (b ∷ l) = let h : length (take n l) ≤ n = at_most n l in omega (arith, h)
 
 -- a geometry that was read has more than two blocks, and the volume has all its zones
-two_blocks_fit : (bytes : List ℕ) (g : Geometry) (count : ℕ) → geometry_of bytes ≡ Ok g → length bytes ≤ 512 * count → 2 * g.block_size ≤ 512 * count
+two_blocks_fit : (bytes : List ℕ) (g : Geometry) (count : ℕ) → geometry_of bytes ≡ Ok g → length bytes ≤ 512 * count
+    → 2 * g.block_size ≤ 512 * count
 two_blocks_fit bytes g count parsed most =
     let fits : IsGeometry g × (g.zones * g.block_size ≤ length bytes) = geometry_fits bytes g parsed in
     let two : 2 ≤ g.zones = let a = fits.0.first in let b = fits.0.some_zone in omega (arith, a, b) in
@@ -121,7 +122,9 @@ module _ {L : Type 0} (words : LinkWords L) (run : L → RunState) (link : L) (i
       (moment (serving_over words s) last from.plays.last) t.unanswered = from.plays.holds v tree from.opened.outbox hears in
       let holds : RunHolds g (frames_in s) v tree last.scene t.unanswered =
       subst (λ (h : Geometry). RunHolds h (frames_in s) v tree last.scene t.unanswered) from.opened.geometry x.holds in
-      let shows : Shows g v tree t = runs_are_shown g (frames_in s) v tree last.scene t on (two_blocks_fit (volume_bytes (range_of range) image) g range.1 begun.parsed (at_most _ _))
+      let fits : 2 * g.block_size ≤ 512 * range.1 =
+      two_blocks_fit (volume_bytes (range_of range) image) g range.1 begun.parsed (at_most (512 * range.1) (drop (512 * range.0) image)) in
+      let shows : Shows g v tree t = runs_are_shown g (frames_in s) v tree last.scene t on fits
       (record { marks = marks; frames_are = frames_are; image = bytes; whole = whole; number = from.plays.sectors ∙ new.sectors_are }) holds in
       let none_started : media.generation ≡ 0 = ap (λ (m : MediaState). m.generation) loaded in
       let end : IsAtEnd (moment (serving_over words s) last from.plays.last) = record {
