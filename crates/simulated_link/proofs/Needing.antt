@@ -1,5 +1,5 @@
 -- Where the link has ended in a run, the server needs a message.
-use Rattle.std.proofs.Common.{◌≡◌, ℕ, ◌+◌, List, [], ◌∷◌, ◌++◌, Bool, true, false, cond, refl, sym, ◌∙◌, ap, subst}
+use Rattle.std.proofs.Common.{◌≡◌, ◌+◌, List, [], ◌∷◌, ◌++◌, Bool, true, false, cond, refl, sym, ◌∙◌, ap, subst}
 use Rattle.std.specs.Prelude.{Option, Some, None, is_some, not, ◌||◌, ◌&&◌, nat_lt}
 use Rattle.lemmas.proofs.Bools.{true_not_false}
 use Rattle.message.specs.declared.endpoint.Endpoint.{Endpoint}

@@ -1,7 +1,7 @@
 -- What a step is while the server rests: what is owed is told first; then the first call that waits is handed out; else the next event is
 -- run, and does all that it does. Nothing else is a step then.
 use Rattle.records.specs.Area.{Area}
-use Rattle.std.specs.Prelude.{◌≡◌, ℕ, List, [], ◌∷◌, ◌++◌, true, false, Option, Some, None, refl, drop, slice_get}
+use Rattle.std.specs.Prelude.{◌≡◌, List, [], ◌∷◌, ◌++◌, true, false, Option, Some, None, refl, drop, slice_get}
 use Rattle.std.proofs.Common.{ap, sym, ◌∙◌, subst}
 use Rattle.lemmas.proofs.Options.{some_same}
 use Rattle.message.specs.declared.Incoming.{Incoming}

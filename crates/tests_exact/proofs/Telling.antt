@@ -1,5 +1,5 @@
 -- What the link is told and gives at a step: what the rules allow, and the message that the next event brings.
-use Rattle.std.specs.Prelude.{◌≡◌, ◌⊎◌, ℕ, ◌≤◌, suc, List, [], ◌∷◌, length, Bool, true, false, Option, Some, None, Result, cond}
+use Rattle.std.specs.Prelude.{◌≡◌, ◌⊎◌, ◌≤◌, suc, List, [], ◌∷◌, length, Bool, true, false, Option, Some, None, Result, cond}
 use Rattle.std.specs.Prelude.{refl, is_ok, slice_get}
 use Rattle.std.proofs.Common.{arith, ap, sym, ◌∙◌, subst, inl, inr}
 use Rattle.lemmas.proofs.Options.{some_same}

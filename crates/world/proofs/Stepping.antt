@@ -1,5 +1,5 @@
 -- What is done between two calls, a message that is handed over and a call are steps of a run by the rules.
-use Rattle.std.proofs.Common.{◌≡◌, ◌⊎◌, ℕ, ◌+◌, List, [], ◌∷◌, ◌++◌, Bool, true, false, cond, refl, sym, ◌∙◌, ap, subst, inl, inr}
+use Rattle.std.proofs.Common.{◌≡◌, ◌⊎◌, ◌+◌, List, [], ◌∷◌, ◌++◌, Bool, true, false, cond, refl, sym, ◌∙◌, ap, subst, inl, inr}
 use Rattle.std.specs.Prelude.{◌||◌, Option, Some, None, Ok, drop, slice_get}
 use Rattle.message.specs.declared.Incoming.{Incoming}
 use Rattle.message.specs.declared.Incoming.TheVariants as incoming
@@ -11,7 +11,7 @@ use Rattle.records.specs.Opening.{Opening, contents_at}
 use Rattle.records.specs.Told.{Told, Posted, Complained, Received, received, took_end, took_nothing}
 use Rattle.records.specs.Acts.{Act, Began, Absorbed, AtLink, Outbox, told_of, marks_after, outbox_after, owed_after_message, IsAtRest}
 use Rattle.records.specs.ServerCall.{Serving, Serves, Outcome, Rules}
-use Rattle.records.specs.Area.{Area, area_of}
+use Rattle.records.specs.Area.{Area}
 use Rattle.reissue.specs.Calls.{Truth}
 use Rattle.schedule.specs.declared.log.LogEntry.TheVariants as entry
 use Rattle.schedule.specs.declared.arrived.Arrived.{Arrived}

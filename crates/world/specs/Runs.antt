@@ -1,5 +1,5 @@
 -- What a run leads through: turns between two calls, in which events are run, messages handed over, and calls answered.
-use Rattle.std.specs.Prelude.{◌≡◌, ◌⊎◌, ◌≤◌, ◌<◌, ◌+◌, ℕ, List, [], ◌∷◌, length, Bool, true, false, Option, Some, None, Ok, if◌then◌else◌}
+use Rattle.std.specs.Prelude.{◌≡◌, ◌⊎◌, ◌≤◌, ◌<◌, ◌+◌, List, [], ◌∷◌, length, Bool, true, false, Option, Some, None, Ok, if◌then◌else◌}
 use Rattle.message.specs.declared.Incoming.{Incoming}
 use Rattle.tree.specs.Tree.{Tree}
 use Rattle.tree.specs.declared.Reply.{Reply}
