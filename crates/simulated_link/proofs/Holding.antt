@@ -27,42 +27,51 @@ use Rattle.simulated_link.proofs.Guarantee.{media_held}
 use Rattle.simulated_link.proofs.MovingLaws.{next_heard, far_heard, received_true, handed_true, owed_heard, end_true, took_true, refused_true, complained_true, posted_true, accepted_at}
 use Rattle.simulated_link.proofs.Running.{next_record, handed_record, turn_record}
 
--- ---- what stood in a well formed record is well formed
+-- ---- a run only adds to the record
 
-received_formed : (m : Incoming) (marks : List Mark) → IsWellFormed (received m marks) → IsWellFormed marks
-received_formed (incoming.Reply a) marks h = by (counts marks a) h where
-  by : (c : Bool) → IsWellFormed (cond c (Answered a ∷ marks) marks) → IsWellFormed marks
-  by true h = h.0
-  by false h = h
-received_formed (incoming.Started e) marks h = h.0
-received_formed incoming.GaveUp marks h = h.0
-received_formed incoming.Flush marks h = h.0
-received_formed incoming.End marks h = h
+-- what holds of a record holds of what stood in it before
+module _ (P : List Mark → Type 0) (back : (x : Mark) (marks : List Mark) → P (x ∷ marks) → P marks) where
+  received_back : (m : Incoming) (marks : List Mark) → P (received m marks) → P marks
+  received_back (incoming.Reply a) marks h = by (counts marks a) h where
+    by : (c : Bool) → P (cond c (Answered a ∷ marks) marks) → P marks
+    by true h = back (Answered a) marks h
+    by false h = h
+  received_back (incoming.Started e) marks h = back (Started e) marks h
+  received_back incoming.GaveUp marks h = back GaveUp marks h
+  received_back incoming.Flush marks h = back Flush marks h
+  received_back incoming.End marks h = h
 
-told_formed : (t : Told) (marks : List Mark) → IsWellFormed (with_told t marks) → IsWellFormed marks
-told_formed (Posted to r true) marks h = h.0
-told_formed (Posted to r false) marks h = h
-told_formed (Complained about) marks h = h
-told_formed (Received m) marks h = received_formed m marks h
+  told_back : (t : Told) (marks : List Mark) → P (with_told t marks) → P marks
+  told_back (Posted to r true) marks h = back (Issued r to) marks h
+  told_back (Posted to r false) marks h = h
+  told_back (Complained about) marks h = h
+  told_back (Received m) marks h = received_back m marks h
+
+  step_back : (area : Area) (m a : Moment) → Step area m a → P (record_of a.run) → P (record_of m.run)
+  step_back area m _ (Begins r busy may) h = h
+  step_back area m _ (Tells told a busy quiet may turn) h = told_back told (record_of m.run) (subst P (turn_record m.run a told turn) h)
+  step_back area m _ (Takes message call a answers may turn) h =
+      received_back message (record_of m.run) (subst P (turn_record m.run a (Received message) turn) h)
+  step_back area m _ (Settles message hears rest) h = h
+  step_back area m _ (Brings message a between none next) h =
+      subst P (next_record m.run a (Some message) next) (received_back message (record_of a) (subst P (handed_record message a) h))
+  step_back area m _ (BringsNone a between none next) h = subst P (next_record m.run a None next) h
+  step_back area m _ (Pays between owed first) h =
+      received_back incoming.GaveUp (record_of m.run) (subst P (handed_record incoming.GaveUp (paid m.run)) h)
+  step_back area m _ (HandsCall call a between paid hands) h = subst P (ap record_of hands.after) h
+  step_back area m _ (Replies call reply answers live rest) h =
+      let mark = Took call.who call.now call.call (answer_of reply) in
+      back mark (record_of m.run) (subst P (ap without_faults (mark_in mark m.run.scene.noted)) h)
+
+  pub runs_back : (area : Area) (b a : Moment) → Runs area b a → P (record_of a.run) → P (record_of b.run)
+  runs_back area b _ Starts h = h
+  runs_back area b a (Then m _ before last) h = runs_back area b m before (step_back area m a last h)
 
 step_formed : (area : Area) (m a : Moment) → Step area m a → IsWellFormed (record_of a.run) → IsWellFormed (record_of m.run)
-step_formed area m _ (Begins r busy may) h = h
-step_formed area m _ (Tells told a busy quiet may turn) h = told_formed told (record_of m.run) (subst IsWellFormed (turn_record m.run a told turn) h)
-step_formed area m _ (Takes message call a answers may turn) h =
-    received_formed message (record_of m.run) (subst IsWellFormed (turn_record m.run a (Received message) turn) h)
-step_formed area m _ (Settles message hears rest) h = h
-step_formed area m _ (Brings message a between none next) h =
-    subst IsWellFormed (next_record m.run a (Some message) next) (received_formed message (record_of a) (subst IsWellFormed (handed_record message a) h))
-step_formed area m _ (BringsNone a between none next) h = subst IsWellFormed (next_record m.run a None next) h
-step_formed area m _ (Pays between owed first) h =
-    received_formed incoming.GaveUp (record_of m.run) (subst IsWellFormed (handed_record incoming.GaveUp (paid m.run)) h)
-step_formed area m _ (HandsCall call a between paid hands) h = subst IsWellFormed (ap record_of hands.after) h
-step_formed area m _ (Replies call reply answers live rest) h =
-    (subst IsWellFormed (ap without_faults (mark_in (Took call.who call.now call.call (answer_of reply)) m.run.scene.noted)) h).0
+step_formed = step_back IsWellFormed (λ x marks h. h.0)
 
 pub runs_formed : (area : Area) (b a : Moment) → Runs area b a → IsWellFormed (record_of a.run) → IsWellFormed (record_of b.run)
-runs_formed area b _ Starts h = h
-runs_formed area b a (Then m _ before last) h = runs_formed area b m before (step_formed area m a last h)
+runs_formed = runs_back IsWellFormed (λ x marks h. h.0)
 
 -- the server's record is well formed where the run's is
 module _ (marks : List Mark) where
