@@ -10,25 +10,27 @@ use Rattle.std.proofs.Math.Nat.{mul-le-mul_right, add-mul, mul_comm, div-add-mod
 use Rattle.lemmas.proofs.Bools.{and_left, and_right}
 use Rattle.message.specs.declared.Kind.{Kind}
 use Rattle.message.specs.declared.Kind.TheVariants as kind
+use Rattle.records.specs.Area.{Area}
 use Rattle.reissue.specs.declared.ask.Ask.{Ask}
 use Rattle.reissue.specs.declared.ask.BeginRefusal.{BeginRefusal}
 use Rattle.reissue.specs.declared.ask.BeginRefusal.TheVariants.{TableFull, BlockPending}
 use Rattle.reissue.specs.declared.pending.Pending.{Pending}
 use Rattle.reissue.specs.Moves.{Begun, put, Opens, IsBusy, begun_by, written_by}
-use Rattle.reissue.specs.Entries.{pending_of, meets, AllOfMinor}
+use Rattle.reissue.specs.Entries.{pending_of, meets, AllIn}
 use Rattle.reissue.specs.Posts.{HasRoom}
-use Rattle.reissue.specs.Calls.{Begins, Adds}
+use Rattle.reissue.specs.Calls.{AsksIn, Begins, Adds}
 use Rattle.reissue.proofs.Maps.{put-same}
 use Rattle.cache.specs.declared.slot.Slot.{Slot}
 use Rattle.cache.specs.declared.state.State.TheVariants.{Dirty, Writing}
 use Rattle.cache.specs.Slots.{held, ticket_of, IsDistinct}
 use Rattle.cache.specs.Edits.{IsSetAt, AreBegun, AreDirty}
-use Rattle.cache.specs.Frames.{Tied, CacheAgrees, view}
+use Rattle.cache.specs.Frames.{Tied, AllInside, CacheAgrees, view}
 use Rattle.cache.specs.Runs.{AreGathered}
 use Rattle.cache.specs.Calls.{AbstractCache, IsReady, IsRefusing, Serves, Keeps}
 use Rattle.cache.specs.Takes.{IsReadAt}
 use Rattle.cache.proofs.Held.{held_at, held_set}
 use Rattle.cache.proofs.Tied.{tied_run, tied_read}
+use Rattle.cache.proofs.Inside.{asks_read, asks_write, inside_begun, inside_still, run_inside}
 use Rattle.cache.proofs.Agreeing.{agrees_moved, view_moved, agrees_begun, view_begun}
 use Rattle.cache.proofs.Begun.{begun_one, dirty_held}
 use Rattle.cache.proofs.Edits.{one_slot}
@@ -139,12 +141,13 @@ refusing c (Err BlockPending) position size b count h full same at whole some mo
 
 -- a cache over whose requests one more was begun is ready
 ready_begun : (ask : Ask) (old new : AbstractCache) → Begins ask old.table new.table old.told new.told old.truth new.truth
-    → Adds ask old.table new.table old.told new.told → IsReady old → ask.minor ≡ old.minor → new.minor ≡ old.minor → new.ended ≡ old.ended
+    → Adds ask old.table new.table old.told new.told → IsReady old → AsksIn old.area ask → new.area ≡ old.area → new.ended ≡ old.ended
     → new.budget ≤ old.budget → HasRoom new.table new.room
-    → Tied new.size new.held (pending_of new.table.pending) → IsReady new
-ready_begun ask old new x adds ready minor same ended budget room tied = record {
-  minors = subst (λ (n : ℕ). AllOfMinor n new.table.pending) (sym same) (x.minors old.minor minor ready.minors);
+    → Tied new.size new.held (pending_of new.table.pending) → AllInside new.area new.size new.held → IsReady new
+ready_begun ask old new x adds ready asks same ended budget room tied inside = record {
+  minors = subst (λ (r : Area). AllIn r new.table.pending) (sym same) (x.minors old.area asks ready.minors);
   tied = tied;
+  inside = inside;
   room = λ e. room;
   ids = λ e. let was = ready.ids (sym ended ∙ e) in let more = ids_added ask old new adds in omega (arith, was, more, budget);
 }
@@ -158,12 +161,12 @@ pub write_many : (ask : Ask) (old new : AbstractCache) (b count n : ℕ)
     → 0 < count → AreBegun b count n old.held new.held → AreGathered old.held b count old.size ask.bytes.now
     → Begins ask old.table new.table old.told new.told old.truth new.truth → Adds ask old.table new.table old.told new.told
     → Opens (Ok n) (begun_by ask) (pending_of old.table.pending) (pending_of new.table.pending)
-    → ask.kind ≡ kind.Write → ask.minor ≡ old.minor → ask.position ≡ b * old.size → ask.count ≡ count * old.size
-    → IsReady old → new.minor ≡ old.minor → new.size ≡ old.size → new.ended ≡ old.ended → new.budget ≤ old.budget → HasRoom new.table new.room
+    → ask.kind ≡ kind.Write → ask.minor ≡ old.area.minor → ask.position ≡ b * old.size → ask.count ≡ count * old.size
+    → IsReady old → new.area ≡ old.area → new.size ≡ old.size → new.ended ≡ old.ended → new.budget ≤ old.budget → HasRoom new.table new.room
     → Keeps old new
 write_many ask old new b count n some begun from x adds opens write minor position many ready same size ended budget room =
-    begin_runs ask old new (λ w v. Serves old new w v) x (ready_begun ask old new x adds ready minor same ended budget room tied')
-    ready.minors minor same size ended budget (ids_added ask old new adds) (λ w v sp. record {
+    begin_runs ask old new (λ w v. Serves old new w v) x (ready_begun ask old new x adds ready asks same ended budget room tied' inside)
+    ready.minors asks same size ended budget (ids_added ask old new adds) (λ w v sp. record {
       agrees = λ a. subst (λ (k : ℕ). CacheAgrees k new.held v) (sym size)
           (agrees_moved old.size new.held (pending_of new.table.pending) w v sp tied (agrees_begun old.size old.held new.held w b count n begun a));
       same = λ a. ap (λ (k : ℕ). view k new.held v) size
@@ -171,6 +174,14 @@ write_many ask old new b count n some begun from x adds opens write minor positi
           ∙ view_begun old.size old.held new.held w b count n begun;
     })
   where
+    asks : AsksIn old.area ask
+    asks = asks_write old.area ask (b * old.size) (count * old.size) write minor position many
+        (run_inside old.area old.size old.held new.held b count n some begun ready.inside)
+
+    inside : AllInside new.area new.size new.held
+    inside = inside_still old.area new.area old.size new.size new.held new.held same size refl
+        (inside_begun old.area old.size old.held new.held b count n begun ready.inside)
+
     wr : written_by ask.kind ask.bytes.now ≡ Some ask.bytes.now
     wr = ap (λ (y : Kind). written_by y ask.bytes.now) write
 
@@ -187,8 +198,8 @@ pub write_one : (ask : Ask) (old new : AbstractCache) (items items' : List Slot)
     → IsSetAt items items' at (λ t. record t { state = Writing n }) → old.held ≡ held items → new.held ≡ held items'
     → Begins ask old.table new.table old.told new.told old.truth new.truth → Adds ask old.table new.table old.told new.told
     → Opens (Ok n) (begun_by ask) (pending_of old.table.pending) (pending_of new.table.pending)
-    → ask.kind ≡ kind.Write → ask.minor ≡ old.minor → ask.position ≡ b * old.size → ask.count ≡ old.size → ask.bytes.now ≡ s.bytes.value
-    → IsReady old → new.minor ≡ old.minor → new.size ≡ old.size → new.ended ≡ old.ended → new.budget ≤ old.budget → HasRoom new.table new.room
+    → ask.kind ≡ kind.Write → ask.minor ≡ old.area.minor → ask.position ≡ b * old.size → ask.count ≡ old.size → ask.bytes.now ≡ s.bytes.value
+    → IsReady old → new.area ≡ old.area → new.size ≡ old.size → new.ended ≡ old.ended → new.budget ≤ old.budget → HasRoom new.table new.room
     → Keeps old new
 write_one ask old new items items' b n at s d is block st e here there x adds opens write minor position count bytes ready same size ended budget room =
     write_many ask old new b 1 n (omega arith) begun from x adds opens write minor position (count ∙ one_is old.size) ready same size ended budget room
@@ -229,12 +240,12 @@ pub read_one : (ask : Ask) (old new : AbstractCache) (b n : ℕ)
     → new.held ≡ old.held
     → Begins ask old.table new.table old.told new.told old.truth new.truth → Adds ask old.table new.table old.told new.told
     → Opens (Ok n) (begun_by ask) (pending_of old.table.pending) (pending_of new.table.pending)
-    → ask.kind ≡ kind.Read → ask.minor ≡ old.minor → ask.position ≡ b * old.size → ask.count ≡ old.size
-    → IsReady old → new.minor ≡ old.minor → new.size ≡ old.size → new.ended ≡ old.ended → new.budget ≤ old.budget → HasRoom new.table new.room
+    → ask.kind ≡ kind.Read → ask.minor ≡ old.area.minor → ask.position ≡ b * old.size → ask.count ≡ old.size
+    → IsReady old → new.area ≡ old.area → new.size ≡ old.size → new.ended ≡ old.ended → new.budget ≤ old.budget → HasRoom new.table new.room
     → Keeps old new
 read_one ask old new b n all x adds opens read minor position count ready same size ended budget room =
-    begin_runs ask old new (λ w v. Serves old new w v) x (ready_begun ask old new x adds ready minor same ended budget room tied')
-    ready.minors minor same size ended budget (ids_added ask old new adds) (λ w v sp. record {
+    begin_runs ask old new (λ w v. Serves old new w v) x (ready_begun ask old new x adds ready asks same ended budget room tied' inside)
+    ready.minors asks same size ended budget (ids_added ask old new adds) (λ w v sp. record {
       agrees = λ a. subst (λ (k : ℕ). CacheAgrees k new.held v) (sym size)
           (agrees_moved old.size new.held (pending_of new.table.pending) w v sp tied (subst (λ (h : ℕ → Option Slot). CacheAgrees old.size h w) (sym all) a));
       same = λ a. ap (λ (k : ℕ). view k new.held v) size
@@ -242,6 +253,12 @@ read_one ask old new b n all x adds opens read minor position count ready same s
           ∙ ap (λ (h : ℕ → Option Slot). view old.size h w) all;
     })
   where
+    asks : AsksIn old.area ask
+    asks = asks_read old.area ask read minor
+
+    inside : AllInside new.area new.size new.held
+    inside = inside_still old.area new.area old.size new.size old.held new.held same size all ready.inside
+
     none : written_by ask.kind ask.bytes.now ≡ None
     none = ap (λ (y : Kind). written_by y ask.bytes.now) read
 

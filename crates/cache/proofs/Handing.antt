@@ -5,12 +5,13 @@ use Rattle.std.proofs.lemmas.Bool.Decides.{nat_tests}
 use Rattle.message.specs.declared.Incoming.{Incoming}
 use Rattle.message.specs.declared.Incoming.TheVariants as incoming
 use Rattle.records.specs.Marks.{Mark}
+use Rattle.records.specs.Area.{Area}
 use Rattle.records.specs.Told.{Told, Posted, Complained, Received, received, grown, took_nothing}
 use Rattle.records.specs.Acts.{Act, Began, Absorbed, AtLink, told_of, has_absorbed}
 use Rattle.reissue.specs.Settlements.{Settlement}
 use Rattle.reissue.specs.declared.pending.Pending.{Pending}
 use Rattle.reissue.specs.declared.table.Table.{Table}
-use Rattle.reissue.specs.Entries.{AllOfMinor}
+use Rattle.reissue.specs.Entries.{AllIn}
 use Rattle.reissue.specs.Agrees.{Agrees}
 use Rattle.reissue.specs.Posts.{OnlyPosts}
 use Rattle.reissue.specs.Rules.{KeepsRulesBy, at_link, all_began, began_on, acts_on}
@@ -90,8 +91,8 @@ pub record Done (m : Incoming) (old new : Table) (before after : List Told) (pos
   pub none_absorbed : has_absorbed acts ≡ false
   pub none_taken : took_nothing (told_of acts) ≡ true
   pub no_effect : m ≡ incoming.End → acts ≡ []
-  pub rules : (minor : ℕ) (marks : List Mark) → Agrees old marks → AllOfMinor minor old.pending
-      → KeepsRulesBy (acts ++ Absorbed m ∷ []) minor old new before after marks (grown posts (received m marks))
+  pub rules : (area : Area) (marks : List Mark) → Agrees old marks → AllIn area old.pending
+      → KeepsRulesBy (acts ++ Absorbed m ∷ []) area old new before after marks (grown posts (received m marks))
 
 -- any message but End
 done_other : (m : Incoming) (res : Settlement) (old new : Table) (before after : List Told) (was is : Truth)
@@ -102,8 +103,8 @@ done_other m res old new before after was is other x = record {
   none_absorbed = acts_none x.posts x.complaints old x.mid;
   none_taken = ap took_nothing (acts_told x.posts x.complaints old x.mid) ∙ took_none x.posts x.complaints x.only_posts x.quiet;
   no_effect = λ e. absurd (other e);
-  rules = λ minor marks k minors.
-      subst (λ (l : List Act). KeepsRulesBy l minor old new before after marks (grown x.posts (received m marks))) (sym same) (x.rules minor marks k minors);
+  rules = λ area marks k minors.
+      subst (λ (l : List Act). KeepsRulesBy l area old new before after marks (grown x.posts (received m marks))) (sym same) (x.rules area marks k minors);
 }
   where
     same : acts_then x.posts old x.mid x.complaints ++ Absorbed m ∷ [] ≡ acts_on x.posts old x.mid x.complaints (Absorbed m ∷ [])
@@ -119,9 +120,9 @@ done_end res old new before after was is stays x = record {
   none_absorbed = refl;
   none_taken = refl;
   no_effect = λ e. refl;
-  rules = λ minor marks k minors.
-      subst (λ (l : List Act). KeepsRulesBy l minor old new before after marks (grown x.posts (received incoming.End marks))) (same marks k)
-      (x.rules minor marks k minors);
+  rules = λ area marks k minors.
+      subst (λ (l : List Act). KeepsRulesBy l area old new before after marks (grown x.posts (received incoming.End marks))) (same marks k)
+      (x.rules area marks k minors);
 }
   where
     no_posts : x.posts ≡ []

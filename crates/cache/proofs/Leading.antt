@@ -3,6 +3,7 @@ use Rattle.std.specs.Prelude.{◌||◌}
 use Rattle.std.proofs.Common.{◌≡◌, List, [], ◌∷◌, ◌++◌, Bool, refl, sym, ◌∙◌, ap, subst, Option, Some, None}
 use Rattle.message.specs.declared.Incoming.{Incoming}
 use Rattle.message.specs.declared.Incoming.TheVariants as incoming
+use Rattle.records.specs.Area.{Area}
 use Rattle.records.specs.Told.{Told, Posted, Complained, Received, took_end}
 use Rattle.records.specs.Acts.{Act, Absorbed, told_of, Outbox, KeepsRules, outbox_after}
 use Rattle.records.specs.ServerCall.{Serving}
@@ -35,7 +36,7 @@ pub leads_by : (m : Option Incoming) (old new : AbstractCache) (s t : Serving) �
 leads_by m old new s t was is same count alive x = record {
   leads = record {
     geometry = same;
-    minor = is.minor ∙ x.minor ∙ sym was.minor;
+    minor = ap (λ (r : Area). r.minor) (is.area ∙ x.area ∙ sym was.area);
     frame_count = count;
     told = is.told ∙ x.done ∙ ap (λ (l : List Told). l ++ old.told) (sym (same_told m x.acts))
         ∙ ap (λ (l : List Told). told_of (with_handed m x.acts) ++ l) (sym was.told);
@@ -46,8 +47,8 @@ leads_by m old new s t was is same count alive x = record {
   rules = λ marks k.
       let r = x.rules marks k in
       record {
-        keep = subst (λ n. KeepsRules n (with_handed m x.acts) marks s.outbox) (sym was.minor)
-            (subst (λ (o : Outbox). KeepsRules old.minor (with_handed m x.acts) marks o) (sym was.outbox) r.keeps);
+        keep = subst (λ (r : Area). KeepsRules r (with_handed m x.acts) marks s.outbox) (sym was.area)
+            (subst (λ (o : Outbox). KeepsRules old.area (with_handed m x.acts) marks o) (sym was.outbox) r.keeps);
         outbox = is.outbox ∙ sym r.owes ∙ ap (λ (o : Outbox). outbox_after (with_handed m x.acts) marks o) (sym was.outbox);
       };
 }

@@ -17,6 +17,7 @@ mod Copying
 pub mod Begun
 pub mod Sizes
 pub mod Tied
+pub mod Inside
 pub mod Agreeing
 pub mod Handing
 pub mod Looking

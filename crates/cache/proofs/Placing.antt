@@ -14,7 +14,7 @@ use Rattle.cache.specs.declared.state.State.TheVariants.{Clean, Dirty, Writing, 
 use Rattle.block_store.specs.declared.Cut.{Cut}
 use Rattle.cache.specs.Slots.{held, ticket_of, dirtied, is_clean, is_unclean_slot, IsDistinct}
 use Rattle.cache.specs.Edits.{IsSetAt, IsFilledAt, IsSlotAt, IsFreeAt, IsAt}
-use Rattle.cache.specs.Frames.{Tied, CacheAgrees, HasSure, view, frame_of, disk_block, with_bytes}
+use Rattle.cache.specs.Frames.{Tied, IsWritable, AllInside, CacheAgrees, HasSure, view, frame_of, disk_block, with_bytes}
 use Rattle.cache.specs.Calls.{AbstractCache, IsReady, Runs, Serves, Keeps, Rewrites, Blanks, unless_clean, forgotten}
 use Rattle.cache.specs.Settling.{Taking}
 use Rattle.cache.specs.Settling as took
@@ -22,6 +22,7 @@ use Rattle.cache.specs.Takes.{Reads, AreDisk, BytesOf, Takes, ReadTells, ReadsSt
 use Rattle.cache.proofs.Held.{place_of, held_at, held_set, held_vacated}
 use Rattle.cache.proofs.Filling.{vacated_held, filled_held}
 use Rattle.cache.proofs.Tied.{tied_idle, tied_changed, no_ticket}
+use Rattle.cache.proofs.Inside.{inside_put, inside_still, writable_still}
 use Rattle.cache.proofs.Agreeing.{agrees_put, agrees_given_up, view_given_up, view_put, view_row, not_clean, seen_within, seen_past}
 use Rattle.cache.proofs.Edits.{one_slot}
 use Rattle.cache.proofs.Runs.{runs_none, runs_as, runs_then, same_left, ids_kept}
@@ -99,10 +100,11 @@ reads_after r a b c block its same x y =
     }) x y
 
 -- a change of the slots alone, as a call
-pub runs_slots : (old new : AbstractCache) (R : DiskState → DiskState → Type 0) → new.minor ≡ old.minor → new.size ≡ old.size → new.table ≡ old.table
+pub runs_slots : (old new : AbstractCache) (R : DiskState → DiskState → Type 0) → new.area ≡ old.area → new.size ≡ old.size → new.table ≡ old.table
     → new.told ≡ old.told → new.truth ≡ old.truth → new.room ≡ old.room → new.budget ≡ old.budget → new.ended ≡ old.ended
-    → IsReady old → Tied old.size new.held (pending_of old.table.pending) → ((w : DiskState) → R w w) → Runs None old new R
-runs_slots old new R minor size table told truth room budget ended ready tied h =
+    → IsReady old → Tied old.size new.held (pending_of old.table.pending) → AllInside old.area old.size new.held
+    → ((w : DiskState) → R w w) → Runs None old new R
+runs_slots old new R area size table told truth room budget ended ready tied inside h =
     subst (λ (c : AbstractCache). Runs None old c R) same (moved (made old new.held) refl)
   where
     made : AbstractCache → (ℕ → Option Slot) → AbstractCache
@@ -110,7 +112,7 @@ runs_slots old new R minor size table told truth room budget ended ready tied h 
 
     same : made old new.held ≡ new
     same = λ i. record {
-      minor = sym minor i;
+      area = sym area i;
       size = sym size i;
       held = new.held;
       table = sym table i;
@@ -123,13 +125,13 @@ runs_slots old new R minor size table told truth room budget ended ready tied h 
 
     moved : (c : AbstractCache) → c ≡ made old new.held → Runs None old c R
     moved c e = subst (λ (d : AbstractCache). Runs None old d R) (sym e) (record {
-      ready = record { minors = ready.minors; tied = tied; room = ready.room; ids = ready.ids };
+      ready = record { minors = ready.minors; tied = tied; inside = inside; room = ready.room; ids = ready.ids };
       told = [];
       history = refl;
       acts = [];
       done = refl;
       none_absorbed = refl;
-      minor = refl;
+      area = refl;
       size = refl;
       ended = λ f. f;
       left = same_left _;
@@ -140,6 +142,14 @@ runs_slots old new R minor size table told truth room budget ended ready tied h 
       truth = λ opening marks k f was. was;
       rules = λ marks k. record { told = refl; grows = refl; keeps = tt; owes = refl };
     })
+
+-- what isn't clean lies in the area, where one slot was put in or taken out
+put_inside : (old : AbstractCache) (slots : ℕ → Option Slot) (b : ℕ) (o : Option Slot)
+    → ((s : Slot) → o ≡ Some s → is_clean s.state ≡ false → IsWritable old.area old.size b) → slots ≡ put old.held b o → IsReady old
+    → AllInside old.area old.size slots
+put_inside old slots b o one to ready =
+    inside_still old.area old.area old.size old.size (put old.held b o) slots refl refl to
+    (inside_put old.area old.size old.held b o one ready.inside)
 
 -- ---- a slot is made free
 
@@ -182,6 +192,7 @@ vacated old new items items' at d f e here all ready = subst (λ (c : AbstractCa
         (subst (λ (h : ℕ → Option Slot). Tied old.size h (pending_of old.table.pending)) (sym to)
         (tied_idle old.size old.held (pending_of old.table.pending) b None
         (λ n u hu tu. no_ticket u.state n (ap (λ (x : Slot). x.state) (let k : u ≡ s = cc in k) ∙ clean) tu) (λ n u hu tu. cc) ready.tied))
+        (put_inside old (held items') b None (λ u none. absurd (let z : ⊥ = cc in z)) to ready)
         (λ w. record {
           agrees = λ a. subst (λ (h : ℕ → Option Slot). CacheAgrees old.size h w) (sym to) (agrees_given_up old.size old.held w b s is clean a);
           same = λ a. ap (λ (h : ℕ → Option Slot). view old.size h w) to ∙ view_given_up old.size old.held w b s is clean a;
@@ -201,7 +212,7 @@ placed old new items items' at b start size bytes before d free none e here all 
     (λ w v. AreDisk start size bytes w → Serves old new w v) (λ w v. Serves before new w v)
     (λ u v w p q. serves_then before old new u v w p.serves (q p.bytes)) x
     (subst (λ (c : AbstractCache). Runs None old c (λ w v. AreDisk start size bytes w → Serves old c w v)) (sym all)
-    (runs_slots old after (λ w v. AreDisk start size bytes w → Serves old after w v) refl refl refl refl refl refl refl refl ready tied
+    (runs_slots old after (λ w v. AreDisk start size bytes w → Serves old after w v) refl refl refl refl refl refl refl refl ready tied inside
     (λ w told. record {
       agrees = λ a. subst (λ (h : ℕ → Option Slot). CacheAgrees old.size h w) (sym to)
           (agrees_put old.size old.held w b (Some t) (λ u h c o lt. subst (λ (y : Slot). HasSure w (b * old.size + o) (slice_index y.bytes.value o))
@@ -227,6 +238,14 @@ placed old new items items' at b start size bytes before d free none e here all 
         (tied_idle old.size old.held (pending_of old.table.pending) b (Some t) (λ n s h k. let z = slot in cc)
         (λ n u h k. let y : t ≡ u = cc in let z : None ≡ Some n = sym (ap ticket_of e.state_is) ∙ ap (λ (x : Slot). ticket_of x.state) y ∙ k in cc) ready.tied)
 
+    -- it is clean
+    its_clean : (u : Slot) → Some t ≡ Some u → is_clean u.state ≡ true
+    its_clean u same = let y : t ≡ u = cc in sym (ap (λ (x : Slot). is_clean x.state) y) ∙ ap is_clean e.state_is
+
+    inside : AllInside old.area old.size (held items')
+    inside = put_inside old (held items') b (Some t)
+        (λ u same unclean. absurd (let z : true ≡ false = sym (its_clean u same) ∙ unclean in cc)) to ready
+
     sure : (w : DiskState) → CacheAgrees old.size old.held w → AreDisk start size bytes w → (o : ℕ) → o < old.size
         → HasSure w (b * old.size + o) (slice_index t.bytes.value o)
     sure w a told o lt =
@@ -241,13 +260,14 @@ placed old new items items' at b start size bytes before d free none e here all 
 pub rewritten : (old new : AbstractCache) (items items' : List Slot) (at b : ℕ) (s t : Slot) (row : (ℕ → ℕ) → ℕ → ℕ)
     → IsDistinct items → slice_get items at ≡ Some s → s.block ≡ Some b → t.block ≡ s.block → t.state ≡ dirtied s.state → items' ≡ set items at t
     → ((w : DiskState) → frame_or (frame_of old.size (Some t)) (disk_block old.size w b) ≡ row (frame_or (frame_of old.size (Some s)) (disk_block old.size w b)))
-    → old.held ≡ held items → new ≡ record old { held = held items' } → IsReady old
+    → old.held ≡ held items → new ≡ record old { held = held items' } → IsReady old → IsWritable old.area old.size b
     → Runs None old new (λ w v. Rewrites b row old new w v)
-rewritten old new items items' at b s t row d is block same st set_is h here all ready =
+rewritten old new items items' at b s t row d is block same st set_is h here all ready inside =
     subst (λ (c : AbstractCache). Runs None old c (λ w v. Rewrites b row old c w v)) (sym all)
     (runs_slots old after (λ w v. Rewrites b row old after w v) refl refl refl refl refl refl refl refl ready
     (subst (λ (f : ℕ → Option Slot). Tied old.size f (pending_of old.table.pending)) (sym to)
     (tied_changed old.size old.held (pending_of old.table.pending) b s t slot st ready.tied))
+    (put_inside old (held items') b (Some t) (λ u some unclean. inside) to ready)
     (λ w. record {
       agrees = λ a. subst (λ (f : ℕ → Option Slot). CacheAgrees old.size f w) (sym to)
           (agrees_put old.size old.held w b (Some t) (λ u k c o lt. absurd (not_clean s.state (sym st ∙ ap (λ (x : Slot). x.state) (let y : t ≡ u = cc in y) ∙ c)))
@@ -303,9 +323,9 @@ zero_row size b t w h = λ i o. at o (cases_lt o size) i
 pub blanked : (old new : AbstractCache) (items items' : List Slot) (at b : ℕ) (bytes : List ℕ) (before : AbstractCache)
     → IsDistinct items → IsFreeAt items at → held items b ≡ None → ((o : ℕ) → slice_index bytes o ≡ 0)
     → (e : IsFilledAt items items' at b bytes Dirty)
-    → old.held ≡ held items → new ≡ record old { held = held items' } → IsReady old → Keeps before old
+    → old.held ≡ held items → new ≡ record old { held = held items' } → IsReady old → IsWritable before.area before.size b → Keeps before old
     → Runs None before new (λ w v. Rewrites b (λ row o. 0) before new w v)
-blanked old new items items' at b bytes before d free none zeros e here all ready x =
+blanked old new items items' at b bytes before d free none zeros e here all ready inside x =
     runs_then None before old new (λ w v. Serves before old w v) (λ w v. Rewrites b (λ row o. 0) old new w v) (λ w v. Rewrites b (λ row o. 0) before new w v)
     (λ u v w p q. record {
       agrees = λ a. q.agrees (p.agrees a);
@@ -313,6 +333,8 @@ blanked old new items items' at b bytes before d free none zeros e here all read
     }) x
     (subst (λ (c : AbstractCache). Runs None old c (λ w v. Rewrites b (λ row o. 0) old c w v)) (sym all)
     (runs_slots old after (λ w v. Rewrites b (λ row o. 0) old after w v) refl refl refl refl refl refl refl refl ready tied
+    (put_inside old (held items') b (Some t)
+    (λ u some unclean. writable_still before.area old.area before.size old.size b x.area x.size inside) to ready)
     (λ w. record {
       agrees = λ a. subst (λ (h : ℕ → Option Slot). CacheAgrees old.size h w) (sym to)
           (agrees_put old.size old.held w b (Some t) (λ u h c o lt.

@@ -6,6 +6,7 @@ use Rattle.message.specs.declared.Incoming.TheVariants as incoming
 use Rattle.records.specs.Marks.{Mark, Answered}
 use Rattle.records.specs.Open.{counts}
 use Rattle.records.specs.Disk.{Contents, HasTrueReplies}
+use Rattle.records.specs.Area.{Area}
 use Rattle.records.specs.Told.{Told, Posted, Complained, Received, grown, received, heard, took_end}
 use Rattle.records.specs.Acts.{Act, Absorbed, Outbox, KeepsRules, told_of, marks_after, outbox_after}
 use Rattle.records.proofs.ActLaws.{acts_compose}
@@ -14,14 +15,15 @@ use Rattle.reissue.specs.Settlements.{Settlement}
 use Rattle.reissue.specs.Settlements as settled
 use Rattle.reissue.specs.declared.table.Table.{Table}
 use Rattle.reissue.specs.Moves.{DiskState, Spares, Moves, state_after, IsBusy}
-use Rattle.reissue.specs.Entries.{pending_of, AllOfMinor}
+use Rattle.reissue.specs.Entries.{pending_of, AllIn, AllOfMinor}
 use Rattle.reissue.specs.Agrees.{Agrees}
 use Rattle.reissue.specs.Answers.{complaints_about}
 use Rattle.reissue.specs.Posts.{due_after}
 use Rattle.reissue.specs.Rules.{KeepsRulesBy, outbox_of}
 use Rattle.message.specs.declared.endpoint.Endpoint.{Endpoint}
-use Rattle.reissue.specs.Calls.{Begins, Steps, Absorbs, more_may_come}
+use Rattle.reissue.specs.Calls.{AsksIn, Begins, Steps, Absorbs, more_may_come}
 use Rattle.reissue.proofs.Joining.{grown_append}
+use Rattle.reissue.proofs.Inside.{of_minor}
 use Rattle.cache.proofs.Handing.{Done, told_both, none_of_both}
 use Rattle.cache.specs.Calls.{AbstractCache, IsReady, Runs, after_message, with_handed, messages_left}
 use Rattle.cache.specs.Settling.{is_ended_by}
@@ -54,14 +56,14 @@ true_before (Received m ∷ es) image marks h = true_before es image marks (true
 -- ---- acts one after the other
 
 -- acts that keep the rules, and then others
-rules_then : (minor : ℕ) (a b c : Table) (before between after : List Told) (marks more most : List Mark) (first then : List Act)
-    → KeepsRulesBy first minor a b before between marks more → KeepsRulesBy then minor b c between after more most
-    → KeepsRulesBy (then ++ first) minor a c before after marks most
-rules_then minor a b c before between after marks more most first then x y =
-    let both = acts_compose minor then first marks (outbox_of a) in
-    let second : KeepsRules minor then (marks_after first marks) (outbox_after first marks (outbox_of a)) =
-    subst (λ (ms : List Mark). KeepsRules minor then ms (outbox_after first marks (outbox_of a))) (sym x.grows)
-    (subst (λ (o : Outbox). KeepsRules minor then more o) (sym x.owes) y.keeps) in
+rules_then : (area : Area) (a b c : Table) (before between after : List Told) (marks more most : List Mark) (first then : List Act)
+    → KeepsRulesBy first area a b before between marks more → KeepsRulesBy then area b c between after more most
+    → KeepsRulesBy (then ++ first) area a c before after marks most
+rules_then area a b c before between after marks more most first then x y =
+    let both = acts_compose area then first marks (outbox_of a) in
+    let second : KeepsRules area then (marks_after first marks) (outbox_after first marks (outbox_of a)) =
+    subst (λ (ms : List Mark). KeepsRules area then ms (outbox_after first marks (outbox_of a))) (sym x.grows)
+    (subst (λ (o : Outbox). KeepsRules area then more o) (sym x.owes) y.keeps) in
     record {
       told = y.told ∙ ap (λ (l : List Told). told_of then ++ l) x.told ∙ sym (append_assoc (told_of then) (told_of first) before)
           ∙ ap (λ (l : List Told). l ++ before) (sym both.told);
@@ -135,7 +137,7 @@ runs_none c R ready h = record {
   acts = [];
   done = refl;
   none_absorbed = refl;
-  minor = refl;
+  area = refl;
   size = refl;
   ended = λ e. e;
   left = same_left _;
@@ -157,7 +159,7 @@ runs_as m a b R S h x = record {
   acts = x.acts;
   done = x.done;
   none_absorbed = x.none_absorbed;
-  minor = x.minor;
+  area = x.area;
   size = x.size;
   ended = x.ended;
   left = x.left;
@@ -180,7 +182,7 @@ runs_then m a b c R S T h x y = record {
   done = y.done ∙ ap (λ (l : List Told). told_of y.acts ++ l) x.done ∙ sym (append_assoc (told_of y.acts) (told_of x.acts) a.told)
       ∙ ap (λ (l : List Told). l ++ a.told) (sym (told_both y.acts x.acts));
   none_absorbed = none_of_both y.acts x.acts y.none_absorbed x.none_absorbed;
-  minor = y.minor ∙ x.minor;
+  area = y.area ∙ x.area;
   size = y.size ∙ x.size;
   ended = λ e. y.ended (x.ended e);
   left = left_then _ _ _ x.left y.left;
@@ -195,15 +197,15 @@ runs_then m a b c R S T h x y = record {
       (h (state_after image marks) (state_after image (mid marks)) (state_after image (grown y.told (mid marks))) first second);
   truth = λ opening marks k e was.
       subst (λ (ms : List Mark). c.truth opening ms) (sym (all marks))
-      (y.truth opening (mid marks) (x.agrees marks k) (e ∙ sym x.minor) (x.truth opening marks k e was));
+      (y.truth opening (mid marks) (x.agrees marks k) (e ∙ ap (λ (r : Area). r.minor) (sym x.area)) (x.truth opening marks k e was));
   rules = λ marks k.
       let first = x.rules marks k in
       let second = y.rules (mid marks) (x.agrees marks k) in
-      subst (λ (l : List Act). KeepsRulesBy l a.minor a.table c.table a.told c.told marks (grown (y.told ++ x.told) (after_message m marks)))
+      subst (λ (l : List Act). KeepsRulesBy l a.area a.table c.table a.told c.told marks (grown (y.told ++ x.told) (after_message m marks)))
       (handed_first m y.acts x.acts)
-      (subst (λ (ms : List Mark). KeepsRulesBy (y.acts ++ with_handed m x.acts) a.minor a.table c.table a.told c.told marks ms) (sym (all marks))
-      (rules_then a.minor a.table b.table c.table a.told b.told c.told marks (mid marks) (grown y.told (mid marks)) (with_handed m x.acts) y.acts first
-      (subst (λ (n : ℕ). KeepsRulesBy y.acts n b.table c.table b.told c.told (mid marks) (grown y.told (mid marks))) x.minor second)));
+      (subst (λ (ms : List Mark). KeepsRulesBy (y.acts ++ with_handed m x.acts) a.area a.table c.table a.told c.told marks ms) (sym (all marks))
+      (rules_then a.area a.table b.table c.table a.told b.told c.told marks (mid marks) (grown y.told (mid marks)) (with_handed m x.acts) y.acts first
+      (subst (λ (r : Area). KeepsRulesBy y.acts r b.table c.table b.told c.told (mid marks) (grown y.told (mid marks))) x.area second)));
 }
   where
     mid : List Mark → List Mark
@@ -214,21 +216,25 @@ runs_then m a b c R S T h x y = record {
 
 -- ---- a request is begun, as a call
 
+-- what is pending for the area is for the minor that a run has
+all_of : (area : Area) (t : Table) (minor : ℕ) → minor ≡ area.minor → AllIn area t.pending → AllOfMinor minor t.pending
+all_of area t minor e all = subst (λ (n : ℕ). AllOfMinor n t.pending) (sym e) (of_minor area t.pending all)
+
 -- what beginning did, where the frames may have changed too
 pub begin_runs : (ask : Ask) (old new : AbstractCache) (R : DiskState → DiskState → Type 0)
     → Begins ask old.table new.table old.told new.told old.truth new.truth
-    → IsReady new → AllOfMinor old.minor old.table.pending → ask.minor ≡ old.minor → new.minor ≡ old.minor → new.size ≡ old.size
+    → IsReady new → AllIn old.area old.table.pending → AsksIn old.area ask → new.area ≡ old.area → new.size ≡ old.size
     → new.ended ≡ old.ended → new.budget ≤ old.budget
     → new.table.ids + length old.table.pending ≡ old.table.ids + length new.table.pending
     → ((w v : DiskState) → Spares (pending_of new.table.pending) w v → R w v) → Runs None old new R
-begin_runs ask old new R x ready minors minor same_minor same_size ended budget ids h = record {
+begin_runs ask old new R x ready minors asks same_area same_size ended budget ids h = record {
   ready = ready;
   told = x.posts;
   history = x.history;
   acts = x.acts;
   done = x.told;
   none_absorbed = x.none_absorbed;
-  minor = same_minor;
+  area = same_area;
   size = same_size;
   ended = λ e. ended ∙ e;
   left = left_same old new ended budget;
@@ -237,8 +243,8 @@ begin_runs ask old new R x ready minors minor same_minor same_size ended budget 
   ends = λ e. ended ∙ e ∙ sym x.ended;
   related = λ image marks k tr. h (state_after image marks) (state_after image (grown x.posts marks)) (x.spares image marks k);
   truth = λ opening marks k e was.
-      x.truth opening marks k (minor ∙ sym e) (subst (λ (n : ℕ). AllOfMinor n old.table.pending) (sym e) minors) was;
-  rules = λ marks k. x.rules old.minor marks k minors minor;
+      x.truth opening marks k (asks.0 ∙ sym e) (all_of old.area old.table opening.minor e minors) was;
+  rules = λ marks k. x.rules old.area marks k minors asks;
 }
 
 -- ---- a message is taken, as a call
@@ -263,19 +269,19 @@ heard_news incoming.End before = by (took_end before) refl
 -- what taking a message did, where the frames may have changed too
 pub step_runs : (res : Settlement) (old new : AbstractCache) (R : DiskState → DiskState → Type 0)
     → Steps res old.table new.table old.told new.told old.truth new.truth
-    → IsReady new → AllOfMinor old.minor old.table.pending → IsBusy (pending_of old.table.pending) → old.table.given_up ≡ false
-    → new.minor ≡ old.minor → new.size ≡ old.size → old.ended ≡ false → new.ended ≡ is_ended_by res
+    → IsReady new → AllIn old.area old.table.pending → IsBusy (pending_of old.table.pending) → old.table.given_up ≡ false
+    → new.area ≡ old.area → new.size ≡ old.size → old.ended ≡ false → new.ended ≡ is_ended_by res
     → (is_ended_by res ≡ false → new.budget < old.budget)
     → new.table.ids + length old.table.pending ≤ old.table.ids + length new.table.pending + 1
     → ((w v : DiskState) → Moves res (pending_of old.table.pending) w v → R w v) → Runs None old new R
-step_runs res old new R x ready minors busy going same_minor same_size alive ended budget ids h = record {
+step_runs res old new R x ready minors busy going same_area same_size alive ended budget ids h = record {
   ready = ready;
   told = told;
   history = history;
   acts = x.acts;
   done = x.told;
   none_absorbed = x.none_absorbed;
-  minor = same_minor;
+  area = same_area;
   size = same_size;
   ended = λ e. absurd (let k = alive in cc);
   left = fewer_most _ _ fewer;
@@ -288,10 +294,10 @@ step_runs res old new R x ready minors busy going same_minor same_size alive end
       ((x.closing marks k).moves image (subst (λ (ms : List Mark). HasTrueReplies image ms) (all marks k) tr)));
   truth = λ opening marks k e was.
       subst (λ (ms : List Mark). new.truth opening ms) (sym (all marks k))
-      (x.truth opening marks k (subst (λ (n : ℕ). AllOfMinor n old.table.pending) (sym e) minors) was);
+      (x.truth opening marks k (all_of old.area old.table opening.minor e minors) was);
   rules = λ marks k.
-      subst (λ (ms : List Mark). KeepsRulesBy x.acts old.minor old.table new.table old.told new.told marks ms) (sym (all marks k))
-      (x.rules old.minor marks k minors busy going);
+      subst (λ (ms : List Mark). KeepsRulesBy x.acts old.area old.table new.table old.told new.told marks ms) (sym (all marks k))
+      (x.rules old.area marks k minors busy going);
 }
   where
     fewer : messages_left new < messages_left old
@@ -338,12 +344,12 @@ step_runs res old new R x ready minors busy going same_minor same_size alive end
 -- what absorbing a message did, where the frames may have changed too
 pub absorb_runs : (m : Incoming) (res : Settlement) (old new : AbstractCache) (R : DiskState → DiskState → Type 0)
     → (x : Absorbs m res old.table new.table old.told new.told old.truth new.truth)
-    → IsReady new → AllOfMinor old.minor old.table.pending
-    → new.minor ≡ old.minor → new.size ≡ old.size → new.ended ≡ old.ended → new.budget ≤ old.budget
+    → IsReady new → AllIn old.area old.table.pending
+    → new.area ≡ old.area → new.size ≡ old.size → new.ended ≡ old.ended → new.budget ≤ old.budget
     → new.table.ids + length old.table.pending ≤ old.table.ids + length new.table.pending + 1
     → (d : Done m old.table new.table old.told new.told x.posts)
     → ((w v : DiskState) → Moves res (pending_of old.table.pending) w v → R w v) → (r : Runs (Some m) old new R) × (r.acts ≡ d.acts)
-absorb_runs m res old new R x ready minors same_minor same_size ended budget ids d h = (
+absorb_runs m res old new R x ready minors same_area same_size ended budget ids d h = (
   record {
     acts = d.acts;
     done = d.done;
@@ -351,7 +357,7 @@ absorb_runs m res old new R x ready minors same_minor same_size ended budget ids
     ready = ready;
     told = told;
     history = x.history ∙ sym (append_assoc x.posts x.complaints old.told);
-    minor = same_minor;
+    area = same_area;
     size = same_size;
     ended = λ e. ended ∙ e;
     left = left_same old new ended budget;
@@ -364,10 +370,10 @@ absorb_runs m res old new R x ready minors same_minor same_size ended budget ids
         ((x.closing marks k).moves image (subst (λ (ms : List Mark). HasTrueReplies image ms) (all marks) tr)));
     truth = λ opening marks k e was.
         subst (λ (ms : List Mark). new.truth opening ms) (sym (all marks))
-        (x.truth opening marks k (subst (λ (n : ℕ). AllOfMinor n old.table.pending) (sym e) minors) was);
+        (x.truth opening marks k (all_of old.area old.table opening.minor e minors) was);
     rules = λ marks k.
-        subst (λ (ms : List Mark). KeepsRulesBy (d.acts ++ Absorbed m ∷ []) old.minor old.table new.table old.told new.told marks ms) (sym (all marks))
-        (d.rules old.minor marks k minors);
+        subst (λ (ms : List Mark). KeepsRulesBy (d.acts ++ Absorbed m ∷ []) old.area old.table new.table old.told new.told marks ms) (sym (all marks))
+        (d.rules old.area marks k minors);
   },
   refl,
 )

@@ -5,7 +5,7 @@ use Rattle.std.proofs.lemmas.Bool.{eq-eqb}
 use Rattle.reissue.specs.Settlements.{Settlement}
 use Rattle.reissue.specs.Settlements as settled
 use Rattle.reissue.specs.Moves.{DiskState, Begun, put, Closes, Moves, Tells, IsBusy}
-use Rattle.reissue.specs.Entries.{pending_of, AllOfMinor}
+use Rattle.reissue.specs.Entries.{pending_of, AllIn}
 use Rattle.message.specs.declared.Incoming.{Incoming}
 use Rattle.message.specs.declared.Incoming.TheVariants as incoming
 use Rattle.reissue.specs.Posts.{HasRoom, is_message}
@@ -17,13 +17,15 @@ use Rattle.cache.specs.Settling.{Taking, Settles, taking_in, took_of, is_ended_b
 use Rattle.block_store.specs.declared.Cut.{Cut}
 use Rattle.cache.specs.Slots.{held}
 use Rattle.cache.specs.Edits.{Leaves}
-use Rattle.cache.specs.Frames.{Tied, CacheAgrees, view}
+use Rattle.cache.specs.Frames.{Tied, AllInside, CacheAgrees, view}
 use Rattle.cache.specs.Calls.{AbstractCache, IsReady, Serves, Runs, HandsOver}
+use Rattle.records.specs.Area.{Area}
 use Rattle.records.specs.Told.{took_nothing}
 use Rattle.records.specs.Acts.{Act, told_of}
 use Rattle.cache.proofs.Handing.{Done, done_on}
 use Rattle.cache.specs.Takes.{read_into, Takes, ReadTells, ReadsStay, NoReadBegun, IsHandedOut, is_read_of}
 use Rattle.cache.proofs.Tied.{tied_read_settled, tied_written, same_begun}
+use Rattle.cache.proofs.Inside.{inside_settled, inside_still}
 use Rattle.cache.proofs.Agreeing.{agrees_moved, view_moved, agrees_written, view_written}
 use Rattle.cache.proofs.Edits.{leaves_none}
 use Rattle.cache.proofs.Runs.{step_runs, absorb_runs}
@@ -57,6 +59,15 @@ tied_after res old new items items' closes settles here there size k =
     (subst (λ (h : ℕ → Option Slot). Tied old.size h (pending_of new.table.pending)) (sym there)
     (tied_settled old.size res items items' (pending_of old.table.pending) (pending_of new.table.pending) closes settles
     (subst (λ (h : ℕ → Option Slot). Tied old.size h (pending_of old.table.pending)) here k)))
+
+-- what isn't clean lies in the area still
+inside_after : (res : Settlement) (old new : AbstractCache) (items items' : List Slot) → Settles res items items'
+    → old.held ≡ held items → new.held ≡ held items' → new.area ≡ old.area → new.size ≡ old.size
+    → AllInside old.area old.size old.held → AllInside new.area new.size new.held
+inside_after res old new items items' settles here there area size k =
+    inside_still old.area new.area old.size new.size (held items') new.held area size there
+    (inside_settled old.area old.size res items items' settles
+    (inside_still old.area old.area old.size old.size old.held (held items) refl refl (sym here) k))
 
 -- what holds of slots and the disk after a message
 record Moved (size : ℕ) (old new : ℕ → Option Slot) (w v : DiskState) : Type 0 where
@@ -180,12 +191,12 @@ pub takes_one : (res : Settlement) (old new : AbstractCache) (items items' : Lis
     → Steps res old.table new.table old.told new.told old.truth new.truth
     → Settles res items items' → old.held ≡ held items → new.held ≡ held items'
     → IsReady old → IsBusy (pending_of old.table.pending) → old.ended ≡ false → old.table.given_up ≡ false
-    → new.minor ≡ old.minor → new.size ≡ old.size → new.ended ≡ is_ended_by res
+    → new.area ≡ old.area → new.size ≡ old.size → new.ended ≡ is_ended_by res
     → (more_may_come res ≡ true → new.budget < old.budget) → (more_may_come res ≡ true → HasRoom new.table new.room)
     → new.table.ids + length old.table.pending ≤ old.table.ids + length new.table.pending + 1
     → Runs None old new (λ w v. Takes (Ok (took_of res)) old new w v)
-takes_one res old new items items' x settles here there ready busy alive going minor size ended budget room ids =
-    step_runs res old new (λ w v. Takes (Ok (took_of res)) old new w v) x now ready.minors busy going minor size alive ended
+takes_one res old new items items' x settles here there ready busy alive going area size ended budget room ids =
+    step_runs res old new (λ w v. Takes (Ok (took_of res)) old new w v) x now ready.minors busy going area size alive ended
     (λ e. budget (goes res e)) ids (λ w v m. record {
       serves = serves_settled res old new items items' w v x.closes settles here there size ready.tied m;
       tells = read_tells res (pending_of old.table.pending) v m.tells;
@@ -193,8 +204,9 @@ takes_one res old new items items' x settles here there ready busy alive going m
   where
     now : IsReady new
     now = record {
-      minors = subst (λ (n : ℕ). AllOfMinor n new.table.pending) (sym minor) (x.minors old.minor ready.minors);
+      minors = subst (λ (r : Area). AllIn r new.table.pending) (sym area) (x.minors old.area ready.minors);
       tied = tied_after res old new items items' x.closes settles here there size ready.tied;
+      inside = inside_after res old new items items' settles here there area size ready.inside;
       room = λ e. room (goes res (sym ended ∙ e));
       ids = λ e. let less = budget (goes res (sym ended ∙ e)) in let was = ready.ids alive in omega (arith, less, was, ids);
     }
@@ -219,11 +231,11 @@ pub absorbs_one : (m : Incoming) (res : Settlement) (old new : AbstractCache) (i
     → Absorbs m res old.table new.table old.told new.told old.truth new.truth
     → Settles res items items' → old.held ≡ held items → new.held ≡ held items'
     → IsReady old → (old.ended ≡ false → old.table.ids + old.budget + 17 < 2 ^ 60 + length old.table.pending)
-    → new.minor ≡ old.minor → new.size ≡ old.size → new.ended ≡ old.ended → new.budget ≤ old.budget
+    → new.area ≡ old.area → new.size ≡ old.size → new.ended ≡ old.ended → new.budget ≤ old.budget
     → (new.ended ≡ false → HasRoom new.table new.room)
     → new.table.ids + length old.table.pending ≤ old.table.ids + length new.table.pending + 1
     → (m ≡ incoming.End → new.told ≡ old.told) → HandsOver m old new
-absorbs_one m res old new items items' x settles here there ready spare minor size ended budget room ids stays = record {
+absorbs_one m res old new items items' x settles here there ready spare area size ended budget room ids stays = record {
   runs = both.0;
   none_taken = ap (λ (l : List Act). took_nothing (told_of l)) both.1 ∙ d.none_taken;
   no_effect = λ e. both.1 ∙ d.no_effect e;
@@ -234,14 +246,15 @@ absorbs_one m res old new items items' x settles here there ready spare minor si
 
     now : IsReady new
     now = record {
-      minors = subst (λ (n : ℕ). AllOfMinor n new.table.pending) (sym minor) (x.minors old.minor ready.minors);
+      minors = subst (λ (r : Area). AllIn r new.table.pending) (sym area) (x.minors old.area ready.minors);
       tied = tied_after res old new items items' x.closes settles here there size ready.tied;
+      inside = inside_after res old new items items' settles here there area size ready.inside;
       room = room;
       ids = λ e. let was = spare (sym ended ∙ e) in omega (arith, was, ids, budget);
     }
 
     both : (r : Runs (Some m) old new (λ w v. Serves old new w v)) × (r.acts ≡ d.acts)
-    both = absorb_runs m res old new (λ w v. Serves old new w v) x now ready.minors minor size ended budget ids d
+    both = absorb_runs m res old new (λ w v. Serves old new w v) x now ready.minors area size ended budget ids d
         (λ w v m. serves_settled res old new items items' w v x.closes settles here there size ready.tied m)
 
 -- after each message but End there is room for more; End changes nothing

@@ -29,7 +29,7 @@ use Rattle.block_store.specs.declared.Cut.{Cut}
 use Rattle.block_store.specs.declared.Cut.TheVariants.{Eio, LinkEnded}
 use Rattle.cache.specs.Slots.{held, is_clean}
 use Rattle.cache.specs.Edits.{IsAt, NoneDirty}
-use Rattle.cache.specs.Frames.{Tied, AllInside, CacheAgrees, view}
+use Rattle.cache.specs.Frames.{Tied, IsWritable, AllInside, CacheAgrees, view}
 
 -- What is said of a cache.
 pub record AbstractCache : Type 1 where
@@ -92,6 +92,10 @@ pub record IsReady (c : AbstractCache) : Type 0 where
   pub inside : AllInside c.area c.size c.held
   pub room : c.ended ≡ false → HasRoom c.table c.room
   pub ids : c.ended ≡ false → c.table.ids + c.budget + 16 < 2 ^ 60 + length c.table.pending
+
+-- each block of so many may be changed, but not the first two
+abbrev pub AreWritable : ℕ → AbstractCache → Type 0
+AreWritable count c = (block : ℕ) → 2 ≤ block → block < count → IsWritable c.area c.size block
 
 -- the record after a message that is handed over first, if there is one
 abbrev pub after_message : Option Incoming → List Mark → List Mark

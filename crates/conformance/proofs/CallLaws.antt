@@ -1,5 +1,5 @@
 -- The calls that arrived are those that wait, the one that is being answered, and those that were answered, at each moment of a run.
-use Rattle.std.proofs.Common.{◌≡◌, ℕ, List, [], ◌∷◌, ◌++◌, refl, sym, ◌∙◌, ap, subst}
+use Rattle.std.proofs.Common.{◌≡◌, List, [], ◌∷◌, ◌++◌, refl, sym, ◌∙◌, ap, subst}
 use Rattle.std.specs.Prelude.{map, reverse, length, Some, None, Ok}
 use Rattle.message.specs.declared.Incoming.TheVariants as incoming
 use Rattle.bdev.specs.DriverState.{DriverState}

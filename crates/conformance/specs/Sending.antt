@@ -1,5 +1,5 @@
 -- The replies that were sent in a run.
-use Rattle.std.specs.Prelude.{◌≡◌, ℕ, List, ◌∷◌, length, true}
+use Rattle.std.specs.Prelude.{◌≡◌, List, ◌∷◌, length, true}
 use Rattle.bdev.specs.DriverState.{DriverState, is_fresh}
 use Rattle.media.specs.Contents.{MediaState}
 use Rattle.reincarnate.specs.declared.policy.Policy.{Policy}

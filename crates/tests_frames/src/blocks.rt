@@ -1,12 +1,13 @@
 //! What blocks give, and when they are read and written.
-ghost use Rattle.std.specs.Prelude.{◌≡◌};
-ghost use Rattle.cache.specs.Calls.{IsReady};
+ghost use Rattle.std.specs.Prelude.{◌≡◌, ◌<◌, ◌≤◌, ◌+◌, ℕ, length};
+ghost use Rattle.fixtures.specs.Frames.{IsOfBlocks};
 ghost use Rattle.cached_blocks.specs.World.{stored_caching};
 
 use crate::caches::{Given, cache_over, is_done};
 use block_store::words::{clear, read_byte, write_bytes};
 use block_store::{Blocks, Cut};
 use cached_blocks::{Caches, Stored};
+use fixtures::frames::may_change;
 use fixtures::lists::started;
 use reissue::Link;
 use std::alloc::Global;
@@ -30,39 +31,50 @@ enum Step {
     Flush,
 }
 
-/// Makes so many blocks zero, from the first on; how many were.
+/// Makes so many blocks zero, from the first on; how many were: none that may not be changed.
 fn clear_run<B: Blocks>(blocks: &mut B, first: u32, count: u32) -> u32
     requires ready { B.world.ready blocks.old }
     requires size { B.world.size blocks.old ≡ 4096 }
+    requires inside { (block : ℕ) → 2 ≤ block → block < 512 → B.world.writable blocks.old block }
     ensures ready { B.world.ready blocks.new }
     ensures size { B.world.size blocks.new ≡ 4096 }
+    ensures inside { (block : ℕ) → 2 ≤ block → block < 512 → B.world.writable blocks.new block }
 {
     let mut cleared = 0u32;
-    for block in 0..count {
-        if clear(blocks, first.saturating_add(block)).is_ok() {
+    for nth in 0..count {
+        let block = first.saturating_add(nth);
+        if may_change(block) && clear(blocks, block).is_ok() {
             cleared = cleared.saturating_add(1);
         }
     }
     cleared
 }
 
+/// Puts these bytes into a block, from a place on: 0, and 1 where it may not be changed.
+fn put<B: Blocks>(blocks: &mut B, block: u32, from: usize, bytes: &[u8]) -> Result<u32, Cut>
+    requires ready { B.world.ready blocks.old }
+    requires within { from + length bytes.now ≤ B.world.size blocks.old }
+    requires inside { (block : ℕ) → 2 ≤ block → block < 512 → B.world.writable blocks.old block }
+    ensures { B.world.leads blocks.old blocks.new }
+{
+    if !may_change(block) {
+        return Ok(1);
+    }
+    write_bytes(blocks, block, from, bytes)?;
+    Ok(0)
+}
+
 /// Does a step; the number that it gives. No byte is read or put past a block's end.
 fn does<L: Link>(blocks: &mut Stored<L>, step: &Step) -> Result<u32, Cut>
-    requires ready { IsReady (stored_caching L.Link blocks.old) }
+    requires volume { IsOfBlocks 512 (stored_caching L.Link blocks.old) }
     requires size { blocks.old.cache.shape.block_size ≡ 4096 }
-    ensures ready { IsReady (stored_caching L.Link blocks.new) }
+    ensures volume { IsOfBlocks 512 (stored_caching L.Link blocks.new) }
     ensures size { blocks.new.cache.shape.block_size ≡ 4096 }
 {
     match step {
         Step::Read(block, at) => Ok(read_byte(blocks, *block, at % 4096)? as u32),
-        Step::Put(block, from, bytes) => {
-            write_bytes(blocks, *block, from % 4000, *bytes)?;
-            Ok(0)
-        }
-        Step::Replace(block, byte) => {
-            write_bytes(blocks, *block, 0, &[*byte; 4096])?;
-            Ok(0)
-        }
+        Step::Put(block, from, bytes) => put(blocks, *block, from % 4000, *bytes),
+        Step::Replace(block, byte) => put(blocks, *block, 0, &[*byte; 4096]),
         Step::Clear(first, count) => Ok(clear_run(blocks, *first, *count)),
         Step::Sync => {
             blocks.sync()?;
@@ -81,7 +93,7 @@ fn does<L: Link>(blocks: &mut Stored<L>, step: &Step) -> Result<u32, Cut>
 
 /// Does these steps, up to the first that gives another number than it says.
 fn first_other<L: Link>(blocks: &mut Stored<L>, steps: &[(Step, Result<u32, Cut>)]) -> Option<usize>
-    requires ready { IsReady (stored_caching L.Link blocks.old) }
+    requires volume { IsOfBlocks 512 (stored_caching L.Link blocks.old) }
     requires size { blocks.old.cache.shape.block_size ≡ 4096 }
 {
     let mut done = 0usize;

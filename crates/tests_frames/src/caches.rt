@@ -1,6 +1,7 @@
 //! Caches over a link that answers from a list.
 ghost use Rattle.std.specs.Prelude.{◌≡◌, ◌≤◌, IfOk};
-ghost use Rattle.cache.specs.Calls.{caching, IsReady};
+ghost use Rattle.cache.specs.Calls.{caching};
+ghost use Rattle.fixtures.specs.Frames.{IsOfBlocks};
 ghost use Rattle.reissue.specs.Transfers.{link_of, table_of};
 
 use cache::{Cache, CacheRefusal};
@@ -41,7 +42,7 @@ pub(crate) fn cache_over(
     frames: u32,
     given: &Given,
 ) -> Result<Result<Cache<ListLink>, CacheRefusal>, AllocError>
-    ensures ready { IfOk result (λ r. IfOk r (λ c. IsReady (caching ⟦<ListLink as Link>⟧ c))) }
+    ensures volume { IfOk result (λ r. IfOk r (λ c. IsOfBlocks 512 (caching ⟦<ListLink as Link>⟧ c))) }
     ensures size { IfOk result (λ r. IfOk r (λ c. c.shape.block_size ≡ 4096)) }
     ensures unused { IfOk result (λ r. IfOk r (λ c. (table_of c.transfers).ids ≡ 0)) }
     ensures budget { IfOk result (λ r. IfOk r (λ c. ⟦<ListLink as Link>⟧.budget_left (link_of c.transfers) ≡ 1099511627776)) }

@@ -1,5 +1,6 @@
 //! Where a block's frame is found, and how many entries of the index are compared.
-ghost use Rattle.cache.specs.Calls.{caching, IsReady};
+ghost use Rattle.cache.specs.Calls.{caching};
+ghost use Rattle.fixtures.specs.Frames.{IsOfBlocks};
 
 use crate::caches::{Given, cache_over};
 use cache::Cache;
@@ -48,8 +49,8 @@ fn most_compared<L: Link>(cache: &Cache<L>, first: u32, end: u32) -> Option<u64>
 
 /// Does a step; whether it came out as it says.
 fn does<L: Link>(cache: &mut Cache<L>, step: &Step) -> bool
-    requires { IsReady (caching L.Link cache.old) }
-    ensures { IsReady (caching L.Link cache.new) }
+    requires { IsOfBlocks 512 (caching L.Link cache.old) }
+    ensures { IsOfBlocks 512 (caching L.Link cache.new) }
 {
     match step {
         Step::Fetch(blocks) => fetch_each(cache, blocks) as usize == blocks.len(),
@@ -65,7 +66,7 @@ fn does<L: Link>(cache: &mut Cache<L>, step: &Step) -> bool
 
 /// Does these steps, up to the first that comes out otherwise.
 fn first_other<L: Link>(cache: &mut Cache<L>, steps: &[Step]) -> Option<usize>
-    requires { IsReady (caching L.Link cache.old) }
+    requires { IsOfBlocks 512 (caching L.Link cache.old) }
 {
     let mut done = 0usize;
     for step in steps {
@@ -137,12 +138,12 @@ static ROWS: [Row; 3] = [
         4096,
         (false, &[]),
         &[
-            Step::Fresh(0, 256),
-            Step::Find(128, true, 1),
-            Step::Find(0, true, 9),
-            Step::Find(255, true, 8),
-            Step::Find(256, false, 8),
-            Step::FindEach(0, 256, 9),
+            Step::Fresh(2, 258),
+            Step::Find(130, true, 1),
+            Step::Find(2, true, 9),
+            Step::Find(257, true, 8),
+            Step::Find(258, false, 8),
+            Step::FindEach(2, 258, 9),
         ],
     ),
 ];

@@ -1,6 +1,7 @@
 //! Which blocks are read and written, and when.
 ghost use Rattle.std.specs.Prelude.{◌≡◌};
-ghost use Rattle.cache.specs.Calls.{caching, IsReady};
+ghost use Rattle.cache.specs.Calls.{caching};
+ghost use Rattle.fixtures.specs.Frames.{IsOfBlocks};
 
 use crate::caches::{Given, cache_over, is_done};
 use cache::{Cache, CacheRefusal};
@@ -29,9 +30,9 @@ enum Step {
 
 /// Does a step; the number that it gives.
 fn does<L: Link>(cache: &mut Cache<L>, step: &Step) -> u32
-    requires ready { IsReady (caching L.Link cache.old) }
+    requires volume { IsOfBlocks 512 (caching L.Link cache.old) }
     requires size { cache.old.shape.block_size ≡ 4096 }
-    ensures ready { IsReady (caching L.Link cache.new) }
+    ensures volume { IsOfBlocks 512 (caching L.Link cache.new) }
     ensures size { cache.new.shape.block_size ≡ 4096 }
 {
     match step {
@@ -49,7 +50,7 @@ fn does<L: Link>(cache: &mut Cache<L>, step: &Step) -> u32
 
 /// Does these steps, up to the first that gives another number than it says.
 fn first_other<L: Link>(cache: &mut Cache<L>, steps: &[(Step, u32)]) -> Option<usize>
-    requires ready { IsReady (caching L.Link cache.old) }
+    requires volume { IsOfBlocks 512 (caching L.Link cache.old) }
     requires size { cache.old.shape.block_size ≡ 4096 }
 {
     let mut done = 0usize;

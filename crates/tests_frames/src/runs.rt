@@ -1,10 +1,11 @@
 //! Runs: neighbouring changed blocks, which a flush or a sync writes by one request.
 ghost use Rattle.std.specs.Prelude.{◌≤◌, IfOk};
-ghost use Rattle.cache.specs.Calls.{caching, IsReady};
+ghost use Rattle.cache.specs.Calls.{caching};
+ghost use Rattle.fixtures.specs.Frames.{IsOfBlocks};
 ghost use Rattle.reissue.specs.Transfers.{link_of, table_of};
 
 use cache::{Cache, CacheRefusal};
-use fixtures::frames::{VOLUME, fresh_each};
+use fixtures::frames::{VOLUME, fresh_each, may_change};
 use fixtures::lists::{moved, started, told};
 use flusher::{flush_some, sync};
 use layout::Geometry;
@@ -58,11 +59,11 @@ enum Size {
     Of4096,
 }
 
-/// A volume of small blocks.
+/// A volume of 512 small blocks.
 const SMALL: Geometry = Geometry {
     block_size: 1024,
     inodes: 32,
-    zones: 128,
+    zones: 512,
     inode_map_blocks: 1,
     zone_map_blocks: 1,
     first_zone: 6,
@@ -74,7 +75,7 @@ fn cache_over(
     size: &Size,
     given: &[Given],
 ) -> Result<Result<Cache<ListLink>, CacheRefusal>, AllocError>
-    ensures ready { IfOk result (λ r. IfOk r (λ c. IsReady (caching ⟦<ListLink as Link>⟧ c))) }
+    ensures volume { IfOk result (λ r. IfOk r (λ c. IsOfBlocks 512 (caching ⟦<ListLink as Link>⟧ c))) }
     ensures size { IfOk result (λ r. IfOk r (λ c. 1024 ≤ c.shape.block_size)) }
 {
     let transfers = Transfers::new(alloc, ListLink::new(alloc, messages(alloc, given)?)?)?;
@@ -84,13 +85,16 @@ fn cache_over(
     })
 }
 
-/// Fills the first 1024 bytes of a block with this byte.
+/// Fills the first 1024 bytes of a block with this byte, if it may be changed.
 fn fill<L: Link>(cache: &mut Cache<L>, block: u32, byte: u8)
-    requires ready { IsReady (caching L.Link cache.old) }
+    requires volume { IsOfBlocks 512 (caching L.Link cache.old) }
     requires size { 1024 ≤ cache.old.shape.block_size }
-    ensures ready { IsReady (caching L.Link cache.new) }
+    ensures volume { IsOfBlocks 512 (caching L.Link cache.new) }
     ensures size { 1024 ≤ cache.new.shape.block_size }
 {
+    if !may_change(block) {
+        return;
+    }
     match cache.fetch(block) {
         Ok(frame) => cache.change(frame, 0, &[byte; 1024]),
         Err(_) => {}
@@ -99,9 +103,9 @@ fn fill<L: Link>(cache: &mut Cache<L>, block: u32, byte: u8)
 
 /// Does a step.
 fn does<L: Link>(cache: &mut Cache<L>, step: &Step)
-    requires ready { IsReady (caching L.Link cache.old) }
+    requires volume { IsOfBlocks 512 (caching L.Link cache.old) }
     requires size { 1024 ≤ cache.old.shape.block_size }
-    ensures ready { IsReady (caching L.Link cache.new) }
+    ensures volume { IsOfBlocks 512 (caching L.Link cache.new) }
     ensures size { 1024 ≤ cache.new.shape.block_size }
 {
     match step {
@@ -118,7 +122,7 @@ fn does<L: Link>(cache: &mut Cache<L>, step: &Step)
 
 /// Does these steps.
 fn do_each<L: Link>(cache: &mut Cache<L>, steps: &[Step])
-    requires ready { IsReady (caching L.Link cache.old) }
+    requires volume { IsOfBlocks 512 (caching L.Link cache.old) }
     requires size { 1024 ≤ cache.old.shape.block_size }
 {
     for step in steps {

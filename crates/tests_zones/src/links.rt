@@ -1,11 +1,10 @@
 //! Rows over a link that answers from a list: what is free in the maps, a file that is written, cut and grown again, and the zones that
 //! pages need.
 
-ghost use Rattle.std.specs.Prelude.{◌≡◌, ◌≤◌, ◌<◌, ℕ, IfOk};
+ghost use Rattle.std.specs.Prelude.{◌≡◌, IfOk};
 ghost use Rattle.layout.specs.Places.{IsGeometry};
 ghost use Rattle.block_store.specs.Volume.{IsOn};
-ghost use Rattle.cache.specs.Calls.{IsReady};
-ghost use Rattle.cache.specs.Frames.{IsWritable};
+ghost use Rattle.cache.specs.Calls.{IsReady, AreWritable};
 ghost use Rattle.cached_blocks.specs.World.{stored_caching};
 
 use bitmap::{Map, count_free, lowest_free};
@@ -163,8 +162,7 @@ fn blocks_over(
     requires { IsGeometry geometry.now }
     ensures ready { IfOk result (λ r. IfOk r (λ s. IsReady (stored_caching ⟦<ListLink as Link>⟧ s))) }
     ensures size { IfOk result (λ r. IfOk r (λ s. s.cache.shape.block_size ≡ geometry.now.block_size)) }
-    ensures inside { IfOk result (λ r. IfOk r (λ s. let c = stored_caching ⟦<ListLink as Link>⟧ s in
-        (block : ℕ) → 2 ≤ block → block < geometry.now.zones → IsWritable c.area c.size block)) }
+    ensures inside { IfOk result (λ r. IfOk r (λ s. AreWritable geometry.now.zones (stored_caching ⟦<ListLink as Link>⟧ s))) }
 {
     let transfers = Transfers::new(alloc, ListLink::new(alloc, messages)?)?;
     Ok(match Cache::new(alloc, transfers, 0, geometry, 32) {

@@ -1,6 +1,7 @@
 //! What is common to all calls.
 
-ghost use Rattle.std.specs.Prelude.{◌≡◌, false};
+ghost use Rattle.std.specs.Prelude.{◌≡◌, ℕ, false};
+ghost use Rattle.tree.specs.declared.Call.TheVariants.{Dup};
 ghost use Rattle.descriptors.specs.Table.{files_of};
 ghost use Rattle.file_server.specs.Over.{CallSpecification, outcome_in, outcome_of};
 ghost use Rattle.vfs.specs.Outcomes.{OnAnswered, stopped};
@@ -33,7 +34,7 @@ fn stop(cut: Cut, reply: &mut Reply) -> Ending
 
 /// Answers a client call on a volume of these sizes with these open files, with the time in seconds since 1970; the reply goes to `reply`.
 /// Cut once a take gave End, else EIO once the device was given up; neither does anything at the link. No Flush is left undone where the
-/// call is answered otherwise.
+/// call is answered otherwise. A dup needs no block: where no Flush was left undone it leaves them all as they are.
 pub fn answer<B: Caches>(
     alloc: Global,
     blocks: &mut B,
@@ -53,6 +54,7 @@ pub fn answer<B: Caches>(
     ensures goes { B.goes_on blocks.old blocks.new }
     ensures flushed { OnAnswered (outcome_of (outcome_in result reply.new)) (B.wanted blocks.new ≡ false) }
     ensures spends { Spends 0 (B.caching blocks.old) (B.caching blocks.new) }
+    ensures still { (fd : ℕ) → call.now ≡ Dup fd → B.wanted blocks.old ≡ false → blocks.new ≡ blocks.old }
 {
     if let Err(cut) = blocks.live() {
         return stop(cut, reply);

@@ -1,6 +1,7 @@
 //! A file server of one volume, over blocks that have a cache.
 
-ghost use Rattle.std.specs.Prelude.{◌≡◌, ◌≢◌, ◌<◌, ◌+◌, ◌^◌, false};
+ghost use Rattle.std.specs.Prelude.{◌≡◌, ◌≢◌, ◌<◌, ◌+◌, ◌^◌, ℕ, false};
+ghost use Rattle.tree.specs.declared.Call.TheVariants.{Dup};
 
 use crate::answer;
 use cached_blocks::Caches;
@@ -57,7 +58,8 @@ impl<B: Caches> Server<B> {
     ghost use Rattle.vfs.specs.Server.{IsOpen, Answers, Absorbs};
 
     /// Answers a client call, with the time in seconds since 1970; the reply goes to `reply`. Cut once a take gave End, else EIO once the
-    /// device was given up. No Flush is left undone where the call is answered otherwise.
+    /// device was given up. No Flush is left undone where the call is answered otherwise. A dup needs no block: where no Flush was left
+    /// undone it does nothing at the link.
     pub fn call(&mut self, who: Who, now: u32, call: &Call, reply: &mut Reply) -> Ending
         requires may { IsOpen B.caching self.old }
         ensures may { IsOpen B.caching self.new }
@@ -66,6 +68,7 @@ impl<B: Caches> Server<B> {
         ensures flushed { OnAnswered (outcome_of (outcome_in result reply.new)) (B.wanted self.new.blocks ≡ false) }
         ensures spends { Spends 0 (B.caching self.old.blocks) (B.caching self.new.blocks) }
         ensures absorbed { self.new.absorbed ≡ self.old.absorbed }
+        ensures still { (fd : ℕ) → call.now ≡ Dup fd → B.wanted self.old.blocks ≡ false → self.new.blocks ≡ self.old.blocks }
     {
         answer(
             self.alloc,

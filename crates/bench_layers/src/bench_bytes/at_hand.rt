@@ -1,10 +1,9 @@
 //! Volumes all of whose blocks are at hand, with one file.
 
-ghost use Rattle.std.specs.Prelude.{◌≡◌, ◌≤◌, ◌<◌, ◌+◌, ℕ, length, IfSome};
+ghost use Rattle.std.specs.Prelude.{◌≡◌, ◌≤◌, ◌<◌, ◌+◌, length, IfSome};
 ghost use Rattle.layout.specs.Places.{IsGeometry};
 ghost use Rattle.block_store.specs.Volume.{IsOn};
-ghost use Rattle.cache.specs.Calls.{IsReady};
-ghost use Rattle.cache.specs.Frames.{IsWritable};
+ghost use Rattle.cache.specs.Calls.{IsReady, AreWritable};
 ghost use Rattle.cached_blocks.specs.World.{stored_caching};
 
 use block_store::memory::Memory;
@@ -38,8 +37,7 @@ pub(crate) fn frames(alloc: Global, geometry: &Geometry, count: u32) -> Option<S
     requires { IsGeometry geometry.now }
     ensures ready { IfSome result (λ s. IsReady (stored_caching ⟦<ListLink as Link>⟧ s)) }
     ensures size { IfSome result (λ s. s.cache.shape.block_size ≡ geometry.now.block_size) }
-    ensures inside { IfSome result (λ s. let c = stored_caching ⟦<ListLink as Link>⟧ s in
-        (block : ℕ) → 2 ≤ block → block < geometry.now.zones → IsWritable c.area c.size block) }
+    ensures inside { IfSome result (λ s. AreWritable geometry.now.zones (stored_caching ⟦<ListLink as Link>⟧ s)) }
 {
     let link = ListLink::new(alloc, Vec::new(alloc)).ok()?;
     let transfers = Transfers::new(alloc, link).ok()?;

@@ -1,7 +1,7 @@
 //! Measures a cache over a driver in a thread of its own.
 ghost use Rattle.std.specs.Prelude.{◌≡◌};
 ghost use Rattle.layout.specs.Places.{IsGeometry};
-ghost use Rattle.cache.specs.Calls.{caching, IsReady};
+ghost use Rattle.cache.specs.Calls.{caching, IsReady, AreWritable};
 
 use crate::bench_frames::BLOCKS;
 use crate::bench_frames::work::{driver, fetch_again, fetch_run, write_run};
@@ -33,9 +33,10 @@ pub(crate) fn zeros(alloc: Global) -> Option<Media> {
     Media::from_bytes(alloc, &bytes).ok()
 }
 
-/// Measures fetches and writes of a cache over any link.
-fn measure_cache<L: Link>(rt: &HostRuntime, cache: &mut Cache<L>) -> io::Result<()>
-    requires { IsReady (caching L.Link cache.old) }
+/// Measures fetches and writes of a cache over any link, of a volume of so many blocks.
+fn measure_cache<L: Link>(rt: &HostRuntime, cache: &mut Cache<L>, zones: u32) -> io::Result<()>
+    requires ready { IsReady (caching L.Link cache.old) }
+    requires inside { AreWritable zones (caching L.Link cache.old) }
 {
     let start = Instant::now(rt)?;
     let missed = fetch_run(cache, 16, BLOCKS);
@@ -45,7 +46,7 @@ fn measure_cache<L: Link>(rt: &HostRuntime, cache: &mut Cache<L>) -> io::Result<
     let hit = fetch_again(cache, BLOCKS);
     tell(rt, "fetches that hit", hit, "blocks", start)?;
     let start = Instant::now(rt)?;
-    let written = write_run(cache, BLOCKS / 16);
+    let written = write_run(cache, BLOCKS / 16, zones);
     tell(rt, "made anew and written back", written, "blocks", start)
 }
 
@@ -65,7 +66,7 @@ fn measure_over<L: Link + Drop>(
     let Ok(mut cache) = Cache::new(rt.alloc(), transfers, 0, volume, frames) else {
         return say(rt, "no memory");
     };
-    measure_cache(rt, &mut cache)
+    measure_cache(rt, &mut cache, volume.zones)
 }
 
 /// Starts a driver of media with these bytes in a thread of its own, measures a cache over it, and ends it.

@@ -1,6 +1,6 @@
 //! The work that is measured. Each piece tells how many blocks it went over: fewer where a request wasn't taken or a call was cut. What a
 //! driver answers isn't looked at.
-ghost use Rattle.cache.specs.Calls.{caching, IsReady};
+ghost use Rattle.cache.specs.Calls.{caching, IsReady, AreWritable};
 
 use bdev::{Accept, BlockDriver};
 use cache::Cache;
@@ -47,13 +47,16 @@ pub(crate) fn fetch_again<L: Link>(cache: &mut Cache<L>, count: u32) -> u32
     given
 }
 
-/// Makes 16 blocks anew, and writes them back, in runs of neighbours.
-fn write_16<L: Link>(cache: &mut Cache<L>, first: u32) -> u32
-    requires { IsReady (caching L.Link cache.old) }
-    ensures { IsReady (caching L.Link cache.new) }
+/// Makes 16 blocks anew, and writes them back, in runs of neighbours. Each is one of the volume, but not of its first two.
+fn write_16<L: Link>(cache: &mut Cache<L>, first: u32, zones: u32) -> u32
+    requires ready { IsReady (caching L.Link cache.old) }
+    requires inside { AreWritable zones (caching L.Link cache.old) }
+    ensures ready { IsReady (caching L.Link cache.new) }
+    ensures inside { AreWritable zones (caching L.Link cache.new) }
 {
-    for block in 0..16 {
-        if cache.fresh(first.saturating_add(block)).is_err() {
+    for nth in 0..16 {
+        let block = first.saturating_add(nth);
+        if block < 2 || zones <= block || cache.fresh(block).is_err() {
             return 0;
         }
     }
@@ -63,14 +66,15 @@ fn write_16<L: Link>(cache: &mut Cache<L>, first: u32) -> u32
     }
 }
 
-/// Makes so many times 16 blocks anew, and writes each 16 of them back.
-pub(crate) fn write_run<L: Link>(cache: &mut Cache<L>, times: u32) -> u32
-    requires { IsReady (caching L.Link cache.old) }
+/// Makes so many times 16 blocks anew, from the 17th on, and writes each 16 of them back.
+pub(crate) fn write_run<L: Link>(cache: &mut Cache<L>, times: u32, zones: u32) -> u32
+    requires ready { IsReady (caching L.Link cache.old) }
+    requires inside { AreWritable zones (caching L.Link cache.old) }
     ensures { IsReady (caching L.Link cache.new) }
 {
     let mut written = 0u32;
-    for turn in 0..times {
-        written = written.saturating_add(write_16(cache, turn.saturating_mul(16)));
+    for turn in 1..times.saturating_add(1) {
+        written = written.saturating_add(write_16(cache, turn.saturating_mul(16), zones));
     }
     written
 }

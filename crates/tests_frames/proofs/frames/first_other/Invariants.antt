@@ -1,9 +1,10 @@
 use Rattle.std.proofs.Common.{◌≡◌}
-use Rattle.cache.specs.Calls.{caching, IsReady}
+use Rattle.cache.specs.Calls.{caching}
+use Rattle.fixtures.specs.Frames.{IsOfBlocks}
 use Rattle.tests_frames.proofs.frames.first_other.Given as goal
 
 abbrev pub invariant-loop-step : goal.invariant-loop-step
 invariant-loop-step g l = record {
-  ready : IsReady (caching g.L.Link l.cache);
+  volume : IsOfBlocks 512 (caching g.L.Link l.cache);
   size : l.cache.shape.block_size ≡ 4096;
 }

@@ -1,10 +1,12 @@
-use Rattle.std.proofs.Common.{sym, subst}
+use Rattle.std.proofs.Common.{sym, subst, ap, ◌∙◌}
 use Rattle.std.specs.Prelude.{IsTrue}
 use Rattle.tree.specs.Tree.{Tree}
 use Rattle.volume.specs.Reading.{Disk}
 use Rattle.volume.specs.Holds.{HoldsVolume}
+use Rattle.records.specs.Area.{area_of}
 use Rattle.records.specs.Settled.{only_looks}
 use Rattle.cache.specs.Looking.{Looks}
+use Rattle.cache.proofs.Inside.{writable_of, writable_still}
 use Rattle.cache.proofs.Looking.{looks_then}
 use Rattle.descriptors.specs.Files.{HasFiles}
 use Rattle.tree.specs.Answers.{answer_of}
@@ -15,6 +17,22 @@ use Rattle.file_server.specs.Over.{outcome_in}
 use Rattle.vfs.proofs.Spending.{spends_none, spends_on}
 use Rattle.vfs.proofs.Ending.{stopped_at_once, stopped_later, ends_well}
 use Rattle.vfs.proofs.calls.answer.Goals as goal
+
+-- the cache writes in the volume, behind its first two blocks alone, and so each block from the third on may be changed
+pub body-requires : goal.body-requires
+body-requires g c =
+    let a = c.args.blocks.now in
+    let may = c.requires.may in
+    let k = g.met.B.Caches.is_cached in
+    let e = g.B.Caches.caching a in
+    record {
+      ready = k.ready a may.ready;
+      size = k.size a ∙ may.size;
+      geometry = may.geometry;
+      inside = λ block low high. k.writable a block
+          (writable_still (area_of c.args.geometry.now e.area.minor) e.area c.args.geometry.now.block_size e.size block may.area may.size
+          (writable_of c.args.geometry.now e.area.minor block low high));
+    }
 
 pub returns-in-Err-clause-calls : goal.returns-in-Err-clause-calls
 returns-in-Err-clause-calls g c =
@@ -100,3 +118,13 @@ returns-clause-spends g c =
     let a = c.args.blocks.now in
     spends_on _ _ (g.met.B.Caches.is_cached.leads a b
     (g.met.B.Blocks.lawful.chain a c.body.new.blocks b c.body.ensures.turns.leads c.flush_wanted.ensures.turns.leads))
+
+pub returns-in-Err-live-clause-still : goal.returns-in-Err-live-clause-still
+returns-in-Err-live-clause-still g c = λ fd is none.
+    let same = c.body.ensures.still fd is in
+    c.flush_wanted.ensures.unasked (ap g.B.Caches.wanted same ∙ none) ∙ same
+
+pub returns-clause-still : goal.returns-clause-still
+returns-clause-still g c = λ fd is none.
+    let same = c.body.ensures.still fd is in
+    c.flush_wanted.ensures.unasked (ap g.B.Caches.wanted same ∙ none) ∙ same

@@ -17,6 +17,7 @@ returns-clause-runs g c =
     c.args.frame.at c.args.frame.block e.slot e.after (with_bytes c.args.from c.args.bytes.now) s.slots.distinct e.is
     (ap (λ (y : Slot). y.block) (sym same) ∙ f.block_is) e.block e.state e.all
     (λ w. changed_row s.shape.block_size c.args.from c.args.bytes.now c.args.frame.block e.slot e.after w c.requires.within e.bytes_are) refl refl c.requires.ready
+    c.requires.writable
 
 pub returns-clause-frames : goal.returns-clause-frames
 returns-clause-frames g c = λ f is.

@@ -21,6 +21,7 @@ returns-in-Some-clause-runs g c =
     rewritten (caching g.L.Link s) (caching_of g.L.Link s.transfers s.shape c.blank.new.self.items.items s.ended) items c.blank.new.self.items.items
     c.in-Some.frame.at c.args.block e.slot e.after (λ row o. 0) s.slots.distinct e.is (ap (λ (y : Slot). y.block) (sym same) ∙ f.block_is) e.block e.state e.all
     (λ w. zero_row s.shape.block_size c.args.block e.after w e.zero) refl refl c.requires.ready
+    c.requires.writable
 
 pub returns-in-Some-clause-frame : goal.returns-in-Some-clause-frame
 returns-in-Some-clause-frame g c =

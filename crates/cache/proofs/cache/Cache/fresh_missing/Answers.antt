@@ -38,7 +38,7 @@ returns-clause-runs g c =
     (ap (λ (s : Slots). s.items.items) c.clear_spare.ensures.rest) c.fill.ensures.filled in
     blanked (caching g.L.Link m) (caching_of g.L.Link m.transfers m.shape c.fill.new.self.items.items m.ended) m.slots.items.items c.fill.new.self.items.items
     c.in_ok-at.at c.args.block zeros (caching g.L.Link c.args.self.now) m.slots.distinct c.in_ok-at.ensures.free none c.clear_spare.ensures.zero filled refl refl
-    k.ready k
+    k.ready c.requires.writable k
 
 pub returns-clause-frame : goal.returns-clause-frame
 returns-clause-frame g c = (refl, filled_at _ c.fill.new.self.items.items c.in_ok-at.at c.args.block _ Dirty c.fill.ensures.filled)
