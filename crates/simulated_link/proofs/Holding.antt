@@ -113,7 +113,8 @@ pub own_truth : (v : Opening) (p : RunState) (marks : List Mark) → RunTruth v 
 own_truth v p marks h = subst (λ (l : List Mark). RunTruth v p.scene l) (sym h.is) h
 
 post_holds : (v : Opening) (b : RunState) (to : Endpoint) (r : BlockRequest) (result : Result (Unit {0}) LinkRefusal) (d : Disks)
-    → LinesUp to r b.scene.disks result d → Fits v r → IsWellFormed (record_of (posted to r (is_ok result) d b)) → RunTruth v b.scene (record_of b)
+    → LinesUp to r b.scene.disks result d → Fits v r → IsWellFormed (record_of (posted to r (is_ok result) d b))
+    → RunTruth v b.scene (record_of b)
     → RunTruth v (posted to r (is_ok result) d b).scene (with_told (Posted to r (is_ok result)) (record_of b))
 post_holds v b to r _ _ (NoneIsThere none) fits formed h = refused_true v b.scene b.scene.disks _ (record_of b) to r refl refl h
 post_holds v b to r _ _ (LineIsFull there full) fits formed h = refused_true v b.scene b.scene.disks _ (record_of b) to r refl refl h
@@ -122,8 +123,8 @@ post_holds v b to r _ d (IsLinedUp there few) fits formed h =
     posted_true v b.scene d _ (record_of b) to r at.0 at.1 refl h
     (subst IsWellFormed (ap without_faults (mark_in (Issued r to) b.scene.noted)) formed).1 fits
 
-turn_holds : (v : Opening) (area : Area) (o : Outbox) (b a : RunState) (told : Told) → area.minor ≡ v.minor → MayAct area (record_of b) o (AtLink told)
-    → Turn b told a → IsWellFormed (record_of a) → RunTruth v b.scene (record_of b) → RunTruth v a.scene (with_told told (record_of b))
+turn_holds : (v : Opening) (area : Area) (o : Outbox) (b a : RunState) (told : Told) → area.minor ≡ v.minor
+    → MayAct area (record_of b) o (AtLink told) → Turn b told a → IsWellFormed (record_of a) → RunTruth v b.scene (record_of b) → RunTruth v a.scene (with_told told (record_of b))
 turn_holds v area o b _ _ same may (link.Takes message a far) formed h =
     received_true v a.scene _ (record_of b) message refl (far_heard v b a (Some message) (record_of b) far h)
 turn_holds v area o b _ _ same may (link.TakesOwed live owed first) formed h =
