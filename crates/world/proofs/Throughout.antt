@@ -1,5 +1,5 @@
 -- At each moment of a run the media hold what its record says.
-use Rattle.std.proofs.Common.{◌≡◌, List, [], ◌∷◌, ◌∙◌}
+use Rattle.std.proofs.Common.{◌≡◌, ◌+◌, ◌*◌, List, [], ◌∷◌, ◌∙◌}
 use Rattle.layout.specs.declared.Geometry.{Geometry}
 use Rattle.records.specs.Marks.{Mark, Answered, Issued, Started, Took, Flush, GaveUp, Fault}
 use Rattle.records.specs.Area.{Area, WritesInside}
