@@ -20,10 +20,11 @@ use Rattle.schedule.proofs.NotedLaws.{mark_in}
 use Rattle.simulated_link.specs.Disks.{Disks, LinesUp, NoneIsThere, LineIsFull, IsLinedUp}
 use Rattle.simulated_link.specs.Ruling.{is_fault}
 use Rattle.simulated_link.specs.StateView as link
-use Rattle.simulated_link.specs.StateView.{RunState, RunTruth, Turn, noting, paid, posted, ruling_at}
+use Rattle.simulated_link.specs.StateView.{RunState, RunTruth, Turn, Still, Further, HandsEvent, HandsNone, noting, paid, posted, ruling_at}
 use Rattle.simulated_link.specs.Laws.{RunsKeepTruth, MediaAreHeldThroughout}
 use Rattle.simulated_link.specs.Moments.{Moment, record_of, Step, Begins, Tells, Takes, Settles, Brings, BringsNone, Pays, HandsCall, Replies, Runs, Starts, Then}
 use Rattle.simulated_link.proofs.Guarantee.{media_held}
+use Rattle.simulated_link.proofs.Leading.{servers_lead_on, asides_lead_on, calls_lead_on}
 use Rattle.simulated_link.proofs.MovingLaws.{next_heard, far_heard, received_true, handed_true, owed_heard, end_true, took_true, refused_true, complained_true, posted_true, accepted_at}
 use Rattle.simulated_link.proofs.Running.{next_record, handed_record, turn_record}
 
@@ -165,3 +166,23 @@ runs_keep_truth v area b a same (Then m _ before last) formed h =
 pub media_throughout : MediaAreHeldThroughout
 media_throughout v area b m a same before after formed h =
     media_held v m.run.scene (record_of m.run) (runs_keep_truth v area b m same before (runs_formed area m a after formed) h)
+
+-- ---- the media stay as large
+
+step_sectors : (area : Area) (m a : Moment) → Step area m a
+    → length a.run.scene.disks.media.sectors ≡ length m.run.scene.disks.media.sectors
+step_sectors area m _ (Begins r busy may) = refl
+step_sectors area m _ (Tells told a busy quiet may turn) = (servers_lead_on m.run a (Further m.run a told Still turn)).sectors
+step_sectors area m _ (Takes message call a answers may turn) =
+    (servers_lead_on m.run a (Further m.run a (Received message) Still turn)).sectors
+step_sectors area m _ (Settles message hears rest) = refl
+step_sectors area m _ (Brings message a between none next) = (asides_lead_on m.run _ _ (HandsEvent message a next)).leads.sectors
+step_sectors area m _ (BringsNone a between none next) = (asides_lead_on m.run a _ (HandsNone a next)).leads.sectors
+step_sectors area m _ (Pays between owed first) = refl
+step_sectors area m _ (HandsCall call a between paid hands) = (calls_lead_on m.run a (Some call) hands).leads.sectors
+step_sectors area m _ (Replies call reply answers live rest) = refl
+
+pub runs_sectors : (area : Area) (b a : Moment) → Runs area b a
+    → length a.run.scene.disks.media.sectors ≡ length b.run.scene.disks.media.sectors
+runs_sectors area b _ Starts = refl
+runs_sectors area b a (Then m _ before last) = step_sectors area m a last ∙ runs_sectors area b m before

@@ -180,8 +180,9 @@ module _ {L : Type 0} (words : LinkWords L) (run : L → RunState) (link : L) (i
             unanswered = from.plays.number ∙ ap length from.plays.left_is;
           };
         };
-        throughout = held_throughout g v (area_of g setup.minor) (at_first (run link)) (moment (serving_over words s) last from.plays.last) refl
-            (Started (driver 1) ∷ []) first_true (subst IsWellFormed marks shows.replies.well_formed) (subst (WritesInside g) marks shows.replies.inside);
+        throughout = held_throughout g v (area_of g setup.minor) (at_first (run link))
+            (moment (serving_over words s) last from.plays.last) refl (Started (driver 1) ∷ []) first_true new.sectors_are
+            (subst IsWellFormed marks shows.replies.well_formed) (subst (WritesInside g) marks shows.replies.inside);
       }
 
 -- a run that was to be begun is refused for want of memory alone
