@@ -5,7 +5,9 @@ use Rattle.message.specs.declared.Incoming.{Incoming}
 use Rattle.tree.specs.declared.Reply.{Reply}
 use Rattle.schedule.specs.Groups.{schedule_of}
 use Rattle.schedule.specs.Noted.{marks_in}
+use Rattle.records.specs.Area.{Area}
 use Rattle.records.specs.Marks.{Mark, gave_up}
+use Rattle.records.specs.Open.{IsWellFormed}
 use Rattle.records.specs.Disk.{HasTrueReplies}
 use Rattle.records.specs.Opening.{Opening, contents_at}
 use Rattle.records.specs.Told.{took_end}
@@ -14,6 +16,7 @@ use Rattle.true_replies.specs.Events.{opening_media}
 use Rattle.simulated_link.specs.Scene.{Scene}
 use Rattle.schedule.specs.declared.arrived.Arrived.{Arrived}
 use Rattle.simulated_link.specs.StateView.{RunState, RunTruth, IsSpent, GoesOn, Asides, HandsOut, Answers, work_left}
+use Rattle.simulated_link.specs.Moments.{Moment, Runs, record_of}
 
 -- in each record of which it holds the replies are true
 abbrev pub RepliesAreTrue : Type 0
@@ -26,6 +29,19 @@ pub record MediaHeld (v : Opening) (s : Scene) (marks : List Mark) : Type 0 wher
 
 abbrev pub MediaAreHeld : Type 0
 MediaAreHeld = (v : Opening) (s : Scene) (marks : List Mark) → RunTruth v s marks → MediaHeld v s marks
+
+-- A run by the rules keeps the guarantee, while its record is well formed. (The rules say neither that a request that becomes pending is
+-- for whole sectors nor that no pending one has a sector of it; a record that is well formed does.)
+abbrev pub RunsKeepTruth : Type 0
+RunsKeepTruth =
+    (v : Opening) (area : Area) (b a : Moment) → area.minor ≡ v.minor → Runs area b a → IsWellFormed (record_of a.run)
+    → RunTruth v b.run.scene (record_of b.run) → RunTruth v a.run.scene (record_of a.run)
+
+-- so at each moment on the way to one whose record is well formed the media hold what the record says
+abbrev pub MediaAreHeldThroughout : Type 0
+MediaAreHeldThroughout =
+    (v : Opening) (area : Area) (b m a : Moment) → area.minor ≡ v.minor → Runs area b m → Runs area m a → IsWellFormed (record_of a.run)
+    → RunTruth v b.run.scene (record_of b.run) → MediaHeld v m.run.scene (record_of m.run)
 
 -- the events that were noted are the first of the schedule
 pub record IsSound (p : RunState) : Type 0 where

@@ -2,7 +2,7 @@
 
 ghost use Rattle.simulated_link.specs.Moments.{RunsEndNeeding};
 ghost use Rattle.simulated_link.specs.Waiting.{ServersHandNone, AsidesHandNone, OneIsHandedOut, ItIsAnswered};
-ghost use Rattle.simulated_link.specs.Laws.{RepliesAreTrue, MediaAreHeld, ServersLeadOn, AsidesLeadOn, CallsLeadOn, AnswersLeadOn, ServersTellTruly, AsidesTellTruly, ServersEndRightly};
+ghost use Rattle.simulated_link.specs.Laws.{RepliesAreTrue, MediaAreHeld, RunsKeepTruth, MediaAreHeldThroughout, ServersLeadOn, AsidesLeadOn, CallsLeadOn, AnswersLeadOn, ServersTellTruly, AsidesTellTruly, ServersEndRightly};
 
 /// In each record of which the guarantee holds the replies are true.
 #[tactic(auto, using(crate::proofs::Guarantee::replies_true))]
@@ -14,6 +14,16 @@ pub fn replies_are_true()
 #[tactic(auto, using(crate::proofs::Guarantee::media_held))]
 pub fn media_are_held()
     ensures { MediaAreHeld }
+{}
+
+/// A run by the rules keeps the guarantee, while its record is well formed.
+pub fn runs_keep_truth()
+    ensures { RunsKeepTruth }
+{}
+
+/// So the media hold what the record says at each moment on the way to one whose record is well formed.
+pub fn media_are_held_throughout()
+    ensures { MediaAreHeldThroughout }
 {}
 
 /// After whatever a server does at the link: the schedule stays, no event is run twice, no more is left to do, and the events that were

@@ -22,3 +22,4 @@ mod WrongTimes
 mod WrongEnds
 mod WrongRuns
 mod LeftOpen
+mod HeldRows

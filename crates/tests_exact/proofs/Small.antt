@@ -12,6 +12,7 @@ use Rattle.bdev.specs.DriverState.{DriverState, chunk}
 use Rattle.reincarnate.specs.declared.policy.Setup.{Setup}
 use Rattle.reincarnate.specs.declared.policy.Policy.{Policy}
 use Rattle.records.specs.Area.{Area, FitsArea, area_of}
+use Rattle.records.specs.Opening.{Range, volume_in}
 use Rattle.schedule.specs.declared.arrived.Arrived.{Arrived}
 
 -- the sizes of the volume: three blocks of two sectors
@@ -92,6 +93,31 @@ torn_isnt_new = differ 2560 3 4 (concat (sectors_with new_0 torn)) (concat (sect
 pub image_sectors : sectors_of image ≡ sectors_with old_0 old_1
 unfolding head old_0 old_1
 image_sectors = refl
+
+-- the volume is all of the disk
+abbrev pub whole : Range
+whole = record { first = 0; count = 6 }
+
+-- bytes of these
+pub torn_byte : slice_index torn 0 ≡ 3
+unfolding torn
+torn_byte = refl
+
+pub old_byte : slice_index old_0 0 ≡ 1
+unfolding old_0
+old_byte = refl
+
+pub new_byte : slice_index block 0 ≡ 4
+unfolding block
+new_byte = refl
+
+pub boot_byte : volume_in whole image 0 ≡ 7
+unfolding head old_0 old_1
+boot_byte = refl
+
+pub image_byte : volume_in whole image 2560 ≡ 2
+unfolding head old_0 old_1
+image_byte = refl
 
 -- a disk with these sectors in the third block, on which generation g may write
 abbrev pub disk : List ℕ → List ℕ → ℕ → MediaState

@@ -60,7 +60,7 @@ replies_hold s is v tree marks c t noted frames answered stood kept =
     }
 
 -- the media hold what the record of the run says of the disk
-media_hold : (v : Opening) (c : Scene) (marks : List Mark) → RunTruth v c marks → MediaHeld v c (marks_in c.noted)
+pub media_hold : (v : Opening) (c : Scene) (marks : List Mark) → RunTruth v c marks → MediaHeld v c (marks_in c.noted)
 media_hold v c marks kept =
     let f : FaultsChangeNothing (marks_in c.noted) = faults_change_nothing (marks_in c.noted) in
     let held : MediaHeld v c (without_faults (marks_in c.noted)) =

@@ -11,7 +11,7 @@ use Rattle.media.specs.Contents.{IsWhole, MediaState, sectors_of}
 use Rattle.reincarnate.specs.declared.policy.Setup.{Setup}
 use Rattle.reincarnate.specs.Watch.{driver, new_watch}
 use Rattle.records.specs.Marks.{Started}
-use Rattle.records.specs.Area.{area_of}
+use Rattle.records.specs.Area.{WritesInside, area_of}
 use Rattle.records.specs.Opening.{Opening, Range, contents_at, volume_bytes}
 use Rattle.records.specs.Open.{IsWellFormed}
 use Rattle.records.specs.ServerCall.{Serving}
@@ -26,7 +26,7 @@ use Rattle.schedule.specs.Justified.{Justified}
 use Rattle.schedule.specs.Headline.{Transcript}
 use Rattle.schedule.specs.Noted.{marks_in}
 use Rattle.simulated_link.specs.declared.run.RunLink.{RunLink}
-use Rattle.simulated_link.specs.StateView.{RunState, IsOpened}
+use Rattle.simulated_link.specs.StateView.{RunState, RunTruth, IsOpened}
 use Rattle.simulated_link.specs.Moments.{Doing, Resting, Hearing, Answering, Moment, Runs, Needs}
 use Rattle.conformance.specs.Steady.{drivers_of}
 use Rattle.conformance.specs.Whole.{IsUnused, IsAtEnd, IsWhole as IsWholeRun}
@@ -37,6 +37,7 @@ use Rattle.world.specs.Starts.{at_first}
 use Rattle.world.specs.Runs.{moment}
 use Rattle.world.specs.Shows.{Shows}
 use Rattle.world.proofs.RunShowing.{runs_are_shown}
+use Rattle.world.proofs.Throughout.{held_throughout}
 use Rattle.cached_blocks.specs.declared.Stored.{Stored}
 use Rattle.vfs.specs.declared.server.Server.{Server}
 use Rattle.vfs.specs.OverLink.{line_of, serving_over}
@@ -109,10 +110,10 @@ module _ {L : Type 0} (words : LinkWords L) (run : L → RunState) (link : L) (i
   -- what is shown of it
   pub run_shows : (media : MediaState) → media ≡ media_with image → IsOpened media setup.policy (new_watch (length supply)) supply events (run link)
       → IsBegun image setup supply (range_of range) g tree → Each IsUnused supply → IsOnMedia v → words.truth link v (Started (driver 1) ∷ [])
-      → IsFresh events (length (sectors_of image)) (run link) → RunsFrom words run link setup.minor g frames s t.unanswered
+      → RunTruth v (run link).scene (Started (driver 1) ∷ []) → IsFresh events (length (sectors_of image)) (run link) → RunsFrom words run link setup.minor g frames s t.unanswered
       → IsWhole last.scene.disks.media.sectors → t.marks ≡ marks_in last.scene.noted → t.frames ≡ frames_in s
       → t.sent ≡ last.scene.disks.sent → t.drivers ≡ drivers_of last.scene.disks → t.image ≡ concat last.scene.disks.media.sectors → RunShows image setup supply events t
-  run_shows media loaded opened begun unused on truth new from whole marks frames_are sent drivers bytes =
+  run_shows media loaded opened begun unused on truth first_true new from whole marks frames_are sent drivers bytes =
       let hears : Hears (serving_over words from.before) (words.truth link) v tree [] (Started (driver 1) ∷ []) = record {
         minor = sym from.opened.minor_is;
         serves = from.opened.serves (contents_at v) tree begun.at_first;
@@ -179,6 +180,9 @@ module _ {L : Type 0} (words : LinkWords L) (run : L → RunState) (link : L) (i
             unanswered = from.plays.number ∙ ap length from.plays.left_is;
           };
         };
+        throughout = held_throughout g v (area_of g setup.minor) (at_first (run link))
+            (moment (serving_over words s) last from.plays.last) refl (Started (driver 1) ∷ []) first_true new.sectors_are
+            (subst IsWellFormed marks shows.replies.well_formed) (subst (WritesInside g) marks shows.replies.inside);
       }
 
 -- a run that was to be begun is refused for want of memory alone

@@ -1,4 +1,5 @@
 pub mod Exact
+pub mod Throughout
 pub mod Occurs
 pub mod Shows
 pub mod Reasons

@@ -43,9 +43,10 @@ returns-clause-shows g c =
     let ready = subst (λ l. All (IsReady v) (map state l)) items c.in_ok-prepared.ensures.ready in
     let new = subst (λ n. IsFresh events n (run_of state c.in-Ok.link)) (ap (λ (m : MediaState). length m.sectors) c.in_ok-prepared.ensures.contents)
     c.in-Ok.ensures.fresh in
+    let held = c.in-Ok.ensures.truth v c.in_ok-prepared.ensures.on_media c.in_ok-prepared.ensures.contents ready in
     run_shows _ _ c.in-Ok.link image setup (map state c.args.supply.items) events range geometry tree _ c.in-Ok-run_over.server _
     c.in_ok-prepared.prepared.media c.in_ok-prepared.ensures.contents c.in-Ok.ensures.opened begun
-    (all_unused v (map state c.args.supply.items) ready) c.in_ok-prepared.ensures.on_media (c.in-Ok.ensures.truth v c.in_ok-prepared.ensures.on_media c.in_ok-prepared.ensures.contents ready) new
+    (all_unused v (map state c.args.supply.items) ready) c.in_ok-prepared.ensures.on_media held held new
     c.in-Ok-run_over.ensures (whole_there _ _ c.link.ensures c.are_whole.ensures) refl refl refl refl refl
 
 pub returns-clause-frames : goal.returns-clause-frames
