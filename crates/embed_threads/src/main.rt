@@ -52,18 +52,23 @@ fn tasks(alloc: Global) -> Option<Vec<WriteFile>> {
     Some(tasks)
 }
 
-/// Makes a volume, and writes files on it at one time: what came of each, and whether the driver took requests.
+/// How many drivers there are: another one takes the place of one that waits for a processor so long that it counts as hung.
+const DRIVERS: u32 = 6;
+
+/// Makes a volume, and writes files on it at one time: what came of each, and whether the drivers took requests.
 fn embed<R: Threads + Wait + Copy + Send + Sync + 'static>(
     alloc: Global,
     rt: R,
 ) -> Option<(Vec<Result<u32, CallError>>, bool)> {
     let image = mkfs(alloc, 256, 1024, 64, 50).ok()?;
     let taken = Arc::new(alloc, AtomicU64::new(0)).ok()?;
-    let driver = RamDriver::new(table_in(image.as_slice()));
     let mut drivers = Vec::new(alloc);
-    drivers
-        .push(CountingDriver::new(driver, Arc::try_clone(&taken).ok()?))
-        .ok()?;
+    for _ in 0..DRIVERS {
+        let driver = RamDriver::new(table_in(image.as_slice()));
+        drivers
+            .push(CountingDriver::new(driver, Arc::try_clone(&taken).ok()?))
+            .ok()?;
+    }
     let came = serve(alloc, rt, image, &setup_for(0), drivers, tasks(alloc)?).ok()?;
     Some((came.outputs, taken.load(Ordering::SeqCst) > 0))
 }
