@@ -1,18 +1,12 @@
 """The mounts of this machine that are volumes, and how the one who serves a volume tells in the end what came of it."""
-import fcntl, hashlib, os, pathlib, re, socket, struct, subprocess
-from typing import NamedTuple
+import collections, fcntl, hashlib, os, re, socket, struct, subprocess
 
 KIND = "fuse.mfs"
 TOOL = "fusermount3"
 
 
-class Mount(NamedTuple):
-    """A mounted volume: its number among the mounts and that of its device, its folder, the image, and the user who mounted it."""
-    number: int
-    device: str
-    folder: str
-    image: str
-    user: int
+# A mounted volume: its number among the mounts and that of its device, its folder, the image, and the user who mounted it.
+Mount = collections.namedtuple("Mount", "number device folder image user")
 
 
 def plain(text):
@@ -23,7 +17,9 @@ def plain(text):
 def mounts():
     """All volumes that are mounted, the newest last."""
     found = []
-    for line in pathlib.Path("/proc/self/mountinfo").read_text("latin-1").splitlines():
+    with open("/proc/self/mountinfo", encoding="latin-1") as table:
+        lines = table.read().splitlines()
+    for line in lines:
         head, _, tail = line.partition(" - ")
         number, _, device, _, folder, *_ = head.split(" ")
         kind, image, options = tail.split(" ", 2)
