@@ -10,4 +10,5 @@ pub mod Checked
 pub mod ReadAlone
 pub mod OfImage
 pub mod Opened
+pub mod New
 pub mod Mounting
