@@ -26,12 +26,14 @@ body-requires g c =
     let k = g.met.B.Caches.is_cached in
     let e = g.B.Caches.caching a in
     record {
-      ready = k.ready a may.ready;
-      size = k.size a ∙ may.size;
-      geometry = may.geometry;
-      inside = λ block low high. k.writable a block
-          (writable_still (area_of c.args.geometry.now e.area.minor) e.area c.args.geometry.now.block_size e.size block may.area may.size
-          (writable_of c.args.geometry.now e.area.minor block low high));
+      on = record {
+        ready = k.ready a may.ready;
+        size = k.size a ∙ may.size;
+        geometry = may.geometry;
+        inside = λ block low high. k.writable a block
+            (writable_still (area_of c.args.geometry.now e.area.minor) e.area c.args.geometry.now.block_size e.size block may.area may.size
+            (writable_of c.args.geometry.now e.area.minor block low high));
+      };
     }
 
 pub returns-in-Err-clause-calls : goal.returns-in-Err-clause-calls
