@@ -1,6 +1,6 @@
 //! What blocks give, and when they are read and written.
 ghost use Rattle.std.specs.Prelude.{◌≡◌, ◌<◌, ◌≤◌, ◌+◌, ℕ, length};
-ghost use Rattle.fixtures.specs.Frames.{IsOfBlocks};
+ghost use Rattle.fixtures.specs.Caches.{IsOfBlocks};
 ghost use Rattle.cached_blocks.specs.World.{stored_caching};
 
 use crate::caches::{Given, cache_over, is_done};

@@ -1,7 +1,7 @@
 //! Caches over a link that answers from a list.
 ghost use Rattle.std.specs.Prelude.{◌≡◌, ◌≤◌, IfOk};
 ghost use Rattle.cache.specs.Calls.{caching};
-ghost use Rattle.fixtures.specs.Frames.{IsOfBlocks};
+ghost use Rattle.fixtures.specs.Caches.{IsOfBlocks};
 ghost use Rattle.reissue.specs.Transfers.{link_of, table_of};
 
 use cache::{Cache, CacheRefusal};

@@ -1,6 +1,6 @@
 //! Where a block's frame is found, and how many entries of the index are compared.
 ghost use Rattle.cache.specs.Calls.{caching};
-ghost use Rattle.fixtures.specs.Frames.{IsOfBlocks};
+ghost use Rattle.fixtures.specs.Caches.{IsOfBlocks};
 
 use crate::caches::{Given, cache_over};
 use cache::Cache;

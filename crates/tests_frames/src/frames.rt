@@ -1,7 +1,7 @@
 //! Which blocks are read and written, and when.
 ghost use Rattle.std.specs.Prelude.{◌≡◌};
 ghost use Rattle.cache.specs.Calls.{caching};
-ghost use Rattle.fixtures.specs.Frames.{IsOfBlocks};
+ghost use Rattle.fixtures.specs.Caches.{IsOfBlocks};
 
 use crate::caches::{Given, cache_over, is_done};
 use cache::{Cache, CacheRefusal};

@@ -1,7 +1,7 @@
 //! Runs: neighbouring changed blocks, which a flush or a sync writes by one request.
 ghost use Rattle.std.specs.Prelude.{◌≤◌, IfOk};
 ghost use Rattle.cache.specs.Calls.{caching};
-ghost use Rattle.fixtures.specs.Frames.{IsOfBlocks};
+ghost use Rattle.fixtures.specs.Caches.{IsOfBlocks};
 ghost use Rattle.reissue.specs.Transfers.{link_of, table_of};
 
 use cache::{Cache, CacheRefusal};

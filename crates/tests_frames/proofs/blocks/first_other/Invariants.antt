@@ -1,5 +1,5 @@
 use Rattle.std.proofs.Common.{◌≡◌}
-use Rattle.fixtures.specs.Frames.{IsOfBlocks}
+use Rattle.fixtures.specs.Caches.{IsOfBlocks}
 use Rattle.cached_blocks.specs.World.{stored_caching}
 use Rattle.tests_frames.proofs.blocks.first_other.Given as goal
 

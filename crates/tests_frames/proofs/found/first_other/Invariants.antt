@@ -1,5 +1,5 @@
 use Rattle.cache.specs.Calls.{caching}
-use Rattle.fixtures.specs.Frames.{IsOfBlocks}
+use Rattle.fixtures.specs.Caches.{IsOfBlocks}
 use Rattle.tests_frames.proofs.found.first_other.Given as goal
 
 abbrev pub invariant-loop-step : goal.invariant-loop-step

@@ -1,6 +1,6 @@
 use Rattle.std.proofs.Common.{◌≡◌}
 use Rattle.cache.specs.Calls.{caching}
-use Rattle.fixtures.specs.Frames.{IsOfBlocks}
+use Rattle.fixtures.specs.Caches.{IsOfBlocks}
 use Rattle.tests_frames.proofs.frames.first_other.Given as goal
 
 abbrev pub invariant-loop-step : goal.invariant-loop-step

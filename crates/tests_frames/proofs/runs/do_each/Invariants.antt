@@ -1,6 +1,6 @@
 use Rattle.std.specs.Prelude.{◌≤◌}
 use Rattle.cache.specs.Calls.{caching}
-use Rattle.fixtures.specs.Frames.{IsOfBlocks}
+use Rattle.fixtures.specs.Caches.{IsOfBlocks}
 use Rattle.tests_frames.proofs.runs.do_each.Given as goal
 
 -- the cache may be called, and a block has 1024 bytes at least
