@@ -2,11 +2,14 @@ use Rattle.std.proofs.Common.{subst}
 use Rattle.volume.specs.declared.Inode.{Inode}
 use Rattle.volume.specs.Pieces.{pieces}
 use Rattle.block_store.specs.Volume.{Alters}
-use Rattle.block_store.proofs.Turns.{ends_as, turns_as, turns_then}
+use Rattle.block_store.proofs.Turns.{ends_as, on_after, turns_as, turns_then}
 use Rattle.block_store.proofs.Ending.{ends_exit}
 use Rattle.inode_operations.specs.NewNodes.{with_new_inode}
 use Rattle.inode_operations.proofs.NewRows.{directory_makes, may_begin}
 use Rattle.inode_operations.proofs.fresh.new_directory.Goals as goal
+
+pub write_at-requires-clause-on : goal.write_at-requires-clause-on
+write_at-requires-clause-on g c = on_after _ g.met.B.Blocks.lawful _ _ _ _ c.requires.on c.in_ok-mark.ensures.turns
 
 pub returns-in_err-mark-clause-turns : goal.returns-in_err-mark-clause-turns
 returns-in_err-mark-clause-turns g c =
