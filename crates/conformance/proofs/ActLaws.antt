@@ -12,6 +12,7 @@ use Rattle.bdev.specs.declared.Step.{Step as DriverStep}
 use Rattle.bdev.specs.declared.Step.TheVariants.{Working, Idle, Done, Failed}
 use Rattle.reincarnate.specs.Watch as restart
 use Rattle.reincarnate.specs.Watch.{driver, new_watch}
+use Rattle.records.specs.Area.{Area}
 use Rattle.records.specs.Marks.{Mark, Started, GaveUp, Took, Issued, Fault}
 use Rattle.records.specs.declared.marks.Cause.{Cause}
 use Rattle.records.specs.declared.marks.Cause.TheVariants.{Exit, Hung, Complaint}
@@ -439,32 +440,32 @@ record ActsStand (m : Moment) : Type 0 where
   handed : HandedOn m.run m.doing
 
 -- a step
-step_acts : (minor : ℕ) (m a : Moment) → Step minor m a → ActsStand m → ActsOn a.run × HandedOn a.run a.doing
-step_acts minor m _ (StepBegins r busy may) k = (k.acts.acts, k.handed)
-step_acts minor m _ (Tells told a busy nothing may turn) k =
+step_acts : (area : Area) (m a : Moment) → Step area m a → ActsStand m → ActsOn a.run × HandedOn a.run a.doing
+step_acts area m _ (StepBegins r busy may) k = (k.acts.acts, k.handed)
+step_acts area m _ (Tells told a busy nothing may turn) k =
     turn_acts m.run a told m.doing turn busy (not_before m busy k.begun) k.acts k.handed
-step_acts minor m _ (StepTakes message call a doing may turn) k =
+step_acts area m _ (StepTakes message call a doing may turn) k =
     let busy : is_busy m.doing ≡ true = busy_answering m.doing call doing in
     turn_acts m.run a (Received message) m.doing turn busy (not_before m busy k.begun) k.acts k.handed
-step_acts minor m _ (Settles message doing rest) k = (k.acts.acts, handed_after m.run.over _ m.doing m.run.queue k.handed)
-step_acts minor m _ (Brings message a between none next) k = (
+step_acts area m _ (Settles message doing rest) k = (k.acts.acts, handed_after m.run.over _ m.doing m.run.queue k.handed)
+step_acts area m _ (Brings message a between none next) k = (
   next_acts m.run a (Some message) (with_entry (entry.Handed message) a.scene.noted) next refl k.acts,
   WasHanded (next_handed m.run a message (with_entry (entry.Handed message) a.scene.noted) next refl k.acts),
 )
-step_acts minor m _ (BringsNone a between none next) k = (
+step_acts area m _ (BringsNone a between none next) k = (
   next_acts m.run a None a.scene.noted next refl k.acts,
   next_none_handed m.run a m.doing next k.acts between.rests none (at_rest m between.rests k.calls),
 )
-step_acts minor m _ (StepPays between owed told) k =
+step_acts area m _ (StepPays between owed told) k =
     let x : EachGroup (ActsAsDue m.run.scene.disks.sent) (with_mark GaveUp m.run.scene.noted).groups
     × (was_handed m.run.scene.disks.sent (with_mark GaveUp m.run.scene.noted).groups ≡ true) =
     owed_acts m.run.scene.disks.sent m.run.scene.noted (not_owed_before m owed k.begun) k.acts.acts in
     (x.0, WasHanded x.1)
-step_acts minor m _ (HandsCall call a between paid_so hands) k = (
+step_acts area m _ (HandsCall call a between paid_so hands) k = (
   subst (λ (p : RunState). ActsOn p) (sym hands.after) k.acts.acts,
   out_handed m.run a call m.doing between.live hands k.handed,
 )
-step_acts minor m _ (StepReplies call reply doing live rest) k =
+step_acts area m _ (StepReplies call reply doing live rest) k =
     let busy : is_busy m.doing ≡ true = busy_answering m.doing call doing in
     let t : Mark = Took call.who call.now call.call (answer_of reply) in
     let x : EachGroup (ActsAsDue m.run.scene.disks.sent) (with_mark t m.run.scene.noted).groups
@@ -473,23 +474,23 @@ step_acts minor m _ (StepReplies call reply doing live rest) k =
     (at_work_handed m.run.over _ m.doing m.run.queue live busy k.handed) k.acts.acts in
     (x.0, WasHanded x.1)
 
-acts_stand : (minor : ℕ) (b a : Moment) → Runs minor b a → ActsStand b → ActsStand a
-acts_stand minor b _ Starts h = h
-acts_stand minor b a (Then m _ before last) h =
-    let k : ActsStand m = acts_stand minor b m before h in
-    let x : ActsOn a.run × HandedOn a.run a.doing = step_acts minor m a last k in
+acts_stand : (area : Area) (b a : Moment) → Runs area b a → ActsStand b → ActsStand a
+acts_stand area b _ Starts h = h
+acts_stand area b a (Then m _ before last) h =
+    let k : ActsStand m = acts_stand area b m before h in
+    let x : ActsOn a.run × HandedOn a.run a.doing = step_acts area m a last k in
     record {
-      calm = step_calm minor m a last k.calm;
-      begun = step_begun minor m a last k.calm k.acts.said.first k.begun;
-      calls = step_calls minor m a last k.calls;
-      acts = record { said = step_said AnsweredSoFar answered_kept minor m a last k.calm k.begun k.acts.said; acts = x.0 };
+      calm = step_calm area m a last k.calm;
+      begun = step_begun area m a last k.calm k.acts.said.first k.begun;
+      calls = step_calls area m a last k.calls;
+      acts = record { said = step_said AnsweredSoFar answered_kept area m a last k.calm k.begun k.acts.said; acts = x.0 };
       handed = x.1;
     }
 
 pub runs_keep_acts : RunsKeepActs
-runs_keep_acts media rules supply events minor b a o rests runs =
+runs_keep_acts media rules supply events area b a o rests runs =
     let no_groups : b.run.scene.noted.groups ≡ [] = ap (λ (x : Scene). x.noted.groups) o.scene.is in
-    (acts_stand minor b a runs (record {
+    (acts_stand area b a runs (record {
       calm = calm_before media rules supply events b o;
       begun = StandsBefore rests o.queue o.owed;
       calls = opened_calls media rules supply events b o rests;

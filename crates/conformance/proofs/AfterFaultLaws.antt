@@ -13,6 +13,7 @@ use Rattle.media.specs.Contents.{MediaState}
 use Rattle.reincarnate.specs.declared.policy.Policy.{Policy}
 use Rattle.reincarnate.specs.declared.policy.Event.TheVariants as policy
 use Rattle.reincarnate.specs.Watch.{Watch, Phase, Running, Waiting, GivenUp, driver, new_watch, on}
+use Rattle.records.specs.Area.{Area}
 use Rattle.records.specs.Marks.{Mark, Started, Answered, Flush, GaveUp, Took, Issued, Fault, awaits_start}
 use Rattle.records.specs.declared.marks.Cause.{Cause}
 use Rattle.records.specs.declared.marks.Cause.TheVariants.{Exit, Hung, Complaint}
@@ -329,17 +330,17 @@ not_complaint : (message : Incoming) (about : Endpoint) → Received message ≡
 not_complaint message about is = cc
 
 -- a step
-step_after : (minor drivers : ℕ) (m a : Moment) → Step minor m a → GivesUpWell drivers m → AllAfter a.run.scene.noted.groups × OwedWell a.run a.doing
-step_after minor drivers m _ (StepBegins r busy may) k = (k.after, k.owed)
-step_after minor drivers m _ (Tells told a busy nothing may turn) k =
+step_after : (area : Area) (drivers : ℕ) (m a : Moment) → Step area m a → GivesUpWell drivers m → AllAfter a.run.scene.noted.groups × OwedWell a.run a.doing
+step_after area drivers m _ (StepBegins r busy may) k = (k.after, k.owed)
+step_after area drivers m _ (Tells told a busy nothing may turn) k =
     turn_after drivers m.run a told m.doing m.outbox.complaint turn
-    (λ about is. (may_complain minor m told k.calm may about is, subst (λ (t : Told). MayAct minor (record_of m.run) m.outbox (AtLink t)) is may)) busy
+    (λ about is. (may_complain area m told k.calm may about is, subst (λ (t : Told). MayAct area (record_of m.run) m.outbox (AtLink t)) is may)) busy
     (not_before m busy k.begun) k.said k.follow k.answered k.after k.owed
-step_after minor drivers m _ (StepTakes message call a doing may turn) k =
+step_after area drivers m _ (StepTakes message call a doing may turn) k =
     let busy : is_busy m.doing ≡ true = busy_answering m.doing call doing in
     turn_after drivers m.run a (Received message) m.doing m.outbox.complaint turn (λ about is. absurd (not_complaint message about is)) busy
     (not_before m busy k.begun) k.said k.follow k.answered k.after k.owed
-step_after minor drivers m _ (Settles message doing rest) k = (
+step_after area drivers m _ (Settles message doing rest) k = (
   k.after,
   λ is. let o : IsOwedAt m.run.scene.noted.groups m.doing = k.owed is in record {
     number = o.number;
@@ -349,21 +350,21 @@ step_after minor drivers m _ (Settles message doing rest) k = (
     few = settled_few m.doing message (calls_since_fault (marks_of m.run.scene.noted.groups)) doing o.few;
   },
 )
-step_after minor drivers m _ (Brings message a between none next) k = (
+step_after area drivers m _ (Brings message a between none next) k = (
   next_after m.run a (Some message) (with_entry (entry.Handed message) a.scene.noted) next refl k.said.first k.after,
   none_owed (noting (entry.Handed message) a) (Hearing message) (next.owed ∙ next.paid),
 )
-step_after minor drivers m _ (BringsNone a between none next) k =
+step_after area drivers m _ (BringsNone a between none next) k =
     (next_after m.run a None a.scene.noted next refl k.said.first k.after, none_owed a m.doing (next.owed ∙ next.paid))
-step_after minor drivers m _ (StepPays between owed told) k = (
+step_after area drivers m _ (StepPays between owed told) k = (
   told_after m.run.scene.noted.groups _ m.doing m.run.scene.noted (k.owed owed) (awaits_while_owed drivers m.run k.said owed) refl refl k.after,
   none_owed (noting (entry.Handed incoming.GaveUp) (paid m.run)) (Hearing incoming.GaveUp) refl,
 )
-step_after minor drivers m _ (HandsCall call a between paid_so hands) k =
+step_after area drivers m _ (HandsCall call a between paid_so hands) k =
     subst (λ (p : RunState). AllAfter p.scene.noted.groups × OwedWell p (Answering call)) (sym hands.after) (k.after, λ is. absurd (clash (sym paid_so ∙ is))) where
       clash : ◌≡◌ {A = Bool} false true → ⊥
       clash e = cc
-step_after minor drivers m _ (StepReplies call reply doing live rest) k =
+step_after area drivers m _ (StepReplies call reply doing live rest) k =
     let groups : List Group = m.run.scene.noted.groups in
     let t : Mark = Took call.who call.now call.call (answer_of reply) in
     let begun : IsBegun groups = not_before m (busy_answering m.doing call doing) k.begun in (
@@ -383,26 +384,26 @@ step_after minor drivers m _ (StepReplies call reply doing live rest) k =
           },
     )
 
-gives_up_well : (minor drivers : ℕ) (b a : Moment) → Runs minor b a → GivesUpWell drivers b → GivesUpWell drivers a
-gives_up_well minor drivers b _ Starts h = h
-gives_up_well minor drivers b a (Then m _ before last) h =
-    let k : GivesUpWell drivers m = gives_up_well minor drivers b m before h in
-    let s : AllAfter a.run.scene.noted.groups × OwedWell a.run a.doing = step_after minor drivers m a last k in
+gives_up_well : (area : Area) (drivers : ℕ) (b a : Moment) → Runs area b a → GivesUpWell drivers b → GivesUpWell drivers a
+gives_up_well area drivers b _ Starts h = h
+gives_up_well area drivers b a (Then m _ before last) h =
+    let k : GivesUpWell drivers m = gives_up_well area drivers b m before h in
+    let s : AllAfter a.run.scene.noted.groups × OwedWell a.run a.doing = step_after area drivers m a last k in
     record {
-      calm = step_calm minor m a last k.calm;
-      begun = step_begun minor m a last k.calm k.said.first k.begun;
-      said = step_said (OnlyFollows drivers) (follows_kept drivers) minor m a last k.calm k.begun k.said;
-      follow = step_follows minor drivers m a last k.calm k.begun k.said k.follow;
-      answered = step_said AnsweredSoFar answered_kept minor m a last k.calm k.begun k.answered;
+      calm = step_calm area m a last k.calm;
+      begun = step_begun area m a last k.calm k.said.first k.begun;
+      said = step_said (OnlyFollows drivers) (follows_kept drivers) area m a last k.calm k.begun k.said;
+      follow = step_follows area drivers m a last k.calm k.begun k.said k.follow;
+      answered = step_said AnsweredSoFar answered_kept area m a last k.calm k.begun k.answered;
       after = s.0;
       owed = s.1;
     }
 
 pub runs_keep_after_fault : RunsKeepAfterFault
-runs_keep_after_fault media rules supply events minor b a new o rests none runs =
+runs_keep_after_fault media rules supply events area b a new o rests none runs =
     let n : ℕ = length supply in
     let no_groups : b.run.scene.noted.groups ≡ [] = ap (λ (x : Scene). x.noted.groups) o.scene.is in
-    (gives_up_well minor n b a runs (record {
+    (gives_up_well area n b a runs (record {
       calm = calm_before media rules supply events b o;
       begun = StandsBefore rests o.queue o.owed;
       said = opened_said (OnlyFollows n) media rules supply events b.run o (opened_follows media rules supply o.scene.first o.scene.rest new o.scene.spare);

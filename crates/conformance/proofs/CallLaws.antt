@@ -1,11 +1,12 @@
 -- The calls that arrived are those that wait, the one that is being answered, and those that were answered, at each moment of a run.
-use Rattle.std.proofs.Common.{◌≡◌, ℕ, List, [], ◌∷◌, ◌++◌, refl, sym, ◌∙◌, ap, subst}
+use Rattle.std.proofs.Common.{◌≡◌, List, [], ◌∷◌, ◌++◌, refl, sym, ◌∙◌, ap, subst}
 use Rattle.std.specs.Prelude.{map, reverse, length, Some, None, Ok}
 use Rattle.message.specs.declared.Incoming.TheVariants as incoming
 use Rattle.bdev.specs.DriverState.{DriverState}
 use Rattle.media.specs.Contents.{MediaState}
 use Rattle.reincarnate.specs.declared.policy.Policy.{Policy}
 use Rattle.reincarnate.specs.Watch.{new_watch}
+use Rattle.records.specs.Area.{Area}
 use Rattle.records.specs.Marks.{Mark}
 use Rattle.records.specs.Told.{Received}
 use Rattle.schedule.specs.declared.Event.{Event}
@@ -34,21 +35,21 @@ pub next_calls : (out : List Arrival) (b a : RunState) → RunsEvent b None a �
 next_calls out b a next h = asides_hand_none out b a (Ok None) (HandsNone a next) h
 
 -- a step
-pub step_calls : (minor : ℕ) (m a : Moment) → Step minor m a → HasCalls (answering m.doing) m.run → HasCalls (answering a.doing) a.run
-step_calls minor m _ (StepBegins r busy may) h = h
-step_calls minor m _ (Tells told a busy nothing may turn) h =
+pub step_calls : (area : Area) (m a : Moment) → Step area m a → HasCalls (answering m.doing) m.run → HasCalls (answering a.doing) a.run
+step_calls area m _ (StepBegins r busy may) h = h
+step_calls area m _ (Tells told a busy nothing may turn) h =
     servers_hand_none (answering m.doing) m.run a (Further m.run a told Still turn) h
-step_calls minor m _ (StepTakes message call a doing may turn) h =
+step_calls area m _ (StepTakes message call a doing may turn) h =
     servers_hand_none (answering m.doing) m.run a (Further m.run a (Received message) Still turn) h
-step_calls minor m _ (Settles message doing rest) h = subst (λ (l : List Arrival). HasCalls l m.run) (ap answering doing) h
-step_calls minor m _ (Brings message a between none next) h =
+step_calls area m _ (Settles message doing rest) h = subst (λ (l : List Arrival). HasCalls l m.run) (ap answering doing) h
+step_calls area m _ (Brings message a between none next) h =
     asides_hand_none [] m.run (noting (entry.Handed message) a) (Ok (Some message)) (HandsEvent message a next) (at_rest m between.rests h)
-step_calls minor m _ (BringsNone a between none next) h = next_calls (answering m.doing) m.run a next h
-step_calls minor m _ (StepPays between owed told) h =
+step_calls area m _ (BringsNone a between none next) h = next_calls (answering m.doing) m.run a next h
+step_calls area m _ (StepPays between owed told) h =
     asides_hand_none [] m.run (noting (entry.Handed incoming.GaveUp) (paid m.run)) (Ok (Some incoming.GaveUp)) (HandsOwed between.live owed told)
     (at_rest m between.rests h)
-step_calls minor m _ (HandsCall call a between paid_so hands) h = one_is_handed_out m.run a call hands (at_rest m between.rests h)
-step_calls minor m _ (StepReplies call reply doing live rest) h =
+step_calls area m _ (HandsCall call a between paid_so hands) h = one_is_handed_out m.run a call hands (at_rest m between.rests h)
+step_calls area m _ (StepReplies call reply doing live rest) h =
     it_is_answered m.run (noting (entry.Took call.who call.now call.call reply) m.run) call reply refl (at_work m call doing h)
 
 -- before the first event no call arrived

@@ -14,6 +14,7 @@ use Rattle.media.specs.Contents.{MediaState}
 use Rattle.reincarnate.specs.declared.policy.Policy.{Policy}
 use Rattle.reincarnate.specs.declared.policy.Event.TheVariants as policy
 use Rattle.reincarnate.specs.Watch.{Watch, Phase, Running, Waiting, GivenUp, driver, new_watch, is_last_started, on}
+use Rattle.records.specs.Area.{Area}
 use Rattle.records.specs.Marks.{Mark, Started, Answered, Flush, GaveUp, Took, Issued, Fault, is_endpoint, gave_up}
 use Rattle.records.specs.declared.marks.Cause.{Cause}
 use Rattle.records.specs.declared.marks.Cause.TheVariants.{Exit, Hung, Complaint}
@@ -353,63 +354,63 @@ record ComplaintsStand (drivers : ℕ) (m : Moment) : Type 0 where
   said : IsSaid (OnlyFollows drivers) m.run
   follow : LastFollows m.run.scene.noted.groups m.outbox.complaint
 
-tell_follows : (minor drivers : ℕ) (m : Moment) (told : Told) (a : RunState) → Turn m.run told a → took_nothing (told ∷ []) ≡ true → OverCalm m
-    → MayAct minor (record_of m.run) m.outbox (AtLink told) → IsBegun m.run.scene.noted.groups → IsSaid (OnlyFollows drivers) m.run
+tell_follows : (area : Area) (drivers : ℕ) (m : Moment) (told : Told) (a : RunState) → Turn m.run told a → took_nothing (told ∷ []) ≡ true → OverCalm m
+    → MayAct area (record_of m.run) m.outbox (AtLink told) → IsBegun m.run.scene.noted.groups → IsSaid (OnlyFollows drivers) m.run
     → LastFollows m.run.scene.noted.groups m.outbox.complaint
     → LastFollows a.scene.noted.groups (owed_after_act (AtLink told) (record_of m.run) m.outbox).complaint
-tell_follows minor drivers m _ _ (Takes message a far) nothing calm may begun said h = cc
-tell_follows minor drivers m _ _ (TakesOwed live owed first) nothing calm may begun said h = cc
-tell_follows minor drivers m _ _ (TakesEnd a live ends) nothing calm may begun said h = cc
-tell_follows minor drivers m _ _ (Posts to r result d unended lines) nothing calm may begun said h =
+tell_follows area drivers m _ _ (Takes message a far) nothing calm may begun said h = cc
+tell_follows area drivers m _ _ (TakesOwed live owed first) nothing calm may begun said h = cc
+tell_follows area drivers m _ _ (TakesEnd a live ends) nothing calm may begun said h = cc
+tell_follows area drivers m _ _ (Posts to r result d unended lines) nothing calm may begun said h =
     owing (posted to r (is_ok result) d m.run).scene.noted.groups m.outbox.complaint _ (same (is_ok result))
     (posts_follow m.run m.outbox.complaint to r result d lines begun may.complained h) where
       same : (b : Bool) → m.outbox.complaint ≡ (owed_after_act (AtLink (Posted to r b)) (record_of m.run) m.outbox).complaint
       same true = refl
       same false = refl
-tell_follows minor drivers m _ _ (Complains about) nothing calm may begun said h =
-    complains_follow drivers m.run about (may_complain minor m (Complained about) calm may about refl) begun said.said (owing m.run.scene.noted.groups m.outbox.complaint (Some about) may h)
+tell_follows area drivers m _ _ (Complains about) nothing calm may begun said h =
+    complains_follow drivers m.run about (may_complain area m (Complained about) calm may about refl) begun said.said (owing m.run.scene.noted.groups m.outbox.complaint (Some about) may h)
 
-pub step_follows : (minor drivers : ℕ) (m a : Moment) → Step minor m a → OverCalm m → HasBegun m → IsSaid (OnlyFollows drivers) m.run
+pub step_follows : (area : Area) (drivers : ℕ) (m a : Moment) → Step area m a → OverCalm m → HasBegun m → IsSaid (OnlyFollows drivers) m.run
     → LastFollows m.run.scene.noted.groups m.outbox.complaint → LastFollows a.run.scene.noted.groups a.outbox.complaint
-step_follows minor drivers m _ (StepBegins r busy may) calm begun said h = h
-step_follows minor drivers m _ (Tells told a busy nothing may turn) calm begun said h =
-    tell_follows minor drivers m told a turn nothing calm may (not_before m busy begun) said h
-step_follows minor drivers m _ (StepTakes message call a doing may turn) calm begun said h =
+step_follows area drivers m _ (StepBegins r busy may) calm begun said h = h
+step_follows area drivers m _ (Tells told a busy nothing may turn) calm begun said h =
+    tell_follows area drivers m told a turn nothing calm may (not_before m busy begun) said h
+step_follows area drivers m _ (StepTakes message call a doing may turn) calm begun said h =
     take_follows drivers m.run a (Received message) message m.outbox turn refl (not_before m (busy_answering m.doing call doing) begun) may.at_rest.complaint said
     (owing m.run.scene.noted.groups m.outbox.complaint None may.at_rest.complaint h)
-step_follows minor drivers m _ (Settles message doing rest) calm begun said h = h
-step_follows minor drivers m _ (Brings message a between none next) calm begun said h =
+step_follows area drivers m _ (Settles message doing rest) calm begun said h = h
+step_follows area drivers m _ (Brings message a between none next) calm begun said h =
     owing (noting (entry.Handed message) a).scene.noted.groups (owed_by (Some message) (marks_of m.run.scene.noted.groups)) _
     (sym (owed_here (Some message) m.run m.run refl said.first) ∙ sym (owed_after message (record_of m.run) m.outbox between.at_rest.complaint))
     (next_follows m.run a (Some message) (with_entry (entry.Handed message) a.scene.noted) next refl said.first
     (owing m.run.scene.noted.groups m.outbox.complaint None between.at_rest.complaint h))
-step_follows minor drivers m _ (BringsNone a between none next) calm begun said h =
+step_follows area drivers m _ (BringsNone a between none next) calm begun said h =
     owing a.scene.noted.groups None m.outbox.complaint (sym between.at_rest.complaint)
     (next_follows m.run a None a.scene.noted next refl said.first (owing m.run.scene.noted.groups m.outbox.complaint None between.at_rest.complaint h))
-step_follows minor drivers m _ (StepPays between owed told) calm begun said h =
+step_follows area drivers m _ (StepPays between owed told) calm begun said h =
     calm_mark m.run _ GaveUp m.outbox.complaint m.outbox.complaint (not_owed_before m owed begun) refl between.at_rest.complaint between.at_rest.complaint refl refl h
-step_follows minor drivers m _ (HandsCall call a between paid_so hands) calm begun said h =
+step_follows area drivers m _ (HandsCall call a between paid_so hands) calm begun said h =
     subst (λ (p : RunState). LastFollows p.scene.noted.groups m.outbox.complaint) (sym hands.after) h
-step_follows minor drivers m _ (StepReplies call reply doing live rest) calm begun said h =
+step_follows area drivers m _ (StepReplies call reply doing live rest) calm begun said h =
     calm_mark m.run _ (Took call.who call.now call.call (answer_of reply)) m.outbox.complaint m.outbox.complaint
     (not_before m (busy_answering m.doing call doing) begun) refl rest.complaint rest.complaint refl refl h
 
-complaints_stand : (minor drivers : ℕ) (b a : Moment) → Runs minor b a → ComplaintsStand drivers b → ComplaintsStand drivers a
-complaints_stand minor drivers b _ Starts h = h
-complaints_stand minor drivers b a (Then m _ before last) h = let k : ComplaintsStand drivers m = complaints_stand minor drivers b m before h in record {
-  calm = step_calm minor m a last k.calm;
-  begun = step_begun minor m a last k.calm k.said.first k.begun;
-  said = step_said (OnlyFollows drivers) (follows_kept drivers) minor m a last k.calm k.begun k.said;
-  follow = step_follows minor drivers m a last k.calm k.begun k.said k.follow;
+complaints_stand : (area : Area) (drivers : ℕ) (b a : Moment) → Runs area b a → ComplaintsStand drivers b → ComplaintsStand drivers a
+complaints_stand area drivers b _ Starts h = h
+complaints_stand area drivers b a (Then m _ before last) h = let k : ComplaintsStand drivers m = complaints_stand area drivers b m before h in record {
+  calm = step_calm area m a last k.calm;
+  begun = step_begun area m a last k.calm k.said.first k.begun;
+  said = step_said (OnlyFollows drivers) (follows_kept drivers) area m a last k.calm k.begun k.said;
+  follow = step_follows area drivers m a last k.calm k.begun k.said k.follow;
 }
 
 pub runs_keep_complaints : RunsKeepComplaints
-runs_keep_complaints media rules supply events minor b a new o rests none runs none_now =
+runs_keep_complaints media rules supply events area b a new o rests none runs none_now =
     let n : ℕ = length supply in
     let said : IsSaid (OnlyFollows n) b.run = opened_said (OnlyFollows n) media rules supply events b.run o
     (opened_follows media rules supply o.scene.first o.scene.rest new o.scene.spare) in
     let no_groups : b.run.scene.noted.groups ≡ [] = ap (λ (x : Scene). x.noted.groups) o.scene.is in
-    let k : ComplaintsStand n a = complaints_stand minor n b a runs (record {
+    let k : ComplaintsStand n a = complaints_stand area n b a runs (record {
       calm = calm_before media rules supply events b o;
       begun = StandsBefore rests o.queue o.owed;
       said = said;

@@ -45,10 +45,10 @@ failures_now groups d number h (suc g) =
           (subst (λ (t : Slot). FailsAtItsStep groups d.media.generation t.state) (same_slot d.current s last.1) (fails d.media.generation d.current h.current))
 
 pub runs_keep_failures : RunsKeepFailures
-runs_keep_failures media rules supply events minor b a new ready o rests runs =
+runs_keep_failures media rules supply events area b a new ready o rests runs =
     let n : ℕ = length supply in
     let first_ones : Each (λ d. d.failed ≡ false) (o.scene.first ∷ o.scene.rest) = subst (λ (l : List DriverState). Each (λ d. d.failed ≡ false) l) o.scene.spare ready in
-    let owned : IsSaid (SlotsSoFar n) a.run = runs_said (SlotsSoFar n) (slots_kept n) minor b a runs (calm_before media rules supply events b o)
+    let owned : IsSaid (SlotsSoFar n) a.run = runs_said (SlotsSoFar n) (slots_kept n) area b a runs (calm_before media rules supply events b o)
     (StandsBefore rests o.queue o.owed)
     (opened_said (SlotsSoFar n) media rules supply events b.run o (record {
       follows = opened_follows media rules supply o.scene.first o.scene.rest new o.scene.spare;

@@ -7,6 +7,7 @@ use Rattle.lemmas.proofs.Bools.{and_left, or_left, or_right}
 use Rattle.message.specs.declared.endpoint.Endpoint.{Endpoint}
 use Rattle.message.specs.declared.BlockRequest.{BlockRequest}
 use Rattle.reincarnate.specs.Watch.{driver}
+use Rattle.records.specs.Area.{Area}
 use Rattle.records.specs.Marks.{Mark, Issued, gave_up, last_started}
 use Rattle.records.specs.Open.{greatest, open_requests, has_none, without_id, IsIn}
 use Rattle.records.specs.Laws.{IsRising}
@@ -253,8 +254,8 @@ pub all_open_as : (marks marks' : List Mark) (rs : List BlockRequest) → open_r
 all_open_as marks marks' [] same h = tt
 all_open_as marks marks' (r ∷ rs) same h = (subst (λ (l : List BlockRequest). IsIn r l) (sym same) h.0, all_open_as marks marks' rs same h.1)
 
-module _ (drivers place : ℕ) (event : Event) (group : List Mark) (earlier : List Group) (c : Core) (to : Endpoint) (r : BlockRequest) (o : Outbox) (t : Bool) (minor : ℕ)
-    (may : MayPost minor (served ((event, group) ∷ earlier)) o to r) (there : is_at to c.disks ≡ true) (few : length c.disks.current.line < 32)
+module _ (drivers place : ℕ) (event : Event) (group : List Mark) (earlier : List Group) (c : Core) (to : Endpoint) (r : BlockRequest) (o : Outbox) (t : Bool) (area : Area)
+    (may : MayPost area (served ((event, group) ∷ earlier)) o to r) (there : is_at to c.disks ≡ true) (few : length c.disks.current.line < 32)
     (h : Issues drivers place ((event, group) ∷ earlier) c o t) where
   abbrev was : List Group
   was = (event, group) ∷ earlier
@@ -365,17 +366,17 @@ module _ (drivers place : ℕ) (event : Event) (group : List Mark) (earlier : Li
 
 -- a post is accepted
 pub posts : (drivers place : ℕ) (event : Event) (group : List Mark) (earlier : List Group) (c : Core) (d : Disks) (to : Endpoint) (r : BlockRequest)
-    (o : Outbox) (t : Bool) (minor : ℕ) → MayPost minor (served ((event, group) ∷ earlier)) o to r → LinesUp to r c.disks (Ok tt) d
+    (o : Outbox) (t : Bool) (area : Area) → MayPost area (served ((event, group) ∷ earlier)) o to r → LinesUp to r c.disks (Ok tt) d
     → Issues drivers place ((event, group) ∷ earlier) c o t
     → Issues drivers place ((event, Issued r to ∷ group) ∷ earlier) (core_posted to r d c) (with_posted r o) t
-posts drivers place event group earlier c _ to r o t minor may (IsLinedUp there few) h =
-    post_any drivers place event group earlier c to r o t minor may there few h h.left refl
+posts drivers place event group earlier c _ to r o t area may (IsLinedUp there few) h =
+    post_any drivers place event group earlier c to r o t area may there few h h.left refl
 
 -- a post is refused: no open request was left to follow a start
 pub refused : (drivers place : ℕ) (groups : List Group) (c : Core) (d : Disks) (why : LinkRefusal) (to : Endpoint) (r : BlockRequest) (o : Outbox)
-    (t : Bool) (minor : ℕ) → MayPost minor (served groups) o to r → LinesUp to r c.disks (Err why) d → Issues drivers place groups c o t
+    (t : Bool) (area : Area) → MayPost area (served groups) o to r → LinesUp to r c.disks (Err why) d → Issues drivers place groups c o t
     → Issues drivers place groups (record c { disks = d }) (record o { stopped = true }) t
-refused drivers place groups c d why to r o t minor may lines h =
+refused drivers place groups c d why to r o t area may lines h =
     subst (λ (x : Disks). Issues drivers place groups (record c { disks = x }) (record o { stopped = true }) t) (sym (same d why lines))
     (level drivers place groups c (record o { stopped = true }) t h.slots h.placed h.numbered (levelled o h.left none h.unposted) (followed h.to h.left groups none h.follow)) where
       same : (x : Disks) (y : LinkRefusal) → LinesUp to r c.disks (Err y) x → x ≡ c.disks

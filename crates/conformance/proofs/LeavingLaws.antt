@@ -7,6 +7,7 @@ use Rattle.message.specs.declared.Incoming.{Incoming}
 use Rattle.message.specs.declared.Incoming.TheVariants as incoming
 use Rattle.tree.specs.Answers.{answer_of}
 use Rattle.reincarnate.specs.Watch.{Phase, Running, Waiting, GivenUp, driver}
+use Rattle.records.specs.Area.{Area}
 use Rattle.records.specs.Marks.{Mark, Started, Answered, Flush, GaveUp, Took, Issued, Fault, last_started, gave_up, awaits_start, is_endpoint}
 use Rattle.records.specs.declared.marks.Cause.TheVariants.{Complaint}
 use Rattle.records.specs.Open.{open_requests, has_none}
@@ -180,9 +181,9 @@ same_endpoint : (x y : Endpoint) → Some x ≡ Some y → x ≡ y
 same_endpoint x y is = cc
 
 -- a post that is refused for want of a driver: none runs
-refused_none : (minor drivers : ℕ) (p : RunState) (o : Outbox) (to : Endpoint) (r : BlockRequest) → IsSaid (OnlyFollows drivers) p
-    → MayPost minor (record_of p) o to r → is_at to p.scene.disks ≡ false → running (marks_of p.scene.noted.groups) ≡ None
-refused_none minor drivers p o to r said may none = by p.scene.watch.phase said.said.phase_is where
+refused_none : (area : Area) (drivers : ℕ) (p : RunState) (o : Outbox) (to : Endpoint) (r : BlockRequest) → IsSaid (OnlyFollows drivers) p
+    → MayPost area (record_of p) o to r → is_at to p.scene.disks ≡ false → running (marks_of p.scene.noted.groups) ≡ None
+refused_none area drivers p o to r said may none = by p.scene.watch.phase said.said.phase_is where
   groups : List Group
   groups = p.scene.noted.groups
 
@@ -247,16 +248,16 @@ far_silent b a _ (Goes m _ result before last) is first =
     let s : Silent m a = silent m a (subst (λ (r : Option Incoming). RunsEvent m r a) is last) k.first in
     record { first = s.first; none = λ h. silent_none m a s (k.none h) }
 
-posts_stopped : (minor drivers : ℕ) (m : Moment) (to : Endpoint) (r : BlockRequest) (result : Result (Unit {0}) LinkRefusal) (d : Disks) (a : RunState)
-    → LinesUp to r m.run.scene.disks result d → MayPost minor (record_of m.run) m.outbox to r → HasRoom minor m
+posts_stopped : (area : Area) (drivers : ℕ) (m : Moment) (to : Endpoint) (r : BlockRequest) (result : Result (Unit {0}) LinkRefusal) (d : Disks) (a : RunState)
+    → LinesUp to r m.run.scene.disks result d → MayPost area (record_of m.run) m.outbox to r → HasRoom area m
     → IsSaid (OnlyFollows drivers) m.run
     → (is_ok result ≡ false → a.scene.noted.groups ≡ m.run.scene.noted.groups)
     → StoppedRight (owed_after_act (AtLink (Posted to r (is_ok result))) (record_of m.run) m.outbox) a
-posts_stopped minor drivers m to r _ _ a (NoneIsThere none) may room said same is =
-    ap (λ (l : List Group). running (marks_of l)) (same refl) ∙ refused_none minor drivers m.run m.outbox to r said may none
-posts_stopped minor drivers m to r _ _ a (LineIsFull there full) may room said same is =
+posts_stopped area drivers m to r _ _ a (NoneIsThere none) may room said same is =
+    ap (λ (l : List Group). running (marks_of l)) (same refl) ∙ refused_none area drivers m.run m.outbox to r said may none
+posts_stopped area drivers m to r _ _ a (LineIsFull there full) may room said same is =
     let few : length m.run.scene.disks.current.line < 32 = room to r may there in absurd (omega (arith, few, full))
-posts_stopped minor drivers m to r _ d a (IsLinedUp there few) may room said same is = not_stopped m.outbox a may.not_stopped is
+posts_stopped area drivers m to r _ d a (IsLinedUp there few) may room said same is = not_stopped m.outbox a may.not_stopped is
 
 complaint_stopped : (fault : Bool) (b : RunState) (about : Endpoint) → IsBegun b.scene.noted.groups
     → running (marks_of b.scene.noted.groups) ≡ None
@@ -265,22 +266,22 @@ complaint_stopped false b about begun none = none
 complaint_stopped true b about begun none =
     mark_none b.scene.noted (Fault about Complaint) begun (λ marks h. none_after_fault about (running marks) h) none
 
-tell_stopped : (minor drivers : ℕ) (m : Moment) (told : Told) (a : RunState) → Turn m.run told a → took_nothing (told ∷ []) ≡ true
-    → MayAct minor (record_of m.run) m.outbox (AtLink told) → HasRoom minor m → IsBegun m.run.scene.noted.groups
+tell_stopped : (area : Area) (drivers : ℕ) (m : Moment) (told : Told) (a : RunState) → Turn m.run told a → took_nothing (told ∷ []) ≡ true
+    → MayAct area (record_of m.run) m.outbox (AtLink told) → HasRoom area m → IsBegun m.run.scene.noted.groups
     → IsSaid (OnlyFollows drivers) m.run
     → StoppedRight m.outbox m.run → StoppedRight (owed_after_act (AtLink told) (record_of m.run) m.outbox) a
-tell_stopped minor drivers m _ _ (Takes message a far) nothing may room begun said h = cc
-tell_stopped minor drivers m _ _ (TakesOwed live owed first) nothing may room begun said h = cc
-tell_stopped minor drivers m _ _ (TakesEnd a live ends) nothing may room begun said h = cc
-tell_stopped minor drivers m _ a (Posts to r result d unended lines) nothing may room begun said h =
-    posts_stopped minor drivers m to r result d a lines may room said (refused_groups result) where
+tell_stopped area drivers m _ _ (Takes message a far) nothing may room begun said h = cc
+tell_stopped area drivers m _ _ (TakesOwed live owed first) nothing may room begun said h = cc
+tell_stopped area drivers m _ _ (TakesEnd a live ends) nothing may room begun said h = cc
+tell_stopped area drivers m _ a (Posts to r result d unended lines) nothing may room begun said h =
+    posts_stopped area drivers m to r result d a lines may room said (refused_groups result) where
       refused_groups : (x : Result (Unit {0}) LinkRefusal) → is_ok x ≡ false
           → (with_entry (entry.Posted to r (is_ok x)) m.run.scene.noted).groups ≡ m.run.scene.noted.groups
       refused_groups (Ok done) is = absurd (clash is) where
         clash : ◌≡◌ {A = Bool} true false → ⊥
         clash c = cc
       refused_groups (Err error) is = refl
-tell_stopped minor drivers m _ _ (Complains about) nothing may room begun said h =
+tell_stopped area drivers m _ _ (Complains about) nothing may room begun said h =
     λ is. complaint_stopped (is_fault (ruling_at about m.run.scene)) m.run about begun (h is)
 
 take_stopped : (m : Moment) (message : Incoming) (a : RunState) → Turn m.run (Received message) a
@@ -295,22 +296,22 @@ take_stopped m _ _ (TakesEnd a live ends) first h = by a ends where
   by _ (IsRunOut x far spent) = λ is. (far_silent m.run x None far refl first).none (h is)
   by _ (IsStarved x far) = λ is. (far_silent m.run x None far refl first).none (h is)
 
-step_stopped : (minor drivers : ℕ) (m a : Moment) → Step minor m a → HasBegun m → HasRoom minor m → IsSaid (OnlyFollows drivers) m.run
+step_stopped : (area : Area) (drivers : ℕ) (m a : Moment) → Step area m a → HasBegun m → HasRoom area m → IsSaid (OnlyFollows drivers) m.run
     → StoppedRight m.outbox m.run → StoppedRight a.outbox a.run
-step_stopped minor drivers m _ (StepBegins r busy may) begun room said h = h
-step_stopped minor drivers m _ (Tells told a busy nothing may turn) begun room said h =
-    tell_stopped minor drivers m told a turn nothing may room (not_before m busy begun) said h
-step_stopped minor drivers m _ (StepTakes message call a doing may turn) begun room said h = take_stopped m message a turn said.first h
-step_stopped minor drivers m _ (Settles message doing rest) begun room said h = h
-step_stopped minor drivers m _ (Brings message a between none next) begun room said h =
+step_stopped area drivers m _ (StepBegins r busy may) begun room said h = h
+step_stopped area drivers m _ (Tells told a busy nothing may turn) begun room said h =
+    tell_stopped area drivers m told a turn nothing may room (not_before m busy begun) said h
+step_stopped area drivers m _ (StepTakes message call a doing may turn) begun room said h = take_stopped m message a turn said.first h
+step_stopped area drivers m _ (Settles message doing rest) begun room said h = h
+step_stopped area drivers m _ (Brings message a between none next) begun room said h =
     not_stopped (owed_after_message message (record_of m.run) m.outbox) (noting (entry.Handed message) a)
     (message_lets message (record_of m.run) m.outbox (far_no_end m.run a (Some message) (Goes m.run a (Some message) Stays next)))
-step_stopped minor drivers m _ (BringsNone a between none next) begun room said h =
+step_stopped area drivers m _ (BringsNone a between none next) begun room said h =
     λ is. silent_none m.run a (silent m.run a next said.first) (h is)
-step_stopped minor drivers m a (StepPays between owed told) begun room said h = not_stopped a.outbox a.run refl
-step_stopped minor drivers m _ (HandsCall call a between paid_so hands) begun room said h =
+step_stopped area drivers m a (StepPays between owed told) begun room said h = not_stopped a.outbox a.run refl
+step_stopped area drivers m _ (HandsCall call a between paid_so hands) begun room said h =
     λ is. ap (λ (p : RunState). running (marks_of p.scene.noted.groups)) hands.after ∙ h is
-step_stopped minor drivers m _ (StepReplies call reply doing live rest) begun room said h =
+step_stopped area drivers m _ (StepReplies call reply doing live rest) begun room said h =
     λ is. mark_none m.run.scene.noted (Took call.who call.now call.call (answer_of reply)) (not_before m (busy_answering m.doing call doing) begun)
     (λ marks none. none) (h is)
 
@@ -474,47 +475,47 @@ record LeavesStand (drivers : ℕ) (m : Moment) : Type 0 where
   stopped : StoppedRight m.outbox m.run
   earlier : EarlierCalled m.run.scene.noted.groups
 
-step_called : (minor drivers : ℕ) (m a : Moment) → Step minor m a → LeavesStand drivers m → EarlierCalled a.run.scene.noted.groups
-step_called minor drivers m _ (StepBegins r busy may) k = k.earlier
-step_called minor drivers m _ (Tells told a busy nothing may turn) k =
+step_called : (area : Area) (drivers : ℕ) (m a : Moment) → Step area m a → LeavesStand drivers m → EarlierCalled a.run.scene.noted.groups
+step_called area drivers m _ (StepBegins r busy may) k = k.earlier
+step_called area drivers m _ (Tells told a busy nothing may turn) k =
     tell_called m.run a told turn nothing (not_before m busy k.begun) k.earlier
-step_called minor drivers m _ (StepTakes message call a doing may turn) k =
+step_called area drivers m _ (StepTakes message call a doing may turn) k =
     take_called (arrival_of call ∷ []) m.run a message turn (not_before m (busy_answering m.doing call doing) k.begun) (record {
       first = k.said.first;
       calls = at_work m call doing k.calls;
       waits = waits_now drivers m.run m.outbox k.said k.stopped may.needed may.live;
       earlier = k.earlier;
     })
-step_called minor drivers m _ (Settles message doing rest) k = k.earlier
-step_called minor drivers m _ (Brings message a between none next) k =
+step_called area drivers m _ (Settles message doing rest) k = k.earlier
+step_called area drivers m _ (Brings message a between none next) k =
     next_called [] m.run a (Some message) (with_entry (entry.Handed message) a.scene.noted) next refl k.said.first (at_rest m between.rests k.calls)
     (none_left [] m.run refl none) k.earlier
-step_called minor drivers m _ (BringsNone a between none next) k =
+step_called area drivers m _ (BringsNone a between none next) k =
     next_called [] m.run a None a.scene.noted next refl k.said.first (at_rest m between.rests k.calls) (none_left [] m.run refl none) k.earlier
-step_called minor drivers m _ (StepPays between owed told) k =
+step_called area drivers m _ (StepPays between owed told) k =
     mark_called m.run.scene.noted GaveUp (not_owed_before m owed k.begun) k.earlier
-step_called minor drivers m _ (HandsCall call a between paid_so hands) k =
+step_called area drivers m _ (HandsCall call a between paid_so hands) k =
     subst (λ (p : RunState). EarlierCalled p.scene.noted.groups) (sym hands.after) k.earlier
-step_called minor drivers m _ (StepReplies call reply doing live rest) k =
+step_called area drivers m _ (StepReplies call reply doing live rest) k =
     mark_called m.run.scene.noted (Took call.who call.now call.call (answer_of reply)) (not_before m (busy_answering m.doing call doing) k.begun) k.earlier
 
-leaves_stand : (minor drivers : ℕ) (b a : Moment) → Runs minor b a → ((m : Moment) → Runs minor b m → HasRoom minor m)
+leaves_stand : (area : Area) (drivers : ℕ) (b a : Moment) → Runs area b a → ((m : Moment) → Runs area b m → HasRoom area m)
     → LeavesStand drivers b
     → LeavesStand drivers a
-leaves_stand minor drivers b _ Starts room h = h
-leaves_stand minor drivers b a (Then m _ before last) room h =
-    let k : LeavesStand drivers m = leaves_stand minor drivers b m before room h in
+leaves_stand area drivers b _ Starts room h = h
+leaves_stand area drivers b a (Then m _ before last) room h =
+    let k : LeavesStand drivers m = leaves_stand area drivers b m before room h in
     record {
-      calm = step_calm minor m a last k.calm;
-      begun = step_begun minor m a last k.calm k.said.first k.begun;
-      said = step_said (OnlyFollows drivers) (follows_kept drivers) minor m a last k.calm k.begun k.said;
-      calls = step_calls minor m a last k.calls;
-      stopped = step_stopped minor drivers m a last k.begun (room m before) k.said k.stopped;
-      earlier = step_called minor drivers m a last k;
+      calm = step_calm area m a last k.calm;
+      begun = step_begun area m a last k.calm k.said.first k.begun;
+      said = step_said (OnlyFollows drivers) (follows_kept drivers) area m a last k.calm k.begun k.said;
+      calls = step_calls area m a last k.calls;
+      stopped = step_stopped area drivers m a last k.begun (room m before) k.said k.stopped;
+      earlier = step_called area drivers m a last k;
     }
 
 pub runs_keep_waits : RunsKeepWaits
-runs_keep_waits media rules supply events minor b a new o rests empty runs room out = by out where
+runs_keep_waits media rules supply events area b a new o rests empty runs room out = by out where
   n : ℕ
   n = length supply
 
@@ -522,7 +523,7 @@ runs_keep_waits media rules supply events minor b a new o rests empty runs room 
   no_groups = ap (λ (x : Scene). x.noted.groups) o.scene.is
 
   k : LeavesStand n a
-  k = leaves_stand minor n b a runs room (record {
+  k = leaves_stand area n b a runs room (record {
     calm = calm_before media rules supply events b o;
     begun = StandsBefore rests o.queue o.owed;
     said = opened_said (OnlyFollows n) media rules supply events b.run o (opened_follows media rules supply o.scene.first o.scene.rest new o.scene.spare);
@@ -534,6 +535,6 @@ runs_keep_waits media rules supply events minor b a new o rests empty runs room 
   by : ((a.doing ≡ Resting) × (a.run.queue ≡ [])) ⊎ (a.run.over ≡ true) → EachGroup CallsAsDue a.run.scene.noted.groups
   by (inl idle) = all_called [] a.run k.said.first (at_rest a idle.0 k.calls) (none_left [] a.run refl idle.1) k.earlier
   by (inr over) =
-      let need : Needs a = runs_end_needing minor b a runs o.over over in
+      let need : Needs a = runs_end_needing area b a runs o.over over in
       all_called (answering a.doing) a.run k.said.first k.calls
       (λ some. waits_now n a.run a.outbox k.said k.stopped need.needed need.not_given_up) k.earlier

@@ -132,26 +132,26 @@ sound_now drivers supply place groups c h = by c.watch.phase refl h.follows.phas
   by GivenUp is k = subst (λ (e : Option Endpoint). HasNotFailed (drivers_of c.disks) e) (sym k.none_runs) tt
 
 pub runs_are_justified : RunsAreJustified
-runs_are_justified media rules supply events minor b a new ready o rests runs =
+runs_are_justified media rules supply events area b a new ready o rests runs =
     let n : ℕ = length supply in
     let follows : FollowsGroups n [] (core_at (opened_scene media rules n o.scene.first o.scene.rest) false false) =
     opened_follows media rules supply o.scene.first o.scene.rest new o.scene.spare in
     let begun : HasBegun b = begins_before media rules supply events b o rests in
     let calm : OverCalm b = calm_before media rules supply events b o in
-    let starts : IsSaid (EachSoFar n StartsAsDue) a.run = runs_said (EachSoFar n StartsAsDue) (starts_kept n) minor b a runs calm begun
+    let starts : IsSaid (EachSoFar n StartsAsDue) a.run = runs_said (EachSoFar n StartsAsDue) (starts_kept n) area b a runs calm begun
     (opened_said (EachSoFar n StartsAsDue) media rules supply events b.run o (record { follows = follows; each = tt })) in
-    let hung : IsSaid (EachSoFar n HungAsDue) a.run = runs_said (EachSoFar n HungAsDue) (hung_kept n) minor b a runs calm begun
+    let hung : IsSaid (EachSoFar n HungAsDue) a.run = runs_said (EachSoFar n HungAsDue) (hung_kept n) area b a runs calm begun
     (opened_said (EachSoFar n HungAsDue) media rules supply events b.run o (record { follows = follows; each = tt })) in
-    let flushes : IsSaid (EachSoFar n FlushesAsDue) a.run = runs_said (EachSoFar n FlushesAsDue) (flushes_kept n) minor b a runs calm begun
+    let flushes : IsSaid (EachSoFar n FlushesAsDue) a.run = runs_said (EachSoFar n FlushesAsDue) (flushes_kept n) area b a runs calm begun
     (opened_said (EachSoFar n FlushesAsDue) media rules supply events b.run o (record { follows = follows; each = tt })) in
-    let given_up : IsSaid (GivesUpSoFar n) a.run = runs_said (GivesUpSoFar n) (gives_up_kept n) minor b a runs calm begun
+    let given_up : IsSaid (GivesUpSoFar n) a.run = runs_said (GivesUpSoFar n) (gives_up_kept n) area b a runs calm begun
     (opened_said (GivesUpSoFar n) media rules supply events b.run o (record { follows = follows; all = tt })) in
-    let answers : IsSaid AnsweredSoFar a.run = runs_said AnsweredSoFar answered_kept minor b a runs calm begun
+    let answers : IsSaid AnsweredSoFar a.run = runs_said AnsweredSoFar answered_kept area b a runs calm begun
     (opened_said AnsweredSoFar media rules supply events b.run o (record { places = refl; sent = tt; order = refl; each = tt })) in
-    let exits : IsSaid (ExitsSoFar n) a.run = runs_said (ExitsSoFar n) (exits_kept n) minor b a runs calm begun
+    let exits : IsSaid (ExitsSoFar n) a.run = runs_said (ExitsSoFar n) (exits_kept n) area b a runs calm begun
     (opened_said (ExitsSoFar n) media rules supply events b.run o (record { follows = follows; numbered = omega (arith, new); each = tt })) in
     let first_ones : Each (λ d. d.failed ≡ false) (o.scene.first ∷ o.scene.rest) = subst (λ (l : List DriverState). Each (λ d. d.failed ≡ false) l) o.scene.spare ready in
-    let owned : IsSaid (DriversSoFar n supply) a.run = runs_said (DriversSoFar n supply) (drivers_kept n supply) minor b a runs calm begun
+    let owned : IsSaid (DriversSoFar n supply) a.run = runs_said (DriversSoFar n supply) (drivers_kept n supply) area b a runs calm begun
     (opened_said (DriversSoFar n supply) media rules supply events b.run o (record {
       follows = follows;
       numbered = omega (arith, new);

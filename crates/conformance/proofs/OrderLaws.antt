@@ -1,5 +1,5 @@
 -- At each event the calls taken are the first that arrived, in their order.
-use Rattle.std.proofs.Common.{◌≡◌, ℕ, List, [], ◌∷◌, ◌++◌, append_assoc, Bool, true, false, refl, sym, ◌∙◌, ap, subst}
+use Rattle.std.proofs.Common.{◌≡◌, List, [], ◌∷◌, ◌++◌, append_assoc, Bool, true, false, refl, sym, ◌∙◌, ap, subst}
 use Rattle.std.specs.Prelude.{map, reverse, length, Option, Some, None, Result, Ok, Err, is_ok}
 use Rattle.message.specs.declared.endpoint.Endpoint.{Endpoint}
 use Rattle.message.specs.declared.BlockRequest.{BlockRequest}
@@ -10,6 +10,7 @@ use Rattle.bdev.specs.DriverState.{DriverState}
 use Rattle.media.specs.Contents.{MediaState}
 use Rattle.reincarnate.specs.declared.policy.Policy.{Policy}
 use Rattle.reincarnate.specs.Watch.{driver, new_watch}
+use Rattle.records.specs.Area.{Area}
 use Rattle.records.specs.Marks.{Mark, Started, GaveUp, Took, Issued, Fault}
 use Rattle.records.specs.declared.marks.Cause.TheVariants.{Complaint}
 use Rattle.records.specs.Told.{Told, Complained, Received}
@@ -137,14 +138,14 @@ resting : (d : Doing) → d ≡ Resting → answering d ≡ []
 resting d is = ap answering is
 
 -- a step
-step_orders : (minor : ℕ) (m a : Moment) → Step minor m a → OverCalm m → HasBegun m → Orders (answering m.doing) m.run → Orders (answering a.doing) a.run
-step_orders minor m _ (StepBegins r busy may) calm begun h = h
-step_orders minor m _ (Tells told a busy nothing may turn) calm begun h =
-    turned (answering m.doing) m.run a told turn (may_complain minor m told calm may) (not_before m busy begun) h
-step_orders minor m _ (StepTakes message call a doing may turn) calm begun h =
+step_orders : (area : Area) (m a : Moment) → Step area m a → OverCalm m → HasBegun m → Orders (answering m.doing) m.run → Orders (answering a.doing) a.run
+step_orders area m _ (StepBegins r busy may) calm begun h = h
+step_orders area m _ (Tells told a busy nothing may turn) calm begun h =
+    turned (answering m.doing) m.run a told turn (may_complain area m told calm may) (not_before m busy begun) h
+step_orders area m _ (StepTakes message call a doing may turn) calm begun h =
     turned (answering m.doing) m.run a (Received message) turn (λ about is. cc) (not_before m (busy_answering m.doing call doing) begun) h
-step_orders minor m _ (Settles message doing rest) calm begun h = subst (λ (l : List Arrival). Orders l m.run) (ap answering doing) h
-step_orders minor m _ (Brings message a between none next) calm begun h =
+step_orders area m _ (Settles message doing rest) calm begun h = subst (λ (l : List Arrival). Orders l m.run) (ap answering doing) h
+step_orders area m _ (Brings message a between none next) calm begun h =
     let k : Orders [] m.run = subst (λ (l : List Arrival). Orders l m.run) (resting m.doing between.rests) h in
     let n : FirstOrdered (noting (entry.Handed message) a) = next_orders [] m.run a (Some message) (with_entry (entry.Handed message) a.scene.noted) next refl refl k in
     record {
@@ -152,8 +153,8 @@ step_orders minor m _ (Brings message a between none next) calm begun h =
       calls = asides_hand_none [] m.run (noting (entry.Handed message) a) (Ok (Some message)) (HandsEvent message a next) k.calls;
       earlier = n.1;
     }
-step_orders minor m _ (BringsNone a between none next) calm begun h = next_none_orders (answering m.doing) m.run a next h
-step_orders minor m _ (StepPays between owed told) calm begun h =
+step_orders area m _ (BringsNone a between none next) calm begun h = next_none_orders (answering m.doing) m.run a next h
+step_orders area m _ (StepPays between owed told) calm begun h =
     let k : Orders [] m.run = subst (λ (l : List Arrival). Orders l m.run) (resting m.doing between.rests) h in
     let n : FirstOrdered (noting (entry.Handed incoming.GaveUp) (paid m.run)) =
     mark_orders m.run (with_entry (entry.Handed incoming.GaveUp) m.run.scene.noted) GaveUp (not_owed_before m owed begun) refl refl k.first k.earlier in
@@ -162,14 +163,14 @@ step_orders minor m _ (StepPays between owed told) calm begun h =
       calls = asides_hand_none [] m.run (noting (entry.Handed incoming.GaveUp) (paid m.run)) (Ok (Some incoming.GaveUp)) (HandsOwed between.live owed told) k.calls;
       earlier = n.1;
     }
-step_orders minor m _ (HandsCall call a between paid_so hands) calm begun h =
+step_orders area m _ (HandsCall call a between paid_so hands) calm begun h =
     let k : Orders [] m.run = subst (λ (l : List Arrival). Orders l m.run) (resting m.doing between.rests) h in
     record {
       first = ap (λ (p : RunState). p.scene.noted.first) hands.after ∙ k.first;
       calls = one_is_handed_out m.run a call hands k.calls;
       earlier = subst (λ (p : RunState). EarlierOrdered p.scene.noted.groups) (sym hands.after) k.earlier;
     }
-step_orders minor m _ (StepReplies call reply doing live rest) calm begun h =
+step_orders area m _ (StepReplies call reply doing live rest) calm begun h =
     let k : Orders (arrival_of call ∷ []) m.run = subst (λ (l : List Arrival). Orders l m.run) (ap answering doing) h in
     let a : RunState = noting (entry.Took call.who call.now call.call reply) m.run in
     let n : FirstOrdered a = mark_orders m.run a.scene.noted (Took call.who call.now call.call (answer_of reply))
@@ -181,18 +182,18 @@ record OrdersStand (m : Moment) : Type 0 where
   begun : HasBegun m
   orders : Orders (answering m.doing) m.run
 
-orders_stand : (minor : ℕ) (b a : Moment) → Runs minor b a → OrdersStand b → OrdersStand a
-orders_stand minor b _ Starts h = h
-orders_stand minor b a (Then m _ before last) h = let k : OrdersStand m = orders_stand minor b m before h in record {
-  calm = step_calm minor m a last k.calm;
-  begun = step_begun minor m a last k.calm k.orders.first k.begun;
-  orders = step_orders minor m a last k.calm k.begun k.orders;
+orders_stand : (area : Area) (b a : Moment) → Runs area b a → OrdersStand b → OrdersStand a
+orders_stand area b _ Starts h = h
+orders_stand area b a (Then m _ before last) h = let k : OrdersStand m = orders_stand area b m before h in record {
+  calm = step_calm area m a last k.calm;
+  begun = step_begun area m a last k.calm k.orders.first k.begun;
+  orders = step_orders area m a last k.calm k.begun k.orders;
 }
 
 pub runs_keep_order : RunsKeepOrder
-runs_keep_order media rules supply events minor b a o rests runs =
+runs_keep_order media rules supply events area b a o rests runs =
     let s : b.run.scene.noted ≡ first_noted = ap (λ (x : Scene). x.noted) o.scene.is in
-    let k : OrdersStand a = orders_stand minor b a runs (record {
+    let k : OrdersStand a = orders_stand area b a runs (record {
       calm = calm_before media rules supply events b o;
       begun = StandsBefore rests o.queue o.owed;
       orders = record {

@@ -8,6 +8,7 @@ use Rattle.message.specs.declared.Incoming.TheVariants as incoming
 use Rattle.tree.specs.Answers.{answer_of}
 use Rattle.reincarnate.specs.declared.policy.Event.TheVariants as policy
 use Rattle.reincarnate.specs.Watch.{driver, on}
+use Rattle.records.specs.Area.{Area}
 use Rattle.records.specs.Marks.{Mark, Started, GaveUp, Issued, Fault, Took, Answered, Flush}
 use Rattle.records.specs.declared.marks.Cause.TheVariants.{Complaint}
 use Rattle.records.specs.Open.{without_id}
@@ -83,11 +84,11 @@ pub record IsKeptOwing (Said : ℕ → List Group → Core → Outbox → Bool �
       → served ((event, marks) ∷ groups) ≡ with_next result (served groups) → Said place groups c o true
       → Said (place + 1) ((event, marks) ∷ groups) a (owed_with result (served groups) o) true
   pub posts : (place : ℕ) (event : Event) (group : List Mark) (earlier : List Group) (c : Core) (d : Disks) (to : Endpoint) (r : BlockRequest)
-      (o : Outbox) (t : Bool) (minor : ℕ) → MayPost minor (served ((event, group) ∷ earlier)) o to r → LinesUp to r c.disks (Ok tt) d
+      (o : Outbox) (t : Bool) (area : Area) → MayPost area (served ((event, group) ∷ earlier)) o to r → LinesUp to r c.disks (Ok tt) d
       → Said place ((event, group) ∷ earlier) c o t
       → Said place ((event, Issued r to ∷ group) ∷ earlier) (core_posted to r d c) (with_posted r o) t
   pub refused : (place : ℕ) (groups : List Group) (c : Core) (d : Disks) (why : LinkRefusal) (to : Endpoint) (r : BlockRequest) (o : Outbox)
-      (t : Bool) (minor : ℕ) → MayPost minor (served groups) o to r → LinesUp to r c.disks (Err why) d → Said place groups c o t
+      (t : Bool) (area : Area) → MayPost area (served groups) o to r → LinesUp to r c.disks (Err why) d → Said place groups c o t
       → Said place groups (record c { disks = d }) (record o { stopped = true }) t
   pub adds : (place : ℕ) (event : Event) (group : List Mark) (earlier : List Group) (c a : Core) (marks : List Mark) (o o' : Outbox) (t : Bool)
       → Adds c marks a → is_quiet marks ≡ true → IsCalm (served ((event, group) ∷ earlier)) o → o'.unposted ≡ o.unposted
@@ -243,20 +244,20 @@ module _ (Said : ℕ → List Group → Core → Outbox → Bool → Type 0) (ke
       }
 
   -- a post
-  posts_owed : (minor : ℕ) (b : RunState) (to : Endpoint) (r : BlockRequest) (result : Result (Unit {0}) LinkRefusal) (d : Disks) (o : Outbox) (t : Bool)
-      → LinesUp to r b.scene.disks result d → MayPost minor (record_of b) o to r → IsBegun b.scene.noted.groups → IsOwed Said b o t
+  posts_owed : (area : Area) (b : RunState) (to : Endpoint) (r : BlockRequest) (result : Result (Unit {0}) LinkRefusal) (d : Disks) (o : Outbox) (t : Bool)
+      → LinesUp to r b.scene.disks result d → MayPost area (record_of b) o to r → IsBegun b.scene.noted.groups → IsOwed Said b o t
       → IsOwed Said (posted to r (is_ok result) d b) (owed_after_act (AtLink (Posted to r (is_ok result))) (record_of b) o) t
-  posts_owed minor b to r (Ok tt) d o t lines may begun h =
+  posts_owed area b to r (Ok tt) d o t lines may begun h =
       let a : RunState = posted to r true d b in
       let k : (a.scene.noted.first ≡ Started (driver 1) ∷ []) × Said b.next a.scene.noted.groups (core_of a) (with_posted r o) t =
       marked b (core_of a) (Issued r to) a.scene.noted o (with_posted r o) t begun refl refl
-      (λ event group earlier same was. kept.posts b.next event group earlier (core_of b) d to r o t minor
-      (subst (λ (l : List Mark). MayPost minor l o to r) same may) lines was) h in
+      (λ event group earlier same was. kept.posts b.next event group earlier (core_of b) d to r o t area
+      (subst (λ (l : List Mark). MayPost area l o to r) same may) lines was) h in
       record { first = k.0; said = k.1 }
-  posts_owed minor b to r (Err why) d o t lines may begun h = record {
+  posts_owed area b to r (Err why) d o t lines may begun h = record {
     first = h.first;
-    said = kept.refused b.next b.scene.noted.groups (core_of b) d why to r o t minor
-        (subst (λ (l : List Mark). MayPost minor l o to r) (served_is b h.first) may) lines h.said;
+    said = kept.refused b.next b.scene.noted.groups (core_of b) d why to r o t area
+        (subst (λ (l : List Mark). MayPost area l o to r) (served_is b h.first) may) lines h.said;
   }
 
   -- a complaint
@@ -296,18 +297,18 @@ module _ (Said : ℕ → List Group → Core → Outbox → Bool → Type 0) (ke
       (complains_as b about r.ends o t r.report due begun h))
 
   -- the link is told something
-  tells_owed : (minor : ℕ) (b a : RunState) (told : Told) (o : Outbox) (t : Bool) → Turn b told a → took_nothing (told ∷ []) ≡ true
-      → MayAct minor (record_of b) o (AtLink told) → ((about : Endpoint) → told ≡ Complained about → b.over ≡ false) → IsBegun b.scene.noted.groups
+  tells_owed : (area : Area) (b a : RunState) (told : Told) (o : Outbox) (t : Bool) → Turn b told a → took_nothing (told ∷ []) ≡ true
+      → MayAct area (record_of b) o (AtLink told) → ((about : Endpoint) → told ≡ Complained about → b.over ≡ false) → IsBegun b.scene.noted.groups
       → IsOwed Said b o t → IsOwed Said a (owed_after_act (AtLink told) (record_of b) o) t
-  tells_owed minor b _ _ o t (Takes message a far) nothing may live begun h = cc
-  tells_owed minor b _ _ o t (TakesOwed still owed first) nothing may live begun h = cc
-  tells_owed minor b _ _ o t (TakesEnd a still ends) nothing may live begun h = cc
-  tells_owed minor b _ _ o t (Posts to r result d unended lines) nothing may live begun h = by result lines may where
-    by : (x : Result (Unit {0}) LinkRefusal) → LinesUp to r b.scene.disks x d → MayAct minor (record_of b) o (AtLink (Posted to r (is_ok x)))
+  tells_owed area b _ _ o t (Takes message a far) nothing may live begun h = cc
+  tells_owed area b _ _ o t (TakesOwed still owed first) nothing may live begun h = cc
+  tells_owed area b _ _ o t (TakesEnd a still ends) nothing may live begun h = cc
+  tells_owed area b _ _ o t (Posts to r result d unended lines) nothing may live begun h = by result lines may where
+    by : (x : Result (Unit {0}) LinkRefusal) → LinesUp to r b.scene.disks x d → MayAct area (record_of b) o (AtLink (Posted to r (is_ok x)))
         → IsOwed Said (posted to r (is_ok x) d b) (owed_after_act (AtLink (Posted to r (is_ok x))) (record_of b) o) t
-    by (Ok tt) l m = posts_owed minor b to r (Ok tt) d o t l m begun h
-    by (Err why) l m = posts_owed minor b to r (Err why) d o t l m begun h
-  tells_owed minor b _ _ o t (Complains about) nothing may live begun h = complains_owed b about o t (live about refl) may begun h
+    by (Ok tt) l m = posts_owed area b to r (Ok tt) d o t l m begun h
+    by (Err why) l m = posts_owed area b to r (Err why) d o t l m begun h
+  tells_owed area b _ _ o t (Complains about) nothing may live begun h = complains_owed b about o t (live about refl) may begun h
 
   end_owed : (b a : RunState) (o : Outbox) → ComesToEnd b a → IsAtRest (record_of b) o → IsOwed Said b o true → IsOwed Said (ended a) o false
   end_owed b _ o (IsRunOut a far spent) rest h =
@@ -355,40 +356,40 @@ module _ (Said : ℕ → List Group → Core → Outbox → Bool → Type 0) (ke
   takes_owed b _ _ message o (Complains about) is rest begun h = cc
 
   -- a step of a run
-  pub step_owed : (minor : ℕ) (m a : Moment) → Step minor m a → OverCalm m → HasBegun m → IsOwed Said m.run m.outbox (at_work m)
+  pub step_owed : (area : Area) (m a : Moment) → Step area m a → OverCalm m → HasBegun m → IsOwed Said m.run m.outbox (at_work m)
       → IsOwed Said a.run a.outbox (at_work a)
-  step_owed minor m _ (StepBegins r busy may) calm begun h = record {
+  step_owed area m _ (StepBegins r busy may) calm begun h = record {
     first = h.first;
     said = kept.begins_one m.run.next m.run.scene.noted.groups (core_of m.run) m.outbox (at_work m) r
         (subst (λ (l : List Mark). MayBegin l m.outbox r) (served_is m.run h.first) may) h.said;
   }
-  step_owed minor m _ (Tells told a busy nothing may turn) calm begun h =
+  step_owed area m _ (Tells told a busy nothing may turn) calm begun h =
       subst (λ (w : Bool). IsOwed Said a (owed_after_act (AtLink told) (record_of m.run) m.outbox) (is_busy m.doing && not w))
       (sym (tells_over m.run a told turn nothing))
-      (tells_owed minor m.run a told m.outbox (at_work m) turn nothing may (may_complain minor m told calm may) (not_before m busy begun) h)
-  step_owed minor m _ (StepTakes message call a doing may turn) calm begun h =
+      (tells_owed area m.run a told m.outbox (at_work m) turn nothing may (may_complain area m told calm may) (not_before m busy begun) h)
+  step_owed area m _ (StepTakes message call a doing may turn) calm begun h =
       subst (λ (w : Bool). IsOwed Said a (owed_after_message message (record_of m.run) m.outbox) (w && not a.over)) (sym (busy_answering m.doing call doing))
       (takes_owed m.run a (Received message) message m.outbox turn refl may.at_rest (not_before m (busy_answering m.doing call doing) begun)
       (rests_owed m.run m.outbox (at_work m) true may.at_rest h))
-  step_owed minor m _ (Settles message doing rest) calm begun h = rests_owed m.run m.outbox (at_work m) false rest h
-  step_owed minor m _ (Brings message a between none next) calm begun h =
+  step_owed area m _ (Settles message doing rest) calm begun h = rests_owed m.run m.outbox (at_work m) false rest h
+  step_owed area m _ (Brings message a between none next) calm begun h =
       let k : IsOwed Said (noting (entry.Handed message) a) (owed_after_message message (record_of m.run) m.outbox) true =
       next_owed m.run a (Some message) (with_entry (entry.Handed message) a.scene.noted) m.outbox next refl refl refl between.at_rest
       (rests_owed m.run m.outbox (at_work m) true between.at_rest h) in
       subst (λ (w : Bool). IsOwed Said (noting (entry.Handed message) a) (owed_after_message message (record_of m.run) m.outbox) (not w))
       (sym (next.over ∙ between.live)) k
-  step_owed minor m _ (BringsNone a between none next) calm begun h =
+  step_owed area m _ (BringsNone a between none next) calm begun h =
       let k : IsOwed Said a m.outbox true = next_owed m.run a None a.scene.noted m.outbox next refl refl refl between.at_rest
       (rests_owed m.run m.outbox (at_work m) true between.at_rest h) in
       rests_owed a m.outbox true (is_busy m.doing && not a.over)
       (subst (λ (l : List Mark). IsAtRest l m.outbox) (sym (next_record m.run a None next)) between.at_rest) k
-  step_owed minor m _ (StepPays between owed told) calm begun h =
+  step_owed area m _ (StepPays between owed told) calm begun h =
       paid_owed m.run (with_entry (entry.Handed incoming.GaveUp) m.run.scene.noted) m.outbox (not m.run.over) refl refl refl owed between.at_rest
       (not_owed_before m owed begun) (rests_owed m.run m.outbox (at_work m) (not m.run.over) between.at_rest h)
-  step_owed minor m _ (HandsCall call a between paid_so hands) calm begun h =
+  step_owed area m _ (HandsCall call a between paid_so hands) calm begun h =
       let k : IsOwed Said m.run m.outbox (not a.over) = rests_owed m.run m.outbox (at_work m) (not a.over) between.at_rest h in
       subst (λ (p : RunState). IsOwed Said p m.outbox (not a.over)) (sym hands.after) (record { first = k.first; said = k.said })
-  step_owed minor m _ (StepReplies call reply doing live rest) calm begun h =
+  step_owed area m _ (StepReplies call reply doing live rest) calm begun h =
       let a : RunState = noting (entry.Took call.who call.now call.call reply) m.run in
       let k : (a.scene.noted.first ≡ Started (driver 1) ∷ []) × Said m.run.next a.scene.noted.groups (core_of a) m.outbox false =
       quietly_marked m.run (core_of a) (Took call.who call.now call.call (answer_of reply)) a.scene.noted m.outbox m.outbox false
@@ -401,15 +402,15 @@ record Stands (Said : ℕ → List Group → Core → Outbox → Bool → Type 0
   begun_is : HasBegun m
   owed : IsOwed Said m.run m.outbox (at_work m)
 
-stands_on : (Said : ℕ → List Group → Core → Outbox → Bool → Type 0) → IsKeptOwing Said → (minor : ℕ) (b a : Moment) → Runs minor b a → Stands Said b → Stands Said a
-stands_on Said kept minor b _ Starts h = h
-stands_on Said kept minor b a (Then m _ before last) h = let k : Stands Said m = stands_on Said kept minor b m before h in record {
-  calm = step_calm minor m a last k.calm;
-  begun_is = step_begun minor m a last k.calm k.owed.first k.begun_is;
-  owed = step_owed Said kept minor m a last k.calm k.begun_is k.owed;
+stands_on : (Said : ℕ → List Group → Core → Outbox → Bool → Type 0) → IsKeptOwing Said → (area : Area) (b a : Moment) → Runs area b a → Stands Said b → Stands Said a
+stands_on Said kept area b _ Starts h = h
+stands_on Said kept area b a (Then m _ before last) h = let k : Stands Said m = stands_on Said kept area b m before h in record {
+  calm = step_calm area m a last k.calm;
+  begun_is = step_begun area m a last k.calm k.owed.first k.begun_is;
+  owed = step_owed Said kept area m a last k.calm k.begun_is k.owed;
 }
 
 -- a whole run
-pub runs_owed : (Said : ℕ → List Group → Core → Outbox → Bool → Type 0) → IsKeptOwing Said → (minor : ℕ) (b a : Moment) → Runs minor b a → OverCalm b → HasBegun b
+pub runs_owed : (Said : ℕ → List Group → Core → Outbox → Bool → Type 0) → IsKeptOwing Said → (area : Area) (b a : Moment) → Runs area b a → OverCalm b → HasBegun b
     → IsOwed Said b.run b.outbox (at_work b) → IsOwed Said a.run a.outbox (at_work a)
-runs_owed Said kept minor b a runs calm begun h = (stands_on Said kept minor b a runs (record { calm = calm; begun_is = begun; owed = h })).owed
+runs_owed Said kept area b a runs calm begun h = (stands_on Said kept area b a runs (record { calm = calm; begun_is = begun; owed = h })).owed

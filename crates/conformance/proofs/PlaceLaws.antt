@@ -10,6 +10,7 @@ use Rattle.bdev.specs.DriverState.{DriverState}
 use Rattle.media.specs.Contents.{MediaState}
 use Rattle.reincarnate.specs.declared.policy.Policy.{Policy}
 use Rattle.reincarnate.specs.Watch.{Phase, Waiting, driver, new_watch}
+use Rattle.records.specs.Area.{Area}
 use Rattle.records.specs.Marks.{Mark, Started, Answered, Issued, gave_up, last_started}
 use Rattle.records.specs.Open.{open_requests, counts, IsIn}
 use Rattle.records.specs.Laws.{IsRising}
@@ -171,8 +172,8 @@ issues_kept drivers = record {
   begins_one = λ place groups c o t r may h. begins_one drivers place groups c o t r may h;
   rests = λ place groups c o t t' rest h. rests drivers place groups c o t t' rest h;
   begins = λ place groups c a event marks result o paid rest does same h. begins drivers place groups c a event marks result o paid rest does same h;
-  posts = λ place event group earlier c d to r o t minor may lines h. posts drivers place event group earlier c d to r o t minor may lines h;
-  refused = λ place groups c d why to r o t minor may lines h. refused drivers place groups c d why to r o t minor may lines h;
+  posts = λ place event group earlier c d to r o t area may lines h. posts drivers place event group earlier c d to r o t area may lines h;
+  refused = λ place groups c d why to r o t area may lines h. refused drivers place groups c d why to r o t area may lines h;
   adds = λ place event group earlier c a marks o o' t does quiet calm unposted never h.
       adds drivers place event group earlier c a marks o o' t does quiet calm unposted never h;
 }
@@ -208,27 +209,27 @@ issues_opened drivers c t slots = record {
   again = tt;
 }
 
-run_issues : (media : MediaState) (rules : Policy) (supply : List DriverState) (events : List Event) (minor : ℕ) (b a : Moment)
+run_issues : (media : MediaState) (rules : Policy) (supply : List DriverState) (events : List Event) (area : Area) (b a : Moment)
     → media.generation ≡ 0 → Each (λ d. d.failed ≡ false) supply → IsOpened media rules (new_watch (length supply)) supply events b.run
-    → b.doing ≡ Resting → b.outbox ≡ empty_outbox → Runs minor b a → IsOwed (Issues (length supply)) a.run a.outbox (at_work a)
-run_issues media rules supply events minor b a new ready o rests empty runs =
+    → b.doing ≡ Resting → b.outbox ≡ empty_outbox → Runs area b a → IsOwed (Issues (length supply)) a.run a.outbox (at_work a)
+run_issues media rules supply events area b a new ready o rests empty runs =
     let n : ℕ = length supply in
     let t : Bool = at_work b in
     let k : IsSaid (λ place groups c. Issues n place groups c empty_outbox t) b.run =
     opened_said (λ place groups c. Issues n place groups c empty_outbox t) media rules supply events b.run o
     (issues_opened n (core_at (opened_scene media rules n o.scene.first o.scene.rest) false false) t (slots_opened media rules supply events b.run new ready o)) in
-    runs_owed (Issues n) (issues_kept n) minor b a runs (calm_before media rules supply events b o) (StandsBefore rests o.queue o.owed) (record {
+    runs_owed (Issues n) (issues_kept n) area b a runs (calm_before media rules supply events b o) (StandsBefore rests o.queue o.owed) (record {
       first = k.first;
       said = subst (λ (x : Outbox). Issues n b.run.next b.run.scene.noted.groups (core_of b.run) x t) (sym empty) k.said;
     })
 
 pub runs_keep_places : RunsKeepPlaces
-runs_keep_places media rules supply events minor b a new ready o rests empty runs =
-    (run_issues media rules supply events minor b a new ready o rests empty runs).said.placed
+runs_keep_places media rules supply events area b a new ready o rests empty runs =
+    (run_issues media rules supply events area b a new ready o rests empty runs).said.placed
 
 pub runs_keep_followed : RunsKeepFollowed
-runs_keep_followed media rules supply events minor b a new ready o rests empty runs none_due =
-    let k : IsOwed (Issues (length supply)) a.run a.outbox (at_work a) = run_issues media rules supply events minor b a new ready o rests empty runs in
+runs_keep_followed media rules supply events area b a new ready o rests empty runs none_due =
+    let k : IsOwed (Issues (length supply)) a.run a.outbox (at_work a) = run_issues media rules supply events area b a new ready o rests empty runs in
     let groups : List Group = a.run.scene.noted.groups in
     followed k.said.to k.said.left groups (none_left groups a.run.scene.disks a.outbox (at_work a) k.said.to k.said.left k.said.unposted k.said.again
     (λ is. subst (λ (l : List Mark). is_post_due l a.outbox ≡ false) (served_is a.run k.first) none_due)) k.said.follow
@@ -241,8 +242,8 @@ idle_left groups d complaint stopped t to (r ∷ rest) idle again = absurd (clas
   clash e = cc
 
 pub runs_end_followed : RunsEndFollowed
-runs_end_followed media rules supply events minor b a new ready o rests empty runs ends =
-    let k : IsOwed (Issues (length supply)) a.run a.outbox (at_work a) = run_issues media rules supply events minor b a new ready o rests empty runs in
+runs_end_followed media rules supply events area b a new ready o rests empty runs ends =
+    let k : IsOwed (Issues (length supply)) a.run a.outbox (at_work a) = run_issues media rules supply events area b a new ready o rests empty runs in
     let groups : List Group = a.run.scene.noted.groups in
     followed k.said.to k.said.left groups (idle_left groups a.run.scene.disks a.outbox.complaint a.outbox.stopped (at_work a) k.said.to k.said.left (idle ends) k.said.again)
     k.said.follow where

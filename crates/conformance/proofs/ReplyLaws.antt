@@ -246,10 +246,10 @@ replies_stand marks sent g d line w h =
     }
 
 pub runs_keep_replies : RunsKeepReplies
-runs_keep_replies media rules supply events minor b a new fresh o rests runs placed w =
+runs_keep_replies media rules supply events area b a new fresh o rests runs placed w =
     let groups : List Group = a.run.scene.noted.groups in
     let h : HoldsSoFar AreInPlace Counts counts_keeps (length supply) a.run.next groups (core_of a.run) =
-    runs_hold AreInPlace Counts counts_keeps media rules supply events minor b a new fresh o rests runs in
+    runs_hold AreInPlace Counts counts_keeps media rules supply events area b a new fresh o rests runs in
     each_driver (HoldsOf AreInPlace Counts counts_keeps (marks_of groups) a.run.scene.disks.sent)
     (RepliesOf (marks_of groups) a.run.scene.disks.sent)
     (λ g s k. replies_stand (marks_of groups) a.run.scene.disks.sent g s.state s.line w k) a.run.scene.disks h.issued.numbered

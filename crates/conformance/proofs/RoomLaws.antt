@@ -8,6 +8,7 @@ use Rattle.message.specs.declared.Incoming.{Incoming}
 use Rattle.message.specs.declared.Incoming.TheVariants as incoming
 use Rattle.bdev.specs.DriverState.{DriverState}
 use Rattle.reincarnate.specs.Watch.{driver}
+use Rattle.records.specs.Area.{Area}
 use Rattle.records.specs.Marks.{Mark, Issued, gave_up, last_started}
 use Rattle.records.specs.Open.{greatest, open_requests, without_id}
 use Rattle.records.specs.Acts.{Outbox, MayBegin, MayPost, IsAtRest, first_of, empty_outbox}
@@ -71,16 +72,16 @@ rests_roomy drivers place groups c o t t' rest h = record {
 }
 
 posts_roomy : (drivers place : ℕ) (event : Event) (group : List Mark) (earlier : List Group) (c : Core) (d : Disks) (to : Endpoint) (r : BlockRequest)
-    (o : Outbox) (t : Bool) (minor : ℕ) → MayPost minor (served ((event, group) ∷ earlier)) o to r → LinesUp to r c.disks (Ok tt) d
+    (o : Outbox) (t : Bool) (area : Area) → MayPost area (served ((event, group) ∷ earlier)) o to r → LinesUp to r c.disks (Ok tt) d
     → Roomy drivers place ((event, group) ∷ earlier) c o t
     → Roomy drivers place ((event, Issued r to ∷ group) ∷ earlier) (core_posted to r d c) (with_posted r o) t
-posts_roomy drivers place event group earlier c _ to r o t minor may (IsLinedUp there few) h =
+posts_roomy drivers place event group earlier c _ to r o t area may (IsLinedUp there few) h =
     let s : List Mark = served ((event, group) ∷ earlier) in
     let k : PostFacts s o to r = post_facts drivers place ((event, group) ∷ earlier) c o t to r h.issues may.first in
     let p : FirstPosted h.bound (suc (greatest s + length o.never_issued)) r o.unposted =
     first_posted h.bound (suc (greatest s + length o.never_issued)) r o.unposted h.unposted_is may.first in
     record {
-      issues = posts drivers place event group earlier c (lined_up r c.disks) to r o t minor may (IsLinedUp there few) h.issues;
+      issues = posts drivers place event group earlier c (lined_up r c.disks) to r o t area may (IsLinedUp there few) h.issues;
       fresh = h.fresh;
       last_is = h.last_is;
       bound = suc r.id;
@@ -92,12 +93,12 @@ posts_roomy drivers place event group earlier c _ to r o t minor may (IsLinedUp 
     }
 
 refused_roomy : (drivers place : ℕ) (groups : List Group) (c : Core) (d : Disks) (why : LinkRefusal) (to : Endpoint) (r : BlockRequest) (o : Outbox)
-    (t : Bool) (minor : ℕ) → MayPost minor (served groups) o to r → LinesUp to r c.disks (Err why) d → Roomy drivers place groups c o t
+    (t : Bool) (area : Area) → MayPost area (served groups) o to r → LinesUp to r c.disks (Err why) d → Roomy drivers place groups c o t
     → Roomy drivers place groups (record c { disks = d }) (record o { stopped = true }) t
-refused_roomy drivers place groups c d why to r o t minor may lines h =
+refused_roomy drivers place groups c d why to r o t area may lines h =
     let same : d ≡ c.disks = refused_same to r c.disks d why lines in
     subst (λ (x : Disks). Roomy drivers place groups (record c { disks = x }) (record o { stopped = true }) t) (sym same) (record {
-      issues = refused drivers place groups c c.disks why to r o t minor may (subst (λ (x : Disks). LinesUp to r c.disks (Err why) x) same lines) h.issues;
+      issues = refused drivers place groups c c.disks why to r o t area may (subst (λ (x : Disks). LinesUp to r c.disks (Err why) x) same lines) h.issues;
       fresh = h.fresh;
       last_is = h.last_is;
       bound = h.bound;
@@ -211,8 +212,8 @@ roomy_kept drivers = record {
   begins_one = λ place groups c o t r may h. begins_one_roomy drivers place groups c o t r may h;
   rests = λ place groups c o t t' rest h. rests_roomy drivers place groups c o t t' rest h;
   begins = λ place groups c a event marks result o paid rest does same h. begins_roomy drivers place groups c a event marks result o paid rest does same h;
-  posts = λ place event group earlier c d to r o t minor may lines h. posts_roomy drivers place event group earlier c d to r o t minor may lines h;
-  refused = λ place groups c d why to r o t minor may lines h. refused_roomy drivers place groups c d why to r o t minor may lines h;
+  posts = λ place event group earlier c d to r o t area may lines h. posts_roomy drivers place event group earlier c d to r o t area may lines h;
+  refused = λ place groups c d why to r o t area may lines h. refused_roomy drivers place groups c d why to r o t area may lines h;
   adds = λ place event group earlier c a marks o o' t does quiet calm unposted never h.
       adds_roomy drivers place event group earlier c a marks o o' t does quiet calm unposted never h;
 }
@@ -238,7 +239,7 @@ room_now drivers place groups c o t r h first = by h.issues.left refl where
     of_again again = omega (arith, again.room)
 
 pub runs_keep_room : RunsKeepRoom
-runs_keep_room media rules supply events minor b a new ready fresh o idle empty runs to r may there =
+runs_keep_room media rules supply events area b a new ready fresh o idle empty runs to r may there =
     let n : ℕ = length supply in
     let t : Bool = at_work b in
     let c : Core = core_at (opened_scene media rules n o.scene.first o.scene.rest) false false in
@@ -256,7 +257,7 @@ runs_keep_room media rules supply events minor b a new ready fresh o idle empty 
       unposted_is = omega arith;
     }) in
     let now : IsOwed (Roomy n) a.run a.outbox (at_work a) =
-    runs_owed (Roomy n) (roomy_kept n) minor b a runs (calm_before media rules supply events b o) (StandsBefore idle o.queue o.owed) (record {
+    runs_owed (Roomy n) (roomy_kept n) area b a runs (calm_before media rules supply events b o) (StandsBefore idle o.queue o.owed) (record {
       first = k.first;
       said = subst (λ (x : Outbox). Roomy n b.run.next b.run.scene.noted.groups (core_of b.run) x t) (sym empty) k.said;
     }) in

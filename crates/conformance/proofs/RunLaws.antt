@@ -63,9 +63,9 @@ opened_sends media rules supply first rest none spare new = record {
   some n is low = omega (arith, is, low)
 
 pub runs_keep_steps : RunsKeepSteps
-runs_keep_steps media rules supply events minor b a none new o rests runs placed =
+runs_keep_steps media rules supply events area b a none new o rests runs placed =
     let n : ℕ = length supply in
-    let owned : IsSaid (SendsWell n) a.run = runs_said (SendsWell n) (sends_kept n) minor b a runs (calm_before media rules supply events b o)
+    let owned : IsSaid (SendsWell n) a.run = runs_said (SendsWell n) (sends_kept n) area b a runs (calm_before media rules supply events b o)
     (StandsBefore rests o.queue o.owed)
     (opened_said (SendsWell n) media rules supply events b.run o (λ ok. opened_sends media rules supply o.scene.first o.scene.rest none o.scene.spare
     (subst (λ (l : List DriverState). Each (λ d. is_fresh d ≡ true) l) o.scene.spare new))) in

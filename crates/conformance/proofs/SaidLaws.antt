@@ -9,6 +9,7 @@ use Rattle.tree.specs.declared.Reply.{Reply}
 use Rattle.tree.specs.Answers.{answer_of}
 use Rattle.reincarnate.specs.declared.policy.Event.TheVariants as policy
 use Rattle.reincarnate.specs.Watch.{driver, on}
+use Rattle.records.specs.Area.{Area}
 use Rattle.records.specs.Marks.{Mark, Started, GaveUp, Issued, Fault, Took}
 use Rattle.records.specs.declared.marks.Cause.TheVariants.{Complaint}
 use Rattle.records.specs.Told.{Told, Posted, Complained, Received, took_nothing}
@@ -205,11 +206,11 @@ pub busy_answering : (d : Doing) (call : Arrived) → d ≡ Answering call → i
 busy_answering d call is = ap is_busy is
 
 -- a complaint is made before the link has ended
-pub may_complain : (minor : ℕ) (m : Moment) (told : Told) → OverCalm m → MayAct minor (record_of m.run) m.outbox (AtLink told)
+pub may_complain : (area : Area) (m : Moment) (told : Told) → OverCalm m → MayAct area (record_of m.run) m.outbox (AtLink told)
     → (about : Endpoint) → told ≡ Complained about → m.run.over ≡ false
-may_complain minor m told calm may about is = by m.run.over refl where
+may_complain area m told calm may about is = by m.run.over refl where
   owed : m.outbox.complaint ≡ Some about
-  owed = subst (λ (t : Told). MayAct minor (record_of m.run) m.outbox (AtLink t)) is may
+  owed = subst (λ (t : Told). MayAct area (record_of m.run) m.outbox (AtLink t)) is may
 
   by : (b : Bool) → m.run.over ≡ b → m.run.over ≡ false
   by true over = absurd (clash (sym (calm.none over) ∙ owed)) where
@@ -228,16 +229,16 @@ some_live b a _ message (Goes m _ result before last) is = last.over ∙ last.li
 live_calm : (over : Bool) (owed : Option Endpoint) → over ≡ false → over ≡ true → owed ≡ None
 live_calm over owed live is = cc
 
-turn_calm : (minor : ℕ) (b a : RunState) (told : Told) (o : Outbox) → Turn b told a → took_nothing (told ∷ []) ≡ true → MayAct minor (record_of b) o (AtLink told)
+turn_calm : (area : Area) (b a : RunState) (told : Told) (o : Outbox) → Turn b told a → took_nothing (told ∷ []) ≡ true → MayAct area (record_of b) o (AtLink told)
     → (b.over ≡ true → o.complaint ≡ None) → a.over ≡ true → (owed_after_act (AtLink told) (record_of b) o).complaint ≡ None
-turn_calm minor b _ _ o (Takes message a far) nothing may calm over = cc
-turn_calm minor b _ _ o (TakesOwed live owed first) nothing may calm over = cc
-turn_calm minor b _ _ o (TakesEnd a live ends) nothing may calm over = cc
-turn_calm minor b _ _ o (Posts to r result d unended lines) nothing may calm over = by (is_ok result) where
+turn_calm area b _ _ o (Takes message a far) nothing may calm over = cc
+turn_calm area b _ _ o (TakesOwed live owed first) nothing may calm over = cc
+turn_calm area b _ _ o (TakesEnd a live ends) nothing may calm over = cc
+turn_calm area b _ _ o (Posts to r result d unended lines) nothing may calm over = by (is_ok result) where
   by : (t : Bool) → (owed_after_act (AtLink (Posted to r t)) (record_of b) o).complaint ≡ None
   by true = calm over
   by false = calm over
-turn_calm minor b _ _ o (Complains about) nothing may calm over = refl
+turn_calm area b _ _ o (Complains about) nothing may calm over = refl
 
 take_calm : (b a : RunState) (told : Told) (message : Incoming) (o : Outbox) → Turn b told a → told ≡ Received message → o.complaint ≡ None → a.over ≡ true
     → (owed_after_message message (record_of b) o).complaint ≡ None
@@ -257,31 +258,31 @@ paid_calm : (o : Outbox) (marks : List Mark) → o.complaint ≡ None → (owed_
 paid_calm o marks none = none
 
 -- once the link has ended no complaint is owed
-pub step_calm : (minor : ℕ) (m a : Moment) → Step minor m a → OverCalm m → OverCalm a
-step_calm minor m _ (StepBegins r busy may) calm = record { none = calm.none }
-step_calm minor m _ (Tells told a busy nothing may turn) calm = record { none = turn_calm minor m.run a told m.outbox turn nothing may calm.none }
-step_calm minor m _ (StepTakes message call a doing may turn) calm = record { none = take_calm m.run a (Received message) message m.outbox turn refl may.at_rest.complaint }
-step_calm minor m _ (Settles message doing rest) calm = record { none = calm.none }
-step_calm minor m _ (Brings message a between none next) calm = record { none = live_calm a.over _ (next.over ∙ between.live) }
-step_calm minor m _ (BringsNone a between none next) calm = record { none = λ over. between.at_rest.complaint }
-step_calm minor m _ (StepPays between owed told) calm = record { none = λ over. paid_calm m.outbox (record_of m.run) between.at_rest.complaint }
-step_calm minor m _ (HandsCall call a between paid_so hands) calm = record { none = λ over. between.at_rest.complaint }
-step_calm minor m _ (StepReplies call reply doing live rest) calm = record { none = λ over. rest.complaint }
+pub step_calm : (area : Area) (m a : Moment) → Step area m a → OverCalm m → OverCalm a
+step_calm area m _ (StepBegins r busy may) calm = record { none = calm.none }
+step_calm area m _ (Tells told a busy nothing may turn) calm = record { none = turn_calm area m.run a told m.outbox turn nothing may calm.none }
+step_calm area m _ (StepTakes message call a doing may turn) calm = record { none = take_calm m.run a (Received message) message m.outbox turn refl may.at_rest.complaint }
+step_calm area m _ (Settles message doing rest) calm = record { none = calm.none }
+step_calm area m _ (Brings message a between none next) calm = record { none = live_calm a.over _ (next.over ∙ between.live) }
+step_calm area m _ (BringsNone a between none next) calm = record { none = λ over. between.at_rest.complaint }
+step_calm area m _ (StepPays between owed told) calm = record { none = λ over. paid_calm m.outbox (record_of m.run) between.at_rest.complaint }
+step_calm area m _ (HandsCall call a between paid_so hands) calm = record { none = λ over. between.at_rest.complaint }
+step_calm area m _ (StepReplies call reply doing live rest) calm = record { none = λ over. rest.complaint }
 
 module _ (Said : ℕ → List Group → Core → Type 0) (kept : IsKept Said) where
   -- a step of a run
-  pub step_said : (minor : ℕ) (m a : Moment) → Step minor m a → OverCalm m → HasBegun m → IsSaid Said m.run → IsSaid Said a.run
-  step_said minor m _ (StepBegins r busy may) calm begun h = h
-  step_said minor m _ (Tells told a busy nothing may turn) calm begun h = turn_said Said kept m.run a told turn (may_complain minor m told calm may) (not_before m busy begun) h
-  step_said minor m _ (StepTakes message call a doing may turn) calm begun h =
+  pub step_said : (area : Area) (m a : Moment) → Step area m a → OverCalm m → HasBegun m → IsSaid Said m.run → IsSaid Said a.run
+  step_said area m _ (StepBegins r busy may) calm begun h = h
+  step_said area m _ (Tells told a busy nothing may turn) calm begun h = turn_said Said kept m.run a told turn (may_complain area m told calm may) (not_before m busy begun) h
+  step_said area m _ (StepTakes message call a doing may turn) calm begun h =
       turn_said Said kept m.run a (Received message) turn (λ about is. cc) (not_before m (busy_answering m.doing call doing) begun) h
-  step_said minor m _ (Settles message doing rest) calm begun h = h
-  step_said minor m _ (Brings message a between none next) calm begun h = next_handed Said kept m.run a message next h
-  step_said minor m _ (BringsNone a between none next) calm begun h = next_none Said kept m.run a next h
-  step_said minor m _ (StepPays between owed told) calm begun h =
+  step_said area m _ (Settles message doing rest) calm begun h = h
+  step_said area m _ (Brings message a between none next) calm begun h = next_handed Said kept m.run a message next h
+  step_said area m _ (BringsNone a between none next) calm begun h = next_none Said kept m.run a next h
+  step_said area m _ (StepPays between owed told) calm begun h =
       owed_told Said kept m.run (entry.Handed incoming.GaveUp) refl refl refl owed (not_owed_before m owed begun) h
-  step_said minor m _ (HandsCall call a between paid_so hands) calm begun h = out_said Said kept m.run a (Some call) hands h
-  step_said minor m _ (StepReplies call reply doing live rest) calm begun h =
+  step_said area m _ (HandsCall call a between paid_so hands) calm begun h = out_said Said kept m.run a (Some call) hands h
+  step_said area m _ (StepReplies call reply doing live rest) calm begun h =
       replied_said Said kept m.run call reply (not_before m (busy_answering m.doing call doing) begun) h
 
 -- an event that began stays begun
@@ -300,24 +301,24 @@ next_began b a result e first p n groups =
     let done : EventDone b.next b.owed b.told p.event b.scene result a.scene = event_done b.next b.owed b.told p.event b.scene result a.scene first p.plays in
     record { event = p.event; group = done.marks; earlier = b.scene.noted.groups; is = groups ∙ done.groups }
 
-pub step_begun : (minor : ℕ) (m a : Moment) → Step minor m a → OverCalm m → m.run.scene.noted.first ≡ Started (driver 1) ∷ [] → HasBegun m → HasBegun a
-step_begun minor m _ (StepBegins r busy may) calm first begun = Began (not_before m busy begun)
-step_begun minor m _ (Tells told a busy nothing may turn) calm first begun = let g : IsBegun m.run.scene.noted.groups = not_before m busy begun in
-    Began (turn_said Some_began began_kept m.run a told turn (may_complain minor m told calm may) g (record { first = first; said = g })).said
-step_begun minor m _ (StepTakes message call a doing may turn) calm first begun =
+pub step_begun : (area : Area) (m a : Moment) → Step area m a → OverCalm m → m.run.scene.noted.first ≡ Started (driver 1) ∷ [] → HasBegun m → HasBegun a
+step_begun area m _ (StepBegins r busy may) calm first begun = Began (not_before m busy begun)
+step_begun area m _ (Tells told a busy nothing may turn) calm first begun = let g : IsBegun m.run.scene.noted.groups = not_before m busy begun in
+    Began (turn_said Some_began began_kept m.run a told turn (may_complain area m told calm may) g (record { first = first; said = g })).said
+step_begun area m _ (StepTakes message call a doing may turn) calm first begun =
     let g : IsBegun m.run.scene.noted.groups = not_before m (busy_answering m.doing call doing) begun in
     Began (turn_said Some_began began_kept m.run a (Received message) turn (λ about is. cc) g (record { first = first; said = g })).said
-step_begun minor m _ (Settles message doing rest) calm first begun = Began (not_before m (busy_hearing m.doing message doing) begun)
-step_begun minor m _ (Brings message a between none next) calm first begun =
+step_begun area m _ (Settles message doing rest) calm first begun = Began (not_before m (busy_hearing m.doing message doing) begun)
+step_begun area m _ (Brings message a between none next) calm first begun =
     Began (next_began m.run a (Some message) (entry.Handed message) first next (with_entry (entry.Handed message) a.scene.noted) refl)
-step_begun minor m _ (BringsNone a between none next) calm first begun =
+step_begun area m _ (BringsNone a between none next) calm first begun =
     Began (next_began m.run a None (entry.Handed incoming.GaveUp) first next a.scene.noted refl)
-step_begun minor m _ (StepPays between owed told) calm first begun = let g : IsBegun m.run.scene.noted.groups = not_owed_before m owed begun in
+step_begun area m _ (StepPays between owed told) calm first begun = let g : IsBegun m.run.scene.noted.groups = not_owed_before m owed begun in
     Began (owed_told Some_began began_kept m.run (entry.Handed incoming.GaveUp) refl refl refl owed g (record { first = first; said = g })).said
-step_begun minor m _ (HandsCall call a between paid_so hands) calm first begun =
+step_begun area m _ (HandsCall call a between paid_so hands) calm first begun =
     let g : IsBegun m.run.scene.noted.groups = none_waits_before m call a hands begun in
     Began (out_said Some_began began_kept m.run a (Some call) hands (record { first = first; said = g })).said
-step_begun minor m _ (StepReplies call reply doing live rest) calm first begun =
+step_begun area m _ (StepReplies call reply doing live rest) calm first begun =
     let g : IsBegun m.run.scene.noted.groups = not_before m (busy_answering m.doing call doing) begun in
     Began (replied_said Some_began began_kept m.run call reply g (record { first = first; said = g })).said
 
@@ -326,12 +327,12 @@ record Stands (Said : ℕ → List Group → Core → Type 0) (m : Moment) : Typ
   begun : HasBegun m
   said : IsSaid Said m.run
 
-stands_on : (Said : ℕ → List Group → Core → Type 0) → IsKept Said → (minor : ℕ) (b a : Moment) → Runs minor b a → Stands Said b → Stands Said a
-stands_on Said kept minor b _ Starts h = h
-stands_on Said kept minor b a (Then m _ before last) h = let k : Stands Said m = stands_on Said kept minor b m before h in
-    record { calm = step_calm minor m a last k.calm; begun = step_begun minor m a last k.calm k.said.first k.begun; said = step_said Said kept minor m a last k.calm k.begun k.said }
+stands_on : (Said : ℕ → List Group → Core → Type 0) → IsKept Said → (area : Area) (b a : Moment) → Runs area b a → Stands Said b → Stands Said a
+stands_on Said kept area b _ Starts h = h
+stands_on Said kept area b a (Then m _ before last) h = let k : Stands Said m = stands_on Said kept area b m before h in
+    record { calm = step_calm area m a last k.calm; begun = step_begun area m a last k.calm k.said.first k.begun; said = step_said Said kept area m a last k.calm k.begun k.said }
 
 -- a whole run
-pub runs_said : (Said : ℕ → List Group → Core → Type 0) → IsKept Said → (minor : ℕ) (b a : Moment) → Runs minor b a → OverCalm b → HasBegun b → IsSaid Said b.run
+pub runs_said : (Said : ℕ → List Group → Core → Type 0) → IsKept Said → (area : Area) (b a : Moment) → Runs area b a → OverCalm b → HasBegun b → IsSaid Said b.run
     → IsSaid Said a.run
-runs_said Said kept minor b a runs calm begun h = (stands_on Said kept minor b a runs (record { calm = calm; begun = begun; said = h })).said
+runs_said Said kept area b a runs calm begun h = (stands_on Said kept area b a runs (record { calm = calm; begun = begun; said = h })).said

@@ -1,5 +1,5 @@
 -- What justifies a run that was run out, put together.
-use Rattle.std.proofs.Common.{◌≡◌, ℕ, List, [], ◌∷◌, length, false, refl, sym, ◌∙◌, subst}
+use Rattle.std.proofs.Common.{◌≡◌, List, [], ◌∷◌, length, false, refl, sym, ◌∙◌, subst}
 use Rattle.std.specs.Prelude.{None}
 use Rattle.message.specs.declared.endpoint.Endpoint.{Endpoint}
 use Rattle.bdev.specs.DriverState.{DriverState}
@@ -34,9 +34,9 @@ each_both P Q R both [] p q = tt
 each_both P Q R both (g ∷ groups) p q = (both g.0 g.1 groups p.0 q.0, each_both P Q R both groups p.1 q.1)
 
 pub runs_show_events : RunsShowEvents
-runs_show_events media rules supply events minor b a new ready o rests none runs calm paid =
-    let x : RunJustified supply a = runs_keep_all media rules supply events minor b a new ready o rests none runs in
-    let kept : IsSaid (λ place groups c. c.policy ≡ rules) a.run = runs_said (λ place groups c. c.policy ≡ rules) (policy_kept rules) minor b a runs
+runs_show_events media rules supply events area b a new ready o rests none runs calm paid =
+    let x : RunJustified supply a = runs_keep_all media rules supply events area b a new ready o rests none runs in
+    let kept : IsSaid (λ place groups c. c.policy ≡ rules) a.run = runs_said (λ place groups c. c.policy ≡ rules) (policy_kept rules) area b a runs
     (calm_before media rules supply events b o) (begins_before media rules supply events b o rests)
     (opened_said (λ place groups c. c.policy ≡ rules) media rules supply events b.run o refl) in
     let groups = a.run.scene.noted.groups in
@@ -54,6 +54,6 @@ runs_show_events media rules supply events minor b a new ready o rests none runs
       all = subst (λ (m : List Mark). length drivers ≡ generation m) x.events.record_is x.events.all;
       handed_in = x.events.handed_in;
       sound = subst (λ (m : List Mark). HasNotFailed drivers (running m)) x.events.record_is x.events.sound;
-      failures = runs_keep_failures media rules supply events minor b a new ready o rests runs;
+      failures = runs_keep_failures media rules supply events area b a new ready o rests runs;
       replies_order = x.events.replies_order;
     }

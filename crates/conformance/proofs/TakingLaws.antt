@@ -9,6 +9,7 @@ use Rattle.bdev.specs.DriverState.{DriverState, Work}
 use Rattle.bdev.specs.Promises.{requests_in_work}
 use Rattle.reincarnate.specs.declared.policy.Policy.{Policy}
 use Rattle.reincarnate.specs.Watch.{new_watch}
+use Rattle.records.specs.Area.{Area}
 use Rattle.records.specs.Marks.{Mark, Started, Answered, Flush, GaveUp, Took, Issued, Fault}
 use Rattle.records.specs.Open.{IsIn}
 use Rattle.schedule.specs.declared.Sent.{Sent}
@@ -249,13 +250,13 @@ opened_issued media rules supply first rest new spare fresh = record {
 -- what each driver keeps holds of each at each moment of a run
 module _ (Fit : List Mark → Type 0) (Holds : List BlockRequest → List BlockReply → DriverState → List BlockRequest → Type 0)
     (keeps : Keeps Fit Holds) where
-  pub runs_hold : (media : MediaState) (rules : Policy) (supply : List DriverState) (events : List Event) (minor : ℕ) (b a : Moment)
+  pub runs_hold : (media : MediaState) (rules : Policy) (supply : List DriverState) (events : List Event) (area : Area) (b a : Moment)
       → media.generation ≡ 0 → Each TookNothing supply → IsOpened media rules (new_watch (length supply)) supply events b.run → b.doing ≡ Resting
-      → Runs minor b a → HoldsSoFar Fit Holds keeps (length supply) a.run.next a.run.scene.noted.groups (core_of a.run)
-  runs_hold media rules supply events minor b a new fresh o rests runs =
+      → Runs area b a → HoldsSoFar Fit Holds keeps (length supply) a.run.next a.run.scene.noted.groups (core_of a.run)
+  runs_hold media rules supply events area b a new fresh o rests runs =
       let n : ℕ = length supply in
       let all : Each TookNothing (o.scene.first ∷ o.scene.rest) = subst (λ (l : List DriverState). Each TookNothing l) o.scene.spare fresh in
-      (runs_said (HoldsSoFar Fit Holds keeps n) (holds_kept Fit Holds keeps n) minor b a runs (calm_before media rules supply events b o)
+      (runs_said (HoldsSoFar Fit Holds keeps n) (holds_kept Fit Holds keeps n) area b a runs (calm_before media rules supply events b o)
       (begins_before media rules supply events b o rests)
       (opened_said (HoldsSoFar Fit Holds keeps n) media rules supply events b.run o (record {
         issued = opened_issued media rules supply o.scene.first o.scene.rest new o.scene.spare all.1;
@@ -263,9 +264,9 @@ module _ (Fit : List Mark → Type 0) (Holds : List BlockRequest → List BlockR
       }))).said
 
 pub runs_give_took : RunsGiveTook
-runs_give_took media rules supply events minor b a new fresh o rests runs =
+runs_give_took media rules supply events area b a new fresh o rests runs =
     took_so_far (length supply) a.run.next a.run.scene.noted.groups (core_of a.run)
-    (runs_hold AnyRecord Taken taken_keeps media rules supply events minor b a new fresh o rests runs)
+    (runs_hold AnyRecord Taken taken_keeps media rules supply events area b a new fresh o rests runs)
 
 states_stand : (slots : List Slot) (Good : ℕ → DriverState → Type 0) → ((k : ℕ) (s : Slot) → slice_get slots k ≡ Some s
     → Good k s.state) → (k : ℕ)
@@ -292,8 +293,8 @@ each_driver Stands Good on d number h (suc g) =
           (subst (λ (t : Slot). Good d.media.generation t.state) (same_slot d.current s last.1) (on d.media.generation d.current h.current))
 
 pub runs_keep_took : RunsKeepTook
-runs_keep_took media rules supply events minor b a new fresh o rests runs =
+runs_keep_took media rules supply events area b a new fresh o rests runs =
     let h : TookSoFar (length supply) a.run.next a.run.scene.noted.groups (core_of a.run) =
-    runs_give_took media rules supply events minor b a new fresh o rests runs in
+    runs_give_took media rules supply events area b a new fresh o rests runs in
     each_driver (SlotTook a.run.scene.noted.groups) (TookItsOwn (marks_of a.run.scene.noted.groups))
     (λ g s k. k.took) a.run.scene.disks h.issued.numbered h.slots

@@ -85,7 +85,7 @@ rests_or_over m (inl rests) = inl rests.0
 rests_or_over m (inr over) = inr over
 
 pub runs_are_whole : RunsAreWhole
-runs_are_whole media rules supply events minor b a new unused o rests none runs end left order =
+runs_are_whole media rules supply events area b a new unused o rests none runs end left order =
     let groups : List Group = a.run.scene.noted.groups in
     let drivers : List DriverState = drivers_of a.run.scene.disks in
     let unfailed : Each (λ d. d.failed ≡ false) supply =
@@ -95,29 +95,29 @@ runs_are_whole media rules supply events minor b a new unused o rests none runs 
     let ready : Each TookNothing supply = each_so IsUnused TookNothing
     (λ d h. record { driver = h.driver; unused = (unused_fresh d.last d.failed h.fresh).0 }) supply unused in
     let e : EventsJustified rules supply groups (marks_in a.run.scene.noted) a.run.scene.disks.sent drivers =
-    runs_show_events media rules supply events minor b a new unfailed o rests (ap (λ (x : Outbox). x.complaint) none) runs end.calm end.paid in
-    let places : EachGroup PlacedAsDue groups = runs_keep_places media rules supply events minor b a new unfailed o rests none runs in
+    runs_show_events media rules supply events area b a new unfailed o rests (ap (λ (x : Outbox). x.complaint) none) runs end.calm end.paid in
+    let places : EachGroup PlacedAsDue groups = runs_keep_places media rules supply events area b a new unfailed o rests none runs in
     let calls : EachGroup (λ event group earlier. CallsSoFar ((event, group) ∷ earlier)) groups =
-    runs_keep_waits media rules supply events minor b a new o rests none runs
-    (λ m before to r may at. runs_keep_room media rules supply events minor b m new unfailed idle o rests none before to r may at) end.ends in
+    runs_keep_waits media rules supply events area b a new o rests none runs
+    (λ m before to r may at. runs_keep_room media rules supply events area b m new unfailed idle o rests none before to r may at) end.ends in
     let formed : IsWellFormed (marks_of groups) = subst IsWellFormed (sym e.record_is) end.well_formed in
     record {
       record_is = e.record_is;
       justified = record {
         events = all_keep rules (length supply) a.run.scene.disks.sent drivers groups e.exits e.hung e.complaints e.starts e.giving_up
-            (runs_end_followed media rules supply events minor b a new unfailed o rests none runs (rests_or_over a end.ends)) places e.answers calls
-            (runs_keep_acts media rules supply events minor b a o rests runs);
+            (runs_end_followed media rules supply events area b a new unfailed o rests none runs (rests_or_over a end.ends)) places e.answers calls
+            (runs_keep_acts media rules supply events area b a o rests runs);
         drivers_stand = record {
           all = subst (λ (m : List Mark). length drivers ≡ generation m) (sym e.record_is) e.all;
           handed_in = e.handed_in;
-          took = runs_keep_took media rules supply events minor b a new ready o rests runs;
+          took = runs_keep_took media rules supply events area b a new ready o rests runs;
           sound = subst (λ (m : List Mark). HasNotFailed drivers (running m)) (sym e.record_is) e.sound;
           failures = e.failures;
         };
         replies_stand = record {
           order = e.replies_order;
-          steps = runs_keep_steps media rules supply events minor b a new (each_so IsUnused _ (λ d h. h.fresh) supply unused) o rests runs places;
-          own = runs_keep_replies media rules supply events minor b a new ready o rests runs places formed;
+          steps = runs_keep_steps media rules supply events area b a new (each_so IsUnused _ (λ d h. h.fresh) supply unused) o rests runs places;
+          own = runs_keep_replies media rules supply events area b a new ready o rests runs places formed;
         };
         calls_left = record { left = left; order = order ∙ ap (λ (m : List Mark). left ++ taken m) (sym e.record_is); number = refl };
       };

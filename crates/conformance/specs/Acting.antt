@@ -1,9 +1,10 @@
 -- When the server acts, at each event of a run.
-use Rattle.std.specs.Prelude.{◌≡◌, ℕ, List, [], ◌∷◌, length, Bool, true, false, ◌||◌}
+use Rattle.std.specs.Prelude.{◌≡◌, List, [], ◌∷◌, length, Bool, true, false, ◌||◌}
 use Rattle.bdev.specs.DriverState.{DriverState}
 use Rattle.media.specs.Contents.{MediaState}
 use Rattle.reincarnate.specs.declared.policy.Policy.{Policy}
 use Rattle.reincarnate.specs.Watch.{new_watch}
+use Rattle.records.specs.Area.{Area}
 use Rattle.records.specs.Marks.{Mark}
 use Rattle.schedule.specs.declared.Sent.{Sent}
 use Rattle.schedule.specs.declared.Event.{Event}
@@ -20,8 +21,8 @@ ActsAsDue sent event group earlier = acts_when_handed (is_handed sent event earl
 -- so it is at each event of a run from its opening
 abbrev pub RunsKeepActs : Type 0
 RunsKeepActs =
-    (media : MediaState) (rules : Policy) (supply : List DriverState) (events : List Event) (minor : ℕ) (b a : Moment)
-    → IsOpened media rules (new_watch (length supply)) supply events b.run → b.doing ≡ Resting → Runs minor b a
+    (media : MediaState) (rules : Policy) (supply : List DriverState) (events : List Event) (area : Area) (b a : Moment)
+    → IsOpened media rules (new_watch (length supply)) supply events b.run → b.doing ≡ Resting → Runs area b a
     → EachGroup (ActsAsDue a.run.scene.disks.sent) a.run.scene.noted.groups
 
 -- whether the last event, or a mark of it, handed the server something

@@ -4,6 +4,7 @@ use Rattle.bdev.specs.DriverState.{DriverState}
 use Rattle.media.specs.Contents.{MediaState}
 use Rattle.reincarnate.specs.declared.policy.Policy.{Policy}
 use Rattle.reincarnate.specs.Watch.{driver, new_watch}
+use Rattle.records.specs.Area.{Area}
 use Rattle.records.specs.Marks.{Started}
 use Rattle.schedule.specs.declared.Event.{Event}
 use Rattle.schedule.specs.Groups.{Group, marks_of, running, generation, Each, EachGroup}
@@ -22,7 +23,7 @@ use Rattle.conformance.specs.Ordered.{OrderedAsDue}
 
 -- it is said of a run so far, if it was said at first
 abbrev pub RunsKeep : (ℕ → List Group → Core → Type 0) → Type 0
-RunsKeep Said = (minor : ℕ) (b a : Moment) → Runs minor b a → OverCalm b → HasBegun b → IsSaid Said b.run → IsSaid Said a.run
+RunsKeep Said = (area : Area) (b a : Moment) → Runs area b a → OverCalm b → HasBegun b → IsSaid Said b.run → IsSaid Said a.run
 
 -- at each event of a run drivers are started exactly where the policy and the events before say
 abbrev pub RunsKeepStarts : Type 0
@@ -67,29 +68,29 @@ pub record WholeJustified (supply : List DriverState) (p : RunState) : Type 0 wh
 -- a run from its opening, once the server heard of the first start and did nothing about it, is justified at each of its moments
 abbrev pub RunsAreJustified : Type 0
 RunsAreJustified =
-    (media : MediaState) (rules : Policy) (supply : List DriverState) (events : List Event) (minor : ℕ) (b a : Moment)
+    (media : MediaState) (rules : Policy) (supply : List DriverState) (events : List Event) (area : Area) (b a : Moment)
     → media.generation ≡ 0 → Each (λ d. d.failed ≡ false) supply → IsOpened media rules (new_watch (length supply)) supply events b.run → b.doing ≡ Resting
-    → Runs minor b a → WholeJustified supply a.run
+    → Runs area b a → WholeJustified supply a.run
 
 -- a complaint follows exactly each answer of the running driver that isn't good, once the server owes none
 abbrev pub RunsKeepComplaints : Type 0
 RunsKeepComplaints =
-    (media : MediaState) (rules : Policy) (supply : List DriverState) (events : List Event) (minor : ℕ) (b a : Moment)
+    (media : MediaState) (rules : Policy) (supply : List DriverState) (events : List Event) (area : Area) (b a : Moment)
     → media.generation ≡ 0 → IsOpened media rules (new_watch (length supply)) supply events b.run → b.doing ≡ Resting → b.outbox.complaint ≡ None
-    → Runs minor b a → a.outbox.complaint ≡ None → EachGroup ComplaintsAsDue a.run.scene.noted.groups
+    → Runs area b a → a.outbox.complaint ≡ None → EachGroup ComplaintsAsDue a.run.scene.noted.groups
 
 -- the device is given up only after its fault
 abbrev pub RunsKeepAfterFault : Type 0
 RunsKeepAfterFault =
-    (media : MediaState) (rules : Policy) (supply : List DriverState) (events : List Event) (minor : ℕ) (b a : Moment)
+    (media : MediaState) (rules : Policy) (supply : List DriverState) (events : List Event) (area : Area) (b a : Moment)
     → media.generation ≡ 0 → IsOpened media rules (new_watch (length supply)) supply events b.run → b.doing ≡ Resting → b.outbox.complaint ≡ None
-    → Runs minor b a → EachGroup AfterFaultAsDue a.run.scene.noted.groups
+    → Runs area b a → EachGroup AfterFaultAsDue a.run.scene.noted.groups
 
 -- at each event the calls taken so far are the first that arrived, in their order
 abbrev pub RunsKeepOrder : Type 0
 RunsKeepOrder =
-    (media : MediaState) (rules : Policy) (supply : List DriverState) (events : List Event) (minor : ℕ) (b a : Moment)
-    → IsOpened media rules (new_watch (length supply)) supply events b.run → b.doing ≡ Resting → Runs minor b a
+    (media : MediaState) (rules : Policy) (supply : List DriverState) (events : List Event) (area : Area) (b a : Moment)
+    → IsOpened media rules (new_watch (length supply)) supply events b.run → b.doing ≡ Resting → Runs area b a
     → EachGroup OrderedAsDue a.run.scene.noted.groups
 
 -- All that is justified of a run so far, with what the server owes: complaints follow once it owes none, the device is given up after its
@@ -102,13 +103,13 @@ pub record RunJustified (supply : List DriverState) (m : Moment) : Type 0 where
 
 abbrev pub RunsKeepAll : Type 0
 RunsKeepAll =
-    (media : MediaState) (rules : Policy) (supply : List DriverState) (events : List Event) (minor : ℕ) (b a : Moment)
+    (media : MediaState) (rules : Policy) (supply : List DriverState) (events : List Event) (area : Area) (b a : Moment)
     → media.generation ≡ 0 → Each (λ d. d.failed ≡ false) supply → IsOpened media rules (new_watch (length supply)) supply events b.run → b.doing ≡ Resting
-    → b.outbox.complaint ≡ None → Runs minor b a → RunJustified supply a
+    → b.outbox.complaint ≡ None → Runs area b a → RunJustified supply a
 
 -- a driver that has failed did so at a step of its own
 abbrev pub RunsKeepFailures : Type 0
 RunsKeepFailures =
-    (media : MediaState) (rules : Policy) (supply : List DriverState) (events : List Event) (minor : ℕ) (b a : Moment)
+    (media : MediaState) (rules : Policy) (supply : List DriverState) (events : List Event) (area : Area) (b a : Moment)
     → media.generation ≡ 0 → Each (λ d. d.failed ≡ false) supply → IsOpened media rules (new_watch (length supply)) supply events b.run → b.doing ≡ Resting
-    → Runs minor b a → (g : ℕ) → IfSome (state_of (drivers_of a.run.scene.disks) g) (FailsAtItsStep a.run.scene.noted.groups g)
+    → Runs area b a → (g : ℕ) → IfSome (state_of (drivers_of a.run.scene.disks) g) (FailsAtItsStep a.run.scene.noted.groups g)

@@ -4,6 +4,7 @@ use Rattle.bdev.specs.DriverState.{DriverState}
 use Rattle.media.specs.Contents.{MediaState}
 use Rattle.reincarnate.specs.declared.policy.Policy.{Policy}
 use Rattle.reincarnate.specs.Watch.{new_watch}
+use Rattle.records.specs.Area.{Area}
 use Rattle.records.specs.Marks.{Mark}
 use Rattle.schedule.specs.declared.Sent.{Sent}
 use Rattle.schedule.specs.declared.Event.{Event}
@@ -42,7 +43,7 @@ pub record EventsJustified (policy : Policy) (supply : List DriverState) (groups
 -- so it is of a run from its opening, where neither a complaint is owed nor that the device was given up
 abbrev pub RunsShowEvents : Type 0
 RunsShowEvents =
-    (media : MediaState) (rules : Policy) (supply : List DriverState) (events : List Event) (minor : ℕ) (b a : Moment)
+    (media : MediaState) (rules : Policy) (supply : List DriverState) (events : List Event) (area : Area) (b a : Moment)
     → media.generation ≡ 0 → Each (λ d. d.failed ≡ false) supply → IsOpened media rules (new_watch (length supply)) supply events b.run
-    → b.doing ≡ Resting → b.outbox.complaint ≡ None → Runs minor b a → a.outbox.complaint ≡ None → a.run.owed ≡ false
+    → b.doing ≡ Resting → b.outbox.complaint ≡ None → Runs area b a → a.outbox.complaint ≡ None → a.run.owed ≡ false
     → EventsJustified rules supply a.run.scene.noted.groups (marks_in a.run.scene.noted) a.run.scene.disks.sent (drivers_of a.run.scene.disks)

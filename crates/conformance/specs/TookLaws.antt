@@ -4,6 +4,7 @@ use Rattle.bdev.specs.DriverState.{DriverState}
 use Rattle.media.specs.Contents.{MediaState}
 use Rattle.reincarnate.specs.declared.policy.Policy.{Policy}
 use Rattle.reincarnate.specs.Watch.{new_watch}
+use Rattle.records.specs.Area.{Area}
 use Rattle.records.specs.Marks.{Mark}
 use Rattle.records.specs.Open.{IsWellFormed}
 use Rattle.records.specs.Opening.{Opening}
@@ -29,22 +30,22 @@ TookIsKept = (drivers : ℕ) → IsKept (TookSoFar drivers)
 -- so it is at each moment of a run
 abbrev pub RunsGiveTook : Type 0
 RunsGiveTook =
-    (media : MediaState) (rules : Policy) (supply : List DriverState) (events : List Event) (minor : ℕ) (b a : Moment)
+    (media : MediaState) (rules : Policy) (supply : List DriverState) (events : List Event) (area : Area) (b a : Moment)
     → media.generation ≡ 0 → Each TookNothing supply → IsOpened media rules (new_watch (length supply)) supply events b.run → b.doing ≡ Resting
-    → Runs minor b a → TookSoFar (length supply) a.run.next a.run.scene.noted.groups (core_of a.run)
+    → Runs area b a → TookSoFar (length supply) a.run.next a.run.scene.noted.groups (core_of a.run)
 
 -- each driver took nothing, or last a request that was issued to it; the one in work is that one
 abbrev pub RunsKeepTook : Type 0
 RunsKeepTook =
-    (media : MediaState) (rules : Policy) (supply : List DriverState) (events : List Event) (minor : ℕ) (b a : Moment)
+    (media : MediaState) (rules : Policy) (supply : List DriverState) (events : List Event) (area : Area) (b a : Moment)
     → media.generation ≡ 0 → Each TookNothing supply → IsOpened media rules (new_watch (length supply)) supply events b.run → b.doing ≡ Resting
-    → Runs minor b a → (g : ℕ) → IfSome (state_of (drivers_of a.run.scene.disks) g) (TookItsOwn (marks_of a.run.scene.noted.groups) g)
+    → Runs area b a → (g : ℕ) → IfSome (state_of (drivers_of a.run.scene.disks) g) (TookItsOwn (marks_of a.run.scene.noted.groups) g)
 
 -- the replies of each driver are those that it gave as it stands, where the record is well formed and each request was issued in its place
 abbrev pub RunsKeepReplies : Type 0
 RunsKeepReplies =
-    (media : MediaState) (rules : Policy) (supply : List DriverState) (events : List Event) (minor : ℕ) (b a : Moment)
+    (media : MediaState) (rules : Policy) (supply : List DriverState) (events : List Event) (area : Area) (b a : Moment)
     → media.generation ≡ 0 → Each TookNothing supply → IsOpened media rules (new_watch (length supply)) supply events b.run → b.doing ≡ Resting
-    → Runs minor b a → EachGroup PlacedAsDue a.run.scene.noted.groups → IsWellFormed (marks_of a.run.scene.noted.groups)
+    → Runs area b a → EachGroup PlacedAsDue a.run.scene.noted.groups → IsWellFormed (marks_of a.run.scene.noted.groups)
     → (g : ℕ) → IfSome (state_of (drivers_of a.run.scene.disks) g)
     (RepliesOf (marks_of a.run.scene.noted.groups) a.run.scene.disks.sent g)

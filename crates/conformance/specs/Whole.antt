@@ -5,6 +5,7 @@ use Rattle.bdev.specs.Promises.{IsDriver}
 use Rattle.media.specs.Contents.{MediaState}
 use Rattle.reincarnate.specs.declared.policy.Policy.{Policy}
 use Rattle.reincarnate.specs.Watch.{new_watch}
+use Rattle.records.specs.Area.{Area}
 use Rattle.records.specs.Open.{IsWellFormed}
 use Rattle.records.specs.Acts.{empty_outbox}
 use Rattle.schedule.specs.declared.Event.{Event}
@@ -38,7 +39,7 @@ pub record IsWhole (rules : Policy) (supply : List DriverState) (p : RunState) (
 -- calls left are those that arrived after those that were taken.
 abbrev pub RunsAreWhole : Type 0
 RunsAreWhole =
-    (media : MediaState) (rules : Policy) (supply : List DriverState) (events : List Event) (minor : ℕ) (b a : Moment)
+    (media : MediaState) (rules : Policy) (supply : List DriverState) (events : List Event) (area : Area) (b a : Moment)
     → media.generation ≡ 0 → Each IsUnused supply → IsOpened media rules (new_watch (length supply)) supply events b.run
-    → b.doing ≡ Resting → b.outbox ≡ empty_outbox → Runs minor b a → IsAtEnd a
+    → b.doing ≡ Resting → b.outbox ≡ empty_outbox → Runs area b a → IsAtEnd a
     → (left : List Arrival) → arrived a.run.scene.noted.groups ≡ left ++ taken (marks_in a.run.scene.noted) → IsWhole rules supply a.run (length left)

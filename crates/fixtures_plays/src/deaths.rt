@@ -19,10 +19,13 @@ pub type Numbers = Option<(u32, u32, u32)>;
 /// comes of it.
 pub type OverDrivers = (Numbers, u32, Faults<'static>, &'static [u8], Told);
 
-/// How long a tick is where numbers of a policy are told, in milliseconds: so long that a driver dies in the tick of its start.
-const LONG_TICK: u64 = 100;
+/// How long a tick is where it counts between which ticks drivers die, in milliseconds: so long that a driver dies in the tick of its start.
+const LONG_TICK: u64 = 1000;
 
-/// A play under the patient policy, or under one with these numbers and long ticks.
+/// Where faults count as first ones after fewer ticks of calm than this, it counts.
+const CALM: u32 = 64;
+
+/// A play under the patient policy, or under one with these numbers, and with long ticks where these count.
 fn with_numbers<'p>(numbers: Numbers, play: Play<'p>) -> Play<'p> {
     let Some((max_faults, cap, calm)) = numbers else {
         return play;
@@ -37,9 +40,10 @@ fn with_numbers<'p>(numbers: Numbers, play: Play<'p>) -> Play<'p> {
         policy,
         ..patient()
     };
+    let pace = if calm < CALM { LONG_TICK } else { play.pace };
     Play {
         setup,
-        pace: LONG_TICK,
+        pace,
         ..play
     }
 }
@@ -86,6 +90,7 @@ pub type AtHang = (u64, &'static [u8], &'static str);
 const TICK: u64 = 50;
 
 /// The least and the most ticks for which a driver may hang: it is hung after three without a beat, and the next one is started at once.
+/// No more pass: where the next one isn't started by then, the play has no end.
 const HUNG_FOR: (u64, u64) = (3, 6);
 
 /// A row comes out as it says on a new volume, under the default policy, which replaces a driver that misses three heartbeats.
@@ -96,7 +101,8 @@ fn goes_on<R: Threads + Wait + Clock + Copy + Send + Sync + 'static>(
     row: &AtHang,
 ) -> Result<(), Fail> {
     let (at, script, out) = *row;
-    let gate = Arc::new(alloc, Hanging::new(rt, TICK, at))?;
+    let (least, most) = HUNG_FOR;
+    let gate = Arc::new(alloc, Hanging::new(rt, TICK, at, most))?;
     let scripts = [Some(script)];
     let play = Play {
         setup: whole(),
@@ -105,9 +111,8 @@ fn goes_on<R: Threads + Wait + Clock + Copy + Send + Sync + 'static>(
     };
     let played = play.played_at(alloc, rt, Arc::try_clone(&gate)?)?;
     played.gave(0, out, "")?;
-    let (least, most) = HUNG_FOR;
     let hung_for = gate.hung_for().unwrap_or(0);
-    if played.is_clean(alloc) && least <= hung_for && hung_for <= most {
+    if played.is_clean(alloc) && least <= hung_for {
         return Ok(());
     }
     Err(Fail::new(format_args!("hung for {hung_for} ticks")))

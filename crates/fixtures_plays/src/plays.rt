@@ -22,7 +22,7 @@ use tools::play::{ImageFile, PlayStatus, play};
 pub type Faults<'f> = &'f [Option<(u32, FaultKind)>];
 
 /// How long a short tick is, in milliseconds.
-const PACE: u64 = 40;
+const PACE: u64 = 100;
 
 /// One driver without a fault.
 pub const HONEST: Faults<'static> = &[None];

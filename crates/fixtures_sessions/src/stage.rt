@@ -1,7 +1,7 @@
 //! What a test of a service's threads runs on: an image, a gate, drivers that note what they write, and a service over them.
 
 use crate::recording_driver::{Notes, RecordingDriver, drivers};
-use crate::watch::{Holds, Watch};
+use crate::watch::{Holds, PACE, Watch};
 use fixtures::whole;
 use modeldisk::Fault;
 use reincarnate::policy::{Policy, Setup};
@@ -27,9 +27,6 @@ pub fn patient() -> Setup {
     }
 }
 
-/// What a test says that isn't in time.
-pub const LATE: &str = "a thread was held for too long, or there were more than a thousand ticks";
-
 /// What a test runs on.
 #[derive(Drop)]
 pub struct Stage<R: Wait + Clock + Copy> {
@@ -46,7 +43,18 @@ pub struct Stage<R: Wait + Clock + Copy> {
 impl<R: Wait + Clock + Copy> Stage<R> {
     /// On the volume in an image, with a gate that can hold these threads.
     pub fn new(alloc: Global, rt: R, image: Vec<u8>, holds: Holds) -> Result<Stage<R>, AllocError> {
-        let gate = Arc::new(alloc, Watch::new(rt, holds))?;
+        Stage::paced(alloc, rt, image, holds, PACE)
+    }
+
+    /// The same, where a tick takes so many milliseconds.
+    pub fn paced(
+        alloc: Global,
+        rt: R,
+        image: Vec<u8>,
+        holds: Holds,
+        pace: u64,
+    ) -> Result<Stage<R>, AllocError> {
+        let gate = Arc::new(alloc, Watch::new(rt, holds, pace))?;
         let notes = Arc::new(alloc, Notes::new(alloc, rt))?;
         Ok(Stage {
             alloc,
@@ -80,8 +88,7 @@ impl<R: Wait + Clock + Copy> Stage<R> {
             gate,
             program,
         ) {
-            Ok(came) if self.gate.is_in_time() => Ok(came),
-            Ok(_) => Err(Fail::from(LATE)),
+            Ok(came) => Ok(came),
             Err(refusal) => Err(Fail::new(format_args!("{refusal}"))),
         }
     }

@@ -1,22 +1,19 @@
-//! A gate that holds threads back and sets the pace of ticks, and tells whether it was in time.
+//! A gate that holds threads back and sets the pace of ticks.
+//!
+//! Whoever waits at it waits until what is awaited comes, however long that takes; a test in which it never comes is ended by the limit that
+//! each test has.
 
+use fixtures::gates::Ticking;
+use gate::bell::Bell;
 use gate::{Gate, Point};
 use std::sync::Arc;
 use std::sync::atomic::{AtomicBool, AtomicU64, Ordering};
 use std::thread;
-use std::time::{Clock, Duration};
+use std::time::Clock;
 
-/// How many times a thread that is held asks at most before it goes on.
-const ASKS: u64 = 10_000_000;
-
-/// How many times the threads that set the pace yield, at a tick and at a turn of the flusher.
-const YIELDS: u64 = 1000;
-
-/// For how many milliseconds they rest then.
-const REST: u64 = 20;
-
-/// The most ticks of a service that is in time.
-const TICKS: u64 = 1000;
+/// How many milliseconds a tick takes at least, and a turn of the flusher. A driver is replaced that doesn't beat for sixteen ticks: so one
+/// that waits for a processor isn't.
+pub const PACE: u64 = 100;
 
 /// Which threads a gate can hold.
 #[derive(Clone, Copy, Debug, PartialEq, Eq)]
@@ -43,7 +40,7 @@ impl Holds {
 
 /// A gate that holds some threads from `hold` on until `let_go`.
 pub struct Watch<R: Clock + Copy> {
-    rt: R,
+    ticking: Ticking<R>,
     holds: Holds,
     holding: AtomicBool,
     // Steps of drivers that came while drivers were held, and those of them that passed.
@@ -54,15 +51,12 @@ pub struct Watch<R: Clock + Copy> {
     flusher_passed: AtomicU64,
     // Steps of drivers but the first.
     later: AtomicU64,
-    ticks: AtomicU64,
-    // Whether a thread that was held asked too often, or there were too many ticks.
-    is_late: AtomicBool,
 }
 
 impl<R: Clock + Copy> Drop for Watch<R> {
     fn drop(self) {
         let Self {
-            rt: _,
+            ticking: _,
             holds: _,
             holding: _,
             came: _,
@@ -70,17 +64,15 @@ impl<R: Clock + Copy> Drop for Watch<R> {
             flusher_came: _,
             flusher_passed: _,
             later: _,
-            ticks: _,
-            is_late: _,
         } = self;
     }
 }
 
 impl<R: Clock + Copy> Watch<R> {
-    /// A gate that can hold these, and holds nobody yet.
-    pub(crate) fn new(rt: R, holds: Holds) -> Watch<R> {
+    /// A gate that can hold these, and holds nobody yet. A tick takes so many milliseconds.
+    pub fn new(rt: R, holds: Holds, pace: u64) -> Watch<R> {
         Watch {
-            rt,
+            ticking: Ticking::new(rt, pace),
             holds,
             holding: AtomicBool::new(false),
             came: AtomicU64::new(0),
@@ -88,8 +80,6 @@ impl<R: Clock + Copy> Watch<R> {
             flusher_came: AtomicU64::new(0),
             flusher_passed: AtomicU64::new(0),
             later: AtomicU64::new(0),
-            ticks: AtomicU64::new(0),
-            is_late: AtomicBool::new(false),
         }
     }
 
@@ -118,55 +108,49 @@ impl<R: Clock + Copy> Watch<R> {
         self.later.load(Ordering::SeqCst)
     }
 
-    /// Waits until a driver is held, and says whether one is.
-    pub fn awaits_held(&self) -> bool {
-        is_reached(&self.came, 1)
+    /// Waits until a driver is held.
+    pub fn awaits_held(&self) {
+        await_count(&self.came, 1);
     }
 
-    /// Waits until a held step of a driver has passed, and says whether one has.
-    pub fn awaits_passed(&self) -> bool {
-        is_reached(&self.passed, 1)
+    /// Waits until a held step of a driver has passed.
+    pub fn awaits_passed(&self) {
+        await_count(&self.passed, 1);
     }
 
-    /// Waits until the flusher has come for its turn, and says whether it has.
-    pub fn awaits_flusher(&self) -> bool {
-        is_reached(&self.flusher_came, 1)
+    /// Waits until the flusher has come for its turn.
+    pub fn awaits_flusher(&self) {
+        await_count(&self.flusher_came, 1);
     }
 
-    /// Waits until the flusher has passed, and says whether it has.
-    pub fn awaits_flush(&self) -> bool {
-        is_reached(&self.flusher_passed, 1)
+    /// Waits until the flusher has passed.
+    pub fn awaits_flush(&self) {
+        await_count(&self.flusher_passed, 1);
     }
 
-    /// Whether no thread was held for too long, and there were at most a thousand ticks.
-    pub fn is_in_time(&self) -> bool {
-        !self.is_late.load(Ordering::SeqCst)
-    }
-
-    // Holds a thread until all go on, or it has asked too often.
-    fn stand(&self) {
-        for _ in 0..ASKS {
-            if !self.holding.load(Ordering::SeqCst) {
+    // Holds a thread until all go on, or it is told to end.
+    fn stand(&self, end: &Bell) {
+        for _ in 0..u64::MAX {
+            if end.is_rung() || !self.holding.load(Ordering::SeqCst) {
                 return;
             }
             thread::yield_now();
         }
-        self.is_late.store(true, Ordering::SeqCst);
     }
 
     // Holds a thread, if it is to be held here now. Whether it was.
-    fn is_held(&self, at: Point, came: &AtomicU64) -> bool {
+    fn is_held(&self, at: Point, came: &AtomicU64, end: &Bell) -> bool {
         if !self.holds.has(at) || !self.holding.load(Ordering::SeqCst) {
             return false;
         }
         came.fetch_add(1, Ordering::SeqCst);
-        self.stand();
+        self.stand(end);
         true
     }
 
     // A step of a driver.
-    fn step(&self, at: Point) {
-        if self.is_held(at, &self.came) {
+    fn step(&self, at: Point, end: &Bell) {
+        if self.is_held(at, &self.came, end) {
             self.passed.fetch_add(1, Ordering::SeqCst);
         }
         if at != Point::DriverStep(1) {
@@ -174,60 +158,48 @@ impl<R: Clock + Copy> Watch<R> {
         }
     }
 
-    // Sets the pace.
-    fn wait(&self) {
-        for _ in 0..YIELDS {
-            thread::yield_now();
-        }
-        thread::sleep(&self.rt, Duration::from_millis(REST));
-    }
-
     // A turn of the flusher.
-    fn turn(&self) {
-        self.wait();
-        if !self.is_held(Point::FlusherTurn, &self.flusher_came) {
+    fn turn(&self, end: &Bell) {
+        self.ticking.turn(end);
+        if !self.is_held(Point::FlusherTurn, &self.flusher_came, end) {
             self.flusher_came.fetch_add(1, Ordering::SeqCst);
         }
         self.flusher_passed.fetch_add(1, Ordering::SeqCst);
     }
-
-    // A tick.
-    fn tick(&self) {
-        self.wait();
-        if self.ticks.fetch_add(1, Ordering::SeqCst) >= TICKS {
-            self.is_late.store(true, Ordering::SeqCst);
-        }
-    }
 }
 
-/// Waits until a count is reached, or for ten million turns, and says whether it is.
-pub fn is_reached(count: &AtomicU64, least: u64) -> bool {
-    for _ in 0..ASKS {
+/// Waits until a count is reached.
+pub fn await_count(count: &AtomicU64, least: u64) {
+    for _ in 0..u64::MAX {
         if count.load(Ordering::SeqCst) >= least {
-            return true;
+            return;
         }
         thread::yield_now();
     }
-    false
 }
 
-/// Waits until nobody else has a gate, or for ten million turns, and says whether nobody has: all threads that ask it have ended then.
-pub fn is_alone<R: Clock + Copy>(gate: &Arc<Watch<R>>) -> bool {
-    for _ in 0..ASKS {
+/// Waits until nobody else has a gate: all threads that ask it have ended then.
+pub fn await_alone<R: Clock + Copy>(gate: &Arc<Watch<R>>) {
+    for _ in 0..u64::MAX {
         if Arc::strong_count(gate) == 1 {
-            return true;
+            return;
         }
         thread::yield_now();
     }
-    false
 }
 
 impl<R: Clock + Copy + Send + Sync> Gate for Watch<R> {
     fn pass(&self, at: Point) {
+        self.pass_or_end(at, &Bell::new());
+    }
+
+    fn pass_or_end(&self, at: Point, end: &Bell) {
         match at {
-            Point::DriverStep(_) => self.step(at),
-            Point::FlusherTurn => self.turn(),
-            Point::Tick => self.tick(),
+            Point::DriverStep(_) => self.step(at, end),
+            Point::FlusherTurn => self.turn(end),
+            Point::Tick => {
+                self.ticking.tick(end);
+            }
         }
     }
 }

@@ -104,22 +104,20 @@ pub fn place_of<R: Files + Alloc>(rt: &R, name: &str) -> io::Result<PathBuf<R::A
 
 /// The permissions, owner and group of a file that may be written; none where there is no file.
 fn owned_of<R: Files>(rt: &R, place: &str) -> io::Result<Option<Owned>> {
-    match OpenOptions::new().write(true).open(rt, place) {
-        Ok(file) => {
-            let metadata = file.metadata()?;
-            if metadata.is_file() {
-                Ok(Some(Owned {
-                    permissions: metadata.permissions(),
-                    uid: metadata.uid(),
-                    gid: metadata.gid(),
-                }))
-            } else {
-                Err(io::Error::from(ErrorKind::InvalidInput))
-            }
-        }
-        Err(error) if error.kind() == ErrorKind::NotFound => Ok(None),
-        Err(error) => Err(error),
+    let file = match OpenOptions::new().write(true).open(rt, place) {
+        Ok(file) => file,
+        Err(error) if error.kind() == ErrorKind::NotFound => return Ok(None),
+        Err(error) => return Err(error),
+    };
+    let metadata = file.metadata()?;
+    if !metadata.is_file() {
+        return Err(io::Error::from(ErrorKind::InvalidInput));
     }
+    Ok(Some(Owned {
+        permissions: metadata.permissions(),
+        uid: metadata.uid(),
+        gid: metadata.gid(),
+    }))
 }
 
 /// Fills the new file and gives it its name, or takes it away.

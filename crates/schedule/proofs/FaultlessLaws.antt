@@ -19,6 +19,7 @@ use Rattle.records.specs.Open.{open_requests, greatest, IsWellFormed, MayFollow,
 use Rattle.records.specs.Disk.{Contents, disk_after, unsure, HasTrueReplies, IsTrueAnswer, IsTrueOf, settles, byte_for, covers}
 use Rattle.records.specs.Legal.{IsLegal, IsLegalTook, IsSynced, is_sync, is_success, tree_after, tree_after_answer}
 use Rattle.records.specs.View.{Frames, ReadsBack, server_view, frame_or}
+use Rattle.records.specs.Area.{WritesInside}
 use Rattle.records.specs.Settled.{only_looks, is_settled, none_written, LookingWritesNothing}
 use Rattle.schedule.specs.Faultless.{without_faults, FaultsChangeNothing, LeaveSameMark}
 
@@ -122,6 +123,16 @@ wf (Flush ∷ marks) h = (wf marks h.0, tt)
 wf (GaveUp ∷ marks) h = (wf marks h.0, tt)
 wf (Took who now call answer ∷ marks) h = (wf marks h.0, tt)
 wf (Issued r e ∷ marks) h = (wf marks h.0, may_issue marks r e h.1)
+
+writes_inside : (marks : List Mark) (g : Geometry) → WritesInside g (without_faults marks) → WritesInside g marks
+writes_inside [] g h = h
+writes_inside (Fault e cause ∷ marks) g h = writes_inside marks g h
+writes_inside (Started e ∷ marks) g h = writes_inside marks g h
+writes_inside (Answered a ∷ marks) g h = writes_inside marks g h
+writes_inside (Flush ∷ marks) g h = writes_inside marks g h
+writes_inside (GaveUp ∷ marks) g h = writes_inside marks g h
+writes_inside (Took who now call answer ∷ marks) g h = writes_inside marks g h
+writes_inside (Issued r e ∷ marks) g h = (h.0, writes_inside marks g h.1)
 
 same_disk : (marks : List Mark) (image : Contents) → disk_after image (without_faults marks) ≡ disk_after image marks
 same_disk marks image = λ i place. the_disk marks image place i
@@ -249,6 +260,7 @@ faults_change_nothing marks = record {
   disk = the_disk marks;
   sure = the_sure marks;
   well_formed = wf marks;
+  inside = writes_inside marks;
   true_replies = replies marks;
   tree_is = the_tree marks;
   legal = is_legal marks;

@@ -7,6 +7,7 @@ pub mod WorkedRuns
 pub mod GivenUp
 pub mod RightRun
 mod LegalRows
+mod InsideRows
 mod WrongFaults
 mod WrongIssues
 mod WrongStarts

@@ -9,6 +9,7 @@ use Rattle.records.specs.Told.{received}
 use Rattle.records.specs.Disk.{Contents, disk_after, unsure, HasTrueReplies}
 use Rattle.records.specs.Legal.{IsLegal, tree_after}
 use Rattle.records.specs.View.{Frames, ReadsBack}
+use Rattle.records.specs.Area.{WritesInside}
 use Rattle.records.specs.Settled.{LookingWritesNothing, is_settled, none_written}
 
 -- the marks but for the faults
@@ -31,6 +32,7 @@ pub record FaultsChangeNothing (marks : List Mark) : Type 0 where
   pub disk : (image : Contents) (place : ℕ) → disk_after image (without_faults marks) place ≡ disk_after image marks place
   pub sure : (place : ℕ) → unsure (without_faults marks) place ≡ unsure marks place
   pub well_formed : IsWellFormed (without_faults marks) → IsWellFormed marks
+  pub inside : (g : Geometry) → WritesInside g (without_faults marks) → WritesInside g marks
   pub true_replies : (image : Contents) → HasTrueReplies image (without_faults marks) → HasTrueReplies image marks
   pub tree_is : (g : Geometry) (tree : Tree) → tree_after g tree (without_faults marks) ≡ tree_after g tree marks
   pub legal : (g : Geometry) (image : Contents) (tree : Tree) → IsLegal g image tree (without_faults marks) → IsLegal g image tree marks

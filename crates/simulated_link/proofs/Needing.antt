@@ -1,11 +1,12 @@
 -- Where the link has ended in a run, the server needs a message.
-use Rattle.std.proofs.Common.{◌≡◌, ℕ, ◌+◌, List, [], ◌∷◌, ◌++◌, Bool, true, false, cond, refl, sym, ◌∙◌, ap, subst}
+use Rattle.std.proofs.Common.{◌≡◌, ◌+◌, List, [], ◌∷◌, ◌++◌, Bool, true, false, cond, refl, sym, ◌∙◌, ap, subst}
 use Rattle.std.specs.Prelude.{Option, Some, None, is_some, not, ◌||◌, ◌&&◌, nat_lt}
 use Rattle.lemmas.proofs.Bools.{true_not_false}
 use Rattle.message.specs.declared.endpoint.Endpoint.{Endpoint}
 use Rattle.message.specs.declared.BlockRequest.{BlockRequest}
 use Rattle.message.specs.declared.Incoming.{Incoming}
 use Rattle.message.specs.declared.Incoming.TheVariants as incoming
+use Rattle.records.specs.Area.{Area}
 use Rattle.records.specs.Marks.{Mark, Issued, last_started, gave_up}
 use Rattle.records.specs.Open.{open_requests, greatest, has_none}
 use Rattle.records.specs.Told.{Told, Posted, Complained, Received, with_told, took_nothing}
@@ -75,16 +76,16 @@ wants_open marks o none live = record {
   not_given_up = live;
 }
 
-told_wants : (minor : ℕ) (told : Told) (marks : List Mark) (o : Outbox) → took_nothing (told ∷ []) ≡ true → MayAct minor marks o (AtLink told)
+told_wants : (area : Area) (told : Told) (marks : List Mark) (o : Outbox) → took_nothing (told ∷ []) ≡ true → MayAct area marks o (AtLink told)
     → Wants marks o → Wants (with_told told marks) (owed_after_act (AtLink told) marks o)
-told_wants minor (Posted to r accepted) marks o quiet may w =
+told_wants area (Posted to r accepted) marks o quiet may w =
     wants_open (with_told (Posted to r accepted) marks) (owed_after_post r accepted o)
     (posted_open accepted to r marks
     (some_open (open_requests marks) (is_some (last_started marks)) o.stopped o.unposted o.never_issued
     (posted_to (gave_up marks) (last_started marks) to may.endpoint) may.not_stopped w.needed))
     (posted_given accepted to r marks ∙ w.not_given_up)
-told_wants minor (Complained about) marks o quiet may w = record { needed = w.needed; not_given_up = w.not_given_up }
-told_wants minor (Received message) marks o quiet may w = cc
+told_wants area (Complained about) marks o quiet may w = record { needed = w.needed; not_given_up = w.not_given_up }
+told_wants area (Received message) marks o quiet may w = cc
 
 -- where the link ends
 ended_wants : (m : Moment) (message : Incoming) (a : RunState) → MayTake (record_of m.run) m.outbox → Turn m.run (Received message) a → a.over ≡ true
@@ -112,8 +113,8 @@ not_hearing doing message call hears answers = cc
 needing : (m : Moment) (call : Arrived) → m.doing ≡ Answering call → Wants (record_of m.run) m.outbox → Needs m
 needing m call answers w = record { call = call; answers = answers; needed = w.needed; not_given_up = w.not_given_up }
 
-step_needs : (minor : ℕ) (m a : Moment) → (m.run.over ≡ true → Needs m) → Step minor m a → a.run.over ≡ true → Needs a
-step_needs minor m _ before (Begins r busy may) over =
+step_needs : (area : Area) (m a : Moment) → (m.run.over ≡ true → Needs m) → Step area m a → a.run.over ≡ true → Needs a
+step_needs area m _ before (Begins r busy may) over =
     let n : Needs m = before over in
     record {
       call = n.call;
@@ -122,22 +123,22 @@ step_needs minor m _ before (Begins r busy may) over =
           m.outbox.never_issued r n.needed;
       not_given_up = n.not_given_up;
     }
-step_needs minor m _ before (Tells told a busy quiet may turn) over =
+step_needs area m _ before (Tells told a busy quiet may turn) over =
     let n : Needs m = before (sym (told_over m.run a told turn quiet) ∙ over) in
     needing (at_link told a m) n.call n.answers
     (subst (λ (l : List Mark). Wants l (owed_after_act (AtLink told) (record_of m.run) m.outbox)) (sym (turn_record m.run a told turn))
-    (told_wants minor told (record_of m.run) m.outbox quiet may (record { needed = n.needed; not_given_up = n.not_given_up })))
-step_needs minor m _ before (Takes message call a answers may turn) over =
+    (told_wants area told (record_of m.run) m.outbox quiet may (record { needed = n.needed; not_given_up = n.not_given_up })))
+step_needs area m _ before (Takes message call a answers may turn) over =
     needing (at_link (Received message) a m) call answers (ended_wants m message a may turn over)
-step_needs minor m _ before (Settles message hears rest) over =
+step_needs area m _ before (Settles message hears rest) over =
     let n : Needs m = before over in not_hearing m.doing message n.call hears n.answers
-step_needs minor m _ before (Brings message a between none next) over = not_ended m.run a next.over between.live over
-step_needs minor m _ before (BringsNone a between none next) over = not_ended m.run a next.over between.live over
-step_needs minor m _ before (Pays between owed first) over = absurd (true_not_false (sym over ∙ between.live))
-step_needs minor m _ before (HandsCall call a between paid hands) over =
+step_needs area m _ before (Brings message a between none next) over = not_ended m.run a next.over between.live over
+step_needs area m _ before (BringsNone a between none next) over = not_ended m.run a next.over between.live over
+step_needs area m _ before (Pays between owed first) over = absurd (true_not_false (sym over ∙ between.live))
+step_needs area m _ before (HandsCall call a between paid hands) over =
     not_ended m.run a (ap (λ (p : RunState). p.over) hands.after) between.live over
-step_needs minor m _ before (Replies call reply answers live rest) over = absurd (true_not_false (sym over ∙ live))
+step_needs area m _ before (Replies call reply answers live rest) over = absurd (true_not_false (sym over ∙ live))
 
 pub runs_end_needing : RunsEndNeeding
-runs_end_needing minor b _ Starts live over = absurd (true_not_false (sym over ∙ live))
-runs_end_needing minor b a (Then m _ before last) live over = step_needs minor m a (λ over_before. runs_end_needing minor b m before live over_before) last over
+runs_end_needing area b _ Starts live over = absurd (true_not_false (sym over ∙ live))
+runs_end_needing area b a (Then m _ before last) live over = step_needs area m a (λ over_before. runs_end_needing area b m before live over_before) last over

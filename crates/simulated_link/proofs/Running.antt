@@ -1,5 +1,5 @@
 -- What a server does at its link by the rules are steps of a run.
-use Rattle.std.proofs.Common.{◌≡◌, ◌⊎◌, inl, inr, ℕ, suc, ◌+◌, ◌≤◌, List, [], ◌∷◌, ◌++◌, Bool, true, false, cond, refl, sym, ◌∙◌, ap, subst, arith, length}
+use Rattle.std.proofs.Common.{◌≡◌, ◌⊎◌, inl, inr, suc, ◌+◌, ◌≤◌, List, [], ◌∷◌, ◌++◌, Bool, true, false, cond, refl, sym, ◌∙◌, ap, subst, arith, length}
 use Rattle.std.specs.Prelude.{Option, Some, None, is_ok, not, ◌||◌, ◌&&◌}
 use Rattle.std.proofs.lemmas.List.{length-append}
 use Rattle.lemmas.proofs.Bools.{true_not_false}
@@ -7,6 +7,7 @@ use Rattle.message.specs.declared.BlockRequest.{BlockRequest}
 use Rattle.message.specs.declared.Incoming.{Incoming}
 use Rattle.message.specs.declared.Incoming.TheVariants as incoming
 use Rattle.message.specs.declared.endpoint.Endpoint.{Endpoint}
+use Rattle.records.specs.Area.{Area}
 use Rattle.records.specs.Marks.{Mark, Issued, Fault}
 use Rattle.records.specs.declared.marks.Cause.TheVariants.{Complaint}
 use Rattle.records.specs.Told.{Told, Posted, Complained, Received, received, with_told, took_end, took_nothing, heard}
@@ -181,65 +182,65 @@ may_take_before (Hearing message) (Received m) told may = cc
 may_take_before (Answering call) t told may = tt
 
 -- the run led there from here by these acts of the server
-pub record Reaches (minor : ℕ) (doing : Doing) (b : RunState) (o : Outbox) (acts : List Act) (marks : List Mark) (a : RunState) : Type 0 where
-  pub runs : Runs minor (record { run = b; outbox = o; doing = doing }) (record { run = a; outbox = outbox_after acts marks o; doing = doing })
+pub record Reaches (area : Area) (doing : Doing) (b : RunState) (o : Outbox) (acts : List Act) (marks : List Mark) (a : RunState) : Type 0 where
+  pub runs : Runs area (record { run = b; outbox = o; doing = doing }) (record { run = a; outbox = outbox_after acts marks o; doing = doing })
   pub record_is : record_of a ≡ marks_after acts marks
 
 -- one turn of a server that may act so
-turn_step : (minor : ℕ) (doing : Doing) (told : Told) (more : List Told) (m a : RunState) (o : Outbox) → is_busy doing ≡ true → MayTakeIn doing (told ∷ more)
-    → MayAct minor (record_of m) o (AtLink told) → Turn m told a
-    → Step minor (record { run = m; outbox = o; doing = doing }) (at_link told a (record { run = m; outbox = o; doing = doing }))
-turn_step minor doing (Posted to r accepted) more m a o busy take may turn = Tells (Posted to r accepted) a busy refl may turn
-turn_step minor doing (Complained e) more m a o busy take may turn = Tells (Complained e) a busy refl may turn
-turn_step minor Resting (Received message) more m a o busy take may turn = cc
-turn_step minor (Hearing x) (Received message) more m a o busy take may turn = cc
-turn_step minor (Answering call) (Received message) more m a o busy take may turn = Takes message call a refl may turn
+turn_step : (area : Area) (doing : Doing) (told : Told) (more : List Told) (m a : RunState) (o : Outbox) → is_busy doing ≡ true → MayTakeIn doing (told ∷ more)
+    → MayAct area (record_of m) o (AtLink told) → Turn m told a
+    → Step area (record { run = m; outbox = o; doing = doing }) (at_link told a (record { run = m; outbox = o; doing = doing }))
+turn_step area doing (Posted to r accepted) more m a o busy take may turn = Tells (Posted to r accepted) a busy refl may turn
+turn_step area doing (Complained e) more m a o busy take may turn = Tells (Complained e) a busy refl may turn
+turn_step area Resting (Received message) more m a o busy take may turn = cc
+turn_step area (Hearing x) (Received message) more m a o busy take may turn = cc
+turn_step area (Answering call) (Received message) more m a o busy take may turn = Takes message call a refl may turn
 
 -- what a server does at its link by the rules
-pub acts_run : (minor : ℕ) (doing : Doing) (b : RunState) (o : Outbox) (marks : List Mark) → is_busy doing ≡ true → IsToldOfEnd b → record_of b ≡ marks
+pub acts_run : (area : Area) (doing : Doing) (b : RunState) (o : Outbox) (marks : List Mark) → is_busy doing ≡ true → IsToldOfEnd b → record_of b ≡ marks
     → (acts : List Act) (a : RunState) → GoesOn b a → history_of a ≡ told_of acts ++ history_of b → has_absorbed acts ≡ false → MayTakeIn doing (told_of acts)
-    → KeepsRules minor acts marks o → Reaches minor doing b o acts marks a
-acts_run minor doing b o marks busy told is [] a on history none take keeps =
+    → KeepsRules area acts marks o → Reaches area doing b o acts marks a
+acts_run area doing b o marks busy told is [] a on history none take keeps =
     let same : a ≡ b = none_told b a on told history in
     record {
-      runs = subst (λ (p : RunState). Runs minor (record { run = b; outbox = o; doing = doing }) (record { run = p; outbox = o; doing = doing })) (sym same) Starts;
+      runs = subst (λ (p : RunState). Runs area (record { run = b; outbox = o; doing = doing }) (record { run = p; outbox = o; doing = doing })) (sym same) Starts;
       record_is = ap record_of same ∙ is;
     }
-acts_run minor doing b o marks busy told is (Began r ∷ acts) a on history none take keeps =
-    let x : Reaches minor doing b o acts marks a = acts_run minor doing b o marks busy told is acts a on history none take keeps.0 in
+acts_run area doing b o marks busy told is (Began r ∷ acts) a on history none take keeps =
+    let x : Reaches area doing b o acts marks a = acts_run area doing b o marks busy told is acts a on history none take keeps.0 in
     record {
       runs = Then (record { run = a; outbox = outbox_after acts marks o; doing = doing })
           (record { run = a; outbox = outbox_after (Began r ∷ acts) marks o; doing = doing }) x.runs
           (Begins r busy (subst (λ (l : List Mark). MayBegin l (outbox_after acts marks o) r) (sym x.record_is) keeps.1));
       record_is = x.record_is;
     }
-acts_run minor doing b o marks busy told is (Absorbed message ∷ acts) a on history none take keeps = cc
-acts_run minor doing b o marks busy told is (AtLink t ∷ acts) a on history none take keeps =
+acts_run area doing b o marks busy told is (Absorbed message ∷ acts) a on history none take keeps = cc
+acts_run area doing b o marks busy told is (AtLink t ∷ acts) a on history none take keeps =
     let last : LastTurn b a t (told_of acts) = last_turn b a t (told_of acts) on told history in
-    let x : Reaches minor doing b o acts marks last.between =
-    acts_run minor doing b o marks busy told is acts last.between last.before last.told_before none (may_take_before doing t (told_of acts) take) keeps.0 in
-    let may : MayAct minor (record_of last.between) (outbox_after acts marks o) (AtLink t) =
-    subst (λ (l : List Mark). MayAct minor l (outbox_after acts marks o) (AtLink t)) (sym x.record_is) keeps.1 in
+    let x : Reaches area doing b o acts marks last.between =
+    acts_run area doing b o marks busy told is acts last.between last.before last.told_before none (may_take_before doing t (told_of acts) take) keeps.0 in
+    let may : MayAct area (record_of last.between) (outbox_after acts marks o) (AtLink t) =
+    subst (λ (l : List Mark). MayAct area l (outbox_after acts marks o) (AtLink t)) (sym x.record_is) keeps.1 in
     record {
-      runs = subst (λ (l : List Mark). Runs minor (record { run = b; outbox = o; doing = doing })
+      runs = subst (λ (l : List Mark). Runs area (record { run = b; outbox = o; doing = doing })
           (record { run = a; outbox = owed_after_act (AtLink t) l (outbox_after acts marks o); doing = doing })) x.record_is
           (Then (record { run = last.between; outbox = outbox_after acts marks o; doing = doing })
           (at_link t a (record { run = last.between; outbox = outbox_after acts marks o; doing = doing })) x.runs
-          (turn_step minor doing t (told_of acts) last.between a (outbox_after acts marks o) busy take may last.turn));
+          (turn_step area doing t (told_of acts) last.between a (outbox_after acts marks o) busy take may last.turn));
       record_is = turn_record last.between a t last.turn ∙ ap (with_told t) x.record_is;
     }
 
 -- one run after another
-pub runs_join : (minor : ℕ) (x y z : Moment) → Runs minor x y → Runs minor y z → Runs minor x z
-runs_join minor x y _ first Starts = first
-runs_join minor x y z first (Then m _ next last) = Then m z (runs_join minor x y m first next) last
+pub runs_join : (area : Area) (x y z : Moment) → Runs area x y → Runs area y z → Runs area x z
+runs_join area x y _ first Starts = first
+runs_join area x y z first (Then m _ next last) = Then m z (runs_join area x y m first next) last
 
-pub runs_at : (n m : ℕ) (x y : Moment) → n ≡ m → Runs n x y → Runs m x y
-runs_at n m x y same runs = subst (λ (k : ℕ). Runs k x y) same runs
+pub runs_at : (n m : Area) (x y : Moment) → n ≡ m → Runs n x y → Runs m x y
+runs_at n m x y same runs = subst (λ (k : Area). Runs k x y) same runs
 
 -- a message that was handed over comes before what is done then
-pub record ActsAfter (minor : ℕ) (acts : List Act) (message : Incoming) (marks : List Mark) (o : Outbox) : Type 0 where
-  pub keep : KeepsRules minor acts (received message marks) (owed_after_message message marks o)
+pub record ActsAfter (area : Area) (acts : List Act) (message : Incoming) (marks : List Mark) (o : Outbox) : Type 0 where
+  pub keep : KeepsRules area acts (received message marks) (owed_after_message message marks o)
   pub at_rest : IsAtRest marks o
   pub outbox : outbox_after (acts ++ Absorbed message ∷ []) marks o ≡ outbox_after acts (received message marks) (owed_after_message message marks o)
 
@@ -250,17 +251,17 @@ marks_after_message (Began r ∷ acts) message marks = marks_after_message acts 
 marks_after_message (Absorbed m ∷ acts) message marks = ap (received m) (marks_after_message acts message marks)
 marks_after_message (AtLink t ∷ acts) message marks = ap (with_told t) (marks_after_message acts message marks)
 
-pub acts_after : (minor : ℕ) (acts : List Act) (message : Incoming) (marks : List Mark) (o : Outbox)
-    → KeepsRules minor (acts ++ Absorbed message ∷ []) marks o → ActsAfter minor acts message marks o
-acts_after minor [] message marks o keeps = record { keep = tt; at_rest = keeps.1; outbox = refl }
-acts_after minor (act ∷ acts) message marks o keeps =
-    let x : ActsAfter minor acts message marks o = acts_after minor acts message marks o keeps.0 in
+pub acts_after : (area : Area) (acts : List Act) (message : Incoming) (marks : List Mark) (o : Outbox)
+    → KeepsRules area (acts ++ Absorbed message ∷ []) marks o → ActsAfter area acts message marks o
+acts_after area [] message marks o keeps = record { keep = tt; at_rest = keeps.1; outbox = refl }
+acts_after area (act ∷ acts) message marks o keeps =
+    let x : ActsAfter area acts message marks o = acts_after area acts message marks o keeps.0 in
     let at : marks_after (acts ++ Absorbed message ∷ []) marks ≡ marks_after acts (received message marks) = marks_after_message acts message marks in
     record {
       keep = (
         x.keep,
-        subst (λ (l : List Mark). MayAct minor l (outbox_after acts (received message marks) (owed_after_message message marks o)) act) at
-            (subst (λ (p : Outbox). MayAct minor (marks_after (acts ++ Absorbed message ∷ []) marks) p act) x.outbox keeps.1),
+        subst (λ (l : List Mark). MayAct area l (outbox_after acts (received message marks) (owed_after_message message marks o)) act) at
+            (subst (λ (p : Outbox). MayAct area (marks_after (acts ++ Absorbed message ∷ []) marks) p act) x.outbox keeps.1),
       );
       at_rest = x.at_rest;
       outbox = ap (owed_after_act act (marks_after (acts ++ Absorbed message ∷ []) marks)) x.outbox

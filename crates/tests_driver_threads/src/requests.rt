@@ -68,7 +68,7 @@ impl<R: Wait + Copy> Plan<R> for FilledAgain {
 #[test]
 fn requests_under_way(rt: HostRuntime) -> Result<(), Fail> {
     let alloc = rt.alloc();
-    let gate = Arc::new(alloc, Watch::open(rt))?;
+    let gate = Arc::new(alloc, Watch::ticking(rt))?;
     let drivers = filled_up(alloc, Vec::new(alloc))?;
     let (came, _) = play(
         alloc,

@@ -17,9 +17,9 @@ use reincarnate::Reincarnation;
 use reincarnate::policy::Policy;
 use std::alloc::{AllocError, Global};
 use std::marker::Brand;
-use std::process::Abort;
 use std::sync::{Arc, Wait};
 use std::thread::Threads;
+use std::time::Clock;
 
 /// How many sectors the media have.
 pub(crate) const SECTORS: u32 = 128;
@@ -96,7 +96,7 @@ fn ended<N: ServiceParameters, R: Threads + Wait + Copy>(
 // The caller picks the volume: the first sectors of the media.
 fn play_on<
     N: ServiceParameters + Send + Sync + 'static,
-    R: Threads + Wait + Abort + Copy + Send + Sync + 'static,
+    R: Threads + Wait + Clock + Copy + Send + Sync + 'static,
     D: BlockDriver + 'static,
     P: Plan<R>,
 >(
@@ -141,7 +141,7 @@ fn play_on<
 
 /// Plays on media of zeros, of which the volume has this many sectors, over these drivers. What came of it, and the media's bytes.
 pub(crate) fn play<
-    R: Threads + Wait + Abort + Copy + Send + Sync + 'static,
+    R: Threads + Wait + Clock + Copy + Send + Sync + 'static,
     D: BlockDriver + 'static,
     P: Plan<R>,
 >(

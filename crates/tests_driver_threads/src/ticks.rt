@@ -3,36 +3,35 @@
 use crate::counted::each_counted;
 use crate::replacements::{dying, first_asked};
 use crate::setting::{Ending, Plan, SECTORS, filled_up, play, write_of};
-use crate::watch::{Watch, is_reached};
+use crate::watch::{Watch, await_count};
 use bdev::Driver;
 use channel_link::link::ChannelLink;
 use message::Incoming;
 use reissue::link::Link;
-use std::process::Abort;
 use std::sync::atomic::AtomicU64;
 use std::sync::{Arc, Wait};
 use std::test::*;
+use std::time::Clock;
 
 // The first driver is asked behind the first tick, and dies. Once it is gone one tick more passes.
 #[derive(Drop)]
-struct DiesInATick<R: Abort + Copy> {
+struct DiesInATick<R: Clock + Copy> {
     gate: Arc<Watch<R>>,
     gone: Arc<AtomicU64>,
 }
 
-impl<R: Wait + Abort + Copy + Send + Sync> Plan<R> for DiesInATick<R> {
+impl<R: Wait + Clock + Copy + Send + Sync> Plan<R> for DiesInATick<R> {
     // The generation of the next driver, and how many ticks have passed.
     type Came = Option<(u32, u64)>;
 
     fn play(&mut self, link: &mut ChannelLink<R>) -> Option<(u32, u64)> {
         let _ = first_asked(link, &write_of(1, 0x11))?;
-        let is_gone = is_reached(&*self.gone, 1);
+        await_count(&*self.gone, 1);
         self.gate.allow(2);
         let message = link.take();
         let ticks = self.gate.ticks_passed();
-        self.gate.allow(u64::MAX);
         match message {
-            Incoming::Started(next) if is_gone => Some((next.generation, ticks)),
+            Incoming::Started(next) => Some((next.generation, ticks)),
             _ => None,
         }
     }

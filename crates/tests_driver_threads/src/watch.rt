@@ -1,22 +1,20 @@
-//! A gate that holds the first driver back, sets the pace of ticks, and ends a test that takes too many.
+//! A gate that holds the first driver back, and sets the pace of ticks.
+//!
+//! Whoever waits here waits until what is awaited comes, however long that takes; a test in which it never comes is ended by the limit that
+//! each test has.
 
+use gate::bell::Bell;
 use gate::{Gate, Point};
-use std::process::Abort;
 use std::sync::Arc;
 use std::sync::atomic::{AtomicU64, Ordering};
 use std::thread;
+use std::time::{Clock, Duration};
 
-/// How many times a held thread asks at most before it goes on.
-const ASKS: u64 = 10_000_000;
+/// How many milliseconds a tick takes at least. A driver is replaced that doesn't beat for sixteen: so one that waits for a processor isn't.
+const PACE: u64 = 100;
 
-/// How many times the reincarnation server's thread yields at each tick.
-const YIELDS: u64 = 1000;
-
-/// The most ticks of a test.
-const TICKS: u64 = 1000;
-
-/// A gate that holds each step of the driver of generation 1 until a count isn't 0, and each tick until it is allowed.
-pub(crate) struct Watch<R: Abort + Copy> {
+/// A gate that holds each step of the driver of generation 1 until a count isn't 0, and each tick until it is allowed or all is to end.
+pub(crate) struct Watch<R: Clock + Copy> {
     rt: R,
     // None where no driver is held.
     until: Option<Arc<AtomicU64>>,
@@ -30,7 +28,7 @@ pub(crate) struct Watch<R: Abort + Copy> {
     ticks_passed: AtomicU64,
 }
 
-impl<R: Abort + Copy> Drop for Watch<R> {
+impl<R: Clock + Copy> Drop for Watch<R> {
     fn drop(self) {
         let Self {
             rt: _,
@@ -44,7 +42,7 @@ impl<R: Abort + Copy> Drop for Watch<R> {
     }
 }
 
-impl<R: Abort + Copy> Watch<R> {
+impl<R: Clock + Copy> Watch<R> {
     // A gate under which so many ticks may pass.
     fn new(rt: R, until: Option<Arc<AtomicU64>>, ticks: u64) -> Watch<R> {
         Watch {
@@ -68,7 +66,7 @@ impl<R: Abort + Copy> Watch<R> {
         Watch::new(rt, Some(until), u64::MAX)
     }
 
-    /// A gate that holds no driver, and lets one tick pass.
+    /// A gate that holds no driver, and lets one tick pass, by which the first driver is started: until more are allowed none is replaced.
     pub(crate) fn ticking(rt: R) -> Watch<R> {
         Watch::new(rt, None, 1)
     }
@@ -83,9 +81,9 @@ impl<R: Abort + Copy> Watch<R> {
         self.ticks_passed.load(Ordering::SeqCst)
     }
 
-    /// Waits until so many ticks have come here, and says whether they did: what was to be done in each before the last is done.
-    pub(crate) fn await_ticks(&self, ticks: u64) -> bool {
-        is_reached(&self.ticks, ticks)
+    /// Waits until so many ticks have come here: what was to be done in each before the last is done.
+    pub(crate) fn await_ticks(&self, ticks: u64) {
+        await_count(&self.ticks, ticks);
     }
 
     /// How many steps of the first driver passed.
@@ -93,56 +91,59 @@ impl<R: Abort + Copy> Watch<R> {
         self.passed.load(Ordering::SeqCst)
     }
 
-    /// Waits until the first driver has come here for so many steps, and says whether it did.
-    pub(crate) fn await_come(&self, steps: u64) -> bool {
-        is_reached(&self.came, steps)
+    /// Waits until the first driver has come here for so many steps.
+    pub(crate) fn await_come(&self, steps: u64) {
+        await_count(&self.came, steps);
     }
 
-    /// Waits until so many steps of the first driver have passed, and says whether they did.
-    pub(crate) fn await_passed(&self, steps: u64) -> bool {
-        is_reached(&self.passed, steps)
+    /// Waits until so many steps of the first driver have passed.
+    pub(crate) fn await_passed(&self, steps: u64) {
+        await_count(&self.passed, steps);
     }
 
     // A step of the first driver.
     fn step(&self) {
         self.came.fetch_add(1, Ordering::SeqCst);
         if let Some(count) = &self.until {
-            let _ = is_reached(count, 1);
+            await_count(count, 1);
         }
         self.passed.fetch_add(1, Ordering::SeqCst);
     }
 
-    // A tick. One that isn't allowed for too long passes, and so does each one after it.
-    fn tick(&self) {
-        for _ in 0..YIELDS {
+    // A tick.
+    fn tick(&self, end: &Bell) {
+        thread::sleep(&self.rt, Duration::from_millis(PACE));
+        let number = self.ticks.fetch_add(1, Ordering::SeqCst).saturating_add(1);
+        for _ in 0..u64::MAX {
+            if end.is_rung() || self.allowed.load(Ordering::SeqCst) >= number {
+                break;
+            }
             thread::yield_now();
-        }
-        let earlier = self.ticks.fetch_add(1, Ordering::SeqCst);
-        assert!(self.rt; earlier < TICKS, "more than a thousand ticks");
-        if !is_reached(&self.allowed, earlier.saturating_add(1)) {
-            self.allow(u64::MAX);
         }
         self.ticks_passed.fetch_add(1, Ordering::SeqCst);
     }
 }
 
-/// Waits until a count is reached, or for ten million turns, and says whether it is.
-pub(crate) fn is_reached(count: &AtomicU64, least: u64) -> bool {
-    for _ in 0..ASKS {
+/// Waits until a count is reached.
+pub(crate) fn await_count(count: &AtomicU64, least: u64) {
+    for _ in 0..u64::MAX {
         if count.load(Ordering::SeqCst) >= least {
-            return true;
+            return;
         }
         thread::yield_now();
     }
-    false
 }
 
-impl<R: Abort + Copy + Send + Sync> Gate for Watch<R> {
+impl<R: Clock + Copy + Send + Sync> Gate for Watch<R> {
     fn pass(&self, at: Point) {
+        self.pass_or_end(at, &Bell::new());
+    }
+
+    fn pass_or_end(&self, at: Point, end: &Bell) {
         match at {
             Point::DriverStep(1) => self.step(),
             Point::DriverStep(_) => {}
-            Point::FlusherTurn | Point::Tick => self.tick(),
+            Point::FlusherTurn | Point::Tick => self.tick(end),
         }
     }
 }

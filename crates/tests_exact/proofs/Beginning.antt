@@ -15,7 +15,7 @@ use Rattle.simulated_link.specs.StateView.{posted, first_noted, IsOpened}
 use Rattle.simulated_link.specs.Moments.{Moment, Resting, hearing, at_link, Step, Begins, Settles, Brings, BringsNone, Runs, Starts}
 use Rattle.world.specs.Starts.{at_first}
 use Rattle.world.specs.Exact.{media_with}
-use Rattle.tests_exact.proofs.Small.{old_0, old_1, new_0, image, image_sectors, disk, idle, supply, write_both, write_fits}
+use Rattle.tests_exact.proofs.Small.{area, old_0, old_1, new_0, image, image_sectors, disk, idle, supply, write_both, write_fits}
 use Rattle.tests_exact.proofs.Drivers.{slot, at_second, begins_write}
 use Rattle.tests_exact.proofs.Making.{◌▸◌, nothing_after, disks_after, runs_event, at_rest, between, posts}
 
@@ -86,20 +86,20 @@ opened policy events = record {
   starved = refl;
 }
 
-step_1 : (policy : Policy) (later : List Event) → Step 0 (start policy (event.Flush ∷ later)) (flush_heard policy later)
+step_1 : (policy : Policy) (later : List Event) → Step area (start policy (event.Flush ∷ later)) (flush_heard policy later)
 step_1 policy later = Brings incoming.Flush _ (between refl refl refl refl) refl (runs_event event.Flush _ refl refl refl refl (refl, refl))
 
-step_2 : (policy : Policy) (later : List Event) → Step 0 (flush_heard policy later) (write_begun policy later)
+step_2 : (policy : Policy) (later : List Event) → Step area (flush_heard policy later) (write_begun policy later)
 step_2 policy later = Begins write_both refl (record { next = refl; room = lit≤ tt })
 
-step_3 : (policy : Policy) (later : List Event) → Step 0 (write_begun policy later) (write_posted policy later)
+step_3 : (policy : Policy) (later : List Event) → Step area (write_begun policy later) (write_posted policy later)
 step_3 policy later =
     posts (driver 1) write_both refl refl refl refl refl write_fits refl refl (lit≤ tt)
 
-step_4 : (policy : Policy) (later : List Event) → Step 0 (write_posted policy later) (flush_done policy later)
+step_4 : (policy : Policy) (later : List Event) → Step area (write_posted policy later) (flush_done policy later)
 step_4 policy later = Settles incoming.Flush refl (at_rest refl refl)
 
-step_5 : (policy : Policy) (later : List Event) → Step 0 (flush_done policy (event.Step 1 ∷ later)) (half_written policy later)
+step_5 : (policy : Policy) (later : List Event) → Step area (flush_done policy (event.Step 1 ∷ later)) (half_written policy later)
 step_5 policy later = BringsNone _ (between refl refl refl refl) refl (runs_event (event.Step 1) _ refl refl refl refl (record {
   step = Some Working;
   disks = _;
@@ -108,10 +108,10 @@ step_5 policy later = BringsNone _ (between refl refl refl refl) refl (runs_even
 }))
 
 -- the flush, in four steps
-pub flushes : (policy : Policy) (later : List Event) → Runs 0 (start policy (event.Flush ∷ later)) (flush_done policy later)
+pub flushes : (policy : Policy) (later : List Event) → Runs area (start policy (event.Flush ∷ later)) (flush_done policy later)
 flushes policy later = Starts ▸ step_1 policy later ▸ step_2 policy later ▸ step_3 policy later ▸ step_4 policy later
 
 -- and half of the write
 pub writes_half : (policy : Policy) (later : List Event)
-    → Runs 0 (start policy (event.Flush ∷ event.Step 1 ∷ later)) (half_written policy later)
+    → Runs area (start policy (event.Flush ∷ event.Step 1 ∷ later)) (half_written policy later)
 writes_half policy later = flushes policy (event.Step 1 ∷ later) ▸ step_5 policy later

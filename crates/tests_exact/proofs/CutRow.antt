@@ -13,7 +13,7 @@ use Rattle.schedule.specs.Headline.{Transcript}
 use Rattle.simulated_link.specs.StateView.{ended, Stays, IsRunOut, TakesEnd}
 use Rattle.simulated_link.specs.Moments.{Moment, Answering, at_link, Step, Takes, BringsNone, HandsCall, Runs}
 use Rattle.world.specs.Exact.{IsExact}
-use Rattle.tests_exact.proofs.Small.{old_0, old_1, image, setup, idle, supply, write_both, client, sync}
+use Rattle.tests_exact.proofs.Small.{area, sizes, sectors_with, old_0, old_1, image, setup, idle, supply, write_both, client, sync}
 use Rattle.tests_exact.proofs.Making.{◌▸◌, nothing_after, runs_event, at_rest, between}
 use Rattle.tests_exact.proofs.Beginning.{start, flush_done, opened, flushes}
 
@@ -41,18 +41,18 @@ sync_begun = record sync_waits { run = record (sync_waits.run) { queue = [] }; d
 abbrev pub cut : Moment
 cut = at_link (Received incoming.End) (ended sync_begun.run) sync_begun
 
-step_5 : Step 0 flushed sync_waits
+step_5 : Step area flushed sync_waits
 step_5 = BringsNone _ (between refl refl refl refl) refl (runs_event (event.Arrive client 100 sync.call) _ refl refl refl refl (refl, refl))
 
-step_6 : Step 0 sync_waits sync_begun
+step_6 : Step area sync_waits sync_begun
 step_6 = HandsCall sync _ (between refl refl refl refl) refl (record { first = refl; after = refl })
 
-step_7 : Step 0 sync_begun cut
+step_7 : Step area sync_begun cut
 step_7 = Takes incoming.End sync _ refl (record { at_rest = at_rest refl refl; live = refl; needed = refl })
     (TakesEnd _ refl (IsRunOut _ Stays (record { events = lit≤ tt; paid = refl })))
 
 -- the row
-row : Runs 0 (start default_policy events) cut
+row : Runs area (start default_policy events) cut
 row = flushes default_policy later ▸ step_5 ▸ step_6 ▸ step_7
 
 -- what is read off: the call has no answer
@@ -63,11 +63,11 @@ transcript = record {
   drivers = idle ∷ [];
   frames = λ block. None;
   unanswered = 1;
-  image = concat (old_0 ∷ old_1 ∷ []);
+  image = concat (sectors_with old_0 old_1);
 }
 
 -- the run is the schedule's, exactly
-pub cut_is_exact : IsExact image (setup default_policy) supply events transcript
+pub cut_is_exact : IsExact sizes image (setup default_policy) supply events transcript
 cut_is_exact = record {
   first = (start default_policy events).run;
   opened = opened default_policy events;

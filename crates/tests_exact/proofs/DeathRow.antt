@@ -29,7 +29,7 @@ use Rattle.simulated_link.specs.StateView as link
 use Rattle.simulated_link.specs.Moments.{Moment, Resting, Answering, hearing, at_link, Step, Takes, Settles, Brings, BringsNone, HandsCall}
 use Rattle.simulated_link.specs.Moments.{Replies, Runs}
 use Rattle.world.specs.Exact.{IsExact}
-use Rattle.tests_exact.proofs.Small.{torn, new_0, new_1, image, disk, setup, idle, supply, write_both, write_fits, client, sync}
+use Rattle.tests_exact.proofs.Small.{area, sizes, sectors_with, torn, new_0, new_1, image, disk, setup, idle, supply, write_both, write_fits, client, sync}
 use Rattle.tests_exact.proofs.Drivers.{slot, at_second, done, answer, reply_of, begins_write, ends_write}
 use Rattle.tests_exact.proofs.Making.{◌▸◌, after_event, nothing_after, disks_after, runs_event, at_rest, between, posts}
 use Rattle.tests_exact.proofs.Beginning.{start, half_written, opened, writes_half}
@@ -115,7 +115,7 @@ answer_taken = at_link (Received (incoming.Reply (reply_of 2)))
 abbrev pub sync_done : Moment
 sync_done = record answer_taken { run = noting (entry.Took client 100 sync.call reply.Done) answer_taken.run; doing = Resting }
 
-step_6 : Step 0 half dead
+step_6 : Step area half dead
 step_6 = BringsNone _ (between refl refl refl refl) refl (runs_event (event.Die 1 (Some torn)) death refl refl refl refl (record {
   died = true;
   disks = _;
@@ -123,7 +123,7 @@ step_6 = BringsNone _ (between refl refl refl refl) refl (runs_event (event.Die 
   after = record { ruling = Fault; is = refl; tells = refl; after = refl };
 }))
 
-step_7 : Step 0 dead restarted
+step_7 : Step area dead restarted
 step_7 = Brings (incoming.Started (driver 2)) _ (between refl refl refl refl) refl
     (runs_event event.Tick restart_at_1 refl refl refl refl (record {
       action = restart.Start (driver 2);
@@ -133,13 +133,13 @@ step_7 = Brings (incoming.Started (driver 2)) _ (between refl refl refl refl) re
       after = refl;
     }))
 
-step_8 : Step 0 restarted posted_again
+step_8 : Step area restarted posted_again
 step_8 = posts (driver 2) write_both refl refl refl refl refl write_fits refl refl (lit≤ tt)
 
-step_9 : Step 0 posted_again restart_heard
+step_9 : Step area posted_again restart_heard
 step_9 = Settles (incoming.Started (driver 2)) refl (at_rest refl refl)
 
-step_10 : Step 0 restart_heard half_again
+step_10 : Step area restart_heard half_again
 step_10 = BringsNone _ (between refl refl refl refl) refl (runs_event (event.Step 2) _ refl refl refl refl (record {
   step = Some Working;
   disks = _;
@@ -147,7 +147,7 @@ step_10 = BringsNone _ (between refl refl refl refl) refl (runs_event (event.Ste
   after = (refl, refl);
 }))
 
-step_11 : Step 0 half_again written
+step_11 : Step area half_again written
 step_11 = BringsNone _ (between refl refl refl refl) refl (runs_event (event.Step 2) _ refl refl refl refl (record {
   step = Some (Done answer);
   disks = _;
@@ -155,31 +155,31 @@ step_11 = BringsNone _ (between refl refl refl refl) refl (runs_event (event.Ste
   after = (refl, refl);
 }))
 
-step_12 : Step 0 written sync_waits
+step_12 : Step area written sync_waits
 step_12 = BringsNone _ (between refl refl refl refl) refl
     (runs_event (event.Arrive client 100 sync.call) _ refl refl refl refl (refl, refl))
 
-step_13 : Step 0 sync_waits sync_begun
+step_13 : Step area sync_waits sync_begun
 step_13 = HandsCall sync _ (between refl refl refl refl) refl (record { first = refl; after = refl })
 
-step_14 : Step 0 sync_begun answer_taken
+step_14 : Step area sync_begun answer_taken
 step_14 = Takes (incoming.Reply (reply_of 2)) sync _ refl (record { at_rest = at_rest refl refl; live = refl; needed = refl })
     (link.Takes (incoming.Reply (reply_of 2)) _ (Goes _ _ (Some (incoming.Reply (reply_of 2))) Stays
     (runs_event (event.Deliver 0) _ refl refl refl refl (refl, refl))))
 
-step_15 : Step 0 answer_taken sync_done
+step_15 : Step area answer_taken sync_done
 step_15 = Replies sync reply.Done refl refl (at_rest refl refl)
 
 -- the row up to the sync's beginning
-pub until_sync : Runs 0 (start default_policy events) sync_begun
+pub until_sync : Runs area (start default_policy events) sync_begun
 until_sync = writes_half default_policy later ▸ step_6 ▸ step_7 ▸ step_8 ▸ step_9 ▸ step_10 ▸ step_11 ▸ step_12 ▸ step_13
 
 -- the row up to the answer
-pub until_answer : Runs 0 (start default_policy events) answer_taken
+pub until_answer : Runs area (start default_policy events) answer_taken
 until_answer = until_sync ▸ step_14
 
 -- the row
-row : Runs 0 (start default_policy events) sync_done
+row : Runs area (start default_policy events) sync_done
 row = until_answer ▸ step_15
 
 -- what is read off its last moment: the record, the reply that was sent, both drivers, no call left, and both sectors as they were written
@@ -191,11 +191,11 @@ transcript = record {
   drivers = at_second ∷ done ∷ [];
   frames = λ block. None;
   unanswered = 0;
-  image = concat (new_0 ∷ new_1 ∷ []);
+  image = concat (sectors_with new_0 new_1);
 }
 
 -- the run is the schedule's, exactly
-pub death_is_exact : IsExact image (setup default_policy) supply events transcript
+pub death_is_exact : IsExact sizes image (setup default_policy) supply events transcript
 death_is_exact = record {
   first = (start default_policy events).run;
   opened = opened default_policy events;

@@ -19,7 +19,7 @@ use Rattle.simulated_link.specs.RunState.{begun}
 use Rattle.simulated_link.specs.Ruling.{ruling_of}
 use Rattle.simulated_link.specs.Scene.{Scene, Occurs, Exits, AfterDeath, ActsAt, faulted, ruled, told_of_ruling, acted, told_of_action}
 use Rattle.simulated_link.specs.Scene.{tick_event}
-use Rattle.tests_exact.proofs.Small.{torn, client, sync}
+use Rattle.tests_exact.proofs.Small.{area, torn, client, sync}
 use Rattle.tests_exact.proofs.Making.{after_event}
 use Rattle.tests_exact.proofs.Only.{RunsNext, next_event, moment_after}
 use Rattle.tests_exact.proofs.Beginning as beginning
@@ -77,26 +77,26 @@ death_is result a d =
     exit_so 1 (record b { disks = first.death.disks }) result a after
 
 -- the only step from there leads to that
-pub only_death : (a : Moment) → Step 0 first.half a → a ≡ first.dead
+pub only_death : (a : Moment) → Step area first.half a → a ≡ first.dead
 only_death a step =
     leads_to first.half (event.Die 1 (Some torn)) None first.death a
-    (next_event first.half (event.Die 1 (Some torn)) refl refl refl refl 0 a step) death_is
+    (next_event first.half (event.Die 1 (Some torn)) refl refl refl refl area a step) death_is
 
 -- the next tick starts driver 2
 restart_is : (result : Option Incoming) (a : Scene) → Occurs 3 event.Tick (begun event.Tick first.dead.run.scene) result a
     → (result ≡ Some (incoming.Started (driver 2))) × (a ≡ first.restart_at_1)
 restart_is result a t = tick_so _ result a t
 
-pub only_restart : (a : Moment) → Step 0 first.dead a → a ≡ first.restarted
+pub only_restart : (a : Moment) → Step area first.dead a → a ≡ first.restarted
 only_restart a step =
     leads_to first.dead event.Tick (Some (incoming.Started (driver 2))) first.restart_at_1 a
-    (next_event first.dead event.Tick refl refl refl refl 0 a step) restart_is
+    (next_event first.dead event.Tick refl refl refl refl area a step) restart_is
 
 -- a call that arrives waits
-pub only_arrival : (a : Moment) → Step 0 first.written a → a ≡ first.sync_waits
+pub only_arrival : (a : Moment) → Step area first.written a → a ≡ first.sync_waits
 only_arrival a step =
     leads_to first.written (event.Arrive client 100 sync.call) None (begun (event.Arrive client 100 sync.call) first.written.run.scene) a
-    (next_event first.written (event.Arrive client 100 sync.call) refl refl refl refl 0 a step) (λ r x o. o)
+    (next_event first.written (event.Arrive client 100 sync.call) refl refl refl refl area a step) (λ r x o. o)
 
 -- where driver 2 runs and driver 1 lives, driver 1 is the first of the older ones
 older_is : (at : ℕ) (was : Slot) → IsOlder 1 older.stepped.run.scene.disks at was → (at ≡ 0) × (older.hanging ≡ was)
@@ -131,22 +131,22 @@ older_death_is result a d =
     (subst (λ (x : Disks). AfterDeath d.died 1 (record b { disks = x }) result a) this.1 d.after) in
     exit_so 1 (record b { disks = older.dead.run.scene.disks }) result a after
 
-pub only_older_death : (a : Moment) → Step 0 older.stepped a → a ≡ older.dead
+pub only_older_death : (a : Moment) → Step area older.stepped a → a ≡ older.dead
 only_older_death a step =
     leads_to older.stepped (event.Die 1 (Some torn)) None older.dead.run.scene a
-    (next_event older.stepped (event.Die 1 (Some torn)) refl refl refl refl 0 a step) older_death_is
+    (next_event older.stepped (event.Die 1 (Some torn)) refl refl refl refl area a step) older_death_is
 
 -- so it is where other events are next: a flush, a hang, a heartbeat that is missed, the start after it
-pub only_flush : (a : Moment) → Step 0 (beginning.start default_policy first.events) a
+pub only_flush : (a : Moment) → Step area (beginning.start default_policy first.events) a
     → a ≡ beginning.flush_heard default_policy (event.Step 1 ∷ first.later)
 only_flush a step =
     let m = beginning.start default_policy first.events in
     leads_to m event.Flush (Some incoming.Flush) (begun event.Flush m.run.scene) a
-    (next_event m event.Flush refl refl refl refl 0 a step) (λ r x o. o)
+    (next_event m event.Flush refl refl refl refl area a step) (λ r x o. o)
 
-pub only_hang : (a : Moment) → Step 0 older.half a → a ≡ older.hung
+pub only_hang : (a : Moment) → Step area older.half a → a ≡ older.hung
 only_hang a step =
-    leads_to older.half (event.Hang 1) None older.hung.run.scene a (next_event older.half (event.Hang 1) refl refl refl refl 0 a step)
+    leads_to older.half (event.Hang 1) None older.hung.run.scene a (next_event older.half (event.Hang 1) refl refl refl refl area a step)
     (λ r x o.
     let hangs : o.disks ≡ older.hung.run.scene.disks = by o.disks o.does in
     (o.tells, o.after ∙ ap (λ (d : Disks). record (begun (event.Hang 1) older.half.run.scene) { disks = d }) hangs)) where
@@ -156,12 +156,12 @@ only_hang a step =
       by _ (CurrentHangs same) = refl
       by _ (OlderHangs at was o) = absurd (none_below 1 o.older)
 
-pub only_missed : (a : Moment) → Step 0 older.hung a → a ≡ older.missed
+pub only_missed : (a : Moment) → Step area older.hung a → a ≡ older.missed
 only_missed a step =
     leads_to older.hung event.Tick None older.missed_at_1 a
-    (next_event older.hung event.Tick refl refl refl refl 0 a step) (λ r x o. tick_so _ r x o)
+    (next_event older.hung event.Tick refl refl refl refl area a step) (λ r x o. tick_so _ r x o)
 
-pub only_late_start : (a : Moment) → Step 0 older.missed a → a ≡ older.restarted
+pub only_late_start : (a : Moment) → Step area older.missed a → a ≡ older.restarted
 only_late_start a step =
     leads_to older.missed event.Tick (Some (incoming.Started (driver 2))) older.restart_at_2 a
-    (next_event older.missed event.Tick refl refl refl refl 0 a step) (λ r x o. tick_so _ r x o)
+    (next_event older.missed event.Tick refl refl refl refl area a step) (λ r x o. tick_so _ r x o)

@@ -31,10 +31,10 @@ whole = record untouched { moved = λ k. (k == 0) || (k == 1) }
 
 -- a driver that took the write, and names the first sector; one that wrote it, and names the second; one that has done with it
 abbrev pub begins : DriverState
-begins = record idle { last = 1; work = Some untouched; in_work = Some 0 }
+begins = record idle { last = 1; work = Some untouched; in_work = Some 4 }
 
 abbrev pub at_second : DriverState
-at_second = record idle { last = 1; work = Some half; in_work = Some 1 }
+at_second = record idle { last = 1; work = Some half; in_work = Some 5 }
 
 abbrev pub done : DriverState
 done = record idle { last = 1 }
@@ -64,7 +64,7 @@ takes_write others =
     (Taken, (refl, lit≤ tt, takes), refl)
 
 -- it writes the first sector
-writes_first : (g : ℕ) (a b : List ℕ) → accepts (disk a b g) g 0 ≡ true → disk new_0 b g ≡ written (disk a b g) g 0 new_0
+writes_first : (g : ℕ) (a b : List ℕ) → accepts (disk a b g) g 4 ≡ true → disk new_0 b g ≡ written (disk a b g) g 4 new_0
     → StepKeeps begins (disk a b g) g Working at_second (disk new_0 b g)
 writes_first g a b accepted is = record {
   same_ranges = refl;
@@ -72,7 +72,7 @@ writes_first g a b accepted is = record {
   steps = (
     half,
     inr (record {
-      run = record { first = 0; count = 2 };
+      run = record { first = 4; count = 2 };
       number = 0;
       next = record { plan = refl; within = lit≤ tt; named = λ w. refl };
       accepted = accepted;
@@ -94,7 +94,7 @@ each_moved (suc zero) near = refl
 each_moved (suc (suc k)) far = absurd (too_far k far)
 
 -- it writes the second, and answers
-writes_second : (g : ℕ) (a b : List ℕ) → accepts (disk a b g) g 1 ≡ true → disk a new_1 g ≡ written (disk a b g) g 1 new_1
+writes_second : (g : ℕ) (a b : List ℕ) → accepts (disk a b g) g 5 ≡ true → disk a new_1 g ≡ written (disk a b g) g 5 new_1
     → StepKeeps at_second (disk a b g) g (Done answer) done (disk a new_1 g)
 writes_second g a b accepted is = record {
   same_ranges = refl;
@@ -102,7 +102,7 @@ writes_second g a b accepted is = record {
   steps = (
     whole,
     inr (record {
-      run = record { first = 0; count = 2 };
+      run = record { first = 4; count = 2 };
       number = 1;
       next = record { plan = refl; within = lit≤ tt; named = λ w. refl };
       accepted = accepted;
@@ -121,7 +121,7 @@ writes_second g a b accepted is = record {
 }
 
 -- a driver with the write on its line takes it, and writes the first sector
-pub begins_write : (g : ℕ) (a b : List ℕ) → accepts (disk a b g) g 0 ≡ true → disk new_0 b g ≡ written (disk a b g) g 0 new_0
+pub begins_write : (g : ℕ) (a b : List ℕ) → accepts (disk a b g) g 4 ≡ true → disk new_0 b g ≡ written (disk a b g) g 4 new_0
     → SlotSteps g (record (slot idle) { line = write_both ∷ [] }) (disk a b g) Working (slot at_second) (disk new_0 b g)
 begins_write g a b accepted is = record {
   handed = begins;
@@ -134,7 +134,7 @@ begins_write g a b accepted is = record {
 }
 
 -- at its next step it writes the second, and answers
-pub ends_write : (g : ℕ) (a b : List ℕ) → accepts (disk a b g) g 1 ≡ true → disk a new_1 g ≡ written (disk a b g) g 1 new_1
+pub ends_write : (g : ℕ) (a b : List ℕ) → accepts (disk a b g) g 5 ≡ true → disk a new_1 g ≡ written (disk a b g) g 5 new_1
     → SlotSteps g (slot at_second) (disk a b g) (Done answer) (slot done) (disk a new_1 g)
 ends_write g a b accepted is = record {
   handed = at_second;

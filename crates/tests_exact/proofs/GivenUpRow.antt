@@ -25,7 +25,7 @@ use Rattle.simulated_link.specs.StateView.{RunState, RunsEvent, noting, paid, co
 use Rattle.simulated_link.specs.Moments.{Moment, Resting, Answering, hearing, at_link, Step, Tells, Takes, Settles, BringsNone, Pays}
 use Rattle.simulated_link.specs.Moments.{HandsCall, Replies, Runs}
 use Rattle.world.specs.Exact.{IsExact}
-use Rattle.tests_exact.proofs.Small.{old_0, old_1, image, disk, setup, supply, write_both, client, close, sync}
+use Rattle.tests_exact.proofs.Small.{area, sizes, sectors_with, old_0, old_1, image, disk, setup, supply, write_both, client, close, sync}
 use Rattle.tests_exact.proofs.Drivers.{slot, failing, error, error_of, fails_write}
 use Rattle.tests_exact.proofs.Making.{◌▸◌, nothing_after, disks_after, runs_event, at_rest, between}
 use Rattle.tests_exact.proofs.Beginning.{start, flush_done, opened, flushes}
@@ -97,11 +97,11 @@ sync_begun = record told_heard { run = record (told_heard.run) { queue = [] }; d
 abbrev pub sync_failed : Moment
 sync_failed = record sync_begun { run = noting (entry.Took client 100 sync.call (reply.Refused EIO)) sync_begun.run; doing = Resting }
 
-step_5 : Step 0 flushed close_waits
+step_5 : Step area flushed close_waits
 step_5 = BringsNone _ (between refl refl refl refl) refl
     (runs_event (event.Arrive client 100 close.call) _ refl refl refl refl (refl, refl))
 
-step_6 : Step 0 close_waits close_begun
+step_6 : Step area close_waits close_begun
 step_6 = HandsCall close _ (between refl refl refl refl) refl (record { first = refl; after = refl })
 
 arrives : RunsEvent close_begun.run None sync_arrived
@@ -118,31 +118,31 @@ fails = runs_event (event.Step 1) _ refl refl refl refl (record {
 delivers : RunsEvent failed (Some (incoming.Reply (error_of 1))) (nothing_after (event.Deliver 0) failed)
 delivers = runs_event (event.Deliver 0) _ refl refl refl refl (refl, refl)
 
-step_7 : Step 0 close_begun error_taken
+step_7 : Step area close_begun error_taken
 step_7 = Takes (incoming.Reply (error_of 1)) close _ refl (record { at_rest = at_rest refl refl; live = refl; needed = refl })
     (link.Takes (incoming.Reply (error_of 1)) _
     (Goes _ _ (Some (incoming.Reply (error_of 1))) (Goes _ _ None (Goes _ _ None Stays arrives) fails) delivers))
 
-step_8 : Step 0 error_taken complaint_made
+step_8 : Step area error_taken complaint_made
 step_8 = Tells (Complained (driver 1)) _ refl refl refl (link.Complains (driver 1))
 
-step_9 : Step 0 complaint_made close_done
+step_9 : Step area complaint_made close_done
 step_9 = Replies close reply.Done refl refl (at_rest refl refl)
 
-step_10 : Step 0 close_done told
+step_10 : Step area close_done told
 step_10 = Pays (between refl refl refl refl) refl refl
 
-step_11 : Step 0 told told_heard
+step_11 : Step area told told_heard
 step_11 = Settles incoming.GaveUp refl (at_rest refl refl)
 
-step_12 : Step 0 told_heard sync_begun
+step_12 : Step area told_heard sync_begun
 step_12 = HandsCall sync _ (between refl refl refl refl) refl (record { first = refl; after = refl })
 
-step_13 : Step 0 sync_begun sync_failed
+step_13 : Step area sync_begun sync_failed
 step_13 = Replies sync (reply.Refused EIO) refl refl (at_rest refl refl)
 
 -- the row
-row : Runs 0 (start strict events) sync_failed
+row : Runs area (start strict events) sync_failed
 row = flushes strict later ▸ step_5 ▸ step_6 ▸ step_7 ▸ step_8 ▸ step_9 ▸ step_10 ▸ step_11 ▸ step_12 ▸ step_13
 
 -- what is read off: nothing was written
@@ -154,11 +154,11 @@ transcript = record {
   drivers = failing ∷ [];
   frames = λ block. None;
   unanswered = 0;
-  image = concat (old_0 ∷ old_1 ∷ []);
+  image = concat (sectors_with old_0 old_1);
 }
 
 -- the run is the schedule's, exactly
-pub given_up_is_exact : IsExact image (setup strict) supply events transcript
+pub given_up_is_exact : IsExact sizes image (setup strict) supply events transcript
 given_up_is_exact = record {
   first = (start strict events).run;
   opened = opened strict events;

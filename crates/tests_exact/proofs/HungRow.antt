@@ -23,7 +23,7 @@ use Rattle.simulated_link.specs.Scene.{Scene}
 use Rattle.simulated_link.specs.StateView.{posted}
 use Rattle.simulated_link.specs.Moments.{Moment, Resting, hearing, at_link, Step, Settles, Brings, BringsNone, Runs}
 use Rattle.world.specs.Exact.{IsExact}
-use Rattle.tests_exact.proofs.Small.{old_1, torn, new_0, image, disk, setup, idle, supply, write_both, write_fits}
+use Rattle.tests_exact.proofs.Small.{area, sizes, sectors_with, old_1, torn, new_0, image, disk, setup, idle, supply, write_both, write_fits}
 use Rattle.tests_exact.proofs.Drivers.{slot, at_second, moves_nothing}
 use Rattle.tests_exact.proofs.Making.{◌▸◌, after_event, disks_after, runs_event, at_rest, between, posts}
 use Rattle.tests_exact.proofs.Beginning.{start, half_written, opened, writes_half}
@@ -105,11 +105,11 @@ stepped = record restart_heard { run = disks_after (event.Step 1) (disks_with ha
 abbrev pub dead : Moment
 dead = record stepped { run = disks_after (event.Die 1 (Some torn)) (disks_with (dead_slot hanging)) stepped.run }
 
-step_6 : Step 0 half hung
+step_6 : Step area half hung
 step_6 = BringsNone _ (between refl refl refl refl) refl
     (runs_event (event.Hang 1) _ refl refl refl refl (record { tells = refl; disks = _; does = CurrentHangs refl; after = refl }))
 
-step_7 : Step 0 hung missed
+step_7 : Step area hung missed
 step_7 = BringsNone _ (between refl refl refl refl) refl (runs_event event.Tick missed_at_1 refl refl refl refl (record {
   action = restart.WaitUntil 2;
   is = refl;
@@ -118,7 +118,7 @@ step_7 = BringsNone _ (between refl refl refl refl) refl (runs_event event.Tick 
   after = refl;
 }))
 
-step_8 : Step 0 missed restarted
+step_8 : Step area missed restarted
 step_8 = Brings (incoming.Started (driver 2)) _ (between refl refl refl refl) refl
     (runs_event event.Tick restart_at_2 refl refl refl refl (record {
       action = restart.Start (driver 2);
@@ -128,13 +128,13 @@ step_8 = Brings (incoming.Started (driver 2)) _ (between refl refl refl refl) re
       after = refl;
     }))
 
-step_9 : Step 0 restarted posted_again
+step_9 : Step area restarted posted_again
 step_9 = posts (driver 2) write_both refl refl refl refl refl write_fits refl refl (lit≤ tt)
 
-step_10 : Step 0 posted_again restart_heard
+step_10 : Step area posted_again restart_heard
 step_10 = Settles (incoming.Started (driver 2)) refl (at_rest refl refl)
 
-step_11 : Step 0 restart_heard stepped
+step_11 : Step area restart_heard stepped
 step_11 = BringsNone _ (between refl refl refl refl) refl (runs_event (event.Step 1) _ refl refl refl refl (record {
   step = Some Working;
   disks = _;
@@ -143,7 +143,7 @@ step_11 = BringsNone _ (between refl refl refl refl) refl (runs_event (event.Ste
   after = (refl, refl);
 }))
 
-step_12 : Step 0 stepped dead
+step_12 : Step area stepped dead
 step_12 = BringsNone _ (between refl refl refl refl) refl (runs_event (event.Die 1 (Some torn)) _ refl refl refl refl (record {
   died = true;
   disks = _;
@@ -152,7 +152,7 @@ step_12 = BringsNone _ (between refl refl refl refl) refl (runs_event (event.Die
 }))
 
 -- the row
-row : Runs 0 (start quick events) dead
+row : Runs area (start quick events) dead
 row = writes_half quick later ▸ step_6 ▸ step_7 ▸ step_8 ▸ step_9 ▸ step_10 ▸ step_11 ▸ step_12
 
 -- what is read off: the second sector is as it was
@@ -164,11 +164,11 @@ transcript = record {
   drivers = at_second ∷ idle ∷ [];
   frames = λ block. None;
   unanswered = 0;
-  image = concat (new_0 ∷ old_1 ∷ []);
+  image = concat (sectors_with new_0 old_1);
 }
 
 -- the run is the schedule's, exactly
-pub hung_is_exact : IsExact image (setup quick) supply events transcript
+pub hung_is_exact : IsExact sizes image (setup quick) supply events transcript
 hung_is_exact = record {
   first = (start quick events).run;
   opened = opened quick events;

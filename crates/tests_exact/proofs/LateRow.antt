@@ -26,7 +26,7 @@ use Rattle.simulated_link.specs.Scene.{Scene}
 use Rattle.simulated_link.specs.StateView.{posted}
 use Rattle.simulated_link.specs.Moments.{Moment, Resting, hearing, at_link, Step, Settles, Brings, BringsNone, Runs}
 use Rattle.world.specs.Exact.{IsExact}
-use Rattle.tests_exact.proofs.Small.{old_1, new_0, new_1, image, disk, setup, idle, supply, write_both, write_fits}
+use Rattle.tests_exact.proofs.Small.{area, sizes, sectors_with, old_1, new_0, new_1, image, disk, setup, idle, supply, write_both, write_fits}
 use Rattle.tests_exact.proofs.Drivers.{slot, at_second, done, answer, reply_of, begins_write, ends_write}
 use Rattle.tests_exact.proofs.Making.{◌▸◌, after_event, nothing_after, disks_after, runs_event, at_rest, between, posts}
 use Rattle.tests_exact.proofs.Beginning.{start, half_written, opened, writes_half}
@@ -129,7 +129,7 @@ heard_again = hearing (incoming.Reply (reply_of 2)) (nothing_after (event.Delive
 abbrev pub all_done : Moment
 all_done = record heard_again { doing = Resting }
 
-step_6 : Step 0 half written
+step_6 : Step area half written
 step_6 = BringsNone _ (between refl refl refl refl) refl (runs_event (event.Step 1) _ refl refl refl refl (record {
   step = Some (Done answer);
   disks = _;
@@ -137,7 +137,7 @@ step_6 = BringsNone _ (between refl refl refl refl) refl (runs_event (event.Step
   after = (refl, refl);
 }))
 
-step_7 : Step 0 written dead
+step_7 : Step area written dead
 step_7 = BringsNone _ (between refl refl refl refl) refl (runs_event (event.Die 1 None) death refl refl refl refl (record {
   died = true;
   disks = _;
@@ -145,7 +145,7 @@ step_7 = BringsNone _ (between refl refl refl refl) refl (runs_event (event.Die 
   after = record { ruling = Fault; is = refl; tells = refl; after = refl };
 }))
 
-step_8 : Step 0 dead restarted
+step_8 : Step area dead restarted
 step_8 = Brings (incoming.Started (driver 2)) _ (between refl refl refl refl) refl
     (runs_event event.Tick restart_at_1 refl refl refl refl (record {
       action = restart.Start (driver 2);
@@ -155,20 +155,20 @@ step_8 = Brings (incoming.Started (driver 2)) _ (between refl refl refl refl) re
       after = refl;
     }))
 
-step_9 : Step 0 restarted posted_again
+step_9 : Step area restarted posted_again
 step_9 = posts (driver 2) write_both refl refl refl refl refl write_fits refl refl (lit≤ tt)
 
-step_10 : Step 0 posted_again restart_heard
+step_10 : Step area posted_again restart_heard
 step_10 = Settles (incoming.Started (driver 2)) refl (at_rest refl refl)
 
-step_11 : Step 0 restart_heard late_heard
+step_11 : Step area restart_heard late_heard
 step_11 = Brings (incoming.Reply (reply_of 1)) _ (between refl refl refl refl) refl
     (runs_event (event.Deliver 0) _ refl refl refl refl (refl, refl))
 
-step_12 : Step 0 late_heard late_done
+step_12 : Step area late_heard late_done
 step_12 = Settles (incoming.Reply (reply_of 1)) refl (at_rest refl refl)
 
-step_13 : Step 0 late_done half_again
+step_13 : Step area late_done half_again
 step_13 = BringsNone _ (between refl refl refl refl) refl (runs_event (event.Step 2) _ refl refl refl refl (record {
   step = Some Working;
   disks = _;
@@ -176,7 +176,7 @@ step_13 = BringsNone _ (between refl refl refl refl) refl (runs_event (event.Ste
   after = (refl, refl);
 }))
 
-step_14 : Step 0 half_again written_again
+step_14 : Step area half_again written_again
 step_14 = BringsNone _ (between refl refl refl refl) refl (runs_event (event.Step 2) _ refl refl refl refl (record {
   step = Some (Done answer);
   disks = _;
@@ -184,22 +184,22 @@ step_14 = BringsNone _ (between refl refl refl refl) refl (runs_event (event.Ste
   after = (refl, refl);
 }))
 
-step_15 : Step 0 written_again answer_heard
+step_15 : Step area written_again answer_heard
 step_15 = Brings (incoming.Reply (reply_of 2)) _ (between refl refl refl refl) refl
     (runs_event (event.Deliver 1) _ refl refl refl refl (refl, refl))
 
-step_16 : Step 0 answer_heard answer_done
+step_16 : Step area answer_heard answer_done
 step_16 = Settles (incoming.Reply (reply_of 2)) refl (at_rest refl refl)
 
-step_17 : Step 0 answer_done heard_again
+step_17 : Step area answer_done heard_again
 step_17 = Brings (incoming.Reply (reply_of 2)) _ (between refl refl refl refl) refl
     (runs_event (event.Deliver 1) _ refl refl refl refl (refl, refl))
 
-step_18 : Step 0 heard_again all_done
+step_18 : Step area heard_again all_done
 step_18 = Settles (incoming.Reply (reply_of 2)) refl (at_rest refl refl)
 
 -- the row
-row : Runs 0 (start default_policy events) all_done
+row : Runs area (start default_policy events) all_done
 row = writes_half default_policy later ▸ step_6 ▸ step_7 ▸ step_8 ▸ step_9 ▸ step_10 ▸ step_11 ▸ step_12 ▸ step_13 ▸ step_14 ▸ step_15
     ▸ step_16 ▸ step_17 ▸ step_18
 
@@ -212,11 +212,11 @@ transcript = record {
   drivers = done ∷ done ∷ [];
   frames = λ block. None;
   unanswered = 0;
-  image = concat (new_0 ∷ new_1 ∷ []);
+  image = concat (sectors_with new_0 new_1);
 }
 
 -- the run is the schedule's, exactly
-pub late_is_exact : IsExact image (setup default_policy) supply events transcript
+pub late_is_exact : IsExact sizes image (setup default_policy) supply events transcript
 late_is_exact = record {
   first = (start default_policy events).run;
   opened = opened default_policy events;

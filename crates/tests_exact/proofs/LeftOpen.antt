@@ -24,14 +24,14 @@ use Rattle.simulated_link.specs.Disks.{Disks, SlotSteps, hung_slot, CurrentSteps
 use Rattle.simulated_link.specs.StateView.{noting}
 use Rattle.simulated_link.specs.Moments.{Moment, Resting, hearing, Step, Begins, Settles, Brings, BringsNone, Replies}
 use Rattle.world.specs.Exact.{IsExact}
-use Rattle.tests_exact.proofs.Small.{old_1, new_0, new_1, image, disk, setup, supply, write_both, client, sync}
+use Rattle.tests_exact.proofs.Small.{area, sizes, sectors_with, old_1, new_0, new_1, image, disk, setup, supply, write_both, client, sync}
 use Rattle.tests_exact.proofs.Drivers.{slot, at_second, done, answer, reply_of, ends_write}
 use Rattle.tests_exact.proofs.Making.{◌▸◌, nothing_after, disks_after, runs_event, at_rest, between}
 use Rattle.tests_exact.proofs.Beginning.{start, flush_heard, half_written, opened, writes_half}
 use Rattle.tests_exact.proofs.DeathRow.{events, sync_begun, answer_taken, until_sync, until_answer, transcript, death_is_exact}
 
 -- What the server's frames hold is read off no moment.
-pub any_frames : (frames : Frames) → IsExact image (setup default_policy) supply events (record transcript { frames = frames })
+pub any_frames : (frames : Frames) → IsExact sizes image (setup default_policy) supply events (record transcript { frames = frames })
 any_frames frames = record {
   first = death_is_exact.first;
   opened = death_is_exact.opened;
@@ -52,7 +52,7 @@ abbrev replied : Reply → Moment
 replied r = record answer_taken { run = noting (entry.Took client 100 sync.call r) answer_taken.run; doing = Resting }
 
 -- Any reply may be given to a call.
-pub any_reply : (r : Reply) → IsExact image (setup default_policy) supply events (record transcript {
+pub any_reply : (r : Reply) → IsExact sizes image (setup default_policy) supply events (record transcript {
   marks = Took client 100 sync.call (answer_of r) ∷ Answered (reply_of 2) ∷ Issued write_both (driver 2) ∷ Started (driver 2)
       ∷ Fault (driver 1) Exit ∷ Issued write_both (driver 1) ∷ Flush ∷ Started (driver 1) ∷ [];
 })
@@ -74,7 +74,7 @@ abbrev heard_late : Moment
 heard_late = hearing (incoming.Reply (reply_of 2)) (nothing_after (event.Deliver 0) too_soon.run) too_soon
 
 -- A sync may be answered before what it waits for.
-pub synced_too_soon : IsExact image (setup default_policy) supply events (record transcript {
+pub synced_too_soon : IsExact sizes image (setup default_policy) supply events (record transcript {
   marks = Answered (reply_of 2) ∷ Took client 100 sync.call answer.done ∷ Issued write_both (driver 2) ∷ Started (driver 2)
       ∷ Fault (driver 1) Exit ∷ Issued write_both (driver 1) ∷ Flush ∷ Started (driver 1) ∷ [];
 })
@@ -86,26 +86,26 @@ synced_too_soon = record {
   over = record { spent = record { events = lit≤ tt; paid = refl }; calm = refl; ends = inl (refl, refl) };
   read_off = record { marks = refl; sent = refl; drivers = refl; image = refl; unanswered = refl };
 } where
-  answered : Step 0 sync_begun too_soon
+  answered : Step area sync_begun too_soon
   answered = Replies sync reply.Done refl refl (at_rest refl refl)
 
-  heard : Step 0 too_soon heard_late
+  heard : Step area too_soon heard_late
   heard = Brings (incoming.Reply (reply_of 2)) _ (between refl refl refl refl) refl
       (runs_event (event.Deliver 0) _ refl refl refl refl (refl, refl))
 
-  rests : Step 0 heard_late (record heard_late { doing = Resting })
+  rests : Step area heard_late (record heard_late { doing = Resting })
   rests = Settles (incoming.Reply (reply_of 2)) refl (at_rest refl refl)
 
 -- At a flush any request with the next id may become pending, whatever it writes and wherever.
 pub any_write : (policy : Policy) (more : List Event) (r : BlockRequest) → r.id ≡ 1
-    → Step 0 (flush_heard policy more) (record (flush_heard policy more) {
+    → Step area (flush_heard policy more) (record (flush_heard policy more) {
       outbox = record { never_issued = r ∷ []; unposted = r ∷ []; stopped = false; complaint = None };
     })
 any_write policy more r next = Begins r refl (record { next = next; room = lit≤ tt })
 
 -- Within any call too, even on sectors of a write that is open.
 pub any_write_in_a_call : (r : BlockRequest) → r.id ≡ 2
-    → Step 0 sync_begun (record sync_begun {
+    → Step area sync_begun (record sync_begun {
       outbox = record { never_issued = r ∷ []; unposted = r ∷ []; stopped = false; complaint = None };
     })
 any_write_in_a_call r next = Begins r refl (record { next = next; room = lit≤ tt })
@@ -138,13 +138,13 @@ abbrev heard_hung : Moment
 heard_hung = hearing (incoming.Reply (reply_of 1)) (nothing_after (event.Deliver 0) worked.run) worked
 
 -- A driver that hangs beats no more, but it steps where the schedule says so: it writes, answers, and its answer counts.
-pub hung_driver_works : IsExact image (setup default_policy) supply (event.Flush ∷ event.Step 1 ∷ hangs) (record {
+pub hung_driver_works : IsExact sizes image (setup default_policy) supply (event.Flush ∷ event.Step 1 ∷ hangs) (record {
   marks = Answered (reply_of 1) ∷ Issued write_both (driver 1) ∷ Flush ∷ Started (driver 1) ∷ [];
   sent = answered_hung ∷ [];
   drivers = done ∷ [];
   frames = λ block. None;
   unanswered = 0;
-  image = concat (new_0 ∷ new_1 ∷ []);
+  image = concat (sectors_with new_0 new_1);
 })
 hung_driver_works = record {
   first = (start default_policy (event.Flush ∷ event.Step 1 ∷ hangs)).run;
@@ -154,7 +154,7 @@ hung_driver_works = record {
   over = record { spent = record { events = lit≤ tt; paid = refl }; calm = refl; ends = inl (refl, refl) };
   read_off = record { marks = refl; sent = refl; drivers = refl; image = refl; unanswered = refl };
 } where
-  hang : Step 0 half hung
+  hang : Step area half hung
   hang = BringsNone _ (between refl refl refl refl) refl
       (runs_event (event.Hang 1) _ refl refl refl refl (record { tells = refl; disks = _; does = CurrentHangs refl; after = refl }))
 
@@ -162,7 +162,7 @@ hung_driver_works = record {
   ends = let e = ends_write 1 new_0 old_1 refl refl in
       record { handed = e.handed; hands = e.hands; driver = e.driver; steps = e.steps; after = e.after; lives = refl; hangs = refl }
 
-  work : Step 0 hung worked
+  work : Step area hung worked
   work = BringsNone _ (between refl refl refl refl) refl (runs_event (event.Step 1) _ refl refl refl refl (record {
     step = Some (Done answer);
     disks = _;
@@ -170,9 +170,9 @@ hung_driver_works = record {
     after = (refl, refl);
   }))
 
-  hear : Step 0 worked heard_hung
+  hear : Step area worked heard_hung
   hear = Brings (incoming.Reply (reply_of 1)) _ (between refl refl refl refl) refl
       (runs_event (event.Deliver 0) _ refl refl refl refl (refl, refl))
 
-  rest : Step 0 heard_hung (record heard_hung { doing = Resting })
+  rest : Step area heard_hung (record heard_hung { doing = Resting })
   rest = Settles (incoming.Reply (reply_of 1)) refl (at_rest refl refl)

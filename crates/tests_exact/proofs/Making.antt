@@ -1,11 +1,11 @@
 -- How rows of moments are put together.
-use Rattle.std.specs.Prelude.{◌≡◌, ℕ, ◌+◌, ◌<◌, List, ◌++◌, length, true, false, Option, Some, None, Ok, refl, slice_get}
+use Rattle.std.specs.Prelude.{◌≡◌, ◌+◌, ◌<◌, List, ◌++◌, length, true, false, Option, Some, None, Ok, refl, slice_get}
 use Rattle.message.specs.declared.endpoint.Endpoint.{Endpoint}
 use Rattle.message.specs.declared.BlockRequest.{BlockRequest}
 use Rattle.message.specs.declared.Incoming.{Incoming}
+use Rattle.records.specs.Area.{Area, FitsArea}
 use Rattle.records.specs.Marks.{Mark}
 use Rattle.records.specs.Acts.{Outbox, IsAtRest, is_post_due, target, first_of}
-use Rattle.records.specs.Opening.{FitsMinor}
 use Rattle.records.specs.Told.{Posted}
 use Rattle.schedule.specs.ArrivingCalls.{calls_of}
 use Rattle.schedule.specs.declared.Event.{Event}
@@ -18,7 +18,7 @@ use Rattle.simulated_link.specs.StateView.{RunState, RunsEvent, posted, Posts}
 
 infixl 3 ◌▸◌
 -- a run, and one step more
-pub ◌▸◌ : {minor : ℕ} {b m a : Moment} → Runs minor b m → Step minor m a → Runs minor b a
+pub ◌▸◌ : {area : Area} {b m a : Moment} → Runs area b m → Step area m a → Runs area b a
 ◌▸◌ {m = m} {a = a} runs step = Then m a runs step
 
 -- one event more was run, which left this scene
@@ -63,10 +63,10 @@ pub between : {m : Moment} → m.doing ≡ Resting → m.run.over ≡ false → 
 between rests live complaint post = record { rests = rests; live = live; at_rest = record { complaint = complaint; post = post } }
 
 -- the next request is posted, and accepted
-pub posts : {minor : ℕ} {m : Moment} (to : Endpoint) (r : BlockRequest) → is_busy m.doing ≡ true → m.outbox.complaint ≡ None
-    → target (record_of m.run) ≡ Some to → m.outbox.stopped ≡ false → first_of m.outbox.unposted ≡ Some r → FitsMinor minor r
+pub posts : {area : Area} {m : Moment} (to : Endpoint) (r : BlockRequest) → is_busy m.doing ≡ true → m.outbox.complaint ≡ None
+    → target (record_of m.run) ≡ Some to → m.outbox.stopped ≡ false → first_of m.outbox.unposted ≡ Some r → FitsArea area r
     → m.run.over ≡ false → is_at to m.run.scene.disks ≡ true → length m.run.scene.disks.current.line < 32
-    → Step minor m (at_link (Posted to r true) (posted to r true (lined_up r m.run.scene.disks) m.run) m)
+    → Step area m (at_link (Posted to r true) (posted to r true (lined_up r m.run.scene.disks) m.run) m)
 posts to r busy complained endpoint not_stopped first fits live there room =
     Tells (Posted to r true) _ busy refl
     (record { complained = complained; endpoint = endpoint; not_stopped = not_stopped; first = first; fits = fits })

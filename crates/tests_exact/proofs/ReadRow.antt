@@ -38,7 +38,7 @@ use Rattle.world.specs.Starts.{at_first}
 use Rattle.world.specs.Exact.{IsExact, media_with}
 use Rattle.tests_exact.proofs.Small.{client}
 use Rattle.tests_exact.proofs.Drivers.{slot}
-use Rattle.tests_exact.proofs.Reading.{media_of, ready, five, read, read_fits, has_one, done, answer, reply_of, begins_read, ends_read}
+use Rattle.tests_exact.proofs.Reading.{area, sizes, media_of, ready, five, read, read_fits, has_one, done, answer, reply_of, begins_read, ends_read}
 use Rattle.tests_exact.proofs.Reading.{sectors_joined}
 use Rattle.tests_exact.proofs.Making.{◌▸◌, after_event, nothing_after, disks_after, runs_event, at_rest, between, posts}
 
@@ -189,17 +189,17 @@ opened image = record {
   starved = refl;
 }
 
-step_1 : (image : List ℕ) → Step 0 (start image) (stat_waits image)
+step_1 : (image : List ℕ) → Step area (start image) (stat_waits image)
 step_1 image = BringsNone _ (between refl refl refl refl) refl
     (runs_event (event.Arrive client 100 stat.call) _ refl refl refl refl (refl, refl))
 
-step_2 : (image : List ℕ) → Step 0 (stat_waits image) (stat_begun image)
+step_2 : (image : List ℕ) → Step area (stat_waits image) (stat_begun image)
 step_2 image = HandsCall stat _ (between refl refl refl refl) refl (record { first = refl; after = refl })
 
-step_3 : (image : List ℕ) → Step 0 (stat_begun image) (read_begun image)
+step_3 : (image : List ℕ) → Step area (stat_begun image) (read_begun image)
 step_3 image = Begins read refl (record { next = refl; room = lit≤ tt })
 
-step_4 : (image : List ℕ) → Step 0 (read_begun image) (read_posted image)
+step_4 : (image : List ℕ) → Step area (read_begun image) (read_posted image)
 step_4 image = posts (driver 1) read refl refl refl refl refl read_fits refl refl (lit≤ tt)
 
 reads_one : (image : List ℕ) → length image ≡ 65536 → RunsEvent (read_posted image).run None (half image)
@@ -228,12 +228,12 @@ ticks image = runs_event event.Tick (restart_at_1 image) refl refl refl refl (re
   after = refl;
 })
 
-step_5 : (image : List ℕ) → length image ≡ 65536 → Step 0 (read_posted image) (restarted image)
+step_5 : (image : List ℕ) → length image ≡ 65536 → Step area (read_posted image) (restarted image)
 step_5 image long = Takes (incoming.Started (driver 2)) stat _ refl (record { at_rest = at_rest refl refl; live = refl; needed = refl })
     (link.Takes (incoming.Started (driver 2)) _
     (Goes _ _ (Some (incoming.Started (driver 2))) (Goes _ _ None (Goes _ _ None Stays (reads_one image long)) (dies image)) (ticks image)))
 
-step_6 : (image : List ℕ) → Step 0 (restarted image) (posted_again image)
+step_6 : (image : List ℕ) → Step area (restarted image) (posted_again image)
 step_6 image = posts (driver 2) read refl refl refl refl refl read_fits refl refl (lit≤ tt)
 
 reads_again : (image : List ℕ) → length image ≡ 65536 → RunsEvent (posted_again image).run None (half_again image)
@@ -256,18 +256,18 @@ delivers : (image : List ℕ)
     → RunsEvent (whole image) (Some (incoming.Reply (reply_of image 2))) (nothing_after (event.Deliver 0) (whole image))
 delivers image = runs_event (event.Deliver 0) _ refl refl refl refl (refl, refl)
 
-step_7 : (image : List ℕ) → length image ≡ 65536 → Step 0 (posted_again image) (answer_taken image)
+step_7 : (image : List ℕ) → length image ≡ 65536 → Step area (posted_again image) (answer_taken image)
 step_7 image long = Takes (incoming.Reply (reply_of image 2)) stat _ refl
     (record { at_rest = at_rest refl refl; live = refl; needed = refl })
     (link.Takes (incoming.Reply (reply_of image 2)) _
     (Goes _ _ (Some (incoming.Reply (reply_of image 2)))
     (Goes _ _ None (Goes _ _ None Stays (reads_again image long)) (reads_both image long)) (delivers image)))
 
-step_8 : (image : List ℕ) → Step 0 (answer_taken image) (stat_done image)
+step_8 : (image : List ℕ) → Step area (answer_taken image) (stat_done image)
 step_8 image = Replies stat (reply.Inode root) refl refl (at_rest refl refl)
 
 -- the row
-row : (image : List ℕ) → length image ≡ 65536 → Runs 0 (start image) (stat_done image)
+row : (image : List ℕ) → length image ≡ 65536 → Runs area (start image) (stat_done image)
 row image long = Starts ▸ step_1 image ▸ step_2 image ▸ step_3 image ▸ step_4 image ▸ step_5 image long ▸ step_6 image ▸ step_7 image long
     ▸ step_8 image
 
@@ -284,7 +284,7 @@ transcript image = record {
 }
 
 -- the run is the schedule's, exactly
-pub read_is_exact : (image : List ℕ) → length image ≡ 65536 → IsExact image setup supply events (transcript image)
+pub read_is_exact : (image : List ℕ) → length image ≡ 65536 → IsExact sizes image setup supply events (transcript image)
 read_is_exact image long = record {
   first = (start image).run;
   opened = opened image;

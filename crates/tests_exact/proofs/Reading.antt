@@ -8,6 +8,7 @@ use Rattle.std.proofs.Common.{arith, ap, sym, ◌∙◌, lit≤, inr, length-dro
 use Rattle.std.proofs.Math.Seq.{take-append_seam, drop-append_seam}
 use Rattle.std.proofs.lemmas.List.{take-append-drop, drop-drop}
 use Rattle.std.proofs.lemmas.List.Elements.{All-get_or}
+use Rattle.layout.specs.declared.Geometry.{Geometry}
 use Rattle.media.specs.Contents.{MediaState, sectors_of, accepts}
 use Rattle.media.proofs.SectorLaws.{sector_count, whole_sectors}
 use Rattle.message.specs.declared.BlockRequest.{BlockRequest}
@@ -18,11 +19,18 @@ use Rattle.bdev.specs.declared.Answer.{Answer}
 use Rattle.bdev.specs.declared.Step.TheVariants.{Working, Done}
 use Rattle.bdev.specs.DriverState.{DriverState, Work, chunk, fresh}
 use Rattle.bdev.specs.Promises.{IsDriver, Takes, StepKeeps}
-use Rattle.records.specs.Opening.{FitsMinor}
+use Rattle.records.specs.Area.{Area, FitsArea, area_of}
 use Rattle.synchronous_driver.specs.Steps.{HandsOver}
 use Rattle.true_replies.specs.Events as events
 use Rattle.simulated_link.specs.Disks.{SlotSteps}
 use Rattle.tests_exact.proofs.Drivers.{slot, too_far}
+
+-- its sizes, and what its server may write
+abbrev pub sizes : Geometry
+sizes = record { block_size = 1024; inodes = 32; zones = 64; inode_map_blocks = 1; zone_map_blocks = 1; first_zone = 6 }
+
+abbrev pub area : Area
+area = area_of sizes 0
 
 -- its sectors, on which generation g may write
 abbrev pub media_of : List ℕ → ℕ → MediaState
@@ -70,9 +78,9 @@ zeros = replicate 4096 0
 abbrev pub read : BlockRequest
 read = record { id = 1; kind = Read; minor = 0; position = 4096; count = 1024; bytes = zeros }
 
-pub read_fits : FitsMinor 0 read
+pub read_fits : FitsArea area read
 unfolding zeros
-read_fits = record { minor_is = refl; count = lit≤ tt; bytes = refl }
+read_fits = record { fits = record { minor_is = refl; count = lit≤ tt; bytes = refl }; lies = tt }
 
 -- the read in work, of which nothing was read, one sector, both
 abbrev pub untouched : Work

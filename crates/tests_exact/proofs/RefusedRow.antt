@@ -31,7 +31,7 @@ use Rattle.simulated_link.specs.StateView.{RunState, RunsEvent, noting, paid, co
 use Rattle.simulated_link.specs.Moments.{Moment, Resting, Answering, hearing, at_link, Runs, Starts, Step, Begins, Tells, Takes, Settles}
 use Rattle.simulated_link.specs.Moments.{Brings, BringsNone, HandsCall, Replies}
 use Rattle.world.specs.Exact.{IsExact}
-use Rattle.tests_exact.proofs.Small.{old_0, old_1, image, disk, setup, idle, supply, write_both, write_fits, client, sync}
+use Rattle.tests_exact.proofs.Small.{area, sizes, sectors_with, old_0, old_1, image, disk, setup, idle, supply, write_both, write_fits, client, sync}
 use Rattle.tests_exact.proofs.Drivers.{slot, failing, error, error_of, fails_write}
 use Rattle.tests_exact.proofs.Making.{◌▸◌, after_event, nothing_after, disks_after, runs_event, at_rest, between, posts}
 use Rattle.tests_exact.proofs.Beginning.{start, opened}
@@ -142,7 +142,7 @@ told = at_link (Received incoming.GaveUp) (noting (entry.Received incoming.GaveU
 abbrev pub sync_failed : Moment
 sync_failed = record told { run = noting (entry.Took client 100 sync.call (reply.Refused EIO)) told.run; doing = Resting }
 
-step_1 : Step 0 first dead
+step_1 : Step area first dead
 step_1 = BringsNone _ (between refl refl refl refl) refl (runs_event (event.Die 1 None) death refl refl refl refl (record {
   died = true;
   disks = _;
@@ -150,21 +150,21 @@ step_1 = BringsNone _ (between refl refl refl refl) refl (runs_event (event.Die 
   after = record { ruling = Fault; is = refl; tells = refl; after = refl };
 }))
 
-step_2 : Step 0 dead flush_heard
+step_2 : Step area dead flush_heard
 step_2 = Brings incoming.Flush _ (between refl refl refl refl) refl (runs_event event.Flush _ refl refl refl refl (refl, refl))
 
-step_3 : Step 0 flush_heard write_begun
+step_3 : Step area flush_heard write_begun
 step_3 = Begins write_both refl (record { next = refl; room = lit≤ tt })
 
-step_4 : Step 0 write_begun refused
+step_4 : Step area write_begun refused
 step_4 = Tells (Posted (driver 1) write_both false) _ refl refl
     (record { complained = refl; endpoint = refl; not_stopped = refl; first = refl; fits = write_fits })
     (link.Posts (driver 1) write_both (Err DeadEndpoint) _ refl (NoneIsThere refl))
 
-step_5 : Step 0 refused flush_done
+step_5 : Step area refused flush_done
 step_5 = Settles incoming.Flush refl (at_rest refl refl)
 
-step_6 : Step 0 flush_done restarted
+step_6 : Step area flush_done restarted
 step_6 = Brings (incoming.Started (driver 2)) _ (between refl refl refl refl) refl
     (runs_event event.Tick restart_at_1 refl refl refl refl (record {
       action = restart.Start (driver 2);
@@ -174,22 +174,22 @@ step_6 = Brings (incoming.Started (driver 2)) _ (between refl refl refl refl) re
       after = refl;
     }))
 
-step_7 : Step 0 restarted write_posted
+step_7 : Step area restarted write_posted
 step_7 = posts (driver 2) write_both refl refl refl refl refl write_fits refl refl (lit≤ tt)
 
-step_8 : Step 0 write_posted restart_heard
+step_8 : Step area write_posted restart_heard
 step_8 = Settles (incoming.Started (driver 2)) refl (at_rest refl refl)
 
-step_9 : Step 0 restart_heard repeated
+step_9 : Step area restart_heard repeated
 step_9 = BringsNone _ (between refl refl refl refl) refl
     (runs_event (event.Repeat 0) _ refl refl refl refl
     (record { tells = refl; disks = _; does = CurrentLinesUp refl refl (lit≤ tt); after = refl }))
 
-step_10 : Step 0 repeated sync_waits
+step_10 : Step area repeated sync_waits
 step_10 = BringsNone _ (between refl refl refl refl) refl
     (runs_event (event.Arrive client 100 sync.call) _ refl refl refl refl (refl, refl))
 
-step_11 : Step 0 sync_waits sync_begun
+step_11 : Step area sync_waits sync_begun
 step_11 = HandsCall sync _ (between refl refl refl refl) refl (record { first = refl; after = refl })
 
 fails : RunsEvent sync_begun.run None failed
@@ -203,22 +203,22 @@ fails = runs_event (event.Step 2) _ refl refl refl refl (record {
 delivers : RunsEvent failed (Some (incoming.Reply (error_of 2))) (nothing_after (event.Deliver 0) failed)
 delivers = runs_event (event.Deliver 0) _ refl refl refl refl (refl, refl)
 
-step_12 : Step 0 sync_begun error_taken
+step_12 : Step area sync_begun error_taken
 step_12 = Takes (incoming.Reply (error_of 2)) sync _ refl (record { at_rest = at_rest refl refl; live = refl; needed = refl })
     (link.Takes (incoming.Reply (error_of 2)) _ (Goes _ _ (Some (incoming.Reply (error_of 2))) (Goes _ _ None Stays fails) delivers))
 
-step_13 : Step 0 error_taken complaint_made
+step_13 : Step area error_taken complaint_made
 step_13 = Tells (Complained (driver 2)) _ refl refl refl (link.Complains (driver 2))
 
-step_14 : Step 0 complaint_made told
+step_14 : Step area complaint_made told
 step_14 = Takes incoming.GaveUp sync _ refl (record { at_rest = at_rest refl refl; live = refl; needed = refl })
     (link.TakesOwed refl refl refl)
 
-step_15 : Step 0 told sync_failed
+step_15 : Step area told sync_failed
 step_15 = Replies sync (reply.Refused EIO) refl refl (at_rest refl refl)
 
 -- the row
-row : Runs 0 first sync_failed
+row : Runs area first sync_failed
 row = Starts ▸ step_1 ▸ step_2 ▸ step_3 ▸ step_4 ▸ step_5 ▸ step_6 ▸ step_7 ▸ step_8 ▸ step_9 ▸ step_10 ▸ step_11 ▸ step_12 ▸ step_13
     ▸ step_14 ▸ step_15
 
@@ -231,11 +231,11 @@ transcript = record {
   drivers = idle ∷ failing ∷ [];
   frames = λ block. None;
   unanswered = 0;
-  image = concat (old_0 ∷ old_1 ∷ []);
+  image = concat (sectors_with old_0 old_1);
 }
 
 -- the run is the schedule's, exactly
-pub refused_is_exact : IsExact image (setup default_policy) supply events transcript
+pub refused_is_exact : IsExact sizes image (setup default_policy) supply events transcript
 refused_is_exact = record {
   first = first.run;
   opened = opened default_policy events;

@@ -1,7 +1,8 @@
--- A disk of two sectors, drivers for it, and calls: what the rows are made of.
+-- A volume of three blocks, of which the third is written, drivers for it, and calls: what the rows are made of.
 use Rattle.std.specs.Prelude.{◌≡◌, ◌≢◌, ℕ, List, [], ◌∷◌, ◌++◌, Some, None, false, refl, replicate, slice_index}
 use Rattle.std.specs.List.{concat}
 use Rattle.std.proofs.Common.{arith, ap, sym, ◌∙◌, lit≤}
+use Rattle.layout.specs.declared.Geometry.{Geometry}
 use Rattle.media.specs.Contents.{MediaState, sectors_of}
 use Rattle.message.specs.declared.BlockRequest.{BlockRequest}
 use Rattle.message.specs.declared.Kind.TheVariants.{Write}
@@ -10,10 +11,26 @@ use Rattle.tree.specs.declared.Call.TheVariants.{Close, Sync}
 use Rattle.bdev.specs.DriverState.{DriverState, chunk}
 use Rattle.reincarnate.specs.declared.policy.Setup.{Setup}
 use Rattle.reincarnate.specs.declared.policy.Policy.{Policy}
-use Rattle.records.specs.Opening.{FitsMinor}
+use Rattle.records.specs.Area.{Area, FitsArea, area_of}
 use Rattle.schedule.specs.declared.arrived.Arrived.{Arrived}
 
--- what stands on the two sectors at first
+-- the sizes of the volume: three blocks of two sectors
+abbrev pub sizes : Geometry
+sizes = record { block_size = 1024; inodes = 1; zones = 3; inode_map_blocks = 0; zone_map_blocks = 0; first_zone = 2 }
+
+-- what its server may write
+abbrev pub area : Area
+area = area_of sizes 0
+
+-- what stands on each sector of the first two blocks
+pub head : List ℕ
+head = replicate 512 7
+
+-- these four, and then the two of the third block
+abbrev pub sectors_with : List ℕ → List ℕ → List (List ℕ)
+sectors_with a b = head ∷ head ∷ head ∷ head ∷ a ∷ b ∷ []
+
+-- what stands on those two at first
 pub old_0 : List ℕ
 old_0 = replicate 512 1
 
@@ -61,24 +78,24 @@ old_isnt_new = differ 0 2 4 old_1 new_1 refl refl (λ e. omega arith)
 
 -- the image
 abbrev pub image : List ℕ
-image = old_0 ++ old_1
+image = head ++ head ++ head ++ head ++ old_0 ++ old_1
 
 -- it isn't the one that was written, which isn't the one that a death in the second sector left
-pub image_isnt_new : image ≢ concat (new_0 ∷ new_1 ∷ [])
-unfolding old_0 old_1 block
-image_isnt_new = differ 0 1 4 image (concat (new_0 ∷ new_1 ∷ [])) refl refl (λ e. omega arith)
+pub image_isnt_new : image ≢ concat (sectors_with new_0 new_1)
+unfolding head old_0 old_1 block
+image_isnt_new = differ 2048 1 4 image (concat (sectors_with new_0 new_1)) refl refl (λ e. omega arith)
 
-pub torn_isnt_new : concat (new_0 ∷ torn ∷ []) ≢ concat (new_0 ∷ new_1 ∷ [])
-unfolding torn block
-torn_isnt_new = differ 512 3 4 (concat (new_0 ∷ torn ∷ [])) (concat (new_0 ∷ new_1 ∷ [])) refl refl (λ e. omega arith)
+pub torn_isnt_new : concat (sectors_with new_0 torn) ≢ concat (sectors_with new_0 new_1)
+unfolding head torn block
+torn_isnt_new = differ 2560 3 4 (concat (sectors_with new_0 torn)) (concat (sectors_with new_0 new_1)) refl refl (λ e. omega arith)
 
-pub image_sectors : sectors_of image ≡ old_0 ∷ old_1 ∷ []
-unfolding old_0 old_1
+pub image_sectors : sectors_of image ≡ sectors_with old_0 old_1
+unfolding head old_0 old_1
 image_sectors = refl
 
--- a disk with these sectors, on which generation g may write
+-- a disk with these sectors in the third block, on which generation g may write
 abbrev pub disk : List ℕ → List ℕ → ℕ → MediaState
-disk a b g = record { sectors = a ∷ b ∷ []; generation = g }
+disk a b g = record { sectors = sectors_with a b; generation = g }
 
 -- the volume is all of the disk
 abbrev pub setup : Policy → Setup
@@ -86,23 +103,30 @@ setup policy = record { minor = 0; frames = 16; policy = policy }
 
 -- a driver of that disk that took nothing
 abbrev pub idle : DriverState
-idle = record { ranges = Some (0, 2) ∷ []; last = 0; work = None; in_work = None; bad = 0; failed = false }
+idle = record { ranges = Some (0, 6) ∷ []; last = 0; work = None; in_work = None; bad = 0; failed = false }
 
 -- two of them are handed in
 abbrev pub supply : List DriverState
 supply = idle ∷ idle ∷ []
 
--- a write of the two sectors
+-- a write of that block
 abbrev pub write_both : BlockRequest
-write_both = record { id = 1; kind = Write; minor = 0; position = 0; count = 1024; bytes = block }
+write_both = record { id = 1; kind = Write; minor = 0; position = 2048; count = 1024; bytes = block }
 
 -- another write
 abbrev pub other_write : BlockRequest
-other_write = record write_both { position = 512; count = 512 }
+other_write = record write_both { position = 2560; count = 512 }
 
-pub write_fits : FitsMinor 0 write_both
+pub write_fits : FitsArea area write_both
 unfolding block
-write_fits = record { minor_is = refl; count = lit≤ tt; bytes = refl }
+write_fits = record {
+  fits = record { minor_is = refl; count = lit≤ tt; bytes = refl };
+  lies = (lit≤ tt, lit≤ tt);
+}
+
+-- a write of the boot block
+abbrev pub boot_write : BlockRequest
+boot_write = record write_both { position = 0 }
 
 -- a client closes a file, or syncs
 abbrev pub client : Who

@@ -23,7 +23,7 @@ use Rattle.simulated_link.specs.Disks.{Steps, NoStep, CurrentSteps, OlderSteps}
 use Rattle.simulated_link.specs.Moments.{Moment, Step}
 use Rattle.simulated_link.specs.Scene.{Scene, StepsAt}
 use Rattle.simulated_link.specs.RunState.{begun}
-use Rattle.tests_exact.proofs.Small.{old_0, old_1, new_0, new_1, block, disk, idle, write_both}
+use Rattle.tests_exact.proofs.Small.{area, old_0, old_1, new_0, new_1, block, disk, idle, write_both}
 use Rattle.tests_exact.proofs.Beginning.{flush_done}
 use Rattle.tests_exact.proofs.Making.{after_event}
 use Rattle.tests_exact.proofs.Only.{next_event, moment_after}
@@ -45,7 +45,7 @@ took handed line (Old, keeps, is) = absurd (let h : 1 ≤ 0 = keeps.1 in omega (
 abbrev pub AtMostOne : MediaState → Type 0
 AtMostOne m = (m ≡ disk old_0 old_1 1) ⊎ ((m ≡ disk new_0 old_1 1) ⊎ (m ≡ disk old_0 new_1 1))
 
-one : (number : ℕ) (m : MediaState) → number < 2 → m ≡ written (disk old_0 old_1 1) 1 (0 + number) (chunk number block) → AtMostOne m
+one : (number : ℕ) (m : MediaState) → number < 2 → m ≡ written (disk old_0 old_1 1) 1 (4 + number) (chunk number block) → AtMostOne m
 one zero m within is = inr (inl is)
 one (suc zero) m within is = inr (inr is)
 one (suc (suc n)) m within is = absurd (let h : suc (suc n) < 2 = within in omega (arith, h))
@@ -54,7 +54,7 @@ moved : (handed : DriverState) (w w' : Work) (m : MediaState) → handed.ranges 
     → MovesAtMostOne handed w (disk old_0 old_1 1) 1 w' m → AtMostOne m
 moved handed w w' m ranges is (inl nothing) = inl nothing.same_media
 moved handed w w' m ranges is (inr sector) =
-    let all : Run = record { first = 0; count = 2 } in
+    let all : Run = record { first = 4; count = 2 } in
     let same : all ≡ sector.run =
     some_same all sector.run (sym (λ i. plan (ranges i) (is i)) ∙ sector.next.plan) in
     let within : sector.number < 2 = subst (λ (r : Run). sector.number < r.count) (sym same) sector.next.within in
@@ -112,9 +112,9 @@ steps_so _ _ (CurrentSteps step a m same live s) =
       media = is.media;
     }
 
-pub first_step : (a : Moment) → Step 0 before a → FirstStep a.run.scene.disks
+pub first_step : (a : Moment) → Step area before a → FirstStep a.run.scene.disks
 first_step a step =
-    let runs = next_event before (event.Step 1) refl refl refl refl 0 a step in
+    let runs = next_event before (event.Step 1) refl refl refl refl area a step in
     let h : StepsAt 1 1 (begun (event.Step 1) before.run.scene) runs.result runs.scene = runs.occurs in
     let b : Scene = record (begun (event.Step 1) before.run.scene) { disks = h.disks } in
     let left : runs.scene.disks ≡ h.disks = after_step h.step 1 b runs.scene runs.result h.after in

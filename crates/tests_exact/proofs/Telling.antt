@@ -1,5 +1,5 @@
 -- What the link is told and gives at a step: what the rules allow, and the message that the next event brings.
-use Rattle.std.specs.Prelude.{◌≡◌, ◌⊎◌, ℕ, ◌≤◌, suc, List, [], ◌∷◌, length, Bool, true, false, Option, Some, None, Result, cond}
+use Rattle.std.specs.Prelude.{◌≡◌, ◌⊎◌, ◌≤◌, suc, List, [], ◌∷◌, length, Bool, true, false, Option, Some, None, Result, cond}
 use Rattle.std.specs.Prelude.{refl, is_ok, slice_get}
 use Rattle.std.proofs.Common.{arith, ap, sym, ◌∙◌, subst, inl, inr}
 use Rattle.lemmas.proofs.Options.{some_same}
@@ -7,6 +7,7 @@ use Rattle.message.specs.declared.endpoint.Endpoint.{Endpoint}
 use Rattle.message.specs.declared.BlockRequest.{BlockRequest}
 use Rattle.message.specs.declared.Incoming.{Incoming}
 use Rattle.message.specs.declared.Incoming.TheVariants as incoming
+use Rattle.records.specs.Area.{Area}
 use Rattle.records.specs.Marks.{Mark, Issued, Fault, Took}
 use Rattle.records.specs.declared.marks.Cause.TheVariants.{Complaint}
 use Rattle.tree.specs.Answers.{answer_of}
@@ -78,29 +79,29 @@ turn_told b _ _ told (link.Complains about) same =
     heads (sym (complaint_history about (is_fault (ruling_at about b.scene)) b.scene.noted) ∙ same)
 
 -- the rules allow that the link is told or gives this, and a turn does it
-pub record IsAllowed (minor : ℕ) (m : Moment) (told : Told) : Type 0 where
-  pub may : MayAct minor (record_of m.run) m.outbox (AtLink told)
+pub record IsAllowed (area : Area) (m : Moment) (told : Told) : Type 0 where
+  pub may : MayAct area (record_of m.run) m.outbox (AtLink told)
   pub after : RunState
   pub turn : Turn m.run told after
 
-pub told_is_allowed : (minor : ℕ) (m a : Moment) (told : Told) → Step minor m a → history a.run ≡ told ∷ history m.run
-    → IsAllowed minor m told
-told_is_allowed minor m _ told (Begins r busy may) same = absurd (no_longer told (history m.run) same)
-told_is_allowed minor m _ told (Tells t a busy nothing may turn) same =
-    subst (λ (x : Told). IsAllowed minor m x) (turn_told m.run a t told turn same) (record { may = may; after = a; turn = turn })
-told_is_allowed minor m _ told (Takes message call a answers may turn) same =
-    subst (λ (x : Told). IsAllowed minor m x) (turn_told m.run a (Received message) told turn same)
+pub told_is_allowed : (area : Area) (m a : Moment) (told : Told) → Step area m a → history a.run ≡ told ∷ history m.run
+    → IsAllowed area m told
+told_is_allowed area m _ told (Begins r busy may) same = absurd (no_longer told (history m.run) same)
+told_is_allowed area m _ told (Tells t a busy nothing may turn) same =
+    subst (λ (x : Told). IsAllowed area m x) (turn_told m.run a t told turn same) (record { may = may; after = a; turn = turn })
+told_is_allowed area m _ told (Takes message call a answers may turn) same =
+    subst (λ (x : Told). IsAllowed area m x) (turn_told m.run a (Received message) told turn same)
     (record { may = may; after = a; turn = turn })
-told_is_allowed minor m _ told (Settles message hears calm) same = absurd (no_longer told (history m.run) same)
-told_is_allowed minor m _ told (Brings message a between none runs) same =
+told_is_allowed area m _ told (Settles message hears calm) same = absurd (no_longer told (history m.run) same)
+told_is_allowed area m _ told (Brings message a between none runs) same =
     absurd (no_longer told (history m.run) (sym (message_history message a.scene.noted ∙ next_history m.run a (Some message) runs) ∙ same))
-told_is_allowed minor m _ told (BringsNone a between none runs) same =
+told_is_allowed area m _ told (BringsNone a between none runs) same =
     absurd (no_longer told (history m.run) (sym (next_history m.run a None runs) ∙ same))
-told_is_allowed minor m _ told (Pays between owed first) same =
+told_is_allowed area m _ told (Pays between owed first) same =
     absurd (no_longer told (history m.run) (sym (message_history incoming.GaveUp (paid m.run).scene.noted) ∙ same))
-told_is_allowed minor m _ told (HandsCall call a between settled hands) same =
+told_is_allowed area m _ told (HandsCall call a between settled hands) same =
     absurd (no_longer told (history m.run) (sym (ap history hands.after) ∙ same))
-told_is_allowed minor m _ told (Replies call reply answers live calm) same =
+told_is_allowed area m _ told (Replies call reply answers live calm) same =
     let took : Mark = Took call.who call.now call.call (answer_of reply) in
     absurd (no_longer told (history m.run) (sym (mark_history took m.run.scene.noted) ∙ same))
 

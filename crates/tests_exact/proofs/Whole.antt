@@ -9,6 +9,8 @@ use Rattle.reincarnate.specs.declared.policy.Setup.{Setup}
 use Rattle.media.specs.Contents.{MediaState}
 use Rattle.reincarnate.specs.declared.policy.Policy.{Policy}
 use Rattle.reincarnate.specs.Watch.{Watch}
+use Rattle.layout.specs.declared.Geometry.{Geometry}
+use Rattle.records.specs.Area.{Area, area_of}
 use Rattle.records.specs.Marks.{Mark}
 use Rattle.records.specs.Told.{Told, Received}
 use Rattle.schedule.specs.declared.Event.{Event}
@@ -43,50 +45,50 @@ by_turn b told a turn calls = servers_hand_none (out_in b.doing) b.run a (Furthe
 resting : (d : Doing) (p : RunState) → d ≡ Resting → HasCalls (out_in d) p → HasCalls [] p
 resting d p rests calls = subst (λ (x : Doing). HasCalls (out_in x) p) rests calls
 
-step_goes : (minor : ℕ) (b a : Moment) → Step minor b a → Goes b a
-step_goes minor b _ (Begins r busy may) = record { leads = leads_stays b.run; calls = λ c. c }
-step_goes minor b _ (Tells told a busy nothing may turn) = record { leads = turns_lead_on b.run a told turn; calls = by_turn b told a turn }
-step_goes minor b _ (Takes message call a answers may turn) =
+step_goes : (area : Area) (b a : Moment) → Step area b a → Goes b a
+step_goes area b _ (Begins r busy may) = record { leads = leads_stays b.run; calls = λ c. c }
+step_goes area b _ (Tells told a busy nothing may turn) = record { leads = turns_lead_on b.run a told turn; calls = by_turn b told a turn }
+step_goes area b _ (Takes message call a answers may turn) =
     record { leads = turns_lead_on b.run a (Received message) turn; calls = by_turn b (Received message) a turn }
-step_goes minor b _ (Settles message hears calm) =
+step_goes area b _ (Settles message hears calm) =
     record { leads = leads_stays b.run; calls = λ c. subst (λ (d : Doing). HasCalls (out_in d) b.run) hears c }
-step_goes minor b _ (Brings message a between none runs) =
+step_goes area b _ (Brings message a between none runs) =
     let aside : Asides b.run (Ok (Some message)) (noting (entry.Handed message) a) = HandsEvent message a runs in
     record {
       leads = (asides_lead_on b.run (noting (entry.Handed message) a) (Ok (Some message)) aside).leads;
       calls = λ c. asides_hand_none [] b.run (noting (entry.Handed message) a) (Ok (Some message)) aside
           (resting b.doing b.run between.rests c);
     }
-step_goes minor b _ (BringsNone a between none runs) =
+step_goes area b _ (BringsNone a between none runs) =
     let aside : Asides b.run (Ok None) a = HandsNone a runs in
     record {
       leads = (asides_lead_on b.run a (Ok None) aside).leads;
       calls = λ c. subst (λ (d : Doing). HasCalls (out_in d) a) (sym between.rests)
           (asides_hand_none [] b.run a (Ok None) aside (resting b.doing b.run between.rests c));
     }
-step_goes minor b _ (Pays between owed told) =
+step_goes area b _ (Pays between owed told) =
     let told_run = noting (entry.Handed incoming.GaveUp) (paid b.run) in
     let aside : Asides b.run (Ok (Some incoming.GaveUp)) told_run = HandsOwed between.live owed told in
     record {
       leads = (asides_lead_on b.run told_run (Ok (Some incoming.GaveUp)) aside).leads;
       calls = λ c. asides_hand_none [] b.run told_run (Ok (Some incoming.GaveUp)) aside (resting b.doing b.run between.rests c);
     }
-step_goes minor b _ (HandsCall call a between settled hands) = record {
+step_goes area b _ (HandsCall call a between settled hands) = record {
   leads = (calls_lead_on b.run a (Some call) hands).leads;
   calls = λ c. one_is_handed_out b.run a call hands (resting b.doing b.run between.rests c);
 }
-step_goes minor b _ (Replies call reply answers live calm) =
+step_goes area b _ (Replies call reply answers live calm) =
     let after = noting (entry.Took call.who call.now call.call reply) b.run in
     record {
       leads = answers_lead_on b.run after call reply (Ok tt) refl;
       calls = λ c. it_is_answered b.run after call reply refl (subst (λ (d : Doing). HasCalls (out_in d) b.run) answers c);
     }
 
-run_goes : (minor : ℕ) (b a : Moment) → Runs minor b a → Goes b a
-run_goes minor b _ Starts = record { leads = leads_stays b.run; calls = λ c. c }
-run_goes minor b _ (Then m a before last) =
-    let first = run_goes minor b m before in
-    let next = step_goes minor m a last in
+run_goes : (area : Area) (b a : Moment) → Runs area b a → Goes b a
+run_goes area b _ Starts = record { leads = leads_stays b.run; calls = λ c. c }
+run_goes area b _ (Then m a before last) =
+    let first = run_goes area b m before in
+    let next = step_goes area m a last in
     record { leads = leads_joins b.run m.run a.run first.leads next.leads; calls = λ c. next.calls (first.calls c) }
 
 -- the calls that these events bring, newest first, the events being newest first too
@@ -131,22 +133,22 @@ pub record AnswersFirst (events : List Event) (t : Transcript) : Type 0 where
   pub calls : calls_in (reverse events) ≡ left ++ taken t.marks
   pub number : t.unanswered ≡ length left
 
-pub each_event_is_run : (image : List ℕ) (setup : Setup) (supply : List DriverState) (events : List Event) (t : Transcript)
-    → (e : IsExact image setup supply events t) → schedule_of e.last.run.scene.noted.groups ≡ events
-each_event_is_run image setup supply events t e =
-    let goes = run_goes setup.minor (at_first e.first) e.last e.steps in
+pub each_event_is_run : (g : Geometry) (image : List ℕ) (setup : Setup) (supply : List DriverState) (events : List Event) (t : Transcript)
+    → (e : IsExact g image setup supply events t) → schedule_of e.last.run.scene.noted.groups ≡ events
+each_event_is_run g image setup supply events t e =
+    let goes = run_goes (area_of g setup.minor) (at_first e.first) e.last e.steps in
     let sound = (first_is_sound e.first _ _ _ supply events e.opened).0 in
     let same : e.last.run.events ≡ events = goes.leads.events ∙ e.opened.events_are in
     (goes.leads.sound sound).schedule ∙ take_all e.last.run.next e.last.run.events e.over.spent.events ∙ same
 
-pub answers_first : (image : List ℕ) (setup : Setup) (supply : List DriverState) (events : List Event) (t : Transcript)
-    → IsExact image setup supply events t → AnswersFirst events t
-answers_first image setup supply events t e =
-    let goes = run_goes setup.minor (at_first e.first) e.last e.steps in
+pub answers_first : (g : Geometry) (image : List ℕ) (setup : Setup) (supply : List DriverState) (events : List Event) (t : Transcript)
+    → IsExact g image setup supply events t → AnswersFirst events t
+answers_first g image setup supply events t e =
+    let goes = run_goes (area_of g setup.minor) (at_first e.first) e.last e.steps in
     let calls = goes.calls (first_is_sound e.first _ _ _ supply events e.opened).1 in
     let groups = e.last.run.scene.noted.groups in
     let newest : map event_of groups ≡ reverse events =
-    sym (reverse-reverse (map event_of groups)) ∙ ap reverse (each_event_is_run image setup supply events t e) in
+    sym (reverse-reverse (map event_of groups)) ∙ ap reverse (each_event_is_run g image setup supply events t e) in
     record {
       left = unanswered_in e.last;
       calls = sym (ap calls_in newest) ∙ sym (arrived_in groups) ∙ calls.order

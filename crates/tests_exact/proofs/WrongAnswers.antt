@@ -16,7 +16,7 @@ use Rattle.simulated_link.specs.Moments.{Moment, Resting, Hearing, Answering, re
 use Rattle.simulated_link.specs.Moments.{BringsNone, Pays, HandsCall, Replies}
 use Rattle.simulated_link.specs.RunState.{begun}
 use Rattle.simulated_link.specs.Scene.{Scene, Occurs}
-use Rattle.tests_exact.proofs.Small.{torn, write_both}
+use Rattle.tests_exact.proofs.Small.{area, torn, write_both}
 use Rattle.tests_exact.proofs.Drivers.{reply_of}
 use Rattle.tests_exact.proofs.Reading.{media_of, read}
 use Rattle.tests_exact.proofs.Only.{next_event}
@@ -32,23 +32,23 @@ abbrev marks : Moment → List Mark
 marks m = marks_in m.run.scene.noted
 
 -- where an answer is delivered between two calls, that is the only step
-only_late : (a : Moment) → Step 0 late.restart_heard a → a ≡ late.late_heard
+only_late : (a : Moment) → Step area late.restart_heard a → a ≡ late.late_heard
 only_late a step =
     leads_to late.restart_heard (event.Deliver 0) (Some (incoming.Reply (reply_of 1)))
     (begun (event.Deliver 0) late.restart_heard.run.scene) a
-    (next_event late.restart_heard (event.Deliver 0) refl refl refl refl 0 a step) (λ r x o. o)
+    (next_event late.restart_heard (event.Deliver 0) refl refl refl refl area a step) (λ r x o. o)
 
-only_good : (a : Moment) → Step 0 late.written_again a → a ≡ late.answer_heard
+only_good : (a : Moment) → Step area late.written_again a → a ≡ late.answer_heard
 only_good a step =
     leads_to late.written_again (event.Deliver 1) (Some (incoming.Reply (reply_of 2)))
     (begun (event.Deliver 1) late.written_again.run.scene) a
-    (next_event late.written_again (event.Deliver 1) refl refl refl refl 0 a step) (λ r x o. o)
+    (next_event late.written_again (event.Deliver 1) refl refl refl refl area a step) (λ r x o. o)
 
-only_again : (a : Moment) → Step 0 late.answer_done a → a ≡ late.heard_again
+only_again : (a : Moment) → Step area late.answer_done a → a ≡ late.heard_again
 only_again a step =
     leads_to late.answer_done (event.Deliver 1) (Some (incoming.Reply (reply_of 2)))
     (begun (event.Deliver 1) late.answer_done.run.scene) a
-    (next_event late.answer_done (event.Deliver 1) refl refl refl refl 0 a step) (λ r x o. o)
+    (next_event late.answer_done (event.Deliver 1) refl refl refl refl area a step) (λ r x o. o)
 
 -- A late answer of driver 1 is counted, though driver 2 runs.
 late_answer_counted : NoStep late.restart_heard (λ a. marks a ≡ Answered (reply_of 1) ∷ marks late.restart_heard)
@@ -81,7 +81,7 @@ renumbered = record read { id = 2 }
 posted_under_a_new_id : (image : List ℕ) (accepted : Bool)
     → NoStep (row.restarted image) (λ a. history a.run ≡ Posted (driver 2) renumbered accepted ∷ history (row.restarted image).run)
 posted_under_a_new_id image accepted a step told =
-    let may = told_is_allowed 0 (row.restarted image) a (Posted (driver 2) renumbered accepted) step told in
+    let may = told_is_allowed area (row.restarted image) a (Posted (driver 2) renumbered accepted) step told in
     let h : 1 ≡ 2 = ap (λ (r : BlockRequest). r.id) (some_same read renumbered may.may.first) in omega (arith, h)
 
 -- The stat is answered before the read is posted to driver 2.

@@ -10,7 +10,7 @@ use Rattle.schedule.specs.declared.Sent.{Sent}
 use Rattle.simulated_link.specs.StateView.{ended, starving, Stays, IsStarved, TakesEnd}
 use Rattle.simulated_link.specs.Moments.{Moment, Resting, Answering, at_link, Step, Takes}
 use Rattle.world.specs.Exact.{IsOver, IsReadOff}
-use Rattle.tests_exact.proofs.Small.{torn, new_0, image, image_isnt_new, torn_isnt_new, sync}
+use Rattle.tests_exact.proofs.Small.{area, sectors_with, torn, new_0, image, image_isnt_new, torn_isnt_new, sync}
 use Rattle.tests_exact.proofs.Drivers.{at_second, done, reply_of}
 use Rattle.tests_exact.proofs.Making.{at_rest}
 use Rattle.tests_exact.proofs.DeathRow.{written, sync_begun, answer_taken, sync_done, transcript}
@@ -30,7 +30,7 @@ call_left over = elim over.ends [
 abbrev starved : Moment
 starved = at_link (Received incoming.End) (ended (starving sync_begun.run)) sync_begun
 
-starved_step : Step 0 sync_begun starved
+starved_step : Step area sync_begun starved
 starved_step = Takes incoming.End sync _ refl (record { at_rest = at_rest refl refl; live = refl; needed = refl })
     (TakesEnd _ refl (IsStarved _ Stays))
 
@@ -43,7 +43,7 @@ image_at_first : ¬ (IsReadOff sync_done (record transcript { image = image }))
 image_at_first off = image_isnt_new (off.image)
 
 -- They are as the death left them.
-image_torn : ¬ (IsReadOff sync_done (record transcript { image = concat (new_0 ∷ torn ∷ []) }))
+image_torn : ¬ (IsReadOff sync_done (record transcript { image = concat (sectors_with new_0 torn) }))
 image_torn off = torn_isnt_new off.image
 
 -- A call has no answer.
@@ -59,7 +59,7 @@ sent_elsewhere off = let h : 4 ≡ 5 = ap first_place off.sent in omega (arith, 
 
 -- The first driver stands as the second does, and the second as the first.
 drivers_exchanged : ¬ (IsReadOff sync_done (record transcript { drivers = done ∷ at_second ∷ [] }))
-drivers_exchanged off = let h : 0 ≡ 1 = ap first_names off.drivers in omega (arith, h) where
+drivers_exchanged off = let h : 0 ≡ 5 = ap first_names off.drivers in omega (arith, h) where
   named : Option ℕ → ℕ
   named None = 0
   named (Some sector) = sector

@@ -18,7 +18,7 @@ use Rattle.simulated_link.specs.Moments.{Moment, Doing, Resting, Hearing, Answer
 use Rattle.simulated_link.specs.Moments.{BringsNone, Pays, HandsCall, Replies}
 use Rattle.simulated_link.specs.RunState.{begun}
 use Rattle.simulated_link.specs.Scene.{Scene}
-use Rattle.tests_exact.proofs.Small.{old_1, torn, new_0, new_1, write_both, other_write, close, sync}
+use Rattle.tests_exact.proofs.Small.{area, old_1, torn, new_0, new_1, write_both, other_write, boot_write, close, sync}
 use Rattle.tests_exact.proofs.Small.{old_isnt_torn, torn_isnt_old, new_isnt_torn, old_isnt_new, old_isnt_new_0}
 use Rattle.tests_exact.proofs.Drivers.{reply_of}
 use Rattle.tests_exact.proofs.Making.{after_event}
@@ -36,14 +36,14 @@ use Rattle.tests_exact.proofs.RefusedRow as refused
 
 -- no step from this moment leads to one of which this holds
 abbrev pub NoStep : Moment → (Moment → Type 0) → Type 0
-NoStep m Holds = (a : Moment) → Step 0 m a → Holds a → ⊥
+NoStep m Holds = (a : Moment) → Step area m a → Holds a → ⊥
 
 -- the bytes of these sectors
 abbrev sector_0 : Moment → List ℕ
-sector_0 m = get_or m.run.scene.disks.media.sectors 0 []
+sector_0 m = get_or m.run.scene.disks.media.sectors 4 []
 
 abbrev sector_1 : Moment → List ℕ
-sector_1 m = get_or m.run.scene.disks.media.sectors 1 []
+sector_1 m = get_or m.run.scene.disks.media.sectors 5 []
 
 -- how many drivers were started
 abbrev generation : Moment → ℕ
@@ -53,9 +53,9 @@ generation m = m.run.scene.disks.media.generation
 both_at_once : NoStep before (λ a. (sector_0 a ≡ new_0) × (sector_1 a ≡ new_1))
 both_at_once a step both = by (first_step a step).media where
   by : AtMostOne a.run.scene.disks.media → ⊥
-  by (inl none) = old_isnt_new (sym (ap (λ (m : MediaState). get_or m.sectors 1 []) none) ∙ both.1)
-  by (inr (inl first)) = old_isnt_new (sym (ap (λ (m : MediaState). get_or m.sectors 1 []) first) ∙ both.1)
-  by (inr (inr second)) = old_isnt_new_0 (sym (ap (λ (m : MediaState). get_or m.sectors 0 []) second) ∙ both.0)
+  by (inl none) = old_isnt_new (sym (ap (λ (m : MediaState). get_or m.sectors 5 []) none) ∙ both.1)
+  by (inr (inl first)) = old_isnt_new (sym (ap (λ (m : MediaState). get_or m.sectors 5 []) first) ∙ both.1)
+  by (inr (inr second)) = old_isnt_new_0 (sym (ap (λ (m : MediaState). get_or m.sectors 4 []) second) ∙ both.0)
 
 -- The write stays on its line.
 left_on_line : NoStep before (λ a. a.run.scene.disks.current.line ≡ write_both ∷ [])
@@ -116,15 +116,27 @@ other_generation_told a step other =
 posted_to_the_dead : (accepted : Bool)
     → NoStep death.restarted (λ a. history a.run ≡ Posted (driver 1) write_both accepted ∷ history death.restarted.run)
 posted_to_the_dead accepted a step told =
-    let may = told_is_allowed 0 death.restarted a (Posted (driver 1) write_both accepted) step told in
+    let may = told_is_allowed area death.restarted a (Posted (driver 1) write_both accepted) step told in
     let h : 2 ≡ 1 = ap (λ (e : Endpoint). e.generation) (some_same (driver 2) (driver 1) may.may.endpoint) in omega (arith, h)
 
 -- Another request is posted in its place.
 other_write_posted : (accepted : Bool)
     → NoStep death.restarted (λ a. history a.run ≡ Posted (driver 2) other_write accepted ∷ history death.restarted.run)
 other_write_posted accepted a step told =
-    let may = told_is_allowed 0 death.restarted a (Posted (driver 2) other_write accepted) step told in
-    let h : 0 ≡ 512 = ap (λ (r : BlockRequest). r.position) (some_same write_both other_write may.may.first) in omega (arith, h)
+    let may = told_is_allowed area death.restarted a (Posted (driver 2) other_write accepted) step told in
+    let h : 2048 ≡ 2560 = ap (λ (r : BlockRequest). r.position) (some_same write_both other_write may.may.first) in omega (arith, h)
+
+-- A write of the boot block became pending
+abbrev boot_begun : Moment
+boot_begun = record death.restarted {
+  outbox = record { never_issued = boot_write ∷ []; unposted = boot_write ∷ []; stopped = false; complaint = None };
+}
+
+-- It isn't posted.
+boot_block_written : (accepted : Bool) → NoStep boot_begun (λ a. history a.run ≡ Posted (driver 2) boot_write accepted ∷ history boot_begun.run)
+boot_block_written accepted a step told =
+    let h : 2048 ≤ 0 = (told_is_allowed area boot_begun a (Posted (driver 2) boot_write accepted) step told).may.fits.lies.0 in
+    omega (arith, h)
 
 -- The server rests before it has posted it.
 post_skipped : NoStep death.restarted (λ a. a.doing ≡ Resting)
@@ -150,7 +162,7 @@ sender incoming.End = 0
 other_generation_answers :
     NoStep death.sync_begun (λ a. history a.run ≡ Received (incoming.Reply (reply_of 1)) ∷ history death.sync_begun.run)
 other_generation_answers a step told =
-    let is = told_is_allowed 0 death.sync_begun a (Received (incoming.Reply (reply_of 1))) step told in
+    let is = told_is_allowed area death.sync_begun a (Received (incoming.Reply (reply_of 1))) step told in
     elim (turn_gives death.sync_begun.run is.after (Received (incoming.Reply (reply_of 1))) (event.Deliver 0) (incoming.Reply (reply_of 2))
     (incoming.Reply (reply_of 1)) refl refl (λ r s o. o.0) is.turn refl) [
       | inl other ↦ let h : 1 ≡ 2 = ap sender other in omega (arith, h)
@@ -160,14 +172,14 @@ other_generation_answers a step told =
 -- A dead driver takes a post.
 accepted_by_the_dead : NoStep refused.write_begun (λ a. history a.run ≡ Posted (driver 1) write_both true ∷ history refused.write_begun.run)
 accepted_by_the_dead a step told =
-    let is = told_is_allowed 0 refused.write_begun a (Posted (driver 1) write_both true) step told in
+    let is = told_is_allowed area refused.write_begun a (Posted (driver 1) write_both true) step told in
     let posted : Told = Posted (driver 1) write_both true in
     let h : false ≡ true = post_is_so refused.write_begun.run is.after posted (driver 1) write_both true is.turn refl in cc
 
 -- A live driver with room refuses it.
 refused_by_the_living : NoStep refused.restarted (λ a. history a.run ≡ Posted (driver 2) write_both false ∷ history refused.restarted.run)
 refused_by_the_living a step told =
-    let is = told_is_allowed 0 refused.restarted a (Posted (driver 2) write_both false) step told in
+    let is = told_is_allowed area refused.restarted a (Posted (driver 2) write_both false) step told in
     elim (post_is_so refused.restarted.run is.after (Posted (driver 2) write_both false) (driver 2) write_both false is.turn refl) [
       | inl none ↦ let h : true ≡ false = none in cc
       | inr full ↦ let h : 32 ≤ 0 = full in omega (arith, h)
@@ -177,7 +189,7 @@ refused_by_the_living a step told =
 tried_at_once : (accepted : Bool)
     → NoStep refused.refused (λ a. history a.run ≡ Posted (driver 1) write_both accepted ∷ history refused.refused.run)
 tried_at_once accepted a step told =
-    let may = told_is_allowed 0 refused.refused a (Posted (driver 1) write_both accepted) step told in
+    let may = told_is_allowed area refused.refused a (Posted (driver 1) write_both accepted) step told in
     let h : true ≡ false = may.may.not_stopped in cc
 
 -- The server doesn't hear a flush.
@@ -212,20 +224,20 @@ older_tears a step tears = old_isnt_torn (sym (ap sector_1 (only_older_death a s
 -- It writes one.
 older_writes : NoStep hung.restart_heard (λ a. sector_1 a ≡ new_1)
 older_writes a step writes =
-    let runs = next_event hung.restart_heard (event.Step 1) refl refl refl refl 0 a step in
+    let runs = next_event hung.restart_heard (event.Step 1) refl refl refl refl area a step in
     let same = older_writes_nothing 5 1 (begun (event.Step 1) hung.restart_heard.run.scene) runs.scene runs.result (lit≤ tt) runs.occurs in
-    let left : sector_1 a ≡ old_1 = ap sector_1 runs.is ∙ by runs.result runs.scene ∙ ap (λ (m : MediaState). get_or m.sectors 1 []) same in
+    let left : sector_1 a ≡ old_1 = ap sector_1 runs.is ∙ by runs.result runs.scene ∙ ap (λ (m : MediaState). get_or m.sectors 5 []) same in
     old_isnt_new (sym left ∙ writes) where
       by : (r : Option Incoming) (s : Scene)
           → sector_1 (moment_after r (after_event (event.Step 1) s hung.restart_heard.run) hung.restart_heard)
-          ≡ get_or s.disks.media.sectors 1 []
+          ≡ get_or s.disks.media.sectors 5 []
       by None s = refl
       by (Some message) s = refl
 
 -- A call is handed out before the server is told that the device was given up.
 call_before_told : NoStep given_up.close_done (λ a. a.doing ≡ Answering sync)
 call_before_told a step handed =
-    let is = owed_is_told given_up.close_done refl refl 0 a step in
+    let is = owed_is_told given_up.close_done refl refl area a step in
     let h : Hearing incoming.GaveUp ≡ Answering sync = sym (ap (λ (m : Moment). m.doing) is) ∙ handed in cc
 
 -- A bad answer isn't complained of, and the call in which it was taken is answered.
@@ -243,7 +255,7 @@ complaint_skipped _ (Replies call reply answers live calm) rests = let h : Some 
 -- Another driver is complained of.
 other_complained_of : NoStep given_up.error_taken (λ a. history a.run ≡ Complained (driver 2) ∷ history given_up.error_taken.run)
 other_complained_of a step told =
-    let may : Some (driver 1) ≡ Some (driver 2) = (told_is_allowed 0 given_up.error_taken a (Complained (driver 2)) step told).may in
+    let may : Some (driver 1) ≡ Some (driver 2) = (told_is_allowed area given_up.error_taken a (Complained (driver 2)) step told).may in
     let h : 1 ≡ 2 = ap (λ (e : Endpoint). e.generation) (some_same (driver 1) (driver 2) may) in omega (arith, h)
 
 -- A call is handed out that didn't arrive.
@@ -257,7 +269,7 @@ two_wait = record death.sync_waits { run = record (death.sync_waits.run) { queue
 -- The second of them is handed out.
 second_call_first : NoStep two_wait (λ a. a.doing ≡ Answering close)
 second_call_first a step handed =
-    let is = first_call two_wait sync (close ∷ []) refl refl refl 0 a step in
+    let is = first_call two_wait sync (close ∷ []) refl refl refl area a step in
     let h : Answering sync ≡ Answering close = sym (ap (λ (m : Moment). m.doing) is) ∙ handed in
     let same : Sync ≡ Close 0 = ap call_in h in cc where
       call_in : Doing → Call

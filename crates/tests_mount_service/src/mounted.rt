@@ -19,7 +19,7 @@ use std::thread::Threads;
 use std::time::{Clock, Duration};
 
 /// How long a tick is, in milliseconds.
-const PACE: u64 = 40;
+const PACE: u64 = 100;
 
 /// A clock that stands.
 #[derive(Drop)]

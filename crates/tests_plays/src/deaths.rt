@@ -35,9 +35,8 @@ const ERRS: Option<(u32, FaultKind)> = Some((0, FaultKind::Error(Errno::EIO)));
 /// An error that is an answer to calls too.
 const IS_FULL: Option<(u32, FaultKind)> = Some((0, FaultKind::Error(Errno::ENOSPC)));
 
-/// Requests 1 to 17 are the mount's; request 18 is the first call's read. Each number of a policy is the one that was handed in, and so are
-/// all drivers, in their order.
-static ROWS: [OverDrivers; 31] = [
+/// Requests 1 to 17 are the mount's; request 18 is the first call's read. All drivers are those that were handed in, in their order.
+static ROWS: [OverDrivers; 20] = [
     (None, 1, &[DIES_LATER, None], TWICE, SERVED),
     (None, 18, &[DIES_LATER, None], TWICE, SERVED),
     (None, 1, &[DIES, DIES, None], TWICE, SERVED),
@@ -59,58 +58,6 @@ static ROWS: [OverDrivers; 31] = [
     (None, 18, &[STOPS_SHORT], TWICE, GIVEN_UP),
     // A block that has a frame isn't asked for again: both calls are served by one that would die in its second request after the mount.
     (None, 19, &[DIES], TWICE, SERVED),
-    // With no fault allowed, the first one's death is the last.
-    (Some((0, 32, 64)), 1, &[DIES, None], TWICE, NOT_MOUNTED),
-    (Some((0, 32, 64)), 18, &[DIES, None], TWICE, GIVEN_UP),
-    (Some((0, 32, 64)), 1, &[None, DIES], TWICE, SERVED),
-    // Each driver but the last dies at the tick of its start; starts come 1, 2 and 4 ticks after the first, second and third fault in a
-    // row, or after the cap. Faults 1 to 5 are allowed: the sixth driver serves.
-    (
-        Some((5, 32, 64)),
-        1,
-        &[DIES, DIES, DIES, DIES, DIES, None],
-        TWICE,
-        SERVED,
-    ),
-    (
-        Some((4, 32, 64)),
-        1,
-        &[DIES, DIES, DIES, DIES, DIES, None],
-        TWICE,
-        NOT_MOUNTED,
-    ),
-    (
-        Some((6, 32, 64)),
-        1,
-        &[DIES, DIES, DIES, DIES, DIES, DIES, None],
-        TWICE,
-        SERVED,
-    ),
-    (
-        Some((5, 32, 64)),
-        1,
-        &[DIES, DIES, DIES, DIES, DIES, DIES, None],
-        TWICE,
-        NOT_MOUNTED,
-    ),
-    // Faults at ticks 0 and 1: after one tick of calm the second counts as a first one.
-    (Some((1, 32, 1)), 1, &[DIES, DIES, None], TWICE, SERVED),
-    (Some((1, 32, 2)), 1, &[DIES, DIES, None], TWICE, NOT_MOUNTED),
-    // Faults at ticks 0, 1 and 3, or 0, 1 and 2: the third comes two ticks after the second, or one.
-    (
-        Some((2, 32, 2)),
-        1,
-        &[DIES, DIES, DIES, None],
-        TWICE,
-        SERVED,
-    ),
-    (
-        Some((2, 1, 2)),
-        1,
-        &[DIES, DIES, DIES, None],
-        TWICE,
-        NOT_MOUNTED,
-    ),
     // What is only read stays byte by byte.
     (
         None,
@@ -146,6 +93,66 @@ names 0
     ),
 ];
 
+/// Each number of a policy is the one that was handed in.
+static POLICIES: [OverDrivers; 7] = [
+    // With no fault allowed, the first one's death is the last.
+    (Some((0, 32, 64)), 1, &[DIES, None], TWICE, NOT_MOUNTED),
+    (Some((0, 32, 64)), 18, &[DIES, None], TWICE, GIVEN_UP),
+    (Some((0, 32, 64)), 1, &[None, DIES], TWICE, SERVED),
+    // Each driver but the last dies at the tick of its start; starts come 1, 2 and 4 ticks after the first, second and third fault in a
+    // row, or after the cap. Faults 1 to 5 are allowed: the sixth driver serves.
+    (
+        Some((5, 32, 64)),
+        1,
+        &[DIES, DIES, DIES, DIES, DIES, None],
+        TWICE,
+        SERVED,
+    ),
+    (
+        Some((4, 32, 64)),
+        1,
+        &[DIES, DIES, DIES, DIES, DIES, None],
+        TWICE,
+        NOT_MOUNTED,
+    ),
+    (
+        Some((6, 32, 64)),
+        1,
+        &[DIES, DIES, DIES, DIES, DIES, DIES, None],
+        TWICE,
+        SERVED,
+    ),
+    (
+        Some((5, 32, 64)),
+        1,
+        &[DIES, DIES, DIES, DIES, DIES, DIES, None],
+        TWICE,
+        NOT_MOUNTED,
+    ),
+];
+
+/// So is its calm.
+static CALMS: [OverDrivers; 4] = [
+    // Faults at ticks 0 and 1: after one tick of calm the second counts as a first one.
+    (Some((1, 32, 1)), 1, &[DIES, DIES, None], TWICE, SERVED),
+    (Some((1, 32, 2)), 1, &[DIES, DIES, None], TWICE, NOT_MOUNTED),
+    // Faults at ticks 0, 1 and 3, or 0, 1 and 2: the third comes two ticks after the second, or one.
+    (
+        Some((2, 32, 2)),
+        1,
+        &[DIES, DIES, DIES, None],
+        TWICE,
+        SERVED,
+    ),
+    (
+        Some((2, 1, 2)),
+        1,
+        &[DIES, DIES, DIES, None],
+        TWICE,
+        NOT_MOUNTED,
+    ),
+];
+
 /// Nothing that these plays do reaches the image, which stays a sound volume.
 #[test]
 fn replies_outlive_drivers(rt: HostRuntime) -> Result<(), Fail> {
@@ -153,6 +160,16 @@ fn replies_outlive_drivers(rt: HostRuntime) -> Result<(), Fail> {
     let mut slots = Slots::new();
     assert!(rt; matches!(slots.start(16), Err(SlotRefusal::NoSuchSlot)));
     Ok(())
+}
+
+#[test]
+fn faults_are_allowed(rt: HostRuntime) -> Result<(), Fail> {
+    all_come_out(rt.alloc(), rt, &POLICIES)
+}
+
+#[test]
+fn faults_after_a_calm_are_first_ones(rt: HostRuntime) -> Result<(), Fail> {
+    all_come_out(rt.alloc(), rt, &CALMS)
 }
 
 /// What is written and read back.

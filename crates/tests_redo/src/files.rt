@@ -129,30 +129,18 @@ fn sync(file: &mut [Unit], held: Held) {
     }
 }
 
+/// How a file's units stand behind a call: so where it was done, else stale.
+fn held_by(happening: &Happening, done: Held) -> Held {
+    if happening.done { done } else { Held::Stale }
+}
+
 /// Notes what happened, where it is this file's.
 pub fn note(file: &mut [Unit], which: Which, happening: &Happening) {
     match &happening.asked {
-        Asked::Write(to, first, units) => {
-            if *to == which {
-                let held = if happening.done {
-                    Held::Written
-                } else {
-                    Held::Stale
-                };
-                write(file, *first, units, held);
-            }
+        Asked::Write(to, first, units) if *to == which => {
+            write(file, *first, units, held_by(happening, Held::Written));
         }
-        Asked::Sync(to) => {
-            if *to == which {
-                sync(
-                    file,
-                    if happening.done {
-                        Held::Kept
-                    } else {
-                        Held::Stale
-                    },
-                );
-            }
-        }
+        Asked::Sync(to) if *to == which => sync(file, held_by(happening, Held::Kept)),
+        Asked::Write(..) | Asked::Sync(_) => {}
     }
 }

@@ -59,7 +59,7 @@ impl Played {
 }
 
 /// How long a tick is, in milliseconds.
-const PACE: u64 = 5;
+const PACE: u64 = 100;
 
 /// Plays a script on the volume in an image: the status of the process, and the image that is left.
 pub(crate) fn play_script<

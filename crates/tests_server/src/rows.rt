@@ -28,15 +28,20 @@ fn opens(rt: &impl Abort, volume: &mut Volume, open: Open<'_>, expected: Result<
     assert_eq!(rt; volume.open(open), expected);
 }
 
+/// A session opens `/f` under each of its descriptors.
+fn fills(rt: &impl Abort, volume: &mut Volume, session: u8) {
+    for fd in 0..32u32 {
+        opens(rt, volume, (session, (0, 0), b"/f", 1, 0), Ok(fd));
+    }
+}
+
 /// A step comes out.
 fn does(rt: &impl Abort, volume: &mut Volume, step: &Step) {
     match step {
         Step::Opens(open, expected) => opens(rt, volume, *open, *expected),
         Step::Fills(sessions) => {
             for session in *sessions {
-                for fd in 0..32u32 {
-                    opens(rt, volume, (*session, (0, 0), b"/f", 1, 0), Ok(fd));
-                }
+                fills(rt, volume, *session);
             }
         }
         Step::Closes(fd) => {

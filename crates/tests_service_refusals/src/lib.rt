@@ -6,6 +6,8 @@
 #[cfg(test)]
 mod served;
 #[cfg(test)]
+mod standing;
+#[cfg(test)]
 mod starts;
 #[cfg(test)]
 mod without;

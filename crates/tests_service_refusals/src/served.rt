@@ -3,9 +3,9 @@
 use board::counting::parameters::ServiceParameters;
 use board::counting::recorder::Recorder;
 use file_server::FileServer;
-use fixtures::gates::Ticking;
 use fixtures::orders::{refuse, was_refused};
 use fixtures::{new_volume, patient};
+use gate::paced_gate::Paced;
 use modeldisk::supply::{drivers_for, table_in};
 use serve::service::Service;
 use service_start::program::Program;
@@ -15,7 +15,6 @@ use std::alloc::Global;
 use std::sync::{Arc, Wait};
 use std::test::Fail;
 use std::thread::Threads;
-use std::time::Clock;
 
 /// Asks for a session with the first request refused, then with the second, until none is.
 #[derive(Drop)]
@@ -67,14 +66,14 @@ impl Asks {
 }
 
 /// What comes of a program over a service on the volume in an image.
-fn served<R: Threads + Wait + Clock + Copy + Send + Sync + 'static, P: Program<R>>(
+fn served<R: Threads + Wait + Copy + Send + Sync + 'static, P: Program<R>>(
     alloc: Global,
     rt: R,
     image: Vec<u8>,
     program: P,
 ) -> Result<P::Output, Fail> {
     let supply = drivers_for(alloc, 0, false, table_in(&image))?;
-    let gate = Arc::new(alloc, Ticking::new(rt, 5))?;
+    let gate = Arc::new(alloc, Paced::new(rt))?;
     match serve(alloc, rt, image, &patient(), supply, gate, program) {
         Ok(came) => Ok(came),
         Err(_) => Err(Fail::from("not served")),

@@ -7,9 +7,9 @@ use board::counting::recorder::Recorder;
 use call_text::scripts::reading::read_script;
 use call_text::scripts::timed::TimedCall;
 use file_server::FileServer;
-use fixtures::gates::Ticking;
 use fixtures::orders::{MOST, is_last, refuse, was_refused};
 use fixtures::{new_volume, patient};
+use gate::paced_gate::Paced;
 use modeldisk::supply::{drivers_for, table_in};
 use serve::service::Service;
 use service_start::program::Program;
@@ -18,7 +18,6 @@ use std::alloc::{AllocError, Global};
 use std::sync::{Arc, Wait};
 use std::test::Fail;
 use std::thread::Threads;
-use std::time::Clock;
 use tree::Outcome;
 use volume_mount::StartRefusal;
 
@@ -81,13 +80,11 @@ struct Trial {
     number: u16,
     /// How many drivers there are but the first.
     spares: u8,
-    /// How long a tick is, in milliseconds.
-    pace: u64,
 }
 
 /// Starts a service on an image, of which there is a copy, over drivers and a gate that were made before the order: which of its requests
 /// is refused, or 0 for none.
-fn started<R: Threads + Wait + Clock + Copy + Send + Sync + 'static>(
+fn started<R: Threads + Wait + Copy + Send + Sync + 'static>(
     alloc: Global,
     rt: R,
     image: &[u8],
@@ -96,7 +93,7 @@ fn started<R: Threads + Wait + Clock + Copy + Send + Sync + 'static>(
     request: u32,
 ) -> Result<(Started, bool), AllocError> {
     let supply = drivers_for(alloc, trial.spares, false, table_in(image))?;
-    let gate = Arc::new(alloc, Ticking::new(rt, trial.pace))?;
+    let gate = Arc::new(alloc, Paced::new(rt))?;
     let image = Vec::from_slice(alloc, image)?;
     let setup = patient();
     if request > 0 {
@@ -124,7 +121,7 @@ fn is_started(came: &Started, undisturbed: &Started, refused: bool) -> bool {
 }
 
 /// Whether this was the last request of a start, which is refused and comes out right beside the undisturbed one.
-fn is_last_start<R: Threads + Wait + Clock + Copy + Send + Sync + 'static>(
+fn is_last_start<R: Threads + Wait + Copy + Send + Sync + 'static>(
     alloc: Global,
     rt: R,
     image: &[u8],
@@ -143,7 +140,7 @@ fn is_last_start<R: Threads + Wait + Clock + Copy + Send + Sync + 'static>(
 }
 
 /// Starts a service on an image with the start's first request refused, then with its second, until none is. It comes out right each time.
-fn starts_each_refused<R: Threads + Wait + Clock + Copy + Send + Sync + 'static>(
+fn starts_each_refused<R: Threads + Wait + Copy + Send + Sync + 'static>(
     alloc: Global,
     rt: R,
     image: &[u8],
@@ -163,7 +160,7 @@ fn starts_each_refused<R: Threads + Wait + Clock + Copy + Send + Sync + 'static>
 }
 
 /// The same of a new volume, and the calls of a script.
-fn start_each_refused<R: Threads + Wait + Clock + Copy + Send + Sync + 'static>(
+fn start_each_refused<R: Threads + Wait + Copy + Send + Sync + 'static>(
     alloc: Global,
     rt: R,
     trial: Trial,
@@ -180,7 +177,6 @@ fn starts_of_a_service(rt: HostRuntime) -> Result<(), Fail> {
     let trial = Trial {
         number: 24,
         spares: 5,
-        pace: 5,
     };
     start_each_refused(rt.alloc(), rt, trial, SCRIPT)
 }
@@ -191,7 +187,6 @@ fn starts_over_one_driver(rt: HostRuntime) -> Result<(), Fail> {
     let trial = Trial {
         number: 27,
         spares: 0,
-        pace: 50,
     };
     start_each_refused(rt.alloc(), rt, trial, SCRIPT)
 }

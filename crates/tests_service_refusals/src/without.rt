@@ -1,12 +1,12 @@
 //! Calls of a service after its opening, while there is no memory: none but read and readdir takes any.
 
+use crate::standing::Standing;
 use board::counting::parameters::ServiceParameters;
 use board::counting::recorder::Recorder;
 use call_text::scripts::reading::read_script;
 use call_text::scripts::timed::TimedCall;
 use errno::Errno;
 use file_server::FileServer;
-use fixtures::gates::Ticking;
 use fixtures::orders::{refuse, was_refused};
 use fixtures::{new_volume, patient};
 use modeldisk::supply::{drivers_for, table_in};
@@ -19,7 +19,6 @@ use std::env;
 use std::sync::{Arc, Wait};
 use std::test::Fail;
 use std::thread::Threads;
-use std::time::Clock;
 use tree::{Outcome, Reply};
 
 /// All memory that there is, or an order by which no request is granted.
@@ -37,24 +36,17 @@ const HALVES: u32 = 43;
 /// Blocks of each size up to so many bytes are taken too: an allocator may keep those that were given back for such requests alone.
 const MOST_SMALL: usize = 1040;
 
-/// Whether a small request is granted.
-fn is_granted(alloc: Global) -> bool {
-    let asked: Result<Vec<u8>, AllocError> = Vec::with_capacity(alloc, 16);
-    asked.is_ok()
-}
-
 /// How often in a row a request is refused where there is no memory. Each thread may have a part of memory of its own, and an allocator
 /// that finds none in one may look into another one the next time.
 const ASKS: u32 = 256;
 
-/// Whether one of so many small requests is granted.
-fn is_left(alloc: Global) -> bool {
-    for _ in 0..ASKS {
-        if is_granted(alloc) {
-            return true;
-        }
-    }
-    false
+/// How often all sizes are gone through, at most, until nothing is found: other threads may give memory back meanwhile.
+const ROUNDS: u32 = 30;
+
+/// Whether a small request is granted.
+fn is_granted(alloc: Global) -> bool {
+    let asked: Result<Vec<u8>, AllocError> = Vec::with_capacity(alloc, 16);
+    asked.is_ok()
 }
 
 /// Takes blocks of this size while there are any.
@@ -75,26 +67,41 @@ fn take_all(alloc: Global, size: usize, blocks: &mut Vec<Vec<u8>>) {
     }
 }
 
+/// Takes blocks of all sizes while there are any. Whether none was found.
+fn was_none_left(alloc: Global, blocks: &mut Vec<Vec<u8>>) -> bool {
+    let taken = blocks.len();
+    let mut size = LARGEST;
+    for _ in 0..HALVES {
+        take_all(alloc, size, blocks);
+        size /= 2;
+    }
+    for size in (16..=MOST_SMALL).step_by(16) {
+        take_all(alloc, size, blocks);
+    }
+    blocks.len() == taken && taken < BLOCKS
+}
+
 impl Hoard {
     /// Takes all memory; nothing where some is left.
     fn all(alloc: Global) -> Option<Hoard> {
-        let mut blocks = Vec::with_capacity(alloc, BLOCKS).ok()?;
+        let blocks = Vec::with_capacity(alloc, BLOCKS).ok()?;
         refuse(alloc, 9, 0);
-        if is_granted(alloc) {
-            let mut size = LARGEST;
-            for _ in 0..HALVES {
-                take_all(alloc, size, &mut blocks);
-                size /= 2;
-            }
-            for size in (16..=MOST_SMALL).step_by(16) {
-                take_all(alloc, size, &mut blocks);
+        let mut hoard = Hoard(blocks);
+        if hoard.takes_rest(alloc) {
+            return Some(hoard);
+        }
+        hoard.release(alloc);
+        None
+    }
+
+    /// Takes what there is, and what is given back meanwhile. Whether nothing is left.
+    fn takes_rest(&mut self, alloc: Global) -> bool {
+        for _ in 0..ROUNDS {
+            if was_none_left(alloc, &mut self.0) {
+                return true;
             }
         }
-        if is_left(alloc) {
-            None
-        } else {
-            Some(Hoard(blocks))
-        }
+        false
     }
 
     /// Gives it back.
@@ -107,8 +114,9 @@ impl Hoard {
 /// Calls that are made in a session, those of the second list at the end; where `without` holds all of them without memory, and then those
 /// of the second list again.
 #[derive(Drop)]
-struct Calls<'c> {
+struct Calls<'c, R: Wait + Copy> {
     alloc: Global,
+    gate: Arc<Standing<R>>,
     calls: &'c [TimedCall<'c>],
     reads: &'c [TimedCall<'c>],
     without: bool,
@@ -127,8 +135,9 @@ pub(crate) fn make<N: ServiceParameters, R: Wait + Copy, L: Recorder<N>, S: File
     Some(())
 }
 
-impl<R: Threads + Wait + Copy + Send + Sync + 'static> Program<R> for Calls<'_> {
-    /// What each call came to, in their order; nothing where memory couldn't be taken away.
+impl<R: Threads + Wait + Copy + Send + Sync + 'static> Program<R> for Calls<'_, R> {
+    /// What each call came to, in their order; nothing where memory couldn't be taken away. By then the service is stopped, so that none of
+    /// its threads gives memory back while the next one runs.
     type Output = Option<Vec<Outcome>>;
 
     ghost gives = { λ program geometry opening output. Unit {0} };
@@ -140,35 +149,55 @@ impl<R: Threads + Wait + Copy + Send + Sync + 'static> Program<R> for Calls<'_> 
         ensures { Unit {0} }
     {
         let mut outcomes = Vec::with_capacity(self.alloc, 128).ok()?;
-        self.make_in(&service, &mut outcomes)?;
+        let made = self.make_in(&service, &mut outcomes);
+        service.stop().ok()?;
+        made?;
         Some(outcomes)
     }
 }
 
-impl Calls<'_> {
-    /// Makes the calls in a session of a service, and adds what each comes to.
-    fn make_in<N: ServiceParameters, R: Threads + Wait + Copy, L: Recorder<N>, S: FileServer<L>>(
+impl<R: Wait + Copy> Calls<'_, R> {
+    /// Makes the calls in a session of a service, which then ends, and adds what each comes to.
+    fn make_in<N: ServiceParameters, L: Recorder<N>, S: FileServer<L>>(
         &self,
         service: &Service<N, R, L, S>,
         outcomes: &mut Vec<Outcome>,
-    ) -> Option<()> {
+    ) -> Option<()>
+    where
+        R: Threads,
+    {
         let mut session = service.session(0, 0).ok()?;
-        if self.without {
-            self.make_without(&mut session, outcomes)?;
-        } else {
-            make(&mut session, self.calls, outcomes)?;
-        }
-        make(&mut session, self.reads, outcomes)
+        let made = self.make_all(&mut session, outcomes);
+        session.end();
+        made
     }
 
-    /// Makes all of them without memory.
-    fn make_without<N: ServiceParameters, R: Wait + Copy, L: Recorder<N>, S: FileServer<L>>(
+    /// Makes the calls, without memory if need be, and then the reads.
+    fn make_all<N: ServiceParameters, L: Recorder<N>, S: FileServer<L>>(
         &self,
         session: &mut Session<N, Shared<N, R, L, S>>,
         outcomes: &mut Vec<Outcome>,
     ) -> Option<()> {
-        let hoard = Hoard::all(self.alloc)?;
+        if self.without {
+            self.gate.set(true);
+            let made = self.make_without(session, outcomes);
+            self.gate.set(false);
+            made?;
+        } else {
+            make(session, self.calls, outcomes)?;
+        }
+        make(session, self.reads, outcomes)
+    }
+
+    /// Makes all of them without memory. What was given back by the time of the reads is taken too.
+    fn make_without<N: ServiceParameters, L: Recorder<N>, S: FileServer<L>>(
+        &self,
+        session: &mut Session<N, Shared<N, R, L, S>>,
+        outcomes: &mut Vec<Outcome>,
+    ) -> Option<()> {
+        let mut hoard = Hoard::all(self.alloc)?;
         let made = make(session, self.calls, outcomes).is_some()
+            && hoard.takes_rest(self.alloc)
             && make(session, self.reads, outcomes).is_some();
         hoard.release(self.alloc);
         if made { Some(()) } else { None }
@@ -222,39 +251,36 @@ user 0 0
 101 readdir 1
 ";
 
-/// How long a tick is, in milliseconds.
-const PACE: u64 = 50;
-
-/// What the calls and reads of two scripts come to on an image, with memory or without.
-fn come_to<R: Threads + Wait + Clock + Copy + Send + Sync + 'static>(
+/// What the calls and reads of two scripts come to on an image, with memory or without; nothing where memory couldn't be taken away.
+fn come_to<R: Threads + Wait + Copy + Send + Sync + 'static>(
     rt: R,
     image: &[u8],
-    program: Calls<'_>,
-) -> Result<Vec<Outcome>, Fail> {
+    program: Calls<'_, R>,
+) -> Result<Option<Vec<Outcome>>, Fail> {
     let alloc = program.alloc;
     let supply = drivers_for(alloc, 0, false, table_in(image))?;
-    let gate = Arc::new(alloc, Ticking::new(rt, PACE))?;
+    let gate = Arc::try_clone(&program.gate)?;
     let image = Vec::from_slice(alloc, image)?;
     match serve(alloc, rt, image, &patient(), supply, gate, program) {
-        Ok(Some(outcomes)) => Ok(outcomes),
-        Ok(None) => Err(Fail::from("memory is left, or none at first")),
+        Ok(outcomes) => Ok(outcomes),
         Err(_) => Err(Fail::from("not served")),
     }
 }
 
 /// What calls come to on an image, with memory or without.
-fn outcomes<R: Threads + Wait + Clock + Copy + Send + Sync + 'static>(
+fn outcomes<R: Threads + Wait + Copy + Send + Sync + 'static>(
     alloc: Global,
     rt: R,
     image: &[u8],
     without: bool,
-) -> Result<Vec<Outcome>, Fail> {
+) -> Result<Option<Vec<Outcome>>, Fail> {
     let script = read_script(alloc, CALLS.as_bytes())?;
     let calls = script.calls(alloc)?;
     let reads = read_script(alloc, READS.as_bytes())?;
     let reads = reads.calls(alloc)?;
     let program = Calls {
         alloc,
+        gate: Arc::new(alloc, Standing::new(rt))?,
         calls: calls.as_slice(),
         reads: reads.as_slice(),
         without,
@@ -267,34 +293,46 @@ fn wants_memory(outcome: &Outcome) -> bool {
     *outcome == Outcome::Reply(Reply::Refused(Errno::ENOMEM))
 }
 
-/// Whether each call but the two reads came without memory to what it came to with it, and the reads, which wanted memory, then gave what
-/// they would have given.
-fn are_same(with: &[Outcome], without: &[Outcome]) -> Result<(), Fail> {
+/// Whether the two reads, which want memory, found none. It is an error where another call came without memory to something else than with
+/// it, or where the reads then didn't give what they would have given.
+fn are_same(with: &[Outcome], without: &[Outcome]) -> Result<bool, Fail> {
     let made = with.len().saturating_sub(2);
     let (calls, rest) = without.split_at(made.min(without.len()));
     let (wanting, reads) = rest.split_at(2.min(rest.len()));
     let (same, last) = with.split_at(made.min(with.len()));
-    if calls == same && reads == last && wanting.iter().all(|outcome| wants_memory(outcome)) {
-        return Ok(());
-    }
     for (number, (one, other)) in calls.iter().zip(same).enumerate() {
         if one != other {
             return Err(Fail::new(format_args!("call {number}: {one:?}, not {other:?}")));
         }
     }
+    if !wanting.iter().all(|outcome| wants_memory(outcome)) {
+        return Ok(false);
+    }
+    if calls == same && reads == last {
+        return Ok(true);
+    }
     Err(Fail::from("the reads"))
 }
 
+/// How often memory is taken away, at most. It is done again where some was left, or a read was granted what another thread gave back.
+const TRIALS: u32 = 30;
+
 /// It is so on a volume with blocks of this size.
-fn are_made_without<R: Threads + Wait + Clock + Copy + Send + Sync + 'static>(
+fn are_made_without<R: Threads + Wait + Copy + Send + Sync + 'static>(
     alloc: Global,
     rt: R,
     block: usize,
 ) -> Result<(), Fail> {
     let image = new_volume(alloc, block)?;
-    let with = outcomes(alloc, rt, &image, false)?;
-    let without = outcomes(alloc, rt, &image, true)?;
-    are_same(with.as_slice(), without.as_slice())
+    let with = outcomes(alloc, rt, &image, false)?.ok_or("not made, or not stopped")?;
+    for _ in 0..TRIALS {
+        if let Some(without) = outcomes(alloc, rt, &image, true)? {
+            if are_same(with.as_slice(), without.as_slice())? {
+                return Ok(());
+            }
+        }
+    }
+    Err(Fail::from("memory is left each time, or a read wants none"))
 }
 
 #[test]

@@ -12,11 +12,11 @@ use board::counting::RecordingLink;
 use board::counting::parameters::ServiceParameters;
 use board::{Board, Seat};
 use driver_threads::running::start_drivers;
-use fixtures::gates::Yielding;
 use fixtures::{new_volume, supply_of};
 use fixtures_sessions::services::asked_and_stopped;
 use fixtures_sessions::silent::Silent;
 use fsck::{Verdict, check};
+use gate::paced_gate::Paced;
 use layout::Geometry;
 use modeldisk::ScriptedDriver;
 use reincarnate::Reincarnation;
@@ -57,10 +57,10 @@ fn ask_and_stop<
     let theirs = board.split(&mut seat, None)?;
     let board = Arc::new(alloc, board)?;
     let counted = Arc::try_clone(&board)?;
-    let gate = Arc::new(alloc, Yielding)?;
+    let gate = Arc::new(alloc, Paced::new(rt))?;
     let asked = Arc::try_clone(&gate)?;
     let noting = RecordingLink::<N, Silent>::new(alloc, Silent::new(alloc)?, counted, seat)?;
-    let (link, running) = start_drivers::<N, ScriptedDriver, Yielding, R>(
+    let (link, running) = start_drivers::<N, ScriptedDriver, Paced<R>, R>(
         alloc,
         rt,
         media,

@@ -4,9 +4,9 @@ use board::counting::parameters::ServiceParameters;
 use board::counting::recorder::Recorder;
 use file_server::FileServer;
 use fixtures::{ROOT, new_volume};
-use fixtures_sessions::callers::{Caller, told};
+use fixtures_sessions::callers::told;
 use fixtures_sessions::stage::Stage;
-use fixtures_sessions::watch::{Holds, is_alone, is_reached};
+use fixtures_sessions::watch::{Holds, await_alone, await_count};
 use fsck::{Verdict, check};
 use modeldisk::{Fault, FaultKind};
 use serve::service::Service;
@@ -31,17 +31,6 @@ enum Ending {
     LetGo,
 }
 
-/// Asks for the root, and then changes its permissions.
-fn change<C: Caller>(session: &mut C, lines: &mut String) {
-    let path = PathFrom::root(b"/");
-    told(session, 100, &Call::Stat { path }, lines);
-    let chmod = Call::Chmod { path, mode: 0o700 };
-    told(session, 100, &chmod, lines);
-}
-
-/// How often a thread that is to let a driver go waits for it to be held. It begins before the service is there.
-const WAITS: u32 = 100;
-
 /// Lets the held driver go once it is held and some driver is dropped, in a thread of its own. Whether there is one.
 fn lets_go_later<R: Threads + Wait + Clock + Copy + Send + Sync + 'static>(
     stage: &Stage<R>,
@@ -49,19 +38,15 @@ fn lets_go_later<R: Threads + Wait + Clock + Copy + Send + Sync + 'static>(
     let gate = Arc::try_clone(&stage.gate).ok()?;
     let notes = Arc::try_clone(&stage.notes).ok()?;
     let waits = move || {
-        for _ in 0..WAITS {
-            if gate.awaits_held() {
-                break;
-            }
-        }
-        let _ = is_reached(notes.gone(), 1);
+        gate.awaits_held();
+        await_count(notes.gone(), 1);
         gate.let_go();
     };
     thread::spawn(&stage.rt, waits).ok()?;
     Some(())
 }
 
-/// A session changes the root, and ends, after the first driver was held. A line for each answer.
+/// A session asks for the root, and changes its permissions while the first driver is held: its inode is at hand. A line for each answer.
 fn changed_by<
     N: ServiceParameters,
     R: Threads + Wait + Clock + Copy,
@@ -70,10 +55,13 @@ fn changed_by<
 >(stage: &Stage<R>, ending: Ending, service: &Service<N, R, L, S>) -> Option<String> {
     let mut lines = String::new(stage.alloc);
     let mut session = service.session(0, 0).ok()?;
-    change(&mut session, &mut lines);
+    let path = PathFrom::root(b"/");
+    told(&mut session, 100, &Call::Stat { path }, &mut lines);
     if ending != Ending::Stopped {
         stage.gate.hold();
     }
+    let chmod = Call::Chmod { path, mode: 0o700 };
+    told(&mut session, 100, &chmod, &mut lines);
     session.end();
     Some(lines)
 }
@@ -86,7 +74,7 @@ fn end<N: ServiceParameters, R: Threads + Wait + Clock + Copy, L: Recorder<N>, S
 ) -> Option<(String, Vec<u8>)> {
     let lines = changed_by(stage, ending, &service)?;
     if ending == Ending::LetGo {
-        let _ = stage.gate.awaits_held();
+        stage.gate.awaits_held();
         drop(service);
         stage.gate.let_go();
         return Some((lines, Vec::new(stage.alloc)));
@@ -144,10 +132,9 @@ fn ended<R: Threads + Wait + Clock + Copy + Send + Sync + 'static>(
     let came = stage.served(faults, Ends { stage, ending })?;
     let (lines, left) = came.ok_or("not ended")?;
     is_changed(stage.alloc, lines.as_str())?;
-    if is_alone(&stage.gate) && is_reached(stage.notes.gone(), 33) {
-        return Ok(left);
-    }
-    Err(Fail::from("a thread is left"))
+    await_alone(&stage.gate);
+    await_count(stage.notes.gone(), 33);
+    Ok(left)
 }
 
 /// The image that is left is a sound volume, and the one that was handed in, changed by the drivers' writes, of which there are so many at

@@ -3,9 +3,9 @@
 use board::counting::parameters::ServiceParameters;
 use board::counting::recorder::Recorder;
 use file_server::FileServer;
-use fixtures::gates::HoldsFlusher;
 use fixtures::{MOUNT_READS, patient, supply_at};
 use fixtures_sessions::services::{many, stopped, two_in_turn};
+use fixtures_sessions::watch::{Holds, PACE, Watch};
 use modeldisk::FaultKind;
 use serve::service::Service;
 use service_start::program::Program;
@@ -13,6 +13,7 @@ use service_start::start::serve;
 use std::alloc::{AllocError, Global};
 use std::sync::{Arc, Wait};
 use std::thread::Threads;
+use std::time::Clock;
 use tree::Call;
 
 /// What is done.
@@ -36,13 +37,13 @@ pub(crate) struct Came {
 
 /// One of these is done.
 #[derive(Drop)]
-struct Does {
+struct Does<R: Clock + Copy> {
     alloc: Global,
     what: &'static What,
-    gate: Arc<HoldsFlusher>,
+    gate: Arc<Watch<R>>,
 }
 
-impl<R: Threads + Wait + Copy + Send + Sync + 'static> Program<R> for Does {
+impl<R: Threads + Wait + Clock + Copy + Send + Sync + 'static> Program<R> for Does<R> {
     type Output = Option<Came>;
 
     ghost gives = { λ program geometry opening output. Unit {0} };
@@ -68,7 +69,7 @@ impl<R: Threads + Wait + Copy + Send + Sync + 'static> Program<R> for Does {
 }
 
 /// What comes of it over a service of the volume in an image, whose driver has this fault in its first request after those of the mount.
-pub(crate) fn served<R: Threads + Wait + Copy + Send + Sync + 'static>(
+pub(crate) fn served<R: Threads + Wait + Clock + Copy + Send + Sync + 'static>(
     alloc: Global,
     rt: R,
     image: &[u8],
@@ -76,7 +77,8 @@ pub(crate) fn served<R: Threads + Wait + Copy + Send + Sync + 'static>(
     what: &'static What,
 ) -> Result<Option<Came>, AllocError> {
     let supply = supply_at(alloc, 128, MOUNT_READS + 1, &[fault])?;
-    let gate = Arc::new(alloc, HoldsFlusher::new())?;
+    let gate = Arc::new(alloc, Watch::new(rt, Holds::Flusher, PACE))?;
+    gate.hold();
     let does = Does {
         alloc,
         what,

@@ -7,6 +7,7 @@ use std::alloc::Global;
 use std::sync::Wait;
 use std::test::Fail;
 use std::thread::Threads;
+use std::time::Clock;
 use tests_texts::is_told;
 use tree::{Call, PathFrom, Start};
 
@@ -83,7 +84,7 @@ static AGAIN: [Row; 1] = [(
 )];
 
 /// A row comes out as it says over the volume in an image. The image that is left.
-fn comes_out<R: Threads + Wait + Copy + Send + Sync + 'static>(
+fn comes_out<R: Threads + Wait + Clock + Copy + Send + Sync + 'static>(
     alloc: Global,
     rt: R,
     image: &[u8],
@@ -106,7 +107,7 @@ fn comes_out<R: Threads + Wait + Copy + Send + Sync + 'static>(
 }
 
 /// Rows come out one after the other, each over this image; the image that the last one leaves.
-fn come_out<R: Threads + Wait + Copy + Send + Sync + 'static>(
+fn come_out<R: Threads + Wait + Clock + Copy + Send + Sync + 'static>(
     alloc: Global,
     rt: R,
     image: &[u8],

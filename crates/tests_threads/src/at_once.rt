@@ -16,7 +16,7 @@ use driver_threads::running::Running;
 use file_server::FileServer;
 use fixtures_sessions::recording_driver::RecordingDriver;
 use fixtures_sessions::services::two_in_threads;
-use fixtures_sessions::stage::{LATE, Stage, patient};
+use fixtures_sessions::stage::{Stage, patient};
 use fixtures_sessions::watch::Watch;
 use modeldisk::Fault;
 use reincarnate::policy::Setup;
@@ -157,9 +157,5 @@ pub(crate) fn at_once<R: Threads + Wait + Clock + Copy + Send + Sync + 'static>(
         return Err(Fail::from("not prepared"));
     };
     let (board, seat) = Board::new(stage.alloc)?;
-    let came = start_and_do::<Brand, R>(stage, board, seat, prepared, &setup, supply, what)?;
-    if stage.gate.is_in_time() {
-        return Ok(came);
-    }
-    Err(Fail::from(LATE))
+    start_and_do::<Brand, R>(stage, board, seat, prepared, &setup, supply, what)
 }

@@ -4,10 +4,10 @@ use bdev::Driver;
 use board::counting::parameters::ServiceParameters;
 use board::counting::recorder::Recorder;
 use file_server::FileServer;
-use fixtures::gates::Yielding;
 use fixtures::{MOUNT_READS, ROOT, new_volume};
 use fixtures_sessions::callers::told;
 use fixtures_sessions::stage::patient;
+use gate::paced_gate::Paced;
 use media::partition::Table;
 use modeldisk::{Fault, FaultKind, Inner, ModelDriver, RamDriver, ScriptedDriver};
 use serve::service::Service;
@@ -70,7 +70,7 @@ fn came_of<R: Threads + Wait + Copy + Send + Sync + 'static>(
     image: &[u8],
 ) -> Result<(String, Vec<u8>), Fail> {
     let drivers = drivers(alloc)?;
-    let gate = Arc::new(alloc, Yielding)?;
+    let gate = Arc::new(alloc, Paced::new(rt))?;
     let image = Vec::from_slice(alloc, image)?;
     match serve(alloc, rt, image, &patient(), drivers, gate, Asks { alloc }) {
         Ok(Some(came)) => Ok(came),

@@ -53,8 +53,6 @@ struct Came {
     lines: String,
     /// Whether who was held had passed before it was let go.
     is_early: bool,
-    /// Whether it passed then.
-    has_passed: bool,
     /// The image that is left.
     image: Vec<u8>,
 }
@@ -68,13 +66,13 @@ fn changes<C: Caller>(session: &mut C, lines: &mut String) {
     }
 }
 
-/// Calls while one of the service's threads is held, which then goes on. Whether it had passed before, and whether it passed then.
+/// Calls while one of the service's threads is held, which then goes on and passes. Whether it had passed before.
 fn calls<R: Clock + Copy, C: Caller>(
     what: What,
     gate: &Watch<R>,
     session: &mut C,
     lines: &mut String,
-) -> (bool, bool) {
+) -> bool {
     let stat = Call::Stat {
         path: PathFrom::root(b"/"),
     };
@@ -89,17 +87,17 @@ fn calls<R: Clock + Copy, C: Caller>(
             changes(session, lines);
         }
         What::Flusher => {
-            let _ = gate.awaits_flusher();
+            gate.awaits_flusher();
             told(session, 100, &stat, lines);
         }
     }
     let is_early = gate.passed() > 0 || what.holds() == Holds::Flusher && gate.flusher_passed() > 0;
     gate.let_go();
-    let has_passed = match what.holds() {
+    match what.holds() {
         Holds::Flusher => gate.awaits_flush(),
         _ => gate.awaits_passed(),
-    };
-    (is_early, has_passed)
+    }
+    is_early
 }
 
 impl<R: Threads + Wait + Clock + Copy + Send + Sync + 'static> Program<R> for Held<R> {
@@ -114,24 +112,23 @@ impl<R: Threads + Wait + Clock + Copy + Send + Sync + 'static> Program<R> for He
         ensures { Unit {0} }
     {
         let mut lines = String::new(self.alloc);
-        let (is_early, has_passed) = self.calls_in(&service, &mut lines)?;
+        let is_early = self.calls_in(&service, &mut lines)?;
         let image = service.stop().ok()?;
         Some(Came {
             lines,
             is_early,
-            has_passed,
             image,
         })
     }
 }
 
 impl<R: Clock + Copy> Held<R> {
-    /// Calls in a session of a service, which then ends. Whether who was held had passed before, and whether it passed then.
+    /// Calls in a session of a service, which then ends. Whether who was held had passed before it was let go.
     fn calls_in<N: ServiceParameters, L: Recorder<N>, S: FileServer<L>>(
         &self,
         service: &Service<N, R, L, S>,
         lines: &mut String,
-    ) -> Option<(bool, bool)>
+    ) -> Option<bool>
     where
         R: Threads + Wait,
     {
@@ -165,8 +162,8 @@ fn is_right<R: Wait + Clock + Copy>(
     lines: &str,
 ) -> Result<(), Fail> {
     is_told(came.lines.as_str(), lines)?;
-    if came.is_early || !came.has_passed || stage.notes.has_written(1) {
-        return Err(Fail::from("early, not passed, or written by the first driver"));
+    if came.is_early || stage.notes.has_written(1) {
+        return Err(Fail::from("early, or written by the first driver"));
     }
     stage.check_left(&came.image)
 }

@@ -7,6 +7,7 @@ use fixtures::gates::{Ticking, until};
 use fixtures_sessions::callers::Caller;
 use fixtures_sessions::stage::{Stage, patient};
 use fixtures_sessions::watch::Holds;
+use gate::bell::Bell;
 use gate::{Gate, Point};
 use new_volume::mkfs;
 use reincarnate::policy::Setup;
@@ -38,12 +39,8 @@ const PAGES: usize = 200;
 /// Each byte of them.
 const BYTE: u8 = 0xa5;
 
-/// How long a tick is, and a turn of the flusher, in milliseconds.
+/// How long a tick is, and a turn of the flusher, in milliseconds. A turn begins to write sixteen blocks.
 const PACE: u64 = 20;
-
-/// How often a test looks at most whether all is on the media. Between two looks it rests as long as a turn of the flusher takes, which
-/// begins to write sixteen blocks: fourteen turns do where no thread waits for a processor.
-const LOOKS: u32 = 1000;
 
 /// Whether a block is another one once the file is there: both maps and the first inodes, the root's entries, the pages, and the block of
 /// numbers that they take from the eighth on.
@@ -96,10 +93,14 @@ struct Late<R: Clock + Copy> {
 
 impl<R: Clock + Copy + Send + Sync> Gate for Late<R> {
     fn pass(&self, at: Point) {
+        self.pass_or_end(at, &Bell::new());
+    }
+
+    fn pass_or_end(&self, at: Point, end: &Bell) {
         if at == Point::FlusherTurn {
             until(&self.let_go);
         }
-        self.ticking.pass(at);
+        self.ticking.pass_or_end(at, end);
     }
 }
 
@@ -144,7 +145,7 @@ impl<R: Clock + Copy> Idle<R> {
         }
     }
 
-    /// The image of the media once all is there, or after the last look.
+    /// The image of the media once all is there. Where that is never so, the test's limit ends it.
     fn image<N: ServiceParameters, L: Recorder<N>, S: FileServer<L>>(
         &self,
         service: &Service<N, R, L, S>,
@@ -152,7 +153,7 @@ impl<R: Clock + Copy> Idle<R> {
     where
         R: Threads + Wait,
     {
-        for _ in 0..LOOKS {
+        for _ in 0..u64::MAX {
             let image = service.image(self.alloc).ok()?;
             if is_written(&image, &self.opening) {
                 return Some(image);

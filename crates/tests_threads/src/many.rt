@@ -37,8 +37,11 @@ const FAULT: Fault = Fault {
     kind: FaultKind::Die,
 };
 
-/// How many drivers there are.
+/// How many drivers there are: more than die, so that some may be replaced which only wait for a processor.
 const DRIVERS: usize = 150;
+
+/// How many milliseconds a tick takes: few, since a driver is started at the tick behind a death.
+const PACE: u64 = 20;
 
 /// The path of a session's file.
 fn path(number: u8) -> [u8; 3] {
@@ -165,7 +168,7 @@ fn done<R: Threads + Wait + Clock + Copy + Send + Sync + 'static>(
     image: Vec<u8>,
     what: What,
 ) -> Result<Vec<u8>, Fail> {
-    let stage = Stage::new(alloc, rt, image, Holds::Flusher)?;
+    let stage = Stage::paced(alloc, rt, image, Holds::Flusher, PACE)?;
     let (came, left) = at_once(&stage, &[FAULT; DRIVERS], what)?;
     if !matches!(came, Came::Files(true)) || stage.gate.later() == 0 {
         return Err(Fail::from("not all was answered, or no driver died"));

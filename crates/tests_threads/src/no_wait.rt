@@ -57,17 +57,13 @@ fn look<N: ServiceParameters, R: Threads + Wait + Clock + Copy, L: Recorder<N>, 
     mut one: Session<N, Shared<N, R, L, S>>,
     mut two: Session<N, Shared<N, R, L, S>>,
 ) -> Option<Looked> {
-    let is_held = gate.awaits_held();
+    gate.awaits_held();
     let seen = looked_at(&mut one, &mut two);
     let is_still_held = gate.passed() == 0;
     gate.let_go();
     one.end();
     two.end();
-    if is_held && is_still_held {
-        Some(seen)
-    } else {
-        None
-    }
+    if is_still_held { Some(seen) } else { None }
 }
 
 /// Two sessions of user 0.

@@ -1,13 +1,20 @@
 -- The bytes of media at a run's end.
 use Rattle.std.proofs.Common.{◌≡◌, ℕ, zero, suc, ◌⊎◌, ◌+◌, ◌*◌, ◌<◌, ◌≤◌, ◌/◌, List, [], length, get_or, sym, ◌∙◌, ap, arith, inl, inr}
-use Rattle.std.specs.Prelude.{slice_index}
+use Rattle.std.specs.Prelude.{slice_index, drop, ◌%◌}
 use Rattle.std.specs.List.{concat}
-use Rattle.std.proofs.lemmas.List.{get_or_past}
-use Rattle.records.specs.Opening.{Opening}
+use Rattle.std.proofs.lemmas.List.{get_or_past, get_or-take, get_or-drop}
+use Rattle.layout.specs.declared.Geometry.{Geometry}
+use Rattle.records.specs.Opening.{Opening, contents_at}
+use Rattle.records.specs.Disk.{disk_after, unsure}
+use Rattle.records.specs.Area.{WritesInside, IsHeadOrTail}
+use Rattle.records.specs.Laws.{Stays}
+use Rattle.records.proofs.Inside.{head_and_tail_stay}
 use Rattle.records.proofs.Sectors.{unsure_by_sector}
-use Rattle.media.specs.Contents.{IsWhole, sectors_of}
+use Rattle.media.specs.Contents.{MediaState, IsWhole, sectors_of}
 use Rattle.media.proofs.SectorLaws.{is_same_image, length-first_chunks, IsWhole-first_chunks}
+use Rattle.true_replies.specs.State as by_sector
 use Rattle.true_replies.specs.Events.{IsOnMedia}
+use Rattle.schedule.specs.Headline.{Transcript}
 use Rattle.transcript.specs.Shown.{ImageShows}
 
 sectors_given : (bytes : List ℕ) → length (sectors_of bytes) ≡ length bytes / 512
@@ -39,9 +46,38 @@ same_byte now given whole given_is number s o within same = elim (low_or_past s 
       ∙ sym (get_or_past (concat given) (512 * s + o) 0 (let l = is_same_image.long given given_is in omega (arith, l, past, number)))
 ]
 
+-- a place of the volume, in the image of all media
+handed_in : (v : Opening) (place : ℕ) → place < 512 * v.count → contents_at v place ≡ slice_index v.media (512 * v.first + place)
+handed_in v place low =
+    get_or-take (512 * v.count) (drop (512 * v.first) v.media) place 0 low ∙ get_or-drop (512 * v.first) v.media place 0
+
+-- a place of the volume that no write covers holds what was handed in
+stays_at : (g : Geometry) (v : Opening) (media : MediaState) (t : Transcript) → IsWhole media.sectors
+    → length media.sectors ≡ length (sectors_of v.media) → IsOnMedia v → WritesInside g t.marks
+    → by_sector.MediaHold v (contents_at v) media t.marks → t.image ≡ concat media.sectors
+    → (place : ℕ) → place < 512 * v.count → IsHeadOrTail g place
+    → slice_index t.image (512 * v.first + place) ≡ slice_index v.media (512 * v.first + place)
+stays_at g v media t whole number on writes inside is place low out =
+    let stays : Stays (contents_at v) t.marks place = head_and_tail_stay g (contents_at v) t.marks place writes out in
+    let s : ℕ = place / 512 in
+    let k : ℕ = place % 512 in
+    let at : 512 * s + k ≡ place = omega arith in
+    let within : k < 512 = omega arith in
+    let below : s < v.count = omega (arith, low) in
+    let many : length (sectors_of v.media) ≡ length v.media / 512 = sectors_given v.media in
+    let rounded = on.whole in
+    let fits = on.inside in
+    ap (λ (l : List ℕ). slice_index l (512 * v.first + place)) is
+    ∙ ap (λ (n : ℕ). slice_index (concat media.sectors) n) (omega (arith, at))
+    ∙ byte_at media.sectors whole (v.first + s) k (let n = number in omega (arith, n, many, fits, below)) within
+    ∙ inside.each s k below within (ap (λ (n : ℕ). unsure t.marks n) at ∙ stays.sure)
+    ∙ ap (λ (n : ℕ). disk_after (contents_at v) t.marks n) at
+    ∙ stays.same
+    ∙ handed_in v place low
+
 -- the image of media holds what they hold by sector
 pub image_shows : ImageShows
-image_shows v media t on whole number formed inside outside is =
+image_shows g v media t on whole number fits_head formed writes inside outside is =
     let given : IsWhole (sectors_of v.media) = given_whole v on in
     let many : length (sectors_of v.media) ≡ length v.media / 512 = sectors_given v.media in
     let rounded = on.whole in
@@ -52,6 +88,9 @@ image_shows v media t on whole number formed inside outside is =
           ap (λ (l : List ℕ). slice_index l (512 * (v.first + s) + k)) is
           ∙ byte_at media.sectors whole (v.first + s) k (let n = number in omega (arith, n, many, fits, low)) within
           ∙ inside.each s k low within (unsure_by_sector t.marks s k formed within ∙ sure);
+      head = λ place low.
+          stays_at g v media t whole number on writes inside is place (let f = fits_head in omega (arith, low, f)) (inl low);
+      tail = λ place past low. stays_at g v media t whole number on writes inside is place low (inr past);
       outside = λ s k out within.
           ap (λ (l : List ℕ). slice_index l (512 * s + k)) is
           ∙ same_byte media.sectors (sectors_of v.media) whole given number s k within (outside.each s out)

@@ -12,6 +12,7 @@ use Rattle.records.specs.Legal.{IsLegal}
 use Rattle.records.specs.View.{Frames, ReadsBack}
 use Rattle.records.specs.Settled.{LookingWritesNothing, is_settled, none_written}
 use Rattle.records.specs.ServerCall.{Serving, HasTree, IsQuiet}
+use Rattle.records.specs.Area.{WritesInside}
 use Rattle.reissue.specs.Calls.{Truth}
 use Rattle.schedule.specs.Faultless.{without_faults, FaultsChangeNothing}
 use Rattle.schedule.proofs.FaultlessLaws.{faults_change_nothing}
@@ -28,7 +29,7 @@ use Rattle.simulated_link.specs.Moments.{Doing, Resting, Answering}
 use Rattle.simulated_link.proofs.Guarantee.{media_held}
 use Rattle.simulated_link.proofs.Needing.{runs_end_needing}
 use Rattle.file_server.specs.Over.{Stands}
-use Rattle.world.specs.Runs.{moment, RunsOn, StandsAfter, EndsAs}
+use Rattle.world.specs.Runs.{area_at, moment, RunsOn, StandsAfter, EndsAs}
 use Rattle.world.specs.Ends.{RunStands, RunsOut}
 
 -- the record of the run is well formed, its replies are true, it is legal, and the tree would be read back
@@ -41,6 +42,7 @@ replies_hold s is v tree marks c t noted frames answered stood kept =
     let true_here : HasTrueReplies (contents_at v) marks = kept.kept.disks.true_replies in
     record {
       well_formed = f.well_formed (subst (λ (m : List Mark). IsWellFormed m) same stood.serves.well_formed);
+      inside = f.inside s.geometry (subst (λ (m : List Mark). WritesInside s.geometry m) same stood.serves.inside);
       true_replies = f.true_replies (contents_at v) (subst (λ (m : List Mark). HasTrueReplies (contents_at v) m) same true_here);
       legal = f.legal s.geometry (contents_at v) tree
           (subst (λ (m : List Mark). IsLegal s.geometry (contents_at v) tree m) same (stood.serves.legal true_here));
@@ -89,7 +91,7 @@ holds : (s t : Serving) (was is : Truth) (b a : RunState) (last : Doing) (unansw
     → (v : Opening) (tree : Tree) (marks : List Mark) → Stands s was v tree marks
     → RunStands s.geometry t.frames s.minor v tree (moment s b Resting) (moment t a last) unanswered
 holds s t was is b a last unanswered runs live guarantees answered v tree marks stood =
-    let later : StandsAfter s.minor t is v tree (moment s b Resting) (moment t a last) = runs.stands v tree marks stood in
+    let later : StandsAfter (area_at s) t is v tree (moment s b Resting) (moment t a last) = runs.stands v tree marks stood in
     let kept : RunTruth v a.scene later.marks = guarantees v later.marks later.stands.truth in
     record {
       holds = record {
@@ -100,7 +102,7 @@ holds s t was is b a last unanswered runs live guarantees answered v tree marks 
       };
       runs = later.runs;
       calm = later.stands.serves.at_rest.complaint;
-      needs = λ over. runs_end_needing s.minor (moment s b Resting) (moment t a last) later.runs live over;
+      needs = λ over. runs_end_needing (area_at s) (moment s b Resting) (moment t a last) later.runs live over;
     }
 
 pub runs_out : (cut : Bool) (s t : Serving) (was is : Truth) (b a : RunState) (waiting unanswered : ℕ) → EndsAs cut s t was is b a

@@ -1,15 +1,18 @@
 -- From a schedule that was run out to what is shown of the run.
-use Rattle.std.proofs.Common.{◌≡◌, cond, inl, inr, ℕ, suc, ◌-◌, List, [], ◌∷◌, Bool, true, false, length, refl, sym, ap, ◌∙◌, subst, arith}
+use Rattle.std.proofs.Common.{◌≡◌, cond, inl, inr, ℕ, zero, suc, ◌-◌, ◌*◌, ◌≤◌, mul-le-mul_right, List, [], ◌∷◌, Bool, true, false, length, refl, sym, ap, ◌∙◌, subst, arith}
 use Rattle.std.specs.List.{concat}
 use Rattle.layout.specs.declared.Geometry.{Geometry}
+use Rattle.layout.specs.Places.{IsGeometry, geometry_of}
+use Rattle.layout.proofs.Parsed.{geometry_fits}
 use Rattle.tree.specs.Tree.{Tree}
-use Rattle.std.specs.Prelude.{All, ◌⊎◌, None, Some}
+use Rattle.std.specs.Prelude.{All, ◌⊎◌, None, Some, Ok, take, drop}
 use Rattle.bdev.specs.DriverState.{DriverState, is_fresh, range_while_fresh, range_of as range_of_driver}
 use Rattle.media.specs.Contents.{IsWhole, MediaState, sectors_of}
 use Rattle.reincarnate.specs.declared.policy.Setup.{Setup}
 use Rattle.reincarnate.specs.Watch.{driver, new_watch}
 use Rattle.records.specs.Marks.{Started}
-use Rattle.records.specs.Opening.{Opening, Range, contents_at}
+use Rattle.records.specs.Area.{area_of}
+use Rattle.records.specs.Opening.{Opening, Range, contents_at, volume_bytes}
 use Rattle.records.specs.Open.{IsWellFormed}
 use Rattle.records.specs.ServerCall.{Serving}
 use Rattle.synchronous_driver.specs.Inline.{IsReady}
@@ -61,6 +64,24 @@ all_unused v [] ready = tt
 all_unused v (d ∷ supply) ready =
     (unused_one v d (ready 0 d (omega arith)), all_unused v supply (λ k x below. ready (suc k) x (omega (arith, below))))
 
+-- ---- the volume
+
+at_most : (n : ℕ) (l : List ℕ) → length (take n l) ≤ n
+at_most zero [] = omega arith
+at_most zero (b ∷ l) = omega arith
+at_most (suc n) [] = omega arith
+at_most (suc n) (b ∷ l) = let h : length (take n l) ≤ n = at_most n l in omega (arith, h)
+
+-- a geometry that was read has more than two blocks, and the volume has all its zones
+two_blocks_fit : (bytes : List ℕ) (g : Geometry) (count : ℕ) → geometry_of bytes ≡ Ok g → length bytes ≤ 512 * count
+    → 2 * g.block_size ≤ 512 * count
+two_blocks_fit bytes g count parsed most =
+    let fits : IsGeometry g × (g.zones * g.block_size ≤ length bytes) = geometry_fits bytes g parsed in
+    let two : 2 ≤ g.zones = let a = fits.0.first in let b = fits.0.some_zone in omega (arith, a, b) in
+    let h : 2 * g.block_size ≤ g.zones * g.block_size = mul-le-mul_right g.block_size two in
+    let all = fits.1 in
+    omega (arith, h, all, most)
+
 -- ---- at the end
 
 -- the server rests and no call waits, or its link has ended
@@ -101,7 +122,9 @@ module _ {L : Type 0} (words : LinkWords L) (run : L → RunState) (link : L) (i
       (moment (serving_over words s) last from.plays.last) t.unanswered = from.plays.holds v tree from.opened.outbox hears in
       let holds : RunHolds g (frames_in s) v tree last.scene t.unanswered =
       subst (λ (h : Geometry). RunHolds h (frames_in s) v tree last.scene t.unanswered) from.opened.geometry x.holds in
-      let shows : Shows g v tree t = runs_are_shown g (frames_in s) v tree last.scene t on
+      let fits : 2 * g.block_size ≤ 512 * range.1 =
+      two_blocks_fit (volume_bytes (range_of range) image) g range.1 begun.parsed (at_most (512 * range.1) (drop (512 * range.0) image)) in
+      let shows : Shows g v tree t = runs_are_shown g (frames_in s) v tree last.scene t on fits
       (record { marks = marks; frames_are = frames_are; image = bytes; whole = whole; number = from.plays.sectors ∙ new.sectors_are }) holds in
       let none_started : media.generation ≡ 0 = ap (λ (m : MediaState). m.generation) loaded in
       let end : IsAtEnd (moment (serving_over words s) last from.plays.last) = record {
@@ -111,7 +134,7 @@ module _ {L : Type 0} (words : LinkWords L) (run : L → RunState) (link : L) (i
         well_formed = subst IsWellFormed marks shows.replies.well_formed;
       } in
       let w : IsWholeRun setup.policy supply last (length from.plays.left) =
-      runs_are_whole media setup.policy supply events (serving_over words from.before).minor (at_first (run link))
+      runs_are_whole media setup.policy supply events (area_of (serving_over words from.before).geometry (serving_over words from.before).minor) (at_first (run link))
       (moment (serving_over words s) last from.plays.last) none_started unused opened refl refl x.runs end from.plays.left from.plays.order in
       record {
         range = range_of range;
@@ -140,8 +163,9 @@ module _ {L : Type 0} (words : LinkWords L) (run : L → RunState) (link : L) (i
           opened = subst (λ (m : MediaState). IsOpened m setup.policy (new_watch (length supply)) supply events (run link)) loaded
               opened;
           last = moment (serving_over words s) last from.plays.last;
-          steps = subst (λ n. Runs n (at_first (run link)) (moment (serving_over words s) last from.plays.last)) from.opened.minor_is
-              x.runs;
+          steps = subst (λ n. Runs (area_of g n) (at_first (run link)) (moment (serving_over words s) last from.plays.last)) from.opened.minor_is
+              (subst (λ (h : Geometry). Runs (area_of h (serving_over words from.before).minor) (at_first (run link))
+              (moment (serving_over words s) last from.plays.last)) from.opened.geometry x.runs);
           over = record {
             spent = from.plays.spent;
             calm = x.calm;

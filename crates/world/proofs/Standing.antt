@@ -12,6 +12,7 @@ use Rattle.records.specs.Opening.{Opening, contents_at}
 use Rattle.records.specs.Told.{received, took_end}
 use Rattle.records.specs.Acts.{Absorbed, told_of, marks_after, owed_after_message, IsAtRest}
 use Rattle.records.specs.ServerCall.{Serving, Serves, Outcome, Replied, Cut as WasCutOff}
+use Rattle.records.specs.Area.{area_of}
 use Rattle.reissue.specs.Calls.{Truth}
 use Rattle.simulated_link.specs.Kept.{with_next}
 use Rattle.schedule.specs.declared.arrived.Arrived.{Arrived}
@@ -25,8 +26,12 @@ use Rattle.simulated_link.proofs.Running.{history_of, goes_told_of_end, quiet_ne
 use Rattle.file_server.specs.Over.{SameServing, Hears, AbsorbsOver, CallSpecification}
 use Rattle.file_server.proofs.Standing.{serves_same}
 use Rattle.world.specs.declared.run_loop.course.Course.TheVariants.{More, Cut}
-use Rattle.world.specs.Runs.{moment, RunsOn, StandsAfter, Awaits, Notes, IsLive, IsIdle, IsNext, RunsOne, AnswersTo, doing_of}
+use Rattle.world.specs.Runs.{area_at, moment, RunsOn, StandsAfter, Awaits, Notes, IsLive, IsIdle, IsNext, RunsOne, AnswersTo, doing_of}
 use Rattle.world.proofs.Stepping.{no_end, told_absorbed, over_is_ended, asides_over, asides_told, asides_record, aside_step, quiet_step, asides_next, owing, owing_first, absorbed_history, absorb_runs, CallRuns, call_history, call_runs, replied, same_left, hands_run}
+
+-- servers of the same volume may write the same
+same_area : (s t : Serving) → t.geometry ≡ s.geometry → t.minor ≡ s.minor → area_at t ≡ area_at s
+same_area s t geometry minor = λ i. area_of (geometry i) (minor i)
 
 -- the guarantee of a link is that of its run
 abbrev pub IsGuarantee : Truth → RunState → Type 0
@@ -49,13 +54,13 @@ runs_joins s t u was then is b m a x y z first next = record {
   frame_count = next.frame_count ∙ first.frame_count;
   leads = leads_joins b m a first.leads next.leads;
   stands = λ v tree marks stood.
-      let between : StandsAfter s.minor t then v tree (moment s b x) (moment t m y) = first.stands v tree marks stood in
-      let after : StandsAfter t.minor u is v tree (moment t m y) (moment u a z) = next.stands v tree between.marks between.stands in
+      let between : StandsAfter (area_at s) t then v tree (moment s b x) (moment t m y) = first.stands v tree marks stood in
+      let after : StandsAfter (area_at t) u is v tree (moment t m y) (moment u a z) = next.stands v tree between.marks between.stands in
       record {
         marks = after.marks;
         stands = after.stands;
-        runs = runs_join s.minor (moment s b x) (moment t m y) (moment u a z) between.runs
-            (runs_at t.minor s.minor (moment t m y) (moment u a z) first.minor after.runs);
+        runs = runs_join (area_at s) (moment s b x) (moment t m y) (moment u a z) between.runs
+            (runs_at (area_at t) (area_at s) (moment t m y) (moment u a z) (same_area s t first.geometry first.minor) after.runs);
       };
 }
 
@@ -100,9 +105,9 @@ none_came s t was is b a r none w idle left guarantees = by (subst (λ (o : Opti
     stands = λ v tree marks stood. record {
       marks = marks;
       stands = still_serves s t was is v tree marks marks x.same stood (x.truth v marks stood.truth);
-      runs = owing s.minor (moment s b Resting) a s.outbox t.outbox Resting (sym x.same.outbox)
+      runs = owing (area_at s) (moment s b Resting) a s.outbox t.outbox Resting (sym x.same.outbox)
           (Then (moment s b Resting) (record { run = a; outbox = s.outbox; doing = Resting }) Starts
-          (quiet_step s.minor b a s.outbox x.asides idle.live (rests s was b v tree marks guarantees stood) left));
+          (quiet_step (area_at s) b a s.outbox x.asides idle.live (rests s was b v tree marks guarantees stood) left));
     };
   }
 
@@ -139,14 +144,14 @@ handed s t u was noted is b m a r message came absorbs on w idle left guarantees
                 serves = absorbs.keeps.serves (contents_at v) tree marks h.serves;
                 truth = absorbs.truth v tree marks h.minor h.serves.agrees h.truth;
               };
-              runs = runs_join s.minor (moment s b Resting) (record { run = m; outbox = owed_after_message message marks s.outbox; doing = Hearing message })
+              runs = runs_join (area_at s) (moment s b Resting) (record { run = m; outbox = owed_after_message message marks s.outbox; doing = Hearing message })
                   (moment u a Resting)
                   (Then (moment s b Resting) (record { run = m; outbox = owed_after_message message marks s.outbox; doing = Hearing message }) Starts
-                  (subst (λ (l : List Mark). Step s.minor (moment s b Resting)
+                  (subst (λ (l : List Mark). Step (area_at s) (moment s b Resting)
                   (record { run = m; outbox = owed_after_message message l s.outbox; doing = Hearing message })) is_record
-                  (aside_step s.minor b m s.outbox message x.asides idle.live (rests s was b v tree marks guarantees stood) left)))
-                  (runs_at t.minor s.minor _ _ x.same.minor
-                  (owing_first t.minor m (owed_after_message message marks t.outbox) (owed_after_message message marks s.outbox) (Hearing message)
+                  (aside_step (area_at s) b m s.outbox message x.asides idle.live (rests s was b v tree marks guarantees stood) left)))
+                  (runs_at (area_at t) (area_at s) _ _ (same_area s t x.same.geometry x.same.minor)
+                  (owing_first (area_at t) m (owed_after_message message marks t.outbox) (owed_after_message message marks s.outbox) (Hearing message)
                   (moment u a Resting) (ap (owed_after_message message marks) x.same.outbox)
                   (absorb_runs t u noted is m a message v tree marks absorbs on (asides_told b m (Some message) x.asides idle.told_of_end) first last
                   (asides_record b m message x.asides ∙ ap (received message) is_record) h.serves)));
@@ -251,9 +256,9 @@ answered s t u was is after b m a arrived reply calls on n live guarantees first
               n.same done;
           truth = n.truth v (marks_after calls.keeps.acts marks) (calls.truth v tree marks stood.minor stood.serves.agrees stood.truth);
         };
-        runs = owing s.minor (moment s b (Answering arrived)) a t.outbox u.outbox Resting (sym n.same.outbox)
-            (subst (λ (p : RunState). Runs s.minor (moment s b (Answering arrived)) (record { run = p; outbox = t.outbox; doing = Resting })) (sym n.answers)
-            (replied s.minor (moment s b (Answering arrived)) m t.outbox arrived reply (marks_after calls.keeps.acts marks) runs.runs
+        runs = owing (area_at s) (moment s b (Answering arrived)) a t.outbox u.outbox Resting (sym n.same.outbox)
+            (subst (λ (p : RunState). Runs (area_at s) (moment s b (Answering arrived)) (record { run = p; outbox = t.outbox; doing = Resting })) (sym n.answers)
+            (replied (area_at s) (moment s b (Answering arrived)) m t.outbox arrived reply (marks_after calls.keeps.acts marks) runs.runs
             (answered_over s t was is b m arrived reply calls on live first last) runs.record_is done.at_rest));
       };
 }
@@ -317,8 +322,8 @@ hands_there s t was is b a first same hands live paid guarantees truth = record 
   stands = λ v tree marks stood. record {
     marks = marks;
     stands = still_serves s t was is v tree marks marks same stood (truth v marks stood.truth);
-    runs = owing s.minor (moment s b Resting) a s.outbox t.outbox (doing_of first) (sym same.outbox)
-        (hands_run s.minor b a s.outbox first hands live paid (rests s was b v tree marks guarantees stood));
+    runs = owing (area_at s) (moment s b Resting) a s.outbox t.outbox (doing_of first) (sym same.outbox)
+        (hands_run (area_at s) b a s.outbox first hands live paid (rests s was b v tree marks guarantees stood));
   };
 }
 

@@ -1,5 +1,5 @@
 -- What is done between two calls, a message that is handed over and a call are steps of a run by the rules.
-use Rattle.std.proofs.Common.{◌≡◌, ◌⊎◌, ℕ, ◌+◌, List, [], ◌∷◌, ◌++◌, Bool, true, false, cond, refl, sym, ◌∙◌, ap, subst, inl, inr}
+use Rattle.std.proofs.Common.{◌≡◌, ◌⊎◌, ◌+◌, List, [], ◌∷◌, ◌++◌, Bool, true, false, cond, refl, sym, ◌∙◌, ap, subst, inl, inr}
 use Rattle.std.specs.Prelude.{◌||◌, Option, Some, None, Ok, drop, slice_get}
 use Rattle.message.specs.declared.Incoming.{Incoming}
 use Rattle.message.specs.declared.Incoming.TheVariants as incoming
@@ -11,6 +11,7 @@ use Rattle.records.specs.Opening.{Opening, contents_at}
 use Rattle.records.specs.Told.{Told, Posted, Complained, Received, received, took_end, took_nothing}
 use Rattle.records.specs.Acts.{Act, Began, Absorbed, AtLink, Outbox, told_of, marks_after, outbox_after, owed_after_message, IsAtRest}
 use Rattle.records.specs.ServerCall.{Serving, Serves, Outcome, Rules}
+use Rattle.records.specs.Area.{Area}
 use Rattle.reissue.specs.Calls.{Truth}
 use Rattle.schedule.specs.declared.log.LogEntry.TheVariants as entry
 use Rattle.schedule.specs.declared.arrived.Arrived.{Arrived}
@@ -20,7 +21,7 @@ use Rattle.simulated_link.specs.Moments.{Doing, Resting, Hearing, Answering, Mom
 use Rattle.simulated_link.proofs.MovingLaws.{message_history}
 use Rattle.simulated_link.proofs.Running.{history_of, next_record, next_history, handed_record, Reaches, acts_run, acts_after, ActsAfter, marks_after_message}
 use Rattle.file_server.specs.Over.{AbsorbsOver, CallSpecification}
-use Rattle.world.specs.Runs.{moment, IsNext, doing_of}
+use Rattle.world.specs.Runs.{area_at, moment, IsNext, doing_of}
 
 -- a message handed over is no take
 pub no_end : (told : List Told) → took_nothing told ≡ true → took_end told ≡ false
@@ -84,17 +85,17 @@ none_waits b a r next (inl owed) = no_both (sym owed ∙ next.paid)
 none_waits b a r next (inr left) = left.queue
 
 -- it is a step
-pub aside_step : (minor : ℕ) (b a : RunState) (o : Outbox) (message : Incoming) → Asides b (Ok (Some message)) a → b.over ≡ false → IsAtRest (record_of b) o
+pub aside_step : (area : Area) (b a : RunState) (o : Outbox) (message : Incoming) → Asides b (Ok (Some message)) a → b.over ≡ false → IsAtRest (record_of b) o
     → (b.owed ≡ true) ⊎ IsNext b
-    → Step minor (record { run = b; outbox = o; doing = Resting })
+    → Step area (record { run = b; outbox = o; doing = Resting })
     (record { run = a; outbox = owed_after_message message (record_of b) o; doing = Hearing message })
-aside_step minor b _ o message (HandsEvent _ a next) live rest left =
+aside_step area b _ o message (HandsEvent _ a next) live rest left =
     Brings message a (record { rests = refl; live = live; at_rest = rest }) (none_waits b a (Some message) next left) next
-aside_step minor b _ o _ (HandsOwed over owed first) live rest left = Pays (record { rests = refl; live = live; at_rest = rest }) owed first
+aside_step area b _ o _ (HandsOwed over owed first) live rest left = Pays (record { rests = refl; live = live; at_rest = rest }) owed first
 
-pub quiet_step : (minor : ℕ) (b a : RunState) (o : Outbox) → Asides b (Ok None) a → b.over ≡ false → IsAtRest (record_of b) o → (b.owed ≡ true) ⊎ IsNext b
-    → Step minor (record { run = b; outbox = o; doing = Resting }) (record { run = a; outbox = o; doing = Resting })
-quiet_step minor b a o (HandsNone _ next) live rest left =
+pub quiet_step : (area : Area) (b a : RunState) (o : Outbox) → Asides b (Ok None) a → b.over ≡ false → IsAtRest (record_of b) o → (b.owed ≡ true) ⊎ IsNext b
+    → Step area (record { run = b; outbox = o; doing = Resting }) (record { run = a; outbox = o; doing = Resting })
+quiet_step area b a o (HandsNone _ next) live rest left =
     BringsNone a (record { rests = refl; live = live; at_rest = rest }) (none_waits b a None next left) next
 
 -- just one event is run, unless what is owed was told
@@ -104,13 +105,13 @@ asides_next b a _ (HandsNone _ next) = next.next ∙ sym (ap (λ (x : Bool). con
 asides_next b _ _ (HandsOwed live owed first) = sym (ap (λ (x : Bool). cond x b.next (b.next + 1)) owed)
 
 -- with what the server owes then
-pub owing : (minor : ℕ) (x : Moment) (p : RunState) (o q : Outbox) (doing : Doing) → o ≡ q → Runs minor x (record { run = p; outbox = o; doing = doing })
-    → Runs minor x (record { run = p; outbox = q; doing = doing })
-owing minor x p o q doing same runs = subst (λ (k : Outbox). Runs minor x (record { run = p; outbox = k; doing = doing })) same runs
+pub owing : (area : Area) (x : Moment) (p : RunState) (o q : Outbox) (doing : Doing) → o ≡ q → Runs area x (record { run = p; outbox = o; doing = doing })
+    → Runs area x (record { run = p; outbox = q; doing = doing })
+owing area x p o q doing same runs = subst (λ (k : Outbox). Runs area x (record { run = p; outbox = k; doing = doing })) same runs
 
-pub owing_first : (minor : ℕ) (p : RunState) (o q : Outbox) (doing : Doing) (x : Moment) → o ≡ q → Runs minor (record { run = p; outbox = o; doing = doing }) x
-    → Runs minor (record { run = p; outbox = q; doing = doing }) x
-owing_first minor p o q doing x same runs = subst (λ (k : Outbox). Runs minor (record { run = p; outbox = k; doing = doing }) x) same runs
+pub owing_first : (area : Area) (p : RunState) (o q : Outbox) (doing : Doing) (x : Moment) → o ≡ q → Runs area (record { run = p; outbox = o; doing = doing }) x
+    → Runs area (record { run = p; outbox = q; doing = doing }) x
+owing_first area p o q doing x same runs = subst (λ (k : Outbox). Runs area (record { run = p; outbox = k; doing = doing }) x) same runs
 
 -- the server is told what the link notes
 pub knows_more : (s t : Serving) (b a : RunState) (told : List Told) → s.told ≡ history_of b → t.told ≡ history_of a → t.told ≡ told ++ s.told
@@ -127,24 +128,24 @@ absorbed_history s t was is b a message absorbs first last =
 pub absorb_runs : (s t : Serving) (was is : Truth) (b a : RunState) (message : Incoming) (v : Opening) (tree : Tree) (marks : List Mark)
     → AbsorbsOver s t was is message → GoesOn b a → IsToldOfEnd b → s.told ≡ history_of b → t.told ≡ history_of a → record_of b ≡ received message marks
     → Serves s (contents_at v) tree marks
-    → Runs s.minor (record { run = b; outbox = owed_after_message message marks s.outbox; doing = Hearing message }) (moment t a Resting)
+    → Runs (area_at s) (record { run = b; outbox = owed_after_message message marks s.outbox; doing = Hearing message }) (moment t a Resting)
 absorb_runs s t was is b a message v tree marks absorbs on told first last noted serves =
     let rules : Rules s (absorbs.keeps.later ++ Absorbed message ∷ []) t marks = absorbs.keeps.rules (contents_at v) tree marks serves.agrees in
-    let after : ActsAfter s.minor absorbs.keeps.later message marks s.outbox = acts_after s.minor absorbs.keeps.later message marks s.outbox rules.keep in
+    let after : ActsAfter (area_at s) absorbs.keeps.later message marks s.outbox = acts_after (area_at s) absorbs.keeps.later message marks s.outbox rules.keep in
     let o : Outbox = owed_after_message message marks s.outbox in
-    let reaches : Reaches s.minor (Hearing message) b o absorbs.keeps.later (received message marks) a =
-    acts_run s.minor (Hearing message) b o (received message marks) refl told noted absorbs.keeps.later a on
+    let reaches : Reaches (area_at s) (Hearing message) b o absorbs.keeps.later (received message marks) a =
+    acts_run (area_at s) (Hearing message) b o (received message marks) refl told noted absorbs.keeps.later a on
     (absorbed_history s t was is b a message absorbs first last) absorbs.keeps.none_absorbed absorbs.keeps.none_taken after.keep in
     let same : marks_after (absorbs.keeps.later ++ Absorbed message ∷ []) marks ≡ record_of a =
     marks_after_message absorbs.keeps.later message marks ∙ sym reaches.record_is in
     Then (moment t a (Hearing message)) (moment t a Resting)
-    (owing s.minor (record { run = b; outbox = o; doing = Hearing message }) a (outbox_after absorbs.keeps.later (received message marks) o) t.outbox
+    (owing (area_at s) (record { run = b; outbox = o; doing = Hearing message }) a (outbox_after absorbs.keeps.later (received message marks) o) t.outbox
     (Hearing message) (sym (rules.outbox ∙ after.outbox)) reaches.runs)
     (Settles message refl (subst (λ (l : List Mark). IsAtRest l t.outbox) same (absorbs.keeps.serves (contents_at v) tree marks serves).at_rest))
 
 -- what is done in a call
 pub record CallRuns (s t : Serving) (b a : RunState) (call : Arrived) (marks : List Mark) : Type 0 where
-  pub runs : Runs s.minor (moment s b (Answering call)) (moment t a (Answering call))
+  pub runs : Runs (area_at s) (moment s b (Answering call)) (moment t a (Answering call))
   pub record_is : record_of a ≡ marks
 
 pub call_history : (s t : Serving) (was is : Truth) (b a : RunState) (call : Arrived) (outcome : Outcome)
@@ -157,20 +158,20 @@ pub call_runs : (s t : Serving) (was is : Truth) (b a : RunState) (call : Arrive
     → record_of b ≡ marks → Serves s (contents_at v) tree marks → CallRuns s t b a call (marks_after calls.keeps.acts marks)
 call_runs s t was is b a call outcome v tree marks calls on told first last noted serves =
     let rules : Rules s calls.keeps.acts t marks = calls.keeps.rules (contents_at v) tree marks serves.agrees in
-    let reaches : Reaches s.minor (Answering call) b s.outbox calls.keeps.acts marks a =
-    acts_run s.minor (Answering call) b s.outbox marks refl told noted calls.keeps.acts a on
+    let reaches : Reaches (area_at s) (Answering call) b s.outbox calls.keeps.acts marks a =
+    acts_run (area_at s) (Answering call) b s.outbox marks refl told noted calls.keeps.acts a on
     (call_history s t was is b a call outcome calls first last) calls.keeps.none_absorbed tt rules.keep in
     record {
-      runs = owing s.minor (moment s b (Answering call)) a (outbox_after calls.keeps.acts marks s.outbox) t.outbox (Answering call) (sym rules.outbox) reaches.runs;
+      runs = owing (area_at s) (moment s b (Answering call)) a (outbox_after calls.keeps.acts marks s.outbox) t.outbox (Answering call) (sym rules.outbox) reaches.runs;
       record_is = reaches.record_is;
     }
 
 -- its answer is noted
-pub replied : (minor : ℕ) (x : Moment) (p : RunState) (o : Outbox) (call : Arrived) (reply : Reply) (marks : List Mark)
-    → Runs minor x (record { run = p; outbox = o; doing = Answering call }) → p.over ≡ false → record_of p ≡ marks
+pub replied : (area : Area) (x : Moment) (p : RunState) (o : Outbox) (call : Arrived) (reply : Reply) (marks : List Mark)
+    → Runs area x (record { run = p; outbox = o; doing = Answering call }) → p.over ≡ false → record_of p ≡ marks
     → IsAtRest (Took call.who call.now call.call (answer_of reply) ∷ marks) o
-    → Runs minor x (record { run = noting (entry.Took call.who call.now call.call reply) p; outbox = o; doing = Resting })
-replied minor x p o call reply marks runs live noted rest =
+    → Runs area x (record { run = noting (entry.Took call.who call.now call.call reply) p; outbox = o; doing = Resting })
+replied area x p o call reply marks runs live noted rest =
     Then (record { run = p; outbox = o; doing = Answering call })
     (record { run = noting (entry.Took call.who call.now call.call reply) p; outbox = o; doing = Resting }) runs
     (Replies call reply refl live (subst (λ (l : List Mark). IsAtRest l o) (sym noted) (record { complaint = rest.complaint; post = rest.post })))
@@ -189,12 +190,12 @@ pub none_left : (b a : RunState) → HandsOut b None a → a.queue ≡ []
 none_left b a hands = ap (λ (p : RunState). p.queue) (same_left b a hands) ∙ no_first b.queue hands.first
 
 -- the call that is handed out, if one is
-pub hands_run : (minor : ℕ) (b a : RunState) (o : Outbox) (first : Option Arrived) → HandsOut b first a → b.over ≡ false → b.owed ≡ false
+pub hands_run : (area : Area) (b a : RunState) (o : Outbox) (first : Option Arrived) → HandsOut b first a → b.over ≡ false → b.owed ≡ false
     → IsAtRest (record_of b) o
-    → Runs minor (record { run = b; outbox = o; doing = Resting }) (record { run = a; outbox = o; doing = doing_of first })
-hands_run minor b a o None hands live paid rest =
-    subst (λ (p : RunState). Runs minor (record { run = b; outbox = o; doing = Resting }) (record { run = p; outbox = o; doing = Resting }))
+    → Runs area (record { run = b; outbox = o; doing = Resting }) (record { run = a; outbox = o; doing = doing_of first })
+hands_run area b a o None hands live paid rest =
+    subst (λ (p : RunState). Runs area (record { run = b; outbox = o; doing = Resting }) (record { run = p; outbox = o; doing = Resting }))
     (sym (same_left b a hands)) Starts
-hands_run minor b a o (Some call) hands live paid rest =
+hands_run area b a o (Some call) hands live paid rest =
     Then (record { run = b; outbox = o; doing = Resting }) (record { run = a; outbox = o; doing = Answering call }) Starts
     (HandsCall call a (record { rests = refl; live = live; at_rest = rest }) paid hands)

@@ -6,6 +6,7 @@ use Rattle.records.specs.Marks.{Mark}
 use Rattle.records.specs.Opening.{Opening, contents_at}
 use Rattle.records.specs.View.{Frames}
 use Rattle.records.specs.ServerCall.{Serving}
+use Rattle.records.specs.Area.{area_of}
 use Rattle.reissue.specs.Calls.{Truth}
 use Rattle.schedule.specs.Groups.{schedule_of}
 use Rattle.schedule.specs.Calls.{Arrival, arrived, taken}
@@ -36,7 +37,7 @@ EndsIn (Answering call) t a = (t.ended ≡ true) × (a.over ≡ true)
 -- a message, and the device isn't given up
 pub record RunStands (g : Geometry) (frames : Frames) (minor : ℕ) (v : Opening) (tree : Tree) (from to : Moment) (unanswered : ℕ) : Type 0 where
   pub holds : RunHolds g frames v tree to.run.scene unanswered
-  pub runs : Runs minor from to
+  pub runs : Runs (area_of g minor) from to
   pub calm : to.outbox.complaint ≡ None
   pub needs : to.run.over ≡ true → Needs to
 

@@ -2,9 +2,11 @@
 use Rattle.std.specs.Prelude.{◌≡◌, ◌⊎◌, ℕ, List, [], ◌++◌, length, map, reverse, true, false, None}
 use Rattle.std.specs.List.{concat}
 use Rattle.media.specs.Contents.{MediaState, sectors_of}
+use Rattle.layout.specs.declared.Geometry.{Geometry}
 use Rattle.bdev.specs.DriverState.{DriverState}
 use Rattle.reincarnate.specs.declared.policy.Setup.{Setup}
 use Rattle.reincarnate.specs.Watch.{new_watch}
+use Rattle.records.specs.Area.{area_of}
 use Rattle.schedule.specs.declared.Event.{Event}
 use Rattle.schedule.specs.Calls.{Arrival}
 use Rattle.schedule.specs.Headline.{Transcript}
@@ -43,10 +45,10 @@ pub record IsReadOff (m : Moment) (t : Transcript) : Type 0 where
 -- link nothing. Each moment comes of the one before by one step: an event, in the schedule's order, does all that it does to the media, the
 -- drivers, their lines and the reincarnation server; or the server does one thing that the rules let it do. The transcript is read off the
 -- last moment.
-pub record IsExact (image : List ℕ) (setup : Setup) (supply : List DriverState) (events : List Event) (t : Transcript) : Type 0 where
+pub record IsExact (g : Geometry) (image : List ℕ) (setup : Setup) (supply : List DriverState) (events : List Event) (t : Transcript) : Type 0 where
   pub first : RunState
   pub opened : IsOpened (media_with image) setup.policy (new_watch (length supply)) supply events first
   pub last : Moment
-  pub steps : Runs setup.minor (at_first first) last
+  pub steps : Runs (area_of g setup.minor) (at_first first) last
   pub over : IsOver last
   pub read_off : IsReadOff last t

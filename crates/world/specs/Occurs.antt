@@ -19,4 +19,4 @@ pub record RunShows (image : List ℕ) (setup : Setup) (supply : List DriverStat
   pub tree : Tree
   pub begun : IsBegun image setup supply range geometry tree
   pub headline : Headline setup.policy supply range image events t
-  pub exact : IsExact image setup supply events t
+  pub exact : IsExact geometry image setup supply events t

@@ -1,5 +1,5 @@
 -- What a run leads through: turns between two calls, in which events are run, messages handed over, and calls answered.
-use Rattle.std.specs.Prelude.{◌≡◌, ◌⊎◌, ◌≤◌, ◌<◌, ◌+◌, ℕ, List, [], ◌∷◌, length, Bool, true, false, Option, Some, None, Ok, if◌then◌else◌}
+use Rattle.std.specs.Prelude.{◌≡◌, ◌⊎◌, ◌≤◌, ◌<◌, ◌+◌, List, [], ◌∷◌, length, Bool, true, false, Option, Some, None, Ok, if◌then◌else◌}
 use Rattle.message.specs.declared.Incoming.{Incoming}
 use Rattle.tree.specs.Tree.{Tree}
 use Rattle.tree.specs.declared.Reply.{Reply}
@@ -7,6 +7,7 @@ use Rattle.tree.specs.Answers.{answer_of}
 use Rattle.records.specs.Marks.{Mark, Took}
 use Rattle.records.specs.Opening.{Opening}
 use Rattle.records.specs.ServerCall.{Serving}
+use Rattle.records.specs.Area.{Area, area_of}
 use Rattle.reissue.specs.Calls.{Truth}
 use Rattle.simulated_link.specs.Kept.{with_next}
 use Rattle.schedule.specs.Calls.{Arrival}
@@ -22,6 +23,10 @@ use Rattle.world.specs.declared.run_loop.course.Course.TheVariants.{More, Done, 
 -- a moment of the run of a server that is doing this
 abbrev pub moment : Serving → RunState → Doing → Moment
 moment s p doing = record { run = p; outbox = s.outbox; doing = doing }
+
+-- what a server may write: its volume, behind the first two blocks
+abbrev pub area_at : Serving → Area
+area_at s = area_of s.geometry s.minor
 
 -- the call that a server is answering, if it is answering one
 abbrev pub out_in : Doing → List Arrival
@@ -48,10 +53,10 @@ pub record WasCut (call : Arrived) (s : Serving) (p : RunState) : Type 0 where
   pub calls : HasCalls (arrival_of call ∷ []) p
 
 -- a server stands with a record, to which a run by the rules led
-pub record StandsAfter (minor : ℕ) (t : Serving) (is : Truth) (v : Opening) (tree : Tree) (from to : Moment) : Type 0 where
+pub record StandsAfter (area : Area) (t : Serving) (is : Truth) (v : Opening) (tree : Tree) (from to : Moment) : Type 0 where
   pub marks : List Mark
   pub stands : Stands t is v tree marks
-  pub runs : Runs minor from to
+  pub runs : Runs area from to
 
 -- A server over a link, from one moment to another: what it serves stays, the schedule stays and no event is run twice; and where it
 -- stood with a record, it stands with one, to which the steps of a run led.
@@ -61,7 +66,7 @@ pub record RunsOn (s t : Serving) (was is : Truth) (b a : RunState) (x y : Doing
   pub frame_count : t.frame_count ≡ s.frame_count
   pub leads : LeadsOn b a
   pub stands : (v : Opening) (tree : Tree) (marks : List Mark) → Stands s was v tree marks
-      → StandsAfter s.minor t is v tree (moment s b x) (moment t a y)
+      → StandsAfter (area_at s) t is v tree (moment s b x) (moment t a y)
 
 -- an event was run, or what was owed was told, and the message, if there is one, wasn't handed over yet
 pub record Awaits (s t : Serving) (was is : Truth) (b a : RunState) (message : Option Incoming) : Type 0 where

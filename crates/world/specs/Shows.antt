@@ -1,5 +1,5 @@
 -- What a transcript of a run shows.
-use Rattle.std.specs.Prelude.{◌≡◌, length}
+use Rattle.std.specs.Prelude.{◌≡◌, ◌≤◌, ◌*◌, length}
 use Rattle.std.specs.List.{concat}
 use Rattle.layout.specs.declared.Geometry.{Geometry}
 use Rattle.tree.specs.Tree.{Tree}
@@ -23,10 +23,11 @@ pub record IsOfRun (frames : Frames) (v : Opening) (s : Scene) (t : Transcript) 
 -- the two parts of the headline that speak of the volume
 pub record Shows (g : Geometry) (v : Opening) (tree : Tree) (t : Transcript) : Type 0 where
   pub replies : RepliesHold g (contents_at v) tree t
-  pub media : MediaHold (opening_range v) v.media t
+  pub media : MediaHold g (opening_range v) v.media t
 
--- a run that holds is shown
+-- a run that holds, over a volume of two blocks at least, is shown
 abbrev pub RunsAreShown : Type 0
 RunsAreShown =
-    (g : Geometry) (frames : Frames) (v : Opening) (tree : Tree) (s : Scene) (t : Transcript) → IsOnMedia v → IsOfRun frames v s t
+    (g : Geometry) (frames : Frames) (v : Opening) (tree : Tree) (s : Scene) (t : Transcript) → IsOnMedia v
+    → 2 * g.block_size ≤ 512 * v.count → IsOfRun frames v s t
     → RunHolds g frames v tree s t.unanswered → Shows g v tree t

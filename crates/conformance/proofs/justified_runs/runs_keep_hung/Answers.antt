@@ -3,4 +3,4 @@ use Rattle.conformance.proofs.SaidLaws.{runs_said}
 use Rattle.conformance.proofs.justified_runs.runs_keep_hung.Goals as goal
 
 pub returns : goal.returns
-returns c drivers minor b a runs calm begun h = runs_said _ (hung_kept drivers) minor b a runs calm begun h
+returns c drivers area b a runs calm begun h = runs_said _ (hung_kept drivers) area b a runs calm begun h
