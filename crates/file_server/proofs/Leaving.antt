@@ -1,7 +1,5 @@
 -- After the End of a call there are only begins, posts and complaints, none of which settles what a message was needed for.
-use Rattle.std.proofs.Common.{◌≡◌, ◌∙◌, sym, subst, refl, ap, arith, List, [], ◌∷◌, ◌++◌, Bool, true, false, not, ◌&&◌, ◌||◌, IsTrue, Option, Some, None, is_some, if◌then◌else◌, nat_lt}
-use Rattle.tree.specs.declared.Who.{Who}
-use Rattle.tree.specs.declared.Call.{Call}
+use Rattle.std.proofs.Common.{◌≡◌, ◌∙◌, sym, subst, refl, ap, List, [], ◌∷◌, ◌++◌, Bool, true, false, not, ◌&&◌, ◌||◌, IsTrue, Option, Some, is_some, if◌then◌else◌, nat_lt}
 use Rattle.message.specs.declared.endpoint.Endpoint.{Endpoint}
 use Rattle.message.specs.declared.BlockRequest.{BlockRequest}
 use Rattle.message.specs.declared.Incoming.TheVariants as incoming
@@ -9,7 +7,7 @@ use Rattle.records.specs.Marks.{Mark, last_started, gave_up}
 use Rattle.records.specs.Open.{open_requests, greatest, has_none}
 use Rattle.records.specs.Opening.{contents_at}
 use Rattle.records.specs.Told.{Told, Posted, Complained, Received, took_end}
-use Rattle.records.specs.Acts.{Act, Began, Absorbed, AtLink, Outbox, told_of, marks_after, has_absorbed, outbox_after, owed_after_act, with_act, needs_message, target, MayPost, KeepsRules}
+use Rattle.records.specs.Acts.{Act, Began, Absorbed, AtLink, Outbox, told_of, marks_after, has_absorbed, outbox_after, owed_after_act, with_act, needs_message, MayPost, KeepsRules}
 use Rattle.records.specs.Area.{Area, area_of}
 use Rattle.records.specs.ServerCall.{Serving, Rules}
 use Rattle.reissue.specs.Calls.{Truth}
@@ -83,8 +81,8 @@ open_more true rs r some = more_is_some rs r
 open_more false rs r some = some
 
 -- and so it is after the post
-waits_posted : (area : Area) (marks : List Mark) (o : Outbox) (to : Endpoint) (r : BlockRequest) (accepted : Bool) → MayPost area marks o to r
-    → Waits marks o → Waits (with_act (AtLink (Posted to r accepted)) marks) (owed_after_act (AtLink (Posted to r accepted)) marks o)
+waits_posted : (area : Area) (marks : List Mark) (o : Outbox) (to : Endpoint) (r : BlockRequest) (accepted : Bool)
+    → MayPost area marks o to r → Waits marks o → Waits (with_act (AtLink (Posted to r accepted)) marks) (owed_after_act (AtLink (Posted to r accepted)) marks o)
 waits_posted area marks o to r true may waits = record {
   needed = answer_needs _ _ (open_more (nat_lt (greatest marks) r.id) (open_requests marks) r (open_at_post area marks o to r may waits));
   live = waits.live;

@@ -48,7 +48,13 @@ none a r = record {
 
 -- a server goes on
 pub goes_on : (g : Geometry) (a b : AbstractCache) → MayServe g a → Leads a b → MayServe g b
-goes_on g a b m x = record { geometry = m.geometry; ready = x.ready; size = x.size ∙ m.size; area = x.area ∙ m.area ∙ ap (λ (w : Area). area_of g w.minor) (sym x.area); ends = x.ends m.ends }
+goes_on g a b m x = record {
+  geometry = m.geometry;
+  ready = x.ready;
+  size = x.size ∙ m.size;
+  area = x.area ∙ m.area ∙ ap (λ (w : Area). area_of g w.minor) (sym x.area);
+  ends = x.ends m.ends;
+}
 
 -- a call is cut off where it began
 pub stopped_at_once : (g : Geometry) (a : AbstractCache) (n : ℕ) (f : Files) → MayServe g a → (who : Who) (now : ℕ) (call : Call) (why : Why) (o : TreeOutcome)
@@ -57,10 +63,10 @@ stopped_at_once g a n f may who now call why o e h =
     subst (λ (x : TreeOutcome). CallSpecification (server_of g a n f) (server_of g a n f) a.truth a.truth who now call (outcome_of x)) (sym e) (by why h)
   where
     by : (y : Why) → IsWhyCut a y → CallSpecification (server_of g a n f) (server_of g a n f) a.truth a.truth who now call (outcome_of (stopped y))
-    by LinkEnded h = calls_cut g a a n n refl f f may.size may.geometry.sized may.area may.ends (none a may.ready) who now call (λ e. refl) (λ e. refl)
-        (λ image tree marks k tr only. looks_none a) h
-    by Eio h = calls_eio g a a n n refl f f may.size may.geometry.sized may.area may.ends (none a may.ready) who now call (λ e. refl) (λ e. refl)
-        (λ image tree marks k tr only. looks_none a) h.0 h.1
+    by LinkEnded h = calls_cut g a a n n refl f f may.size may.geometry.sized may.area may.ends (none a may.ready) who now call
+        (λ e. refl) (λ e. refl) (λ image tree marks k tr only. looks_none a) h
+    by Eio h = calls_eio g a a n n refl f f may.size may.geometry.sized may.area may.ends (none a may.ready) who now call
+        (λ e. refl) (λ e. refl) (λ image tree marks k tr only. looks_none a) h.0 h.1
 
 pub false_true : (b : Bool) → b ≡ true → b ≡ false → ⊥
 false_true b h k = cc
@@ -87,4 +93,5 @@ pub ends_well : (g : Geometry) (a b : AbstractCache) (n m : ℕ) → m ≡ n →
     → ((d e : Disk) → Sees a b d e → DoesCall g who now call answer f h d e)
     → CallSpecification (server_of g a n f) (server_of g b m h) a.truth b.truth who now call (Replied answer)
 ends_well g a b n m many f h may x l who now call answer proper clean looks does =
-    calls_answered g a b n m many f h may.size may.geometry.sized may.area may.ends x who now call answer l.not_ended l.not_given_up proper clean looks does
+    calls_answered g a b n m many f h may.size may.geometry.sized may.area may.ends x who now call answer
+    l.not_ended l.not_given_up proper clean looks does

@@ -118,7 +118,8 @@ module _ (g : Geometry) (a b : AbstractCache) (n k : ℕ) (many : k ≡ n) (f : 
       record {
         agrees = record { table = agrees; slots = slots; files = files image tree marks was };
         well_formed = agrees.holds.well_formed;
-        inside = acts_write_inside g a.area.minor (x.acts ++ Absorbed m ∷ []) marks (outbox_of a.table) (led.rules marks was.table).keep k.inside;
+        inside = acts_write_inside g a.area.minor (x.acts ++ Absorbed m ∷ []) marks (outbox_of a.table)
+            (led.rules marks was.table).keep k.inside;
         at_rest = at_rest b.table (after marks) agrees;
         legal = λ tr. legal_acts g image tree (x.acts ++ Absorbed m ∷ []) marks (k.legal (early image marks was.table tr));
         has_tree = λ tr e u.

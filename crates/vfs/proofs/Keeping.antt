@@ -133,7 +133,8 @@ covers_of g some c e image marks k = subst (λ n. IsCovered g (frames_of n c.hel
 -- ---- a call over a cache
 
 module _ (g : Geometry) (a b : AbstractCache) (n m : ℕ) (many : m ≡ n) (p q : Files)
-    (sized : a.size ≡ g.block_size) (some : 0 < g.block_size) (within : a.area ≡ area_of g a.area.minor) (ends : a.ended ≡ took_end a.told) (x : Leads a b) where
+    (sized : a.size ≡ g.block_size) (some : 0 < g.block_size)
+    (within : a.area ≡ area_of g a.area.minor) (ends : a.ended ≡ took_end a.told) (x : Leads a b) where
   abbrev s : Serving
   s = server_of g a n p
 

@@ -25,7 +25,8 @@ busy_no_success same = cc
 pub busy_at_once : (g : Geometry) (a : AbstractCache) (n : ℕ) (f : Files) → MayServe g a → ((d e : Disk) → Sees a a d e → e ≡ d) → IsLive a → is_busy f ≡ true
     → UnmountsOver (server_of g a n f) (server_of g a n f) a.truth a.truth legal.Busy
 busy_at_once g a n f may same l busy =
-    unmounts g a a n n refl f f may.size may.geometry.sized may.area may.ends (none a may.ready) refl same (λ z. refl) (λ z. refl) (looks_none a) legal.Busy (λ z. refl)
+    unmounts g a a n n refl f f may.size may.geometry.sized may.area may.ends (none a may.ready) refl same
+    (λ z. refl) (λ z. refl) (looks_none a) legal.Busy (λ z. refl)
     (sym (is_live a (is_busy f) l ∙ ap (λ (z : Bool). unmounting_of false false z) busy)) (λ z. absurd (busy_no_success z))
 
 -- all is written

@@ -34,7 +34,8 @@ no_success refusal.Busy same = cc
 pub refused_at_once : (g : Geometry) (a : AbstractCache) (n : ℕ) (f : Files) → MayServe g a → ((d e : Disk) → Sees a a d e → e ≡ d) → (why : Why) (r : UnmountRefusal)
     → r ≡ refused_by why → IsWhyCut a why → UnmountsOver (server_of g a n f) (server_of g a n f) a.truth a.truth (in_words r)
 refused_at_once g a n f may same why r e h =
-    unmounts g a a n n refl f f may.size may.geometry.sized may.area may.ends (none a may.ready) refl same (λ z. refl) (λ z. refl) (looks_none a) (in_words r) (λ z. refl)
+    unmounts g a a n n refl f f may.size may.geometry.sized may.area may.ends (none a may.ready) refl same
+    (λ z. refl) (λ z. refl) (looks_none a) (in_words r) (λ z. refl)
     (ap in_words e ∙ is_cut a why (is_busy f) h) (λ z. absurd (no_success r z))
 
 -- it is refused while it writes

@@ -128,14 +128,16 @@ pub record Further (minor : ℕ) (t u : Table) (between after : List Told) (mid 
   pub agrees : (marks : List Mark) → Agrees t marks → Agrees u (more marks)
   pub leaves : (image : Contents) (marks : List Mark) → Agrees t marks → HasTrueReplies image (more marks) → LeavesDisk image marks (more marks)
   pub before : (image : Contents) (marks : List Mark) → HasTrueReplies image (more marks) → HasTrueReplies image marks
-  pub truth : (v : Opening) (marks : List Mark) → v.minor ≡ minor → Agrees t marks → AllIn (no_area minor) t.pending → mid v marks → is v (more marks)
+  pub truth : (v : Opening) (marks : List Mark) → v.minor ≡ minor → Agrees t marks → AllIn (no_area minor) t.pending
+      → mid v marks → is v (more marks)
 
 -- the record after both
 pub grows_on : (minor : ℕ) (s t u : Table) (before between after : List Told) (was mid is : Truth)
     (r : Went minor s t before between was mid) (x : Further minor t u between after mid is) (marks : List Mark) → Agrees s marks
     → marks_after (x.acts ++ r.acts) marks ≡ x.more (marks_after r.acts marks)
 grows_on minor s t u before between after was mid is r x marks h =
-    (acts_compose (no_area minor) x.acts r.acts marks (outbox_of s)).record_after ∙ (x.rules (marks_after r.acts marks) (r.follows marks h).agrees r.minors).grows
+    (acts_compose (no_area minor) x.acts r.acts marks (outbox_of s)).record_after
+    ∙ (x.rules (marks_after r.acts marks) (r.follows marks h).agrees r.minors).grows
 
 -- what was done, and then these
 unfoldable pub went_on : (minor : ℕ) (s t u : Table) (before between after : List Told) (was mid is : Truth)

@@ -194,6 +194,7 @@ mounted {L} words link minor frames clean old new s over agrees owes goes ok r n
           (r.end agrees).1.sizes.sized n.made.size_is n.made.none n.files now
           (λ tr. let l = r.went.leaves image [] agrees tr in record { disk = λ place. l.disk place; sure = λ place. l.sure place refl })
           (first image) (tree_acts clean.geometry (r.end agrees).1.tree r.went.acts []) (legal_acts clean.geometry image (r.end agrees).1.tree r.went.acts [] tt)
-          (looking_acts clean.geometry (r.end agrees).1.tree r.went.acts [] tt) (writes_none (no_area minor) r.went.acts did.only_reads did.keep) inside
+          (looking_acts clean.geometry (r.end agrees).1.tree r.went.acts [] tt)
+          (writes_none (no_area minor) r.went.acts did.only_reads did.keep) inside
           (ap (λ (t : Transfers L). (table_of t).pending) n.over ∙ (r.end agrees).1.idle));
     }

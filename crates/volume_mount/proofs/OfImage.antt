@@ -24,7 +24,8 @@ module _ (minor : ℕ) (before after : List Told) (acts : List Act) (m : Mountin
 
   -- so many of its first bytes
   read_bytes : (n : ℕ) → AreRead marks n → first_bytes (bytes_read marks) n ≡ first_bytes image n
-  read_bytes n read = first_alike (bytes_read marks) image n (λ k lt. reads_alone (no_area minor) acts image m.only_reads m.keep replies k (read.each k lt))
+  read_bytes n read = first_alike (bytes_read marks) image n
+      (λ k lt. reads_alone (no_area minor) acts image m.only_reads m.keep replies k (read.each k lt))
 
   head_is : AreRead marks 2048 → head_read marks ≡ first_bytes image 2048
   head_is read = read_bytes 2048 read

@@ -196,7 +196,8 @@ no_writes (GaveUp ∷ marks) h = no_writes marks h
 no_writes (Took who now call answer ∷ marks) h = refl
 no_writes (Fault e cause ∷ marks) h = no_writes marks h
 
-pub writes_none : (area : Area) (acts : List Act) → OnlyReads acts → KeepsRules area acts [] empty_outbox → none_written (marks_after acts []) ≡ true
+pub writes_none : (area : Area) (acts : List Act) → OnlyReads acts → KeepsRules area acts [] empty_outbox
+    → none_written (marks_after acts []) ≡ true
 writes_none area acts only keep = no_writes (marks_after acts []) (only_owes area acts only keep).issued
 
 pub reads_alone : (area : Area) (acts : List Act) (image : Contents) → OnlyReads acts → KeepsRules area acts [] empty_outbox

@@ -79,7 +79,8 @@ begins_further minor start size asked ask t u between after mid is m kind same b
   agrees = b.agrees;
   leaves = λ image marks h true. leaves_quiet image marks (grown b.posts marks) (pending_of u.pending) (quiet_pieces start size u.pending asked same) (b.spares image marks h);
   before = λ image marks h. true_posted b.posts image marks b.only_posts h;
-  truth = λ v marks same h all k. b.truth v marks h (m ∙ sym same) (subst (λ (n : ℕ). AllOfMinor n t.pending) (sym same) (of_minor (no_area minor) t.pending all)) k;
+  truth = λ v marks same h all k. b.truth v marks h (m ∙ sym same)
+      (subst (λ (n : ℕ). AllOfMinor n t.pending) (sym same) (of_minor (no_area minor) t.pending all)) k;
 }
   where
     asks : AsksIn (no_area minor) ask
@@ -101,7 +102,8 @@ steps_further minor start size asked more res t u between after mid is same now 
   leaves = λ image marks h true. leaves_quiet image marks (grown x.posts (received x.message marks)) (pending_of t.pending)
       (quiet_pieces start size t.pending asked same) ((x.closing marks h).moves image true).spares;
   before = λ image marks h. true_step x.posts x.message image marks x.only_posts h;
-  truth = λ v marks same h all k. x.truth v marks h (subst (λ (n : ℕ). AllOfMinor n t.pending) (sym same) (of_minor (no_area minor) t.pending all)) k;
+  truth = λ v marks same h all k. x.truth v marks h
+      (subst (λ (n : ℕ). AllOfMinor n t.pending) (sym same) (of_minor (no_area minor) t.pending all)) k;
 }
 
 -- Midway, after further acts.

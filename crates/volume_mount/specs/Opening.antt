@@ -15,8 +15,8 @@ use Rattle.cached_blocks.specs.declared.Stored.{Stored}
 use Rattle.vfs.specs.declared.server.Server.{Server}
 use Rattle.vfs.specs.OverLink.{IsReadyOver, caching_of, serving_over, transfers_of}
 
--- A server just made over these transfers, which writes in the volume behind its first two blocks alone: no frame is in use, no file is open, no message was handed over, and no
--- Flush is left undone.
+-- A server just made over these transfers, which writes in the volume behind its first two blocks alone: no frame is in use, no file is
+-- open, no message was handed over, and no Flush is left undone.
 pub record IsNewOver {L : Type 0} (words : LinkWords L) (transfers : Transfers L) (minor : ℕ) (g : Geometry) (frames : ℕ) (s : Server (Stored L)) : Type 0 where
   pub over : transfers_of s ≡ transfers
   pub geometry : s.geometry ≡ g

@@ -24,7 +24,8 @@ use Rattle.volume_mount.specs.declared.reading.Stop.{Stop}
 use Rattle.volume_mount.specs.declared.reading.Stop.TheVariants.{OutOfMemory, GaveUp, Ended}
 use Rattle.volume_mount.specs.Sought.{piece, piece_size, pieces_of, AreDistinct, AreBefore}
 
--- from a record that the one table agrees with, the acts keep the rules and write nothing, and lead to one that the other agrees with and to what it owes
+-- from a record that the one table agrees with, the acts keep the rules and write nothing, and
+-- lead to one that the other agrees with and to what it owes
 pub record Follows (minor : ℕ) (acts : List Act) (old new : Table) (marks : List Mark) : Type 0 where
   pub keep : KeepsRules (no_area minor) acts marks (outbox_of old)
   pub owes : outbox_after acts marks (outbox_of old) ≡ outbox_of new

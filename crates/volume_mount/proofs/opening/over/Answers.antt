@@ -11,5 +11,6 @@ returns-clause-made g c =
     let s = c.new-4.ensures in
     let r = c.requires in
     new_over g.L.Link c.args.transfers c.args.minor c.args.geometry c.args.frames c.in_ok-cache.cache made.over made.ready made.made
-    c.new-4.result (ap (λ (b : Stored _). b.cache) s.blocks ∙ c.new-3.ensures) s.geometry (ap (λ (d : Descriptors). files_of d) s.opens ∙ c.in-Ok.ensures)
+    c.new-4.result (ap (λ (b : Stored _). b.cache) s.blocks ∙ c.new-3.ensures) s.geometry
+    (ap (λ (d : Descriptors). files_of d) s.opens ∙ c.in-Ok.ensures)
     s.none_absorbed made.frames made.flush r.sizes r.live r.ids
