@@ -12,6 +12,7 @@ give_all_back-requires c = record {
     ready = tt;
     size = c.new-blocks.ensures.size ∙ ap (λ (g : Geometry). g.block_size) c.geometry-geometry.ensures;
     geometry = (geometry_fits c.args.image.now.bytes.now c.args.image.now.geometry c.args.image.now.parsed).0;
+    inside = λ block low high. tt;
   };
 }
 
