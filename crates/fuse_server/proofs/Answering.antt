@@ -12,6 +12,7 @@ use Rattle.fuse.specs.Replies.{answer}
 use Rattle.fuse_nodes.specs.Known.{Known}
 use Rattle.tree.specs.declared.Call.{Call}
 use Rattle.tree.specs.declared.Outcome.{Outcome}
+use Rattle.talks.specs.declared.ask.Leaving.{Leaving}
 use Rattle.talks.specs.declared.sessions.EnterRefusal.{EnterRefusal}
 use Rattle.talks.specs.declared.ask.Ask.{Ask}
 use Rattle.talks.specs.declared.heard.Heard.{Heard}
@@ -105,7 +106,7 @@ to_unread may k l bytes read fault s is gives =
 
 -- a message is answered into an empty buffer
 pub by_any : {S A E : Type 0} (called : S → ℕ → ℕ → Call → Outcome → S → Type 0) (entered : S → ℕ → ℕ → Result ℕ EnterRefusal → S → Type 0)
-    (left : S → S → Type 0) (now : ℕ) (k l : Known) (bytes : List ℕ) (capacity : ℕ) (s : S) (old : List ℕ) (t : S) (new : List ℕ)
+    (left : S → Leaving → S → Type 0) (now : ℕ) (k l : Known) (bytes : List ℕ) (capacity : ℕ) (s : S) (old : List ℕ) (t : S) (new : List ℕ)
     (r : Result A E) → old ≡ [] → OnOk r (IsAnswered (MayHearFrom called entered left now) k l bytes capacity s old t new)
     → OnOk r (IsAnsweredBy called entered left k l bytes new s t)
 by_any called entered left now k l bytes capacity s old t new (Ok a) empty it =

@@ -19,6 +19,7 @@ use Rattle.talks.specs.declared.ask.Ask.TheVariants as ask
 use Rattle.talks.specs.declared.heard.Heard.{Heard}
 use Rattle.talks.specs.declared.heard.Heard.TheVariants as heard_of
 use Rattle.talks.specs.declared.refused.Refused.TheVariants.{By}
+use Rattle.talks.specs.declared.ask.Leaving.{Leaving}
 use Rattle.talks.specs.declared.sessions.EnterRefusal.{EnterRefusal}
 use Rattle.talks.specs.declared.refused.Refused.{Refused}
 use Rattle.fuse_server.specs.Asking.{Talked, TalkedTo, TalkedFor, TalkedLooking, LookedBefore, LookedAt, look_reply}
@@ -34,7 +35,7 @@ joined may s t u first (e ∷ es) before (v, between, last) = (v, joined may s t
 
 -- nothing is asked
 pub stays : {S : Type 0} (called : S → ℕ → ℕ → Call → Outcome → S → Type 0) (entered : S → ℕ → ℕ → Result ℕ EnterRefusal → S → Type 0)
-    (left : S → S → Type 0) (now : ℕ) (s : S) → Talked called entered left now s s
+    (left : S → Leaving → S → Type 0) (now : ℕ) (s : S) → Talked called entered left now s s
 stays called entered left now s = record { log = []; leads = refl; quiet = tt }
 
 -- exchanges that take no name away, one behind the other
@@ -44,7 +45,7 @@ quiet_joined first (e ∷ es) before (own, rest) = (own, quiet_joined first es b
 
 -- one thing is asked
 pub asks : {S : Type 0} (called : S → ℕ → ℕ → Call → Outcome → S → Type 0) (entered : S → ℕ → ℕ → Result ℕ EnterRefusal → S → Type 0)
-    (left : S → S → Type 0) (now : ℕ) (s : S) (a : Ask) (h : Heard) (t : S) → IsQuiet (record { ask = a; heard = h })
+    (left : S → Leaving → S → Type 0) (now : ℕ) (s : S) (a : Ask) (h : Heard) (t : S) → IsQuiet (record { ask = a; heard = h })
     → MayHear called entered left now s a h t → Talked called entered left now s t
 asks called entered left now s a h t quiet heard = record {
   log = record { ask = a; heard = h } ∷ [];
@@ -67,7 +68,7 @@ not_done h (Err e) X told = λ x done. clash (sym (ap done_in done) ∙ told) wh
 
 -- more is asked
 pub goes_on : {S : Type 0} {called : S → ℕ → ℕ → Call → Outcome → S → Type 0} {entered : S → ℕ → ℕ → Result ℕ EnterRefusal → S → Type 0}
-    {left : S → S → Type 0} {now : ℕ} {s t u : S} → Talked called entered left now s t → Talked called entered left now t u
+    {left : S → Leaving → S → Type 0} {now : ℕ} {s t u : S} → Talked called entered left now s t → Talked called entered left now t u
     → Talked called entered left now s u
 goes_on {called = called} {entered} {left} {now} {s} {t} {u} a b = record {
   log = b.log ++ a.log;
@@ -82,7 +83,7 @@ on_err (Err e) p = p
 
 -- a call that starts at what a message may name
 pub from_named : {S : Type 0} (called : S → ℕ → ℕ → Call → Outcome → S → Type 0) (entered : S → ℕ → ℕ → Result ℕ EnterRefusal → S → Type 0)
-    (left : S → S → Type 0) (now : ℕ) (s t : S) (x : Reach) (session : ℕ) (asked : Call) (h : Heard)
+    (left : S → Leaving → S → Type 0) (now : ℕ) (s t : S) (x : Reach) (session : ℕ) (asked : Call) (h : Heard)
     → AsksFrom x asked ⊎ GivesTold x called s now asked → MayHear called entered left now s (ask.Call session asked) h t
     → MayHear (CalledFrom x called) entered left now s (ask.Call session asked) h t
 from_named called entered left now s t x session asked (heard_of.Outcome o) named may = record { named = named; answer = may }
@@ -91,7 +92,7 @@ from_named called entered left now s t x session asked heard_of.Left named may =
 
 -- users enter as they do
 pub enters : {S : Type 0} (called : S → ℕ → ℕ → Call → Outcome → S → Type 0) (entered : S → ℕ → ℕ → Result ℕ EnterRefusal → S → Type 0)
-    (left : S → S → Type 0) (now : ℕ) (s t : S) (x : Reach) (uid gid : ℕ) (h : Heard)
+    (left : S → Leaving → S → Type 0) (now : ℕ) (s t : S) (x : Reach) (uid gid : ℕ) (h : Heard)
     → MayHear called entered left now s (ask.Enter uid gid) h t → MayHear (CalledFrom x called) entered left now s (ask.Enter uid gid) h t
 enters called entered left now s t x uid gid (heard_of.Outcome o) may = absurd may
 enters called entered left now s t x uid gid (heard_of.Entered r) may = may
@@ -99,7 +100,7 @@ enters called entered left now s t x uid gid heard_of.Left may = absurd may
 
 -- a call and its answer behind others
 pub after : {S : Type 0} {called : S → ℕ → ℕ → Call → Outcome → S → Type 0} {entered : S → ℕ → ℕ → Result ℕ EnterRefusal → S → Type 0}
-    {left : S → S → Type 0} {now : ℕ} {s t u : S} {asked : Call} {h : Heard} → Talked called entered left now s t
+    {left : S → Leaving → S → Type 0} {now : ℕ} {s t u : S} {asked : Call} {h : Heard} → Talked called entered left now s t
     → TalkedTo called entered left now t asked h u → TalkedTo called entered left now s asked h u
 after a b = record { session = b.session; before = b.before; first = goes_on a b.first; last = b.last }
 
@@ -138,7 +139,7 @@ missing_so heard_of.Left e = cc
 
 -- what is heard is a reply, where it tells something
 pub replied : {S : Type 0} {called : S → ℕ → ℕ → Call → Outcome → S → Type 0} {entered : S → ℕ → ℕ → Result ℕ EnterRefusal → S → Type 0}
-    {left : S → S → Type 0} {now : ℕ} {s t : S} {asked : Call} {A : Type 0} (within : Heard → Result A Refused) (made : A → Reply)
+    {left : S → Leaving → S → Type 0} {now : ℕ} {s t : S} {asked : Call} {A : Type 0} (within : Heard → Result A Refused) (made : A → Reply)
     → ((h : Heard) (a : A) → within h ≡ Ok a → h ≡ heard_of.Outcome (outcome.Reply (made a))) → (h : Heard) (r : Result A Refused)
     → r ≡ within h → TalkedTo called entered left now s asked h t → IfOk r (λ (a : A). TalkedFor called entered left now s asked (made a) t)
 replied within made so h (Err e) is talked = tt
@@ -146,7 +147,7 @@ replied {S} {called} {entered} {left} {now} {s} {t} {asked} within made so h (Ok
     let P : Heard → Type 0 = λ x. TalkedTo called entered left now s asked x t in subst P (so h a (sym is)) talked
 
 pub done_by : {S : Type 0} {called : S → ℕ → ℕ → Call → Outcome → S → Type 0} {entered : S → ℕ → ℕ → Result ℕ EnterRefusal → S → Type 0}
-    {left : S → S → Type 0} {now : ℕ} {s t : S} {asked : Call} (h : Heard) (r : Result ⊤ Refused) → (IsOk r → IsDone h)
+    {left : S → Leaving → S → Type 0} {now : ℕ} {s t : S} {asked : Call} (h : Heard) (r : Result ⊤ Refused) → (IsOk r → IsDone h)
     → TalkedTo called entered left now s asked h t → OnOk r (TalkedFor called entered left now s asked reply.Done t)
 done_by h (Err e) done talked = tt
 done_by {S} {called} {entered} {left} {now} {s} {t} {asked} h (Ok u) done talked =
@@ -154,13 +155,14 @@ done_by {S} {called} {entered} {left} {now} {s} {t} {asked} h (Ok u) done talked
 
 -- a path was looked at, and leads to nothing
 pub missed : {S : Type 0} {called : S → ℕ → ℕ → Call → Outcome → S → Type 0} {entered : S → ℕ → ℕ → Result ℕ EnterRefusal → S → Type 0}
-    {left : S → S → Type 0} {now : ℕ} {s t : S} (path : PathFrom) (h : Heard) → TalkedTo called entered left now s (call.Lstat path) h t
+    {left : S → Leaving → S → Type 0} {now : ℕ} {s t : S} (path : PathFrom) (h : Heard)
+    → TalkedTo called entered left now s (call.Lstat path) h t
     → attributes_in h ≡ Err (By ENOENT) → LookedAt called entered left now s path None t
 missed {S} {called} {entered} {left} {now} {s} {t} path h talked e =
     let P : Heard → Type 0 = λ x. TalkedTo called entered left now s (call.Lstat path) x t in subst P (missing_so h e) talked
 
 pub seen : {S : Type 0} {called : S → ℕ → ℕ → Call → Outcome → S → Type 0} {entered : S → ℕ → ℕ → Result ℕ EnterRefusal → S → Type 0}
-    {left : S → S → Type 0} {now : ℕ} {s t : S} (path : PathFrom) (h : Heard) (a : Attributes)
+    {left : S → Leaving → S → Type 0} {now : ℕ} {s t : S} (path : PathFrom) (h : Heard) (a : Attributes)
     → TalkedTo called entered left now s (call.Lstat path) h t → attributes_in h ≡ Ok a → LookedAt called entered left now s path (Some a) t
 seen {S} {called} {entered} {left} {now} {s} {t} path h a talked e =
     let P : Heard → Type 0 = λ x. TalkedTo called entered left now s (call.Lstat path) x t in subst P (attributes_so h a e) talked
@@ -169,7 +171,7 @@ seen {S} {called} {entered} {left} {now} {s} {t} path h a talked e =
 
 -- such a call was refused, or wasn't answered
 pub untaken : {S : Type 0} (called : S → ℕ → ℕ → Call → Outcome → S → Type 0) (entered : S → ℕ → ℕ → Result ℕ EnterRefusal → S → Type 0)
-    (left : S → S → Type 0) (now : ℕ) (s t : S) (session : ℕ) (asked : Call) (h : Heard) (r : Result ⊤ Refused)
+    (left : S → Leaving → S → Type 0) (now : ℕ) (s t : S) (session : ℕ) (asked : Call) (h : Heard) (r : Result ⊤ Refused)
     → MatchResult r (λ _. done_in h ≡ Ok reply.Done) (λ (e : Refused). done_in h ≡ Err e)
     → MayHear called entered left now s (ask.Call session asked) h t → OnErr r (Talked called entered left now s t)
 untaken called entered left now s t session asked h (Ok u) told may = tt
@@ -178,7 +180,8 @@ untaken called entered left now s t session asked h (Err e) told may =
 
 -- or it was done
 pub taken : {S : Type 0} (called : S → ℕ → ℕ → Call → Outcome → S → Type 0) (entered : S → ℕ → ℕ → Result ℕ EnterRefusal → S → Type 0)
-    (left : S → S → Type 0) (now : ℕ) (s t : S) (session : ℕ) (asked : Call) (h : Heard) (r : Result ⊤ Refused) → (IsOk r → IsDone h)
+    (left : S → Leaving → S → Type 0) (now : ℕ) (s t : S) (session : ℕ) (asked : Call) (h : Heard) (r : Result ⊤ Refused)
+    → (IsOk r → IsDone h)
     → MayHear called entered left now s (ask.Call session asked) h t
     → OnOk r (MayHear called entered left now s (ask.Call session asked) (heard_of.Outcome (outcome.Reply reply.Done)) t)
 taken called entered left now s t session asked h (Err e) done may = tt
@@ -187,7 +190,7 @@ taken called entered left now s t session asked h (Ok u) done may =
 
 -- behind others
 pub taken_after : {S : Type 0} {called : S → ℕ → ℕ → Call → Outcome → S → Type 0} {entered : S → ℕ → ℕ → Result ℕ EnterRefusal → S → Type 0}
-    {left : S → S → Type 0} {now : ℕ} {s t : S} (u : S) (asked : Call) (session : ℕ) (r : Result ⊤ Refused)
+    {left : S → Leaving → S → Type 0} {now : ℕ} {s t : S} (u : S) (asked : Call) (session : ℕ) (r : Result ⊤ Refused)
     → Talked called entered left now s t
     → OnOk r (MayHear called entered left now t (ask.Call session asked) (heard_of.Outcome (outcome.Reply reply.Done)) u)
     → OnOk r (TalkedFor called entered left now s asked reply.Done u)
@@ -195,7 +198,7 @@ taken_after u asked session (Err e) first last = tt
 taken_after {t = t} u asked session (Ok x) first last = record { session = session; before = t; first = first; last = last }
 
 pub untaken_after : {S : Type 0} {called : S → ℕ → ℕ → Call → Outcome → S → Type 0} {entered : S → ℕ → ℕ → Result ℕ EnterRefusal → S → Type 0}
-    {left : S → S → Type 0} {now : ℕ} {s t : S} (u : S) (r : Result ⊤ Refused) → Talked called entered left now s t
+    {left : S → Leaving → S → Type 0} {now : ℕ} {s t : S} (u : S) (r : Result ⊤ Refused) → Talked called entered left now s t
     → OnErr r (Talked called entered left now t u)
     → OnErr r (Talked called entered left now s u)
 untaken_after u (Err e) first then = goes_on first then
@@ -213,7 +216,8 @@ looked_then path r first (e ∷ es) (inr rest) = inr (looked_then path r first e
 
 -- a path was looked at
 pub looking : {S : Type 0} {called : S → ℕ → ℕ → Call → Outcome → S → Type 0} {entered : S → ℕ → ℕ → Result ℕ EnterRefusal → S → Type 0}
-    {left : S → S → Type 0} {now : ℕ} {s t : S} {path : PathFrom} (found : Option Attributes) → LookedAt called entered left now s path found t
+    {left : S → Leaving → S → Type 0} {now : ℕ} {s t : S} {path : PathFrom} (found : Option Attributes)
+    → LookedAt called entered left now s path found t
     → TalkedLooking called entered left now s path (look_reply found) t
 looking {path = path} (Some was) looked = record {
   talked = record {
@@ -235,14 +239,14 @@ looking {path = path} None looked = record {
 }
 
 pub looking_on : {S : Type 0} {called : S → ℕ → ℕ → Call → Outcome → S → Type 0} {entered : S → ℕ → ℕ → Result ℕ EnterRefusal → S → Type 0}
-    {left : S → S → Type 0} {now : ℕ} {s t u : S} {path : PathFrom} {r : Reply} → TalkedLooking called entered left now s path r t
+    {left : S → Leaving → S → Type 0} {now : ℕ} {s t u : S} {path : PathFrom} {r : Reply} → TalkedLooking called entered left now s path r t
     → Talked called entered left now t u → TalkedLooking called entered left now s path r u
 unfolding goes_on
 looking_on {path = path} {r} a b =
     record { talked = goes_on a.talked b; looked = looked_first path r a.talked.log b.log a.looked }
 
 pub looking_after : {S : Type 0} {called : S → ℕ → ℕ → Call → Outcome → S → Type 0} {entered : S → ℕ → ℕ → Result ℕ EnterRefusal → S → Type 0}
-    {left : S → S → Type 0} {now : ℕ} {s t u : S} {path : PathFrom} {r : Reply} → Talked called entered left now s t
+    {left : S → Leaving → S → Type 0} {now : ℕ} {s t u : S} {path : PathFrom} {r : Reply} → Talked called entered left now s t
     → TalkedLooking called entered left now t path r u → TalkedLooking called entered left now s path r u
 unfolding goes_on
 looking_after {path = path} {r} a b =
@@ -250,13 +254,14 @@ looking_after {path = path} {r} a b =
 
 -- a look, and then a call that was done
 pub looked_before : {S : Type 0} {called : S → ℕ → ℕ → Call → Outcome → S → Type 0} {entered : S → ℕ → ℕ → Result ℕ EnterRefusal → S → Type 0}
-    {left : S → S → Type 0} {now : ℕ} {s t u : S} {path : PathFrom} {r : Reply} {asked : Call} → TalkedLooking called entered left now s path r t
+    {left : S → Leaving → S → Type 0} {now : ℕ} {s t u : S} {path : PathFrom} {r : Reply} {asked : Call}
+    → TalkedLooking called entered left now s path r t
     → TalkedFor called entered left now t asked reply.Done u → LookedBefore called entered left now s path r asked u
 looked_before a b = record { session = b.session; before = b.before; looking = looking_on a b.first; last = b.last }
 
 -- what a look told is given an owner
 pub gives_told : {S : Type 0} (called : S → ℕ → ℕ → Call → Outcome → S → Type 0) (entered : S → ℕ → ℕ → Result ℕ EnterRefusal → S → Type 0)
-    (left : S → S → Type 0) (now : ℕ) (s t u : S) (x : Reach) (session : ℕ) (path own : PathFrom) (uid gid : ℕ) (h given : Heard)
+    (left : S → Leaving → S → Type 0) (now : ℕ) (s t u : S) (x : Reach) (session : ℕ) (path own : PathFrom) (uid gid : ℕ) (h given : Heard)
     (was : Attributes) → IsNamed x path → IsAt (Some was.inode) [] own → attributes_in h ≡ Ok was
     → MayHear (CalledFrom x called) entered left now s (ask.Call session (call.Lstat path)) h t
     → MayHear called entered left now t (ask.Call session (call.Chown own uid gid)) given u

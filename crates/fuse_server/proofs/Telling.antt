@@ -28,6 +28,7 @@ use Rattle.talks.specs.declared.ask.Ask.TheVariants as ask
 use Rattle.talks.specs.declared.heard.Heard.{Heard}
 use Rattle.talks.specs.declared.heard.Heard.TheVariants as heard_of
 use Rattle.talks.specs.declared.refused.Refused.{Refused}
+use Rattle.talks.specs.declared.ask.Leaving.{Leaving}
 use Rattle.talks.specs.declared.sessions.EnterRefusal.{EnterRefusal}
 use Rattle.fuse_server.specs.Asking.{Talked, TalkedTo, TalkedFor, TalkedLooking, LookedBefore, LookedAt, EndsWith, look_reply}
 use Rattle.fuse_server.specs.Kinds.{is_sync}
@@ -45,17 +46,18 @@ use Rattle.fuse_server.proofs.Losing.{loses_on, quiet_loses, replaced}
 
 -- the exchanges up to a call and its answer
 abbrev log_of : {S : Type 0} {called : S → ℕ → ℕ → Call → Outcome → S → Type 0} {entered : S → ℕ → ℕ → Result ℕ EnterRefusal → S → Type 0}
-    {left : S → S → Type 0} {now : ℕ} {s t : S} {asked : Call} {h : Heard} → TalkedTo called entered left now s asked h t → List Exchange
+    {left : S → Leaving → S → Type 0} {now : ℕ} {s t : S} {asked : Call} {h : Heard} → TalkedTo called entered left now s asked h t
+    → List Exchange
 log_of {asked = asked} {h} talked = record { ask = ask.Call talked.session asked; heard = h } ∷ talked.first.log
 
 abbrev leads_of : {S : Type 0} {called : S → ℕ → ℕ → Call → Outcome → S → Type 0} {entered : S → ℕ → ℕ → Result ℕ EnterRefusal → S → Type 0}
-    {left : S → S → Type 0} {now : ℕ} {s t : S} {asked : Call} {h : Heard} (talked : TalkedTo called entered left now s asked h t)
+    {left : S → Leaving → S → Type 0} {now : ℕ} {s t : S} {asked : Call} {h : Heard} (talked : TalkedTo called entered left now s asked h t)
     → Leads (MayHear called entered left now) s (log_of talked) t
 leads_of talked = (talked.before, talked.first.leads, talked.last)
 
 -- nothing is lost by a call that takes no name away
 loses_of : {S : Type 0} {called : S → ℕ → ℕ → Call → Outcome → S → Type 0}
-    {entered : S → ℕ → ℕ → Result ℕ EnterRefusal → S → Type 0} {left : S → S → Type 0} {now : ℕ}
+    {entered : S → ℕ → ℕ → Result ℕ EnterRefusal → S → Type 0} {left : S → Leaving → S → Type 0} {now : ℕ}
     {s t : S} {asked : Call} {h : Heard} (k : Known) (talked : TalkedTo called entered left now s asked h t)
     → takes_name asked ≡ false → Loses k (log_of talked)
 loses_of {asked = asked} {h} k talked quiet =
@@ -63,7 +65,7 @@ loses_of {asked = asked} {h} k talked quiet =
 
 -- the exchanges up to a call that was done behind a look
 abbrev taking_log : {S : Type 0} {called : S → ℕ → ℕ → Call → Outcome → S → Type 0}
-    {entered : S → ℕ → ℕ → Result ℕ EnterRefusal → S → Type 0} {left : S → S → Type 0} {now : ℕ}
+    {entered : S → ℕ → ℕ → Result ℕ EnterRefusal → S → Type 0} {left : S → Leaving → S → Type 0} {now : ℕ}
     {s t : S} {path : PathFrom} {r : Reply} {asked : Call}
     → LookedBefore called entered left now s path r asked t → List Exchange
 taking_log {asked = asked} b =
@@ -71,26 +73,26 @@ taking_log {asked = asked} b =
 
 -- a look behind others
 pub shown_after : {S : Type 0} {called : S → ℕ → ℕ → Call → Outcome → S → Type 0} {entered : S → ℕ → ℕ → Result ℕ EnterRefusal → S → Type 0}
-    {left : S → S → Type 0} {now : ℕ} {s t u : S} {path : PathFrom} {told : Told} → Talked called entered left now s t
+    {left : S → Leaving → S → Type 0} {now : ℕ} {s t u : S} {path : PathFrom} {told : Told} → Talked called entered left now s t
     → ShownAt called entered left now t path told u → ShownAt called entered left now s path told u
 shown_after a b = record { was = b.was; looked = after a b.looked; is = b.is }
 
 -- what stood at a path is told
 pub shown : {S : Type 0} {called : S → ℕ → ℕ → Call → Outcome → S → Type 0} {entered : S → ℕ → ℕ → Result ℕ EnterRefusal → S → Type 0}
-    {left : S → S → Type 0} {now : ℕ} {s t : S} {path : PathFrom} {told : Told} (was : Attributes)
+    {left : S → Leaving → S → Type 0} {now : ℕ} {s t : S} {path : PathFrom} {told : Told} (was : Attributes)
     → LookedAt called entered left now s path (Some was) t → told ≡ told_of was → ShownAt called entered left now s path told t
 shown was looked is = record { was = was; looked = looked; is = is }
 
 -- looks that may be refused
 pub told_shown : {S : Type 0} {called : S → ℕ → ℕ → Call → Outcome → S → Type 0} {entered : S → ℕ → ℕ → Result ℕ EnterRefusal → S → Type 0}
-    {left : S → S → Type 0} {now : ℕ} {s t : S} {path : PathFrom} (was : Attributes) (r : Result Entry Refused)
+    {left : S → Leaving → S → Type 0} {now : ℕ} {s t : S} {path : PathFrom} (was : Attributes) (r : Result Entry Refused)
     → LookedAt called entered left now s path (Some was) t → IfOk r (λ (e : Entry). e.attributes ≡ told_of was)
     → IfOk r (λ (e : Entry). ShownAt called entered left now s path e.attributes t)
 told_shown was (Err refused) looked is = tt
 told_shown was (Ok e) looked is = shown was looked is
 
 pub opened_shown : {S : Type 0} {called : S → ℕ → ℕ → Call → Outcome → S → Type 0}
-    {entered : S → ℕ → ℕ → Result ℕ EnterRefusal → S → Type 0} {left : S → S → Type 0} {now : ℕ}
+    {entered : S → ℕ → ℕ → Result ℕ EnterRefusal → S → Type 0} {left : S → Leaving → S → Type 0} {now : ℕ}
     {s t : S} {path : PathFrom} (was : Attributes) (r : Result (Entry × Opened) Refused)
     → LookedAt called entered left now s path (Some was) t → IfOk r (λ (e : Entry × Opened). e.0.attributes ≡ told_of was)
     → IfOk r (λ (e : Entry × Opened). ShownAt called entered left now s path e.0.attributes t)
@@ -98,7 +100,7 @@ opened_shown was (Err refused) looked is = tt
 opened_shown was (Ok e) looked is = shown was looked is
 
 pub looked_after : {S : Type 0} {called : S → ℕ → ℕ → Call → Outcome → S → Type 0}
-    {entered : S → ℕ → ℕ → Result ℕ EnterRefusal → S → Type 0} {left : S → S → Type 0} {now : ℕ}
+    {entered : S → ℕ → ℕ → Result ℕ EnterRefusal → S → Type 0} {left : S → Leaving → S → Type 0} {now : ℕ}
     {s t : S} (u : S) (path : PathFrom) → Talked called entered left now s t
     → (r : Result Attributes Refused)
     → IfOk r (λ (was : Attributes). LookedAt called entered left now t path (Some was) u)
@@ -107,14 +109,15 @@ looked_after u path first (Err refused) looked = tt
 looked_after u path first (Ok was) looked = after first looked
 
 pub told_after : {S : Type 0} {called : S → ℕ → ℕ → Call → Outcome → S → Type 0} {entered : S → ℕ → ℕ → Result ℕ EnterRefusal → S → Type 0}
-    {left : S → S → Type 0} {now : ℕ} {s t : S} (u : S) (path : PathFrom) → Talked called entered left now s t → (r : Result Entry Refused)
+    {left : S → Leaving → S → Type 0} {now : ℕ} {s t : S} (u : S) (path : PathFrom) → Talked called entered left now s t
+    → (r : Result Entry Refused)
     → IfOk r (λ (e : Entry). ShownAt called entered left now t path e.attributes u)
     → IfOk r (λ (e : Entry). ShownAt called entered left now s path e.attributes u)
 told_after u path first (Err refused) looked = tt
 told_after u path first (Ok e) looked = shown_after first looked
 
 pub entry_behind : {S : Type 0} {called : S → ℕ → ℕ → Call → Outcome → S → Type 0}
-    {entered : S → ℕ → ℕ → Result ℕ EnterRefusal → S → Type 0} {left : S → S → Type 0} {now : ℕ} {k : Known}
+    {entered : S → ℕ → ℕ → Result ℕ EnterRefusal → S → Type 0} {left : S → Leaving → S → Type 0} {now : ℕ} {k : Known}
     {s t : S} (x : Reach) (name : List ℕ) (entry : Entry) (path : PathFrom) → IsAt x.own name path
     → ShownAt called entered left now s path entry.attributes t
     → ToldBehind called entered left now x (Name name) k s (answer_of.Entry entry) t
@@ -126,7 +129,7 @@ entry_behind {k = k} x name entry path at it = record {
 }
 
 pub created_behind : {S : Type 0} {called : S → ℕ → ℕ → Call → Outcome → S → Type 0}
-    {entered : S → ℕ → ℕ → Result ℕ EnterRefusal → S → Type 0} {left : S → S → Type 0} {now : ℕ} {k : Known}
+    {entered : S → ℕ → ℕ → Result ℕ EnterRefusal → S → Type 0} {left : S → Leaving → S → Type 0} {now : ℕ} {k : Known}
     {s t : S} (x : Reach) (name : List ℕ) (entry : Entry) (opened : Opened) (path : PathFrom)
     → IsAt x.own name path
     → ShownAt called entered left now s path entry.attributes t
@@ -140,7 +143,7 @@ created_behind {k = k} x name entry opened path at it = record {
 
 -- a node was looked at
 pub node_behind : {S : Type 0} {called : S → ℕ → ℕ → Call → Outcome → S → Type 0} {entered : S → ℕ → ℕ → Result ℕ EnterRefusal → S → Type 0}
-    {left : S → S → Type 0} {now : ℕ} {k : Known} {s t : S} (x : Reach) (was : Attributes) (path : PathFrom) → IsAt x.own [] path
+    {left : S → Leaving → S → Type 0} {now : ℕ} {k : Known} {s t : S} (x : Reach) (was : Attributes) (path : PathFrom) → IsAt x.own [] path
     → LookedAt called entered left now s path (Some was) t
     → ToldBehind called entered left now x Node k s (answer_of.Attributes (told_of was)) t
 node_behind {k = k} x was path at looked = record {
@@ -152,7 +155,8 @@ node_behind {k = k} x was path at looked = record {
 
 -- or what its descriptor has open
 pub open_behind : {S : Type 0} {called : S → ℕ → ℕ → Call → Outcome → S → Type 0} {entered : S → ℕ → ℕ → Result ℕ EnterRefusal → S → Type 0}
-    {left : S → S → Type 0} {now : ℕ} {k : Known} {s t : S} (x : Reach) (was : Attributes) (descriptor : Descriptor) → x.descriptor ≡ Some descriptor
+    {left : S → Leaving → S → Type 0} {now : ℕ} {k : Known} {s t : S} (x : Reach) (was : Attributes) (descriptor : Descriptor)
+    → x.descriptor ≡ Some descriptor
     → MayHear called entered left now s (ask.Call descriptor.session (call.Fstat descriptor.fd))
     (heard_of.Outcome (outcome.Reply (reply.Inode was))) t
     → ToldBehind called entered left now x Node k s (answer_of.Attributes (told_of was)) t
@@ -166,7 +170,8 @@ open_behind {s = s} x was descriptor has last = record {
 
 -- what a node's descriptor has open was looked at
 pub open_so : {S : Type 0} (called : S → ℕ → ℕ → Call → Outcome → S → Type 0) (entered : S → ℕ → ℕ → Result ℕ EnterRefusal → S → Type 0)
-    (left : S → S → Type 0) (now : ℕ) (s t : S) (x : Reach) (k : Known) (descriptor : Descriptor) (h : Heard) (r : Result Attributes Refused)
+    (left : S → Leaving → S → Type 0) (now : ℕ) (s t : S) (x : Reach) (k : Known) (descriptor : Descriptor) (h : Heard)
+    (r : Result Attributes Refused)
     → r ≡ attributes_in h
     → MayHear called entered left now s (ask.Call descriptor.session (call.Fstat descriptor.fd)) h t
     → IfOk r (λ (was : Attributes). x.descriptor ≡ Some descriptor
@@ -177,14 +182,15 @@ open_so called entered left now s t x k descriptor h (Ok was) is may = λ has.
     open_behind x was descriptor has (subst P (attributes_so h was (sym is)) may)
 
 pub node_so : {S : Type 0} (called : S → ℕ → ℕ → Call → Outcome → S → Type 0) (entered : S → ℕ → ℕ → Result ℕ EnterRefusal → S → Type 0)
-    (left : S → S → Type 0) (now : ℕ) (s t : S) (x : Reach) (k : Known) (path : PathFrom) → IsAt x.own [] path → (r : Result Attributes Refused)
+    (left : S → Leaving → S → Type 0) (now : ℕ) (s t : S) (x : Reach) (k : Known) (path : PathFrom) → IsAt x.own [] path
+    → (r : Result Attributes Refused)
     → IfOk r (λ (was : Attributes). LookedAt called entered left now s path (Some was) t)
     → IfOk r (λ (was : Attributes). ToldBehind called entered left now x Node k s (answer_of.Attributes (told_of was)) t)
 node_so called entered left now s t x k path at (Err refused) looked = tt
 node_so called entered left now s t x k path at (Ok was) looked = node_behind x was path at looked
 
 pub target_behind : {S : Type 0} {called : S → ℕ → ℕ → Call → Outcome → S → Type 0}
-    {entered : S → ℕ → ℕ → Result ℕ EnterRefusal → S → Type 0} {left : S → S → Type 0} {now : ℕ} {k : Known}
+    {entered : S → ℕ → ℕ → Result ℕ EnterRefusal → S → Type 0} {left : S → Leaving → S → Type 0} {now : ℕ} {k : Known}
     {s t : S} (x : Reach) (bytes : Vec ℕ) (target : LinkTarget) (path : PathFrom) → IsAt x.own [] path
     → TalkedFor called entered left now s (call.Readlink path) (reply.Target target) t → bytes.items ≡ target_of target
     → ToldBehind called entered left now x Target k s (answer_of.Bytes bytes) t
@@ -197,7 +203,7 @@ target_behind {k = k} x bytes target path at talked is = record {
 
 -- a file's name was taken away
 pub unlinked_behind : {S : Type 0} {called : S → ℕ → ℕ → Call → Outcome → S → Type 0}
-    {entered : S → ℕ → ℕ → Result ℕ EnterRefusal → S → Type 0} {left : S → S → Type 0} {now : ℕ} {k : Known}
+    {entered : S → ℕ → ℕ → Result ℕ EnterRefusal → S → Type 0} {left : S → Leaving → S → Type 0} {now : ℕ} {k : Known}
     {s t : S} (x : Reach) (name : List ℕ) (path : PathFrom) (was : Attributes) → IsAt x.own name path
     → LookedBefore called entered left now s path (reply.Inode was) (call.Unlink path) t → (IsTrue (is_last was) → IsLost k was.inode)
     → ToldBehind called entered left now x (Unlinked name) k s answer_of.Done t
@@ -213,7 +219,7 @@ unlinked_behind {k = k} x name path was at b lost = record {
 
 -- a directory's
 pub removed_behind : {S : Type 0} {called : S → ℕ → ℕ → Call → Outcome → S → Type 0}
-    {entered : S → ℕ → ℕ → Result ℕ EnterRefusal → S → Type 0} {left : S → S → Type 0} {now : ℕ} {k : Known}
+    {entered : S → ℕ → ℕ → Result ℕ EnterRefusal → S → Type 0} {left : S → Leaving → S → Type 0} {now : ℕ} {k : Known}
     {s t : S} (x : Reach) (name : List ℕ) (path : PathFrom) (was : Attributes) → IsAt x.own name path
     → LookedBefore called entered left now s path (reply.Inode was) (call.Rmdir path) t → IsLost k was.inode
     → ToldBehind called entered left now x (Removed name) k s answer_of.Done t
@@ -229,7 +235,7 @@ removed_behind {k = k} x name path was at b lost = record {
 
 -- a name became another one
 pub renamed_behind : {S : Type 0} {called : S → ℕ → ℕ → Call → Outcome → S → Type 0}
-    {entered : S → ℕ → ℕ → Result ℕ EnterRefusal → S → Type 0} {left : S → S → Type 0} {now : ℕ} {k : Known}
+    {entered : S → ℕ → ℕ → Result ℕ EnterRefusal → S → Type 0} {left : S → Leaving → S → Type 0} {now : ℕ} {k : Known}
     {s t u : S} (x : Reach) (old new : List ℕ) (from to : PathFrom) (found : Option Attributes) (moved : Attributes)
     → IsAt x.own old from → IsAt x.other new to → TalkedLooking called entered left now s to (look_reply found) t
     → LookedBefore called entered left now t from (reply.Inode moved) (call.Rename from to) u
@@ -254,7 +260,7 @@ renamed_behind {called = called} {entered} {left} {now} {k} {s} {t} {u} x old ne
 }
 
 pub room_behind : {S : Type 0} {called : S → ℕ → ℕ → Call → Outcome → S → Type 0} {entered : S → ℕ → ℕ → Result ℕ EnterRefusal → S → Type 0}
-    {left : S → S → Type 0} {now : ℕ} {k : Known} {s t : S} (x : Reach) (told : StatfsReply) (room : Statfs)
+    {left : S → Leaving → S → Type 0} {now : ℕ} {k : Known} {s t : S} (x : Reach) (told : StatfsReply) (room : Statfs)
     → TalkedFor called entered left now s call.Statfs (reply.Space room) t → told ≡ room_of room
     → ToldBehind called entered left now x Room k s (answer_of.Statfs told) t
 room_behind {k = k} x told room talked is = record {
@@ -289,7 +295,7 @@ node_on x told log first (inr seen) = inr (record {
 })
 
 pub node_after : {S : Type 0} {called : S → ℕ → ℕ → Call → Outcome → S → Type 0} {entered : S → ℕ → ℕ → Result ℕ EnterRefusal → S → Type 0}
-    {left : S → S → Type 0} {now : ℕ} {k : Known} {s t u : S} {x : Reach} {told : Told} → Talked called entered left now s t
+    {left : S → Leaving → S → Type 0} {now : ℕ} {k : Known} {s t u : S} {x : Reach} {told : Told} → Talked called entered left now s t
     → ToldBehind called entered left now x Node k t (answer_of.Attributes told) u
     → ToldBehind called entered left now x Node k s (answer_of.Attributes told) u
 node_after {called = called} {entered} {left} {now} {k} {s} {t} {u} {x} {told} first b = record {
@@ -305,7 +311,7 @@ refused_so x (Name name) e log = tt
 refused_so x about e log = tt
 
 pub refused_behind : {S : Type 0} {called : S → ℕ → ℕ → Call → Outcome → S → Type 0}
-    {entered : S → ℕ → ℕ → Result ℕ EnterRefusal → S → Type 0} {left : S → S → Type 0} {now : ℕ} {k : Known}
+    {entered : S → ℕ → ℕ → Result ℕ EnterRefusal → S → Type 0} {left : S → Leaving → S → Type 0} {now : ℕ} {k : Known}
     {s t : S} (x : Reach) (about : Telling) (e : Refused) → Talked called entered left now s t
     → ToldBehind called entered left now x about k s (answer_of.Refused e) t
 refused_behind {k = k} x about e talked = record {
@@ -320,7 +326,7 @@ unknown_so x (Name name) log = tt
 unknown_so x about log = tt
 
 pub unknown_behind : {S : Type 0} {called : S → ℕ → ℕ → Call → Outcome → S → Type 0}
-    {entered : S → ℕ → ℕ → Result ℕ EnterRefusal → S → Type 0} {left : S → S → Type 0} {now : ℕ} {k : Known}
+    {entered : S → ℕ → ℕ → Result ℕ EnterRefusal → S → Type 0} {left : S → Leaving → S → Type 0} {now : ℕ} {k : Known}
     {s t : S} (x : Reach) (about : Telling) → Talked called entered left now s t
     → ToldBehind called entered left now x about k s answer_of.Unknown t
 unknown_behind {k = k} x about talked = record {
@@ -333,14 +339,14 @@ unknown_behind {k = k} x about talked = record {
 -- ---- what is said
 
 pub said_behind : {S : Type 0} {called : S → ℕ → ℕ → Call → Outcome → S → Type 0} {entered : S → ℕ → ℕ → Result ℕ EnterRefusal → S → Type 0}
-    {left : S → S → Type 0} {now : ℕ} {k : Known} {s t : S} {x : Reach} {about : Telling} {a : FuseAnswer}
+    {left : S → Leaving → S → Type 0} {now : ℕ} {k : Known} {s t : S} {x : Reach} {about : Telling} {a : FuseAnswer}
     → ToldBehind called entered left now x about k s a t
     → AskedFor (MayHear called entered left now) x about k s (said.Plain a) t
 said_behind b = (b.log, b.leads, b.told, b.loses)
 
 -- where nothing is told of the last exchange
 pub plainly : {S : Type 0} {called : S → ℕ → ℕ → Call → Outcome → S → Type 0} {entered : S → ℕ → ℕ → Result ℕ EnterRefusal → S → Type 0}
-    {left : S → S → Type 0} {now : ℕ} {k : Known} {s t : S} (x : Reach) (a : FuseAnswer) → Talked called entered left now s t
+    {left : S → Leaving → S → Type 0} {now : ℕ} {k : Known} {s t : S} (x : Reach) (a : FuseAnswer) → Talked called entered left now s t
     → AskedFor (MayHear called entered left now) x Other k s (said.Plain a) t
 plainly {k = k} x a talked = (talked.log, talked.leads, tt, quiet_loses k talked.log talked.quiet)
 
@@ -349,13 +355,14 @@ never e = cc
 
 -- what is told of a node
 pub told_same : {S : Type 0} {called : S → ℕ → ℕ → Call → Outcome → S → Type 0} {entered : S → ℕ → ℕ → Result ℕ EnterRefusal → S → Type 0}
-    {left : S → S → Type 0} {now : ℕ} {k : Known} {s t : S} {x : Reach} {told : Told} (a : FuseAnswer) → a ≡ answer_of.Attributes told
+    {left : S → Leaving → S → Type 0} {now : ℕ} {k : Known} {s t : S} {x : Reach} {told : Told} (a : FuseAnswer)
+    → a ≡ answer_of.Attributes told
     → ToldBehind called entered left now x Node k s (answer_of.Attributes told) t → ToldBehind called entered left now x Node k s a t
 told_same {called = called} {entered} {left} {now} {k} {s} {t} {x} a is b =
     let P : FuseAnswer → Type 0 = λ y. ToldBehind called entered left now x Node k s y t in subst P (sym is) b
 
 pub node_after_ok : {S : Type 0} {called : S → ℕ → ℕ → Call → Outcome → S → Type 0}
-    {entered : S → ℕ → ℕ → Result ℕ EnterRefusal → S → Type 0} {left : S → S → Type 0} {now : ℕ}
+    {entered : S → ℕ → ℕ → Result ℕ EnterRefusal → S → Type 0} {left : S → Leaving → S → Type 0} {now : ℕ}
     {s t : S} (u : S) (x : Reach) (k : Known) → Talked called entered left now s t → (r : Result Attributes Refused)
     → IfOk r (λ (was : Attributes). ToldBehind called entered left now x Node k t (answer_of.Attributes (told_of was)) u)
     → IfOk r (λ (was : Attributes). ToldBehind called entered left now x Node k s (answer_of.Attributes (told_of was)) u)
@@ -363,7 +370,7 @@ node_after_ok u x k first (Err refused) b = tt
 node_after_ok u x k first (Ok was) b = node_after first b
 
 pub given_open : {S : Type 0} (called : S → ℕ → ℕ → Call → Outcome → S → Type 0) (entered : S → ℕ → ℕ → Result ℕ EnterRefusal → S → Type 0)
-    (left : S → S → Type 0) (now : ℕ) (s t : S) (x : Reach) (k : Known) (descriptor : Descriptor) → x.descriptor ≡ Some descriptor
+    (left : S → Leaving → S → Type 0) (now : ℕ) (s t : S) (x : Reach) (k : Known) (descriptor : Descriptor) → x.descriptor ≡ Some descriptor
     → (r : Result Attributes Refused)
     → IfOk r (λ (was : Attributes). x.descriptor ≡ Some descriptor
     → ToldBehind called entered left now x Node k s (answer_of.Attributes (told_of was)) t)
@@ -407,7 +414,7 @@ as_lookup may x k s it t r name is asked =
 
 -- a name was looked for, and leads to nothing
 pub nothing_there : {S : Type 0} {called : S → ℕ → ℕ → Call → Outcome → S → Type 0}
-    {entered : S → ℕ → ℕ → Result ℕ EnterRefusal → S → Type 0} {left : S → S → Type 0} {now : ℕ} {k : Known}
+    {entered : S → ℕ → ℕ → Result ℕ EnterRefusal → S → Type 0} {left : S → Leaving → S → Type 0} {now : ℕ} {k : Known}
     {s t : S} (x : Reach) (name : List ℕ) (path : PathFrom) → IsAt x.own name path
     → LookedAt called entered left now s path None t → AskedFor (MayHear called entered left now) x (Name name) k s said.Missing t
 nothing_there {k = k} x name path at looked = (
@@ -419,7 +426,8 @@ nothing_there {k = k} x name path at looked = (
 
 -- a sync was asked for, and is done
 pub synced : {S : Type 0} {called : S → ℕ → ℕ → Call → Outcome → S → Type 0} {entered : S → ℕ → ℕ → Result ℕ EnterRefusal → S → Type 0}
-    {left : S → S → Type 0} {now : ℕ} {k : Known} {s t : S} (x : Reach) (h : Heard) → TalkedTo called entered left now s call.Sync h t → IsDone h
+    {left : S → Leaving → S → Type 0} {now : ℕ} {k : Known} {s t : S} (x : Reach) (h : Heard)
+    → TalkedTo called entered left now s call.Sync h t → IsDone h
     → AskedFor (MayHear called entered left now) x Other k s said.Synced t
 synced {k = k} x h talked done =
     (log_of talked, leads_of talked, (talked.session, refl, done), loses_of k talked refl)

@@ -11,6 +11,7 @@ use Rattle.fuse_nodes.specs.Known.{Known}
 use Rattle.tree.specs.declared.Call.{Call}
 use Rattle.tree.specs.declared.Outcome.{Outcome}
 use Rattle.talks.specs.Talks.{MayHear}
+use Rattle.talks.specs.declared.ask.Leaving.{Leaving}
 use Rattle.talks.specs.declared.sessions.EnterRefusal.{EnterRefusal}
 use Rattle.talks.specs.declared.ask.Ask.{Ask}
 use Rattle.talks.specs.declared.heard.Heard.{Heard}
@@ -65,11 +66,11 @@ IsAnswered may k l bytes capacity s old t new = IsAnsweredAs may k l (is_silent 
 
 -- what sessions may answer at a time to what a message asks that may name so much
 abbrev pub MayHearFrom : {S : Type 0} → (S → ℕ → ℕ → Call → Outcome → S → Type 0) → (S → ℕ → ℕ → Result ℕ EnterRefusal → S → Type 0)
-    → (S → S → Type 0) → ℕ → Reach → S → Ask → Heard → S → Type 0
+    → (S → Leaving → S → Type 0) → ℕ → Reach → S → Ask → Heard → S → Type 0
 MayHearFrom called entered left now x = MayHear (CalledFrom x called) entered left now
 
 -- how a mount answers a message at some time, into an empty buffer, by what sessions may answer
 abbrev pub IsAnsweredBy : {S : Type 0} → (S → ℕ → ℕ → Call → Outcome → S → Type 0) → (S → ℕ → ℕ → Result ℕ EnterRefusal → S → Type 0)
-    → (S → S → Type 0) → Known → Known → List ℕ → List ℕ → S → S → Type 0
+    → (S → Leaving → S → Type 0) → Known → Known → List ℕ → List ℕ → S → S → Type 0
 IsAnsweredBy called entered left k l bytes told s t =
     (now : ℕ) × (capacity : ℕ) × IsAnswered (MayHearFrom called entered left now) k l bytes capacity s [] t told

@@ -13,20 +13,21 @@ use Rattle.talks.specs.Talks.{Exchange, MayHear, Leads, Replies}
 use Rattle.talks.specs.declared.ask.Ask.TheVariants as ask
 use Rattle.talks.specs.declared.heard.Heard.{Heard}
 use Rattle.talks.specs.declared.heard.Heard.TheVariants as heard
+use Rattle.talks.specs.declared.ask.Leaving.{Leaving}
 use Rattle.talks.specs.declared.sessions.EnterRefusal.{EnterRefusal}
 use Rattle.fuse_server.specs.Losing.{AreQuiet, WasLooked}
 
 -- By exchanges at this time, and by nothing else, sessions come from one state to another, and no name is taken away. The first arguments
 -- say what they may answer: to calls, to users that enter, and to the end of all sessions.
 pub record Talked {S : Type 0} (called : S → ℕ → ℕ → Call → Outcome → S → Type 0) (entered : S → ℕ → ℕ → Result ℕ EnterRefusal → S → Type 0)
-    (left : S → S → Type 0) (now : ℕ) (s t : S) : Type 0 where
+    (left : S → Leaving → S → Type 0) (now : ℕ) (s t : S) : Type 0 where
   pub log : List Exchange
   pub leads : Leads (MayHear called entered left now) s log t
   pub quiet : AreQuiet log
 
 -- So they do, and then comes this call and its answer.
 pub record TalkedTo {S : Type 0} (called : S → ℕ → ℕ → Call → Outcome → S → Type 0)
-    (entered : S → ℕ → ℕ → Result ℕ EnterRefusal → S → Type 0) (left : S → S → Type 0) (now : ℕ)
+    (entered : S → ℕ → ℕ → Result ℕ EnterRefusal → S → Type 0) (left : S → Leaving → S → Type 0) (now : ℕ)
     (s : S) (asked : Call) (heard : Heard) (t : S) : Type 0 where
   pub session : ℕ
   pub before : S
@@ -35,19 +36,19 @@ pub record TalkedTo {S : Type 0} (called : S → ℕ → ℕ → Call → Outcom
 
 -- the answer is this reply
 abbrev pub TalkedFor : {S : Type 0} → (S → ℕ → ℕ → Call → Outcome → S → Type 0) → (S → ℕ → ℕ → Result ℕ EnterRefusal → S → Type 0)
-    → (S → S → Type 0) → ℕ → S → Call → Reply → S → Type 0
+    → (S → Leaving → S → Type 0) → ℕ → S → Call → Reply → S → Type 0
 TalkedFor called entered left now s asked r t = TalkedTo called entered left now s asked (heard.Outcome (outcome.Reply r)) t
 
 -- So they do, and among the exchanges is a look at this path, with this reply.
 pub record TalkedLooking {S : Type 0} (called : S → ℕ → ℕ → Call → Outcome → S → Type 0)
-    (entered : S → ℕ → ℕ → Result ℕ EnterRefusal → S → Type 0) (left : S → S → Type 0) (now : ℕ)
+    (entered : S → ℕ → ℕ → Result ℕ EnterRefusal → S → Type 0) (left : S → Leaving → S → Type 0) (now : ℕ)
     (s : S) (path : PathFrom) (r : Reply) (t : S) : Type 0 where
   pub talked : Talked called entered left now s t
   pub looked : WasLooked path r talked.log
 
 -- So they do, and then comes this call, which was done.
 pub record LookedBefore {S : Type 0} (called : S → ℕ → ℕ → Call → Outcome → S → Type 0)
-    (entered : S → ℕ → ℕ → Result ℕ EnterRefusal → S → Type 0) (left : S → S → Type 0) (now : ℕ)
+    (entered : S → ℕ → ℕ → Result ℕ EnterRefusal → S → Type 0) (left : S → Leaving → S → Type 0) (now : ℕ)
     (s : S) (path : PathFrom) (r : Reply) (asked : Call) (t : S) : Type 0 where
   pub session : ℕ
   pub before : S
@@ -61,7 +62,7 @@ look_reply None = reply.Refused ENOENT
 
 -- A path was looked at: these attributes were found, or nothing.
 abbrev pub LookedAt : {S : Type 0} → (S → ℕ → ℕ → Call → Outcome → S → Type 0) → (S → ℕ → ℕ → Result ℕ EnterRefusal → S → Type 0)
-    → (S → S → Type 0) → ℕ → S → PathFrom → Option Attributes → S → Type 0
+    → (S → Leaving → S → Type 0) → ℕ → S → PathFrom → Option Attributes → S → Type 0
 LookedAt called entered left now s path (Some was) t = TalkedFor called entered left now s (call.Lstat path) (reply.Inode was) t
 LookedAt called entered left now s path None t = TalkedFor called entered left now s (call.Lstat path) (reply.Refused ENOENT) t
 

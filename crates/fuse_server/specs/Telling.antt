@@ -20,6 +20,7 @@ use Rattle.talks.specs.Hearing.{target_of}
 use Rattle.talks.specs.Talks.{Exchange, Leads, EndsInSync, MayHear}
 use Rattle.talks.specs.declared.ask.Ask.{Ask}
 use Rattle.talks.specs.declared.heard.Heard.{Heard}
+use Rattle.talks.specs.declared.ask.Leaving.{Leaving}
 use Rattle.talks.specs.declared.sessions.EnterRefusal.{EnterRefusal}
 use Rattle.fuse_server.specs.Asking.{EndsWith, LookedAt}
 use Rattle.fuse_server.specs.Losing.{Loses}
@@ -164,7 +165,7 @@ pub record IsMissing (x : Reach) (name : List ℕ) (log : List Exchange) : Type 
 
 -- A path was looked at, and these attributes are told.
 pub record ShownAt {S : Type 0} (called : S → ℕ → ℕ → Call → Outcome → S → Type 0)
-    (entered : S → ℕ → ℕ → Result ℕ EnterRefusal → S → Type 0) (left : S → S → Type 0) (now : ℕ)
+    (entered : S → ℕ → ℕ → Result ℕ EnterRefusal → S → Type 0) (left : S → Leaving → S → Type 0) (now : ℕ)
     (s : S) (path : PathFrom) (told : Told) (t : S) : Type 0 where
   pub was : Attributes
   pub looked : LookedAt called entered left now s path (Some was) t
@@ -172,7 +173,7 @@ pub record ShownAt {S : Type 0} (called : S → ℕ → ℕ → Call → Outcome
 
 -- or nothing was found
 abbrev pub FoundAt : {S : Type 0} → (S → ℕ → ℕ → Call → Outcome → S → Type 0) → (S → ℕ → ℕ → Result ℕ EnterRefusal → S → Type 0)
-    → (S → S → Type 0) → ℕ → S → PathFrom → Option Entry → S → Type 0
+    → (S → Leaving → S → Type 0) → ℕ → S → PathFrom → Option Entry → S → Type 0
 FoundAt called entered left now s path (Some entry) t = ShownAt called entered left now s path entry.attributes t
 FoundAt called entered left now s path None t = LookedAt called entered left now s path None t
 
@@ -201,7 +202,7 @@ IsBehind x about said.Missing log = IsMissingAs x about log
 
 -- By exchanges and nothing else sessions come from one state to another, and this is answered behind them, by what is known then.
 pub record ToldBehind {S : Type 0} (called : S → ℕ → ℕ → Call → Outcome → S → Type 0)
-    (entered : S → ℕ → ℕ → Result ℕ EnterRefusal → S → Type 0) (left : S → S → Type 0) (now : ℕ)
+    (entered : S → ℕ → ℕ → Result ℕ EnterRefusal → S → Type 0) (left : S → Leaving → S → Type 0) (now : ℕ)
     (x : Reach) (about : Telling) (k : Known) (s : S) (a : FuseAnswer) (t : S) : Type 0 where
   pub log : List Exchange
   pub leads : Leads (MayHear called entered left now) s log t

@@ -1,5 +1,6 @@
 -- What the sessions of a service answer, the changes that are put behind syncs, and so what is spoken on its streams.
 use Rattle.std.specs.Prelude.{◌≡◌, ◌≢◌, ◌⊎◌, ◌++◌, ℕ, Bool, true, false, List, [], ◌∷◌, slice_get, slice_set, Option, Some, Result, Ok, Err}
+use Rattle.std.specs.List.{remove}
 use Rattle.layout.specs.declared.Geometry.{Geometry}
 use Rattle.errno.specs.declared.Errno.{Errno}
 use Rattle.errno.specs.declared.Errno.TheVariants.{EINVAL, ENOMEM}
@@ -15,6 +16,8 @@ use Rattle.shared_server.specs.Held.{HoldsIfTrue}
 use Rattle.changes.specs.declared.taken.Changes.{Changes}
 use Rattle.changes.specs.Units.{puts_of}
 use Rattle.shared_media.specs.Marking.{AreChangesOutside}
+use Rattle.talks.specs.declared.ask.Leaving.{Leaving}
+use Rattle.talks.specs.declared.ask.Leaving.TheVariants.{All, One}
 use Rattle.talks.specs.declared.sessions.EnterRefusal.{EnterRefusal}
 use Rattle.message_stream.specs.Answered.{IsAnsweredAll}
 use Rattle.message_stream.specs.Exchanges.{by_both}
@@ -95,9 +98,13 @@ pub record IsOwnAnswer {A : Type 0} (puts : Puts A) (g : Geometry) (v : Opening)
   pub answered : IsAnswered puts g v s.kept before now call outcome after
   pub others : t ≡ users (slice_set s.sessions place after) s.kept
 
+-- no session has this number
+abbrev pub IsNone : Users → ℕ → Type 0
+IsNone s session = (place : ℕ) (it : SessionState) → slice_get s.sessions place ≡ Some it → it.knows.number ≢ session
+
 -- no session has this number, which is EINVAL
 pub record HasNone (s : Users) (session : ℕ) (outcome : Outcome) (t : Users) : Type 0 where
-  pub none : (place : ℕ) (it : SessionState) → slice_get s.sessions place ≡ Some it → it.knows.number ≢ session
+  pub none : IsNone s session
   pub answer : outcome ≡ Reply (Refused EINVAL)
   pub same : t ≡ s
 
@@ -119,14 +126,23 @@ abbrev pub IsEntered : Users → ℕ → ℕ → Result ℕ EnterRefusal → Use
 IsEntered s uid gid (Ok number) t = IsNew s uid gid number t
 IsEntered s uid gid (Err e) t = t ≡ s
 
--- all sessions ended
-abbrev pub HaveLeft : Users → Users → Type 0
-HaveLeft s t = t ≡ users [] s.kept
+-- the session of this number ended; the others stay
+pub record IsOneGone (s : Users) (session : ℕ) (t : Users) : Type 0 where
+  pub place : ℕ
+  pub it : SessionState
+  pub is : slice_get s.sessions place ≡ Some it
+  pub number : it.knows.number ≡ session
+  pub others : t ≡ users (remove s.sessions place) s.kept
+
+-- all sessions ended, or the one of a number, if there is one
+abbrev pub HaveLeft : Users → Leaving → Users → Type 0
+HaveLeft s All t = t ≡ users [] s.kept
+HaveLeft s (One session) t = IsOneGone s session t ⊎ (IsNone s session × (t ≡ s))
 
 -- how a message may be answered, by what sessions may answer: the message, its answer, and the sessions and the answerer before and after it
 abbrev pub Speaks : Type 0 → Type 1
 Speaks W = (S : Type 0) → (S → ℕ → ℕ → Call → Outcome → S → Type 0) → (S → ℕ → ℕ → Result ℕ EnterRefusal → S → Type 0)
-    → (S → S → Type 0) → List ℕ → List ℕ → S → W → S → W → Type 0
+    → (S → Leaving → S → Type 0) → List ℕ → List ℕ → S → W → S → W → Type 0
 
 -- A stream was messages, one after the other, and an answer to each went out, in the same order: as the answerer answers it by what was
 -- asked of the mount's sessions, from none on, and by what the answerer knows, from its first state on.

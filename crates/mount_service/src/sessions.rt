@@ -4,6 +4,7 @@ ghost use Rattle.std.specs.Prelude.{◌≡◌, ◌≢◌, ◌↔◌, ℕ, [], If
 ghost use Rattle.records.specs.Session.{SessionState};
 ghost use Rattle.tree.specs.declared.Call.TheVariants.{Sync};
 ghost use Rattle.mount_service.specs.Spoken.{IsAnswered};
+ghost use Rattle.talks.specs.declared.ask.Leaving.{Leaving};
 
 use crate::archive::Archive;
 use crate::shared_archive::{Begins, SharedArchive};
@@ -18,6 +19,7 @@ use std::alloc::Global;
 use std::marker::Model;
 use std::sync::{Arc, Wait};
 use std::thread::Threads;
+use talks::ask::Leaving;
 use talks::sessions::{EnterRefusal, Sessions};
 use tree::{Call, Outcome, Reply};
 
@@ -64,7 +66,7 @@ impl<
     A: Archive + Drop,
 > ServiceSessions<'s, N, R, L, S, F, A> {
     ghost use Rattle.std.specs.Prelude.{is_some};
-    ghost use Rattle.mount_service.specs.Spoken.{users};
+    ghost use Rattle.mount_service.specs.Spoken.{users, HaveLeft};
 
     /// None of this service. Its changes go to this archive.
     pub(crate) fn new(
@@ -84,6 +86,23 @@ impl<
     /// Ends all sessions.
     pub(crate) fn end(mut self) {
         self.end_in_turn();
+    }
+
+    /// Ends the session of this number, if there is one, between syncs of the keeper.
+    fn end_one(&mut self, number: u8)
+        ensures { HaveLeft self.old (Leaving.One number) self.new }
+    {
+        let Some(place) = place_of(self.sessions.as_slice(), number) else {
+            return;
+        };
+        let session = self.sessions.remove(place);
+        match &self.shared {
+            Some(shared) => {
+                let _turn = shared.turn();
+                session.end();
+            }
+            None => session.end(),
+        }
     }
 
     /// Ends all sessions, between syncs of the keeper: what they left open is closed, which changes the volume.
@@ -141,9 +160,12 @@ impl<
         call_and_keep(&self.shared, session, now, call)
     }
 
-    /// Ends all sessions, the last one first.
-    fn leave(&mut self) {
-        self.end_in_turn();
+    /// Ends all sessions, the last one first, or the one of this number, if there is one.
+    fn leave(&mut self, who: Leaving) {
+        match who {
+            Leaving::All => self.end_in_turn(),
+            Leaving::One(number) => self.end_one(number),
+        }
     }
 }
 

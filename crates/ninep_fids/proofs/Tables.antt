@@ -1,10 +1,11 @@
 -- Tables of fids, as they are seen.
 use Rattle.std.proofs.Common.{◌≡◌, ◌∙◌, ap, sym, refl, subst, ℕ, Bool, true, false, cond, List, [], ◌∷◌, map, length, Option, Some, None, Ok, Err}
-use Rattle.std.proofs.Common.{◌≤◌, ◌<◌, nat_lt, arith}
+use Rattle.std.proofs.Common.{◌≤◌, ◌<◌, ◌==◌, ◌||◌, nat_lt, arith}
 use Rattle.std.proofs.lemmas.Bool.Decides.{nat_tests}
 use Rattle.std.proofs.lemmas.List.{length-map}
 use Rattle.std.specs.BTreeMap.{is_at, insert_entry}
-use Rattle.std.specs.Map.{lookup, remove_entry, set_value}
+use Rattle.std.specs.List.{list_any}
+use Rattle.std.specs.Map.{lookup, remove_entry, set_value, values_of}
 use Rattle.std.specs.Map.Calls.{RetainsPairs}
 use Rattle.std.specs.Option.{option_map, ok_or, is_some}
 use Rattle.std.specs.Ordering.{nat_cmp, match_ordering}
@@ -12,7 +13,7 @@ use Rattle.std.specs.declared.cmp.Ordering.{Ordering}
 use Rattle.std.specs.declared.cmp.Ordering.TheVariants.{Less, Equal, Greater}
 use Rattle.errno.specs.declared.Errno.TheVariants.{EBADF, EINVAL, ENFILE}
 use Rattle.ninep_fids.specs.Fids.{EachBecomes}
-use Rattle.ninep_fids.specs.Knowledge.{File, entry_of, file_of, found, new_fid, table_of}
+use Rattle.ninep_fids.specs.Knowledge.{File, entry_of, file_of, found, has_fid, new_fid, table_of}
 use Rattle.ninep_fids.specs.declared.fids.Fids.{Fids}
 use Rattle.talks.specs.declared.refused.Refused.TheVariants.{By}
 use Rattle.ninep_fids.specs.declared.fid.Fid.{Fid}
@@ -78,6 +79,12 @@ has_seen fids fid = ap is_some (lookup_seen (is_at (nat_cmp fid)) fids.fids.entr
   same : (o : Option Fid) → is_some (option_map file_of o) ≡ is_some o
   same None = refl
   same (Some f) = refl
+
+-- whether one of a table is a user's, by its values
+pub has_values : (uid : ℕ) (es : List (ℕ × Fid))
+    → list_any (λ (f : Fid). f.user.uid == uid) (values_of es) ≡ has_fid (map entry_of es) uid
+has_values uid [] = refl
+has_values uid (e ∷ es) = ap (λ (b : Bool). (e.1.user.uid == uid) || b) (has_values uid es)
 
 -- each of a table becomes what a call of each leaves, where it takes none away
 pub each_becomes : {F : Type 0} (T : F → ℕ → Fid → Bool → Fid → F → Type 0) (R : File → File → Type 0) (f : F)

@@ -1,11 +1,12 @@
 -- What a connection knows: its users, and what its fids stand for.
-use Rattle.std.specs.Prelude.{⊤, ℕ, Bool, true, false, List, map, length, nat_lt, Option, Some, None, Result, Ok, Err, if◌then◌else◌, ◌==◌}
+use Rattle.std.specs.Prelude.{⊤, ◌≡◌, ℕ, Bool, true, false, not, List, map, filter, length, nat_lt, Option, Some, None, Result, Ok, Err}
+use Rattle.std.specs.Prelude.{if◌then◌else◌, ◌==◌}
 use Rattle.std.specs.Borrow.{Bor}
 use Rattle.std.specs.Option.{ok_or, is_some, option_map}
-use Rattle.std.specs.List.{find}
+use Rattle.std.specs.List.{find, list_any}
 use Rattle.std.specs.Ordering.{nat_cmp}
 use Rattle.std.specs.BTreeMap.{is_at}
-use Rattle.std.specs.Map.{lookup}
+use Rattle.std.specs.Map.{lookup, remove_entry}
 use Rattle.errno.specs.declared.Errno.TheVariants.{EBADF, EINVAL, ENFILE}
 use Rattle.tree.specs.declared.Start.{Start}
 use Rattle.tree.specs.declared.Start.TheVariants.{Root, Inode}
@@ -115,6 +116,29 @@ file_open user path node fd = record { user = user; path = path; node = node; de
 -- an open directory whose entries were taken
 abbrev pub file_listed : User → List ℕ → Node → ℕ → List (ℕ × List ℕ) → File
 file_listed user path node fd entries = record (file_open user path node fd) { entries = Some entries }
+
+-- whether one of these fids is this user's
+abbrev pub has_fid : List (ℕ × File) → ℕ → Bool
+has_fid fids uid = list_any (λ (e : ℕ × File). e.1.user.uid == uid) fids
+
+-- the fids but this one
+abbrev pub without : List (ℕ × File) → ℕ → List (ℕ × File)
+without fids fid = remove_entry (is_at (nat_cmp fid)) fids
+
+-- the users, without this one if it goes
+abbrev pub users_left : Bool → ℕ → List User → List User
+users_left true uid users = users
+users_left false uid users = filter (λ (user : User). not (user.uid == uid)) users
+
+-- A fid is let go, and its user where no other fid is that one's.
+abbrev pub parted : Known → ℕ → ℕ → Known
+parted k fid uid = record k { users = users_left (has_fid (without k.fids fid) uid) uid k.users; fids = without k.fids fid }
+
+-- what a fid stood for that was let go, and whether its user stays
+abbrev pub IsTaken : Known → ℕ → Result (Fid × Bool) Refused → Known → Type 0
+IsTaken k fid (Ok taken) l = (found k.fids fid ≡ Ok (file_of taken.0)) × (taken.1 ≡ has_fid (without k.fids fid) taken.0.user.uid)
+    × (l ≡ parted k fid taken.0.user.uid)
+IsTaken k fid (Err refused) l = (found k.fids fid ≡ Err refused) × (l ≡ k)
 
 -- the user with this number, if it is attached
 abbrev pub user_of : List User → ℕ → Option User

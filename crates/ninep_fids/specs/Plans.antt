@@ -1,22 +1,23 @@
 -- How a message is answered: what is asked of the sessions, one thing after the other, and what is said in the end, as a function of what
 -- was heard.
-use Rattle.std.specs.Prelude.{◌≡◌, ◌⊎◌, ℕ, List, [], ◌∷◌, ◌++◌, Option, Some, None, Result, Ok, Err}
+use Rattle.std.specs.Prelude.{◌≡◌, ◌⊎◌, ℕ, Bool, true, false, List, [], ◌∷◌, ◌++◌, Option, Some, None, Result, Ok, Err}
 use Rattle.std.specs.Ordering.{nat_cmp}
 use Rattle.std.specs.BTreeMap.{is_at, insert_entry}
-use Rattle.std.specs.Map.{remove_entry, set_value}
+use Rattle.std.specs.Map.{set_value}
 use Rattle.errno.specs.declared.Errno.TheVariants.{ENOMEM}
 use Rattle.ninep.specs.Fields.{Four, Field, Number}
 use Rattle.ninep.specs.Requests.{Body}
 use Rattle.tree.specs.declared.Call.{Call}
 use Rattle.tree.specs.declared.Call.TheVariants as call
 use Rattle.talks.specs.Plain.{plain}
-use Rattle.ninep_fids.specs.Knowledge.{Known, File}
+use Rattle.ninep_fids.specs.Knowledge.{Known, File, parted}
 use Rattle.ninep_fids.specs.Fids.{IsRenamed, IsUnlinked, EachBecomes}
 use Rattle.talks.specs.Numbers.{number_of}
 use Rattle.ninep_fids.specs.Written.{said_number, said_fields}
 use Rattle.ninep_fids.specs.declared.users.User.{User}
 use Rattle.talks.specs.declared.refused.Refused.{Refused}
 use Rattle.talks.specs.declared.refused.Refused.TheVariants.{By}
+use Rattle.talks.specs.declared.ask.Leaving.TheVariants.{One}
 use Rattle.talks.specs.declared.ask.Ask.{Ask}
 use Rattle.talks.specs.declared.ask.Ask.TheVariants as ask
 use Rattle.talks.specs.declared.heard.Heard.{Heard}
@@ -32,8 +33,8 @@ pub data Change : Type 0 where
   Puts : ℕ → File → Change
   -- a fid stands for this in place of what it stood for
   Becomes : ℕ → File → Change
-  -- a fid is let go
-  Drops : ℕ → Change
+  -- a fid is let go, and its user, who is this one, where no other fid is that one's
+  Drops : ℕ → ℕ → Change
   -- a name became another one
   Renames : (old new : List ℕ) → Change
   -- a name was taken away
@@ -44,7 +45,7 @@ IsChanged (Begins most) k l = l ≡ record { message_size = most; users = []; fi
 IsChanged (Attaches user) k l = l ≡ record k { users = k.users ++ user ∷ [] }
 IsChanged (Puts fid file) k l = l ≡ record k { fids = insert_entry nat_cmp k.fids fid file }
 IsChanged (Becomes fid file) k l = l ≡ record k { fids = set_value (is_at (nat_cmp fid)) k.fids file }
-IsChanged (Drops fid) k l = l ≡ record k { fids = remove_entry (is_at (nat_cmp fid)) k.fids }
+IsChanged (Drops fid uid) k l = l ≡ parted k fid uid
 IsChanged (Renames old new) k l =
     (fids : List (ℕ × File)) × EachBecomes (IsRenamed old new) k.fids fids × (l ≡ record k { fids = fids })
 IsChanged (Unlinks path) k l = (fids : List (ℕ × File)) × EachBecomes (IsUnlinked path) k.fids fids × (l ≡ record k { fids = fids })
@@ -84,6 +85,15 @@ calls session c next = Asks (ask.Call session c) next
 abbrev pub closing : ℕ → Option ℕ → (ℕ → Body) → Plan
 closing session None body = Says body
 closing session (Some fd) body = calls session (call.Close fd) (λ h. Says body)
+
+-- a session ends, which closes its descriptors, and then this is said
+abbrev pub ending : ℕ → (ℕ → Body) → Plan
+ending session body = Asks (ask.Leave (One session)) (λ h. Says body)
+
+-- A fid was let go: its descriptor is closed, if there is one, where its user stays; else its user's session ends. Then this is said.
+abbrev pub letting_go : Bool → ℕ → Option ℕ → (ℕ → Body) → Plan
+letting_go true session descriptor body = closing session descriptor body
+letting_go false session descriptor body = ending session body
 
 abbrev pub IsSaid : Said → (ℕ → Body) → Type 0
 IsSaid it body = (most : ℕ) → body_said it most ≡ body most

@@ -2,7 +2,7 @@
 
 ghost use Rattle.std.specs.Prelude.{◌≡◌, [], OnOk, OnErr};
 ghost use Rattle.std.specs.Result.{result_map_both};
-ghost use Rattle.std.specs.Map.{remove_entry, set_value};
+ghost use Rattle.std.specs.Map.{set_value};
 ghost use Rattle.std.specs.BTreeMap.{is_at, insert_entry};
 ghost use Rattle.std.specs.Ordering.{nat_cmp};
 
@@ -24,7 +24,7 @@ pub struct Fids {
 }
 
 impl Fids {
-    ghost use Rattle.ninep_fids.specs.Knowledge.{table_of, found, named, opened, seen, file_of, new_fid};
+    ghost use Rattle.ninep_fids.specs.Knowledge.{table_of, found, named, opened, seen, file_of, new_fid, has_fid, without};
     ghost use Rattle.ninep_fids.specs.Checks.{named_for, unopened};
     ghost use Rattle.ninep_fids.specs.Fids.{EachBecomes, IsRenamed, IsUnlinked};
 
@@ -123,12 +123,19 @@ impl Fids {
     pub fn take(&mut self, fid: u32) -> Result<Fid, Refused>
         ensures taken { result_map_both file_of (λ e. e) result ≡ found (table_of self.old) fid }
         ensures same { OnErr result (table_of self.new ≡ table_of self.old) }
-        ensures left { table_of self.new ≡ remove_entry (is_at (nat_cmp fid)) (table_of self.old) }
+        ensures left { table_of self.new ≡ without (table_of self.old) fid }
     {
         match self.fids.remove(&fid) {
             Some(taken) => Ok(taken),
             None => Err(Refused::By(Errno::EBADF)),
         }
+    }
+
+    /// Whether one of them is this user's.
+    pub fn has(&self, uid: u16) -> bool
+        ensures { result ≡ has_fid (table_of self.now) uid }
+    {
+        self.fids.values().any(|fid| fid.user.uid == uid)
     }
 
     /// A name was changed: each fid stays on its node.

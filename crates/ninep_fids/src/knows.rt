@@ -2,9 +2,11 @@
 
 ghost use Rattle.std.specs.Prelude.{◌≡◌, ◌-◌, ◌≤◌, []};
 
+use crate::fid::Fid;
 use crate::fids::Fids;
 use crate::users::Users;
 use std::alloc::Global;
+use talks::refused::Refused;
 
 /// The fewest bytes that a client may have its messages limited to.
 pub const MIN_MESSAGE: u32 = 4096;
@@ -27,7 +29,7 @@ pub struct Knows {
 }
 
 impl Knows {
-    ghost use Rattle.ninep_fids.specs.Knowledge.{known_of};
+    ghost use Rattle.ninep_fids.specs.Knowledge.{known_of, IsTaken};
 
     /// A new connection's: no user is attached.
     pub fn new(alloc: Global) -> Knows
@@ -39,6 +41,19 @@ impl Knows {
             users: Users::new(alloc),
             fids: Fids::new(alloc),
         }
+    }
+
+    /// Lets a fid go, and its user where no other fid is that one's. What it stood for, and whether its user stays. EBADF where there is
+    /// none.
+    pub fn take(&mut self, fid: u32) -> Result<(Fid, bool), Refused>
+        ensures { IsTaken (known_of self.old) fid result (known_of self.new) }
+    {
+        let taken = self.fids.take(fid)?;
+        let stays = self.fids.has(taken.user.uid);
+        if !stays {
+            self.users.leave(taken.user.uid);
+        }
+        Ok((taken, stays))
     }
 
     /// The most bytes that a read, a write or a list of names may move.

@@ -1,7 +1,7 @@
 //! Users and their sessions.
 
-ghost use Rattle.std.specs.Prelude.{◌≡◌, ◌≤◌, ◌<◌, ◌++◌, ◌∷◌, [], OnOk, OnErr, IsOk, length, vec_capacity};
-ghost use Rattle.ninep_fids.specs.Knowledge.{user_of};
+ghost use Rattle.std.specs.Prelude.{◌≡◌, ◌≤◌, ◌<◌, ◌++◌, ◌∷◌, [], false, OnOk, OnErr, IsOk, length, vec_capacity};
+ghost use Rattle.ninep_fids.specs.Knowledge.{user_of, users_left};
 ghost use Rattle.ninep_fids.specs.Checks.{user_number};
 
 use errno::Errno;
@@ -62,6 +62,13 @@ impl Users {
     {
         self.users.push(user)?;
         Ok(())
+    }
+
+    /// The user with this number goes.
+    pub fn leave(&mut self, uid: u16)
+        ensures { self.new.users.items ≡ users_left false uid self.old.users.items }
+    {
+        self.users.retain(|user| user.uid != uid);
     }
 
     /// All go.

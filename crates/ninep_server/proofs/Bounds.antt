@@ -13,9 +13,9 @@ use Rattle.tree.specs.declared.Attributes.{Attributes}
 use Rattle.tree.specs.declared.PathFrom.{PathFrom}
 use Rattle.tree.specs.declared.Reply.{Reply}
 use Rattle.ninep_fids.specs.Paths.{below, checked, stepped, placed}
-use Rattle.ninep_fids.specs.Knowledge.{Known, File, found, named, start_of, opened, new_fid, user_of, closed}
+use Rattle.ninep_fids.specs.Knowledge.{Known, File, found, named, start_of, opened, new_fid, user_of, closed, has_fid, without}
 use Rattle.talks.specs.Hearing.{done_in, attributes_in, position_in, bytes_in, count_in, room_in, target_in, descriptor_in, session_in, names_heard}
-use Rattle.ninep_fids.specs.Plans.{Plan, closing, with_it}
+use Rattle.ninep_fids.specs.Plans.{Plan, closing, letting_go, with_it}
 use Rattle.talks.specs.Plain.{at}
 use Rattle.ninep_fids.specs.Nodes.{node_of, qid_of}
 use Rattle.ninep_fids.specs.Checks.{user_number, enters, place, not_link, changeable, named_for, unopened}
@@ -41,7 +41,7 @@ use Rattle.ninep_server.specs.Naming.{linking, renamed, looking_back, renaming, 
 use Rattle.ninep_server.specs.Settings.{changing, looking_first}
 use Rattle.ninep_server.specs.Listings.{listing, listing_by, listing_names, kept_for}
 use Rattle.ninep_server.specs.Messages.{moving, transferring, looking, attributes_of, of_file, of_name, of_node, of_fid, plan_of}
-use Rattle.ninep_server.specs.Progress.{Within, left_of, left_of_turn, left_at_stage, left_at_change, left_at_rename}
+use Rattle.ninep_server.specs.Progress.{Within, left_of, left_of_turn, left_at_stage, left_at_close, left_at_change, left_at_rename}
 use Rattle.ninep_server.specs.declared.transfer.Moved.{Moved}
 use Rattle.ninep_server.specs.declared.transfer.Moved.TheVariants as moved
 use Rattle.ninep_server.specs.declared.attach.Attach.TheVariants as attach
@@ -54,6 +54,7 @@ use Rattle.ninep_server.specs.declared.making.Stage.TheVariants as stage
 use Rattle.ninep_server.specs.declared.listing.Listing.{Listing}
 use Rattle.ninep_server.specs.declared.naming.Rename.{Rename}
 use Rattle.ninep_server.specs.declared.attributes.Setattr.{Setattr}
+use Rattle.ninep_server.specs.declared.opening.Close.{Close}
 use Rattle.ninep_server.specs.declared.work.Work.{Work}
 use Rattle.ninep_server.specs.declared.work.Work.TheVariants as work
 use Rattle.ninep_server.specs.declared.work.FidWork.TheVariants as fid_work
@@ -92,6 +93,11 @@ attributes_within n file (Some fd) gone = looking_within n file.user.session fil
 closing_within : (n session : ℕ) (descriptor : Option ℕ) (body : ℕ → Body) → Within (closing session descriptor body) (suc n)
 closing_within n session None body = tt
 closing_within n session (Some fd) body = λ h. tt
+
+letting_go_within : (n : ℕ) (stays : Bool) (session : ℕ) (descriptor : Option ℕ) (body : ℕ → Body)
+    → Within (letting_go stays session descriptor body) (suc n)
+letting_go_within n true session descriptor body = closing_within n session descriptor body
+letting_go_within n false session descriptor body = λ h. tt
 
 beginning_within : (n most : ℕ) (version : List ℕ) → Within (begins most version) (suc n)
 beginning_within n most version = either_within (suc n) (nat_lt most 4096) _ _ tt (λ h. tt)
@@ -176,14 +182,14 @@ renaming_within n session old new a = λ h. it_within (suc n) (done_in h) _ (λ 
 unlinking_within : (n session : ℕ) (path : List ℕ) (directory : Bool) → Within (unlinking session path directory) (suc n)
 unlinking_within n session path directory = λ h. it_within n (done_in h) _ (λ _. tt)
 
-removed_within : (n session : ℕ) (path : List ℕ) (descriptor : Option ℕ) (r : Result Reply Refused)
-    → Within (removed session path descriptor r) (suc n)
-removed_within n session path descriptor (Ok _) = closing_within n session descriptor _
-removed_within n session path descriptor (Err refused) = closing_within n session descriptor _
+removed_within : (n session : ℕ) (path : List ℕ) (stays : Bool) (descriptor : Option ℕ) (r : Result Reply Refused)
+    → Within (removed session path stays descriptor r) (suc n)
+removed_within n session path stays descriptor (Ok _) = letting_go_within n stays session descriptor _
+removed_within n session path stays descriptor (Err refused) = letting_go_within n stays session descriptor _
 
-removing_within : (n : ℕ) (file : File) (gone : Bool) → Within (removing_file file gone) (suc (suc n))
-removing_within n file true = closing_within (suc n) file.user.session file.descriptor _
-removing_within n file false = λ h. removed_within n file.user.session file.path file.descriptor (done_in h)
+removing_within : (n : ℕ) (file : File) (stays gone : Bool) → Within (removing_file file stays gone) (suc (suc n))
+removing_within n file stays true = letting_go_within (suc n) stays file.user.session file.descriptor _
+removing_within n file stays false = λ h. removed_within n file.user.session file.path stays file.descriptor (done_in h)
 
 -- no more changes than there are kinds of them
 one_at_most : {A : Type 0} (o : Option A) → length (option_to_list o) ≤ 1
@@ -307,8 +313,10 @@ fid_within k now (request.Walk fid new names) =
     it_within 16 (named k.fids fid) _ (λ file. it_within 16 (place k fid new file.descriptor) _
     (λ _. walking_within 16 new file.user (names_in names) file.path file.node [] few))
 fid_within k now (request.Clunk fid) =
-    it_within 16 (found k.fids fid) _ (λ file. closing_within 15 file.user.session file.descriptor _)
-fid_within k now (request.Remove fid) = it_within 16 (found k.fids fid) _ (λ file. removing_within 14 file file.gone)
+    it_within 16 (found k.fids fid) _
+    (λ file. letting_go_within 15 (has_fid (without k.fids fid) file.user.uid) file.user.session file.descriptor _)
+fid_within k now (request.Remove fid) = it_within 16 (found k.fids fid) _
+    (λ file. removing_within 14 file (has_fid (without k.fids fid) file.user.uid) file.gone)
 fid_within k now (request.Flush old_tag) = tt
 fid_within k now r = node_within k now r
 
@@ -338,6 +346,10 @@ asks_setting : (x : Setattr) (change : Option Change) → Within (left_at_change
 asks_setting x None few = few
 asks_setting x (Some c) few = few
 
+asks_closing : (c : Close) (fd : Option ℕ) → Within (left_at_close c.session fd c.answer) 0 → ⊥
+asks_closing c None few = few
+asks_closing c (Some fd) few = few
+
 asks_renaming : (r : Rename) (done : Bool) → Within (left_at_rename r done) 0 → ⊥
 asks_renaming r false few = few
 asks_renaming r true few = few
@@ -352,7 +364,7 @@ none_left : (w : Work) → Within (left_of w) 0 → ⊥
 none_left (work.Data (data_work.Transfer t)) few = asks_transferring t.session t.fd t.seek t.moved few
 none_left (work.Attribute (attribute_work.Getattr g)) few = asks_looking g.session g.path.items g.descriptor few
 none_left (work.Data (data_work.Readlink r)) few = few
-none_left (work.Open (open_work.Close c)) few = few
+none_left (work.Open (open_work.Close c)) few = asks_closing c c.fd few
 none_left (work.Attribute (attribute_work.Statfs session)) few = few
 none_left (work.Fid (fid_work.Version v)) few = few
 none_left (work.Fid (fid_work.Attach (attach.Enter fid uid))) few = few

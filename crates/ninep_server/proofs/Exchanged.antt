@@ -8,10 +8,11 @@ use Rattle.ninep_server.specs.Exchanges.{IsExchanged}
 use Rattle.ninep_fids.specs.Knowledge.{Known}
 use Rattle.ninep_fids.specs.Written.{tag_in}
 use Rattle.talks.specs.Talks.{MayHear}
+use Rattle.talks.specs.declared.ask.Leaving.{Leaving}
 use Rattle.talks.specs.declared.sessions.EnterRefusal.{EnterRefusal}
 
 exchanged : {S : Type 0} (called : S → ℕ → ℕ → Call → Outcome → S → Type 0)
-    (entered : S → ℕ → ℕ → Result ℕ EnterRefusal → S → Type 0) (left : S → S → Type 0) (now capacity len : ℕ)
+    (entered : S → ℕ → ℕ → Result ℕ EnterRefusal → S → Type 0) (left : S → Leaving → S → Type 0) (now capacity len : ℕ)
     (message from answer : List ℕ) (s t : S) (k l : Known) → from ≡ [] → len ≡ 0
     → Answers (MayHear called entered left now) (tag_in message) l.message_size s t from answer
     → Says (MayHear called entered left now) now message s k t l len capacity from answer
@@ -24,7 +25,7 @@ exchanged called entered left now capacity len message from answer s t k l none 
     (now, capacity, both.0, both.1)
 
 pub exchanged_ok : {S A E : Type 0} (called : S → ℕ → ℕ → Call → Outcome → S → Type 0)
-    (entered : S → ℕ → ℕ → Result ℕ EnterRefusal → S → Type 0) (left : S → S → Type 0) (now capacity len : ℕ)
+    (entered : S → ℕ → ℕ → Result ℕ EnterRefusal → S → Type 0) (left : S → Leaving → S → Type 0) (now capacity len : ℕ)
     (message from answer : List ℕ) (s t : S) (k l : Known) (r : Result A E) → from ≡ [] → len ≡ 0
     → OnOk r (Answers (MayHear called entered left now) (tag_in message) l.message_size s t from answer)
     → OnOk r (Says (MayHear called entered left now) now message s k t l len capacity from answer)

@@ -1,21 +1,21 @@
 -- How plans are followed.
-use Rattle.std.proofs.Common.{◌≡◌, ◌∙◌, ◌+◌, ℕ, suc, List, Option, Some, None, Result, Ok, inl, inr, refl, sym, subst, arith}
+use Rattle.std.proofs.Common.{◌≡◌, ◌∙◌, ◌+◌, ℕ, suc, Bool, true, false, List, Option, Some, None, Result, Ok, inl, inr, refl, sym, subst, arith}
 use Rattle.errno.specs.declared.Errno.TheVariants.{ENOMEM}
 use Rattle.ninep.specs.Requests.{Body}
 use Rattle.tree.specs.declared.Reply.{Reply}
 use Rattle.tree.specs.declared.Call.TheVariants as call
 use Rattle.ninep_fids.specs.Fids.{EachBecomes, IsUnlinked}
-use Rattle.ninep_fids.specs.Knowledge.{Known, File}
-use Rattle.ninep_fids.specs.Plans.{Plan, Says, Asks, Changes, OrNoMemory, IsSaid, Follows, closing, error}
+use Rattle.ninep_fids.specs.Knowledge.{Known, File, found, has_fid, without, parted}
+use Rattle.ninep_fids.specs.Plans.{Plan, Says, Asks, Changes, OrNoMemory, IsSaid, Drops, Follows, closing, letting_go, error, with_it}
 use Rattle.ninep_fids.specs.Nodes.{said_of}
 use Rattle.talks.specs.declared.refused.Refused.{Refused}
-use Rattle.talks.specs.declared.refused.Refused.TheVariants.{By}
+use Rattle.talks.specs.declared.refused.Refused.TheVariants.{By, Stale}
 use Rattle.ninep_fids.specs.declared.answer.NinepAnswer.TheVariants as answer
 use Rattle.talks.specs.declared.ask.Ask.{Ask}
 use Rattle.talks.specs.declared.ask.Ask.TheVariants as ask
 use Rattle.talks.specs.declared.heard.Heard.{Heard}
 use Rattle.ninep_fids.specs.declared.answer.Said.{Said}
-use Rattle.ninep_server.specs.Naming.{removed}
+use Rattle.ninep_server.specs.Naming.{removed, removes, removing_file}
 use Rattle.ninep_server.specs.Progress.{left_of, left_of_turn, AsksNext, behind, SaysSame, Leaves, IsCarriedOn, Within}
 use Rattle.ninep_server.specs.Messages.{syncing, synced}
 use Rattle.ninep_server.specs.declared.work.Work.{Work}
@@ -137,12 +137,31 @@ closes : (session : ℕ) (d : Option ℕ) (body : ℕ → Body) (k : Known) → 
 closes session None body k = ((λ most. refl), refl)
 closes session (Some fd) body k = (refl, refl)
 
+lets_go : (stays : Bool) (session : ℕ) (d : Option ℕ) (body : ℕ → Body) (k : Known)
+    → Leaves (letting_go stays session d body) k (letting_go stays session d body) k
+lets_go true session d body k = closes session d body k
+lets_go false session d body k = (refl, refl)
+
 -- a name was taken away, and what is left is to close
-pub removed_leaves : (session : ℕ) (path : List ℕ) (d : Option ℕ) (r : Result Reply Refused) (done : Reply) (k : Known)
+pub removed_leaves : (session : ℕ) (path : List ℕ) (stays : Bool) (d : Option ℕ) (r : Result Reply Refused) (done : Reply) (k : Known)
     (fids : List (ℕ × File)) (q : Plan) → r ≡ Ok done → EachBecomes (IsUnlinked path) k.fids fids
-    → q ≡ closing session d (said_of answer.Remove) → Leaves (removed session path d r) k q (record k { fids = fids })
-removed_leaves session path d r done k fids q told each is =
+    → q ≡ letting_go stays session d (said_of answer.Remove) → Leaves (removed session path stays d r) k q (record k { fids = fids })
+removed_leaves session path stays d r done k fids q told each is =
     let l : Known = record k { fids = fids } in
-    let P : Result Reply Refused → Type 0 = λ x. Leaves (removed session path d x) k q l in
-    let Q : Plan → Type 0 = λ x. Leaves (closing session d (said_of answer.Remove)) l x l in
-    subst P (sym told) (l, (fids, each, refl), subst Q (sym is) (closes session d (said_of answer.Remove) l))
+    let P : Result Reply Refused → Type 0 = λ x. Leaves (removed session path stays d x) k q l in
+    let Q : Plan → Type 0 = λ x. Leaves (letting_go stays session d (said_of answer.Remove)) l x l in
+    subst P (sym told) (l, (fids, each, refl), subst Q (sym is) (lets_go stays session d (said_of answer.Remove) l))
+
+-- a fid was let go whose file has lost its name
+pub removes_gone : (k l : Known) (fid : ℕ) (file : File) (stays : Bool) (q : Plan) → found k.fids fid ≡ Ok file → file.gone ≡ true
+    → stays ≡ has_fid (without k.fids fid) file.user.uid → l ≡ parted k fid file.user.uid
+    → q ≡ letting_go stays file.user.session file.descriptor (error Stale) → Leaves (removes k fid) k q l
+removes_gone k l fid file stays q there gone left same is =
+    let last : Bool = has_fid (without k.fids fid) file.user.uid in
+    let P : Result File Refused → Type 0 = λ r. Leaves (with_it r (λ f. Changes (Drops fid f.user.uid)
+    (removing_file f (has_fid (without k.fids fid) f.user.uid) f.gone))) k q l in
+    let G : Bool → Type 0 = λ g. Leaves (removing_file file last g) l q l in
+    let Q : Bool → Type 0 = λ b. Leaves (letting_go b file.user.session file.descriptor (error Stale)) l q l in
+    let R : Plan → Type 0 = λ x. Leaves (letting_go stays file.user.session file.descriptor (error Stale)) l x l in
+    subst P (sym there) (l, same, subst G (sym gone) (subst Q left
+    (subst R (sym is) (lets_go stays file.user.session file.descriptor (error Stale) l))))

@@ -10,13 +10,14 @@ use Rattle.talks.specs.Plain.{from_root}
 use Rattle.ninep_fids.specs.Nodes.{says, node_of, qid_of}
 use Rattle.talks.specs.declared.refused.Refused.TheVariants.{By}
 use Rattle.ninep_fids.specs.declared.users.User.{User}
+use Rattle.talks.specs.declared.ask.Leaving.TheVariants.{All}
 use Rattle.talks.specs.declared.ask.Ask.TheVariants as ask
 use Rattle.ninep_fids.specs.declared.answer.NinepAnswer.TheVariants as answer
 use Rattle.ninep_fids.specs.Checks.{user_number}
 
 -- Tversion: all sessions end, and a connection begins whose messages have at most so many bytes. EINVAL below the least.
 abbrev pub beginning : ℕ → Bool → Plan
-beginning most known = Asks ask.Leave (λ h. Changes (Begins most) (says (answer.Version most known)))
+beginning most known = Asks (ask.Leave All) (λ h. Changes (Begins most) (says (answer.Version most known)))
 
 abbrev pub begins : ℕ → List ℕ → Plan
 begins most version =

@@ -10,9 +10,9 @@ use Rattle.tree.specs.declared.Whence.TheVariants.{Set}
 use Rattle.ninep_fids.specs.Told.{room_told, attributes_told}
 use Rattle.talks.specs.Hearing.{target_of}
 use Rattle.ninep_fids.specs.Paths.{called}
-use Rattle.ninep_fids.specs.Knowledge.{Known, File, found, named, opened}
+use Rattle.ninep_fids.specs.Knowledge.{Known, File, found, named, opened, has_fid, without}
 use Rattle.talks.specs.Hearing.{done_in, attributes_in, position_in, bytes_in, count_in, room_in, target_in}
-use Rattle.ninep_fids.specs.Plans.{Plan, Says, Changes, OrNoMemory, Drops, reply, body_said, refuses, closing, with_it, calls}
+use Rattle.ninep_fids.specs.Plans.{Plan, Says, Changes, OrNoMemory, Drops, reply, body_said, refuses, letting_go, with_it, calls}
 use Rattle.talks.specs.Plain.{at, from_root}
 use Rattle.ninep_fids.specs.Nodes.{says, said_of}
 use Rattle.talks.specs.declared.refused.Refused.TheVariants.{By, Stale, Unsupported}
@@ -79,10 +79,11 @@ synced h = with_it (done_in h) (λ _. Says (body_said said.Synced))
 abbrev pub syncing : ℕ → Plan
 syncing session = calls session call.Sync synced
 
--- Tclunk: the fid is let go
+-- Tclunk: the fid is let go; with the last fid of a user that one's session ends
 abbrev pub clunking : Known → ℕ → Plan
 clunking k fid = with_it (found k.fids fid)
-    (λ file. Changes (Drops fid) (closing file.user.session file.descriptor (said_of answer.Clunk)))
+    (λ file. Changes (Drops fid file.user.uid) (letting_go (has_fid (without k.fids fid) file.user.uid) file.user.session
+    file.descriptor (said_of answer.Clunk)))
 
 -- Tstatfs
 abbrev pub measuring : ℕ → Plan

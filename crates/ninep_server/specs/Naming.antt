@@ -5,10 +5,10 @@ use Rattle.tree.specs.declared.Call.TheVariants as call
 use Rattle.tree.specs.declared.Attributes.{Attributes}
 use Rattle.tree.specs.declared.Reply.{Reply}
 use Rattle.ninep_fids.specs.Paths.{called, below, checked}
-use Rattle.ninep_fids.specs.Knowledge.{Known, File, found, named}
+use Rattle.ninep_fids.specs.Knowledge.{Known, File, found, named, has_fid, without}
 use Rattle.talks.specs.Hearing.{done_in, attributes_in}
 use Rattle.talks.specs.Flags.{is_set}
-use Rattle.ninep_fids.specs.Plans.{Plan, Changes, OrNoMemory, Drops, Renames, Unlinks, error, closing, with_it, calls}
+use Rattle.ninep_fids.specs.Plans.{Plan, Changes, OrNoMemory, Drops, Renames, Unlinks, error, letting_go, with_it, calls}
 use Rattle.talks.specs.Plain.{from_root}
 use Rattle.ninep_fids.specs.Nodes.{says, said_of}
 use Rattle.talks.specs.declared.refused.Refused.{Refused}
@@ -68,19 +68,20 @@ abbrev pub unlinks : Known → ℕ → List ℕ → ℕ → Plan
 unlinks k directory name flags = with_it (named_for k.fids directory name)
     (λ parent. OrNoMemory (unlinking parent.user.session (below parent.path name) (is_set flags 0x200)))
 
--- what a remove says behind the call, and a descriptor is closed
-abbrev pub removed : ℕ → List ℕ → Option ℕ → Result Reply Refused → Plan
-removed session path descriptor (Ok _) = Changes (Unlinks path) (closing session descriptor (said_of answer.Remove))
-removed session path descriptor (Err refused) = closing session descriptor (error refused)
+-- what a remove says behind the call, and what the fid leaves is closed
+abbrev pub removed : ℕ → List ℕ → Bool → Option ℕ → Result Reply Refused → Plan
+removed session path stays descriptor (Ok _) = Changes (Unlinks path) (letting_go stays session descriptor (said_of answer.Remove))
+removed session path stays descriptor (Err refused) = letting_go stays session descriptor (error refused)
 
-abbrev pub removing : ℕ → List ℕ → Bool → Option ℕ → Plan
-removing session path directory descriptor =
-    calls session (unlink_call path directory) (λ h. removed session path descriptor (done_in h))
+abbrev pub removing : ℕ → List ℕ → Bool → Bool → Option ℕ → Plan
+removing session path directory stays descriptor =
+    calls session (unlink_call path directory) (λ h. removed session path stays descriptor (done_in h))
 
--- Tremove: the name of a fid's file is taken away, and the fid is let go, whatever the answer
-abbrev pub removing_file : File → Bool → Plan
-removing_file file true = closing file.user.session file.descriptor (error Stale)
-removing_file file false = removing file.user.session file.path (is_directory file.node.kind) file.descriptor
+-- Tremove: the name of a fid's file is taken away, and the fid is let go, whatever the answer, as a Tclunk does
+abbrev pub removing_file : File → Bool → Bool → Plan
+removing_file file stays true = letting_go stays file.user.session file.descriptor (error Stale)
+removing_file file stays false = removing file.user.session file.path (is_directory file.node.kind) stays file.descriptor
 
 abbrev pub removes : Known → ℕ → Plan
-removes k fid = with_it (found k.fids fid) (λ file. Changes (Drops fid) (removing_file file file.gone))
+removes k fid = with_it (found k.fids fid) (λ file. Changes (Drops fid file.user.uid)
+    (removing_file file (has_fid (without k.fids fid) file.user.uid) file.gone))

@@ -4,15 +4,16 @@ use Rattle.errno.specs.declared.Errno.TheVariants.{ENOMEM}
 use Rattle.ninep.specs.Requests.{Body, names_in}
 use Rattle.tree.specs.declared.Call.TheVariants as call
 use Rattle.ninep_fids.specs.Knowledge.{Known, known_of}
-use Rattle.ninep_fids.specs.Plans.{Plan, Says, Asks, Changes, OrNoMemory, IsChanged, Follows, body_said, error, refuses, calls}
+use Rattle.ninep_fids.specs.Plans.{Plan, Says, Asks, Changes, OrNoMemory, IsChanged, Follows, body_said, error, refuses, calls, ending}
 use Rattle.talks.specs.Plain.{plain}
 use Rattle.ninep_fids.specs.Paths.{placed}
-use Rattle.ninep_fids.specs.Nodes.{says}
+use Rattle.ninep_fids.specs.Nodes.{says, said_of}
 use Rattle.talks.specs.Changes.{in_order}
 use Rattle.talks.specs.declared.refused.Refused.{Refused}
 use Rattle.talks.specs.declared.refused.Refused.TheVariants.{By}
 use Rattle.talks.specs.declared.ask.Ask.{Ask}
 use Rattle.talks.specs.declared.heard.Heard.{Heard}
+use Rattle.ninep_fids.specs.declared.answer.NinepAnswer.{NinepAnswer}
 use Rattle.ninep_fids.specs.declared.answer.Said.{Said}
 use Rattle.ninep_fids.specs.declared.knows.Knows.{Knows}
 use Rattle.talks.specs.declared.changes.Change.{Change}
@@ -70,8 +71,12 @@ left_of_getattr g = looking g.session g.path.items g.descriptor
 abbrev pub left_of_readlink : Readlink → Plan
 left_of_readlink r = reading_link r.session r.path.items
 
+abbrev pub left_at_close : ℕ → Option ℕ → NinepAnswer → Plan
+left_at_close session (Some fd) a = calls session (call.Close fd) (λ h. says a)
+left_at_close session None a = ending session (said_of a)
+
 abbrev pub left_of_close : Close → Plan
-left_of_close c = calls c.session (call.Close c.fd) (λ h. says c.answer)
+left_of_close c = left_at_close c.session c.fd c.answer
 
 abbrev pub left_of_version : Version → Plan
 left_of_version v = beginning v.message_size v.known
@@ -115,7 +120,7 @@ abbrev pub left_of_unlink : Unlink → Plan
 left_of_unlink u = unlinking u.session u.path.items u.directory
 
 abbrev pub left_of_remove : Remove → Plan
-left_of_remove r = removing r.session r.path.items r.directory r.descriptor
+left_of_remove r = removing r.session r.path.items r.directory r.stays r.descriptor
 
 abbrev pub left_at_change : Setattr → Option Change → Plan
 left_at_change s None = looking_first s.user (placed s.start s.path.items) s.wanted

@@ -217,6 +217,8 @@ pub(crate) struct Remove {
     session: u8,
     path: Vec<u8>,
     directory: bool,
+    /// Whether its user has another fid.
+    stays: bool,
     descriptor: Option<u32>,
 }
 
@@ -224,16 +226,17 @@ impl Remove {
     pub(crate) fn begin<'m>(knows: &mut Knows, fid: u32) -> Result<Next<'m>, Refused>
         ensures { BeginsAs (removes (known_of knows.old) fid) knows.old knows.new result }
     {
-        let taken = knows.fids.take(fid)?;
+        let (taken, stays) = knows.take(fid)?;
         let session = taken.user.session;
         if taken.gone {
             let stale = NinepAnswer::Refused(Refused::Stale);
-            return Ok(Close::begin(session, taken.descriptor, stale));
+            return Ok(Close::let_go(stays, session, taken.descriptor, stale));
         }
         Ok(Next::Go(Work::Name(NameWork::Remove(Remove {
             session,
             directory: is_directory(taken.node.kind),
             path: taken.path,
+            stays,
             descriptor: taken.descriptor,
         }))))
     }
@@ -250,14 +253,15 @@ impl Remove {
     pub(crate) fn hear<'m>(self, knows: &mut Knows, heard: Heard) -> Result<Next<'m>, Refused>
         ensures { Leaves (behind (left_of_remove self) heard) (known_of knows.old) (left_of_next result) (known_of knows.new) }
     {
+        let (stays, session, descriptor) = (self.stays, self.session, self.descriptor);
         match heard.done() {
             Ok(()) => {
                 knows.fids.unlink(&self.path);
-                Ok(Close::begin(self.session, self.descriptor, NinepAnswer::Remove))
+                Ok(Close::let_go(stays, session, descriptor, NinepAnswer::Remove))
             }
             Err(refused) => {
                 let answer = NinepAnswer::Refused(refused);
-                Ok(Close::begin(self.session, self.descriptor, answer))
+                Ok(Close::let_go(stays, session, descriptor, answer))
             }
         }
     }

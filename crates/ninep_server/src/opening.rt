@@ -3,7 +3,7 @@
 ghost use Rattle.std.specs.Prelude.{◌≡◌, Ok, take};
 ghost use Rattle.ninep_fids.specs.Knowledge.{known_of};
 ghost use Rattle.ninep_fids.specs.Nodes.{said_of};
-ghost use Rattle.ninep_fids.specs.Plans.{closing};
+ghost use Rattle.ninep_fids.specs.Plans.{closing, letting_go};
 ghost use Rattle.ninep_server.specs.Opens.{opens};
 ghost use Rattle.ninep_server.specs.Messages.{clunking, following};
 ghost use Rattle.ninep_server.specs.Progress.{AsksNext, BeginsAs, GoesOnAs, Leaves, behind, left_of_close, left_of_opening};
@@ -18,7 +18,7 @@ use ninep_fids::flags::bits_of;
 use ninep_fids::knows::Knows;
 use ninep_fids::paths::called;
 use ninep_fids::users::User;
-use talks::ask::Ask;
+use talks::ask::{Ask, Leaving};
 use talks::heard::Heard;
 use talks::refused::Refused;
 use talks::target::bytes_of;
@@ -76,11 +76,12 @@ impl Opening {
     }
 }
 
-/// A descriptor is closed, and then this is answered, whatever the close says.
+/// A descriptor is closed, or a session ends, and then this is answered, whatever the close says.
 #[derive(Drop)]
 pub(crate) struct Close {
     session: u8,
-    fd: u32,
+    /// The descriptor; none: the session ends, which closes all that it has open.
+    fd: Option<u32>,
     answer: NinepAnswer,
 }
 
@@ -90,29 +91,53 @@ impl Close {
         ensures { left_of_next (Ok result) ≡ closing session descriptor (said_of answer) }
     {
         match descriptor {
-            Some(fd) => Next::Go(Work::Open(OpenWork::Close(Close {
+            Some(_) => Next::Go(Work::Open(OpenWork::Close(Close {
                 session,
-                fd,
+                fd: descriptor,
                 answer,
             }))),
             None => Next::Done(answer),
         }
     }
 
+    /// Behind a fid that was let go: closes its descriptor, if there is one, where its user stays; else that one's session ends.
+    pub(crate) fn let_go<'m>(
+        stays: bool,
+        session: u8,
+        descriptor: Option<u32>,
+        answer: NinepAnswer,
+    ) -> Next<'m>
+        ensures { left_of_next (Ok result) ≡ letting_go stays session descriptor (said_of answer) }
+    {
+        if stays {
+            return Close::begin(session, descriptor, answer);
+        }
+        Next::Go(Work::Open(OpenWork::Close(Close {
+            session,
+            fd: None,
+            answer,
+        })))
+    }
+
     /// Lets a fid go.
     pub(crate) fn clunk<'m>(knows: &mut Knows, fid: u32) -> Result<Next<'m>, Refused>
         ensures { BeginsAs (clunking (known_of knows.old) fid) knows.old knows.new result }
     {
-        let gone = knows.fids.take(fid)?;
-        Ok(Close::begin(gone.user.session, gone.descriptor, NinepAnswer::Clunk))
+        let (gone, stays) = knows.take(fid)?;
+        let session = gone.user.session;
+        Ok(Close::let_go(stays, session, gone.descriptor, NinepAnswer::Clunk))
     }
 
     pub(crate) fn ask(&self) -> Ask<'_>
         ensures { AsksNext (left_of_close self.now) result }
     {
-        Ask::Call {
-            session: self.session,
-            call: Call::Close { fd: self.fd },
+        let session = self.session;
+        match self.fd {
+            Some(fd) => Ask::Call {
+                session,
+                call: Call::Close { fd },
+            },
+            None => Ask::Leave(Leaving::One(session)),
         }
     }
 

@@ -17,7 +17,7 @@ use crate::walk::Walk;
 use ninep_fids::answer::NinepAnswer;
 use ninep_fids::knows::Knows;
 use ninep_fids::told::room_of;
-use talks::ask::Ask;
+use talks::ask::{Ask, Leaving};
 use talks::heard::Heard;
 use talks::refused::Refused;
 use tree::Call;
@@ -117,7 +117,7 @@ impl<'m> FidWork<'m> {
         ensures { AsksNext (left_of_fid_work self.now) result }
     {
         match self {
-            FidWork::Version(_) => Ask::Leave,
+            FidWork::Version(_) => Ask::Leave(Leaving::All),
             FidWork::Attach(work) => work.ask(),
             FidWork::Walk(work) => work.ask(),
         }

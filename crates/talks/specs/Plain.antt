@@ -41,5 +41,5 @@ plain_call c = c
 
 abbrev pub plain : Ask → Ask
 plain (ask.Enter uid gid) = ask.Enter uid gid
-plain ask.Leave = ask.Leave
+plain (ask.Leave who) = ask.Leave who
 plain (ask.Call session c) = ask.Call session (plain_call c)

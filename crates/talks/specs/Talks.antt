@@ -7,6 +7,7 @@ use Rattle.tree.specs.declared.Outcome.TheVariants as outcome
 use Rattle.tree.specs.declared.Reply.{Reply}
 use Rattle.tree.specs.declared.Reply.TheVariants as reply
 use Rattle.talks.specs.declared.sessions.EnterRefusal.{EnterRefusal}
+use Rattle.talks.specs.declared.ask.Leaving.{Leaving}
 use Rattle.talks.specs.declared.ask.Ask.{Ask}
 use Rattle.talks.specs.declared.ask.Ask.TheVariants as ask
 use Rattle.talks.specs.declared.heard.Heard.{Heard}
@@ -25,15 +26,15 @@ pub record Exchange : Type 0 where
   pub ask : Ask
   pub heard : Heard
 
--- What sessions may answer at a time, by their relations: of calls, of users that enter, of the end of all sessions.
+-- What sessions may answer at a time, by their relations: of calls, of users that enter, of sessions that end.
 abbrev pub MayHear : {S : Type 0} → (S → ℕ → ℕ → Call → TreeOutcome → S → Type 0) → (S → ℕ → ℕ → Result ℕ EnterRefusal → S → Type 0)
-    → (S → S → Type 0) → ℕ → S → Ask → Heard → S → Type 0
+    → (S → Leaving → S → Type 0) → ℕ → S → Ask → Heard → S → Type 0
 MayHear called entered left now s (ask.Enter uid gid) (heard.Entered r) t = entered s uid gid r t
 MayHear called entered left now s (ask.Enter uid gid) heard.Left t = ⊥
 MayHear called entered left now s (ask.Enter uid gid) (heard.Outcome o) t = ⊥
-MayHear called entered left now s ask.Leave (heard.Entered r) t = ⊥
-MayHear called entered left now s ask.Leave heard.Left t = left s t
-MayHear called entered left now s ask.Leave (heard.Outcome o) t = ⊥
+MayHear called entered left now s (ask.Leave who) (heard.Entered r) t = ⊥
+MayHear called entered left now s (ask.Leave who) heard.Left t = left s who t
+MayHear called entered left now s (ask.Leave who) (heard.Outcome o) t = ⊥
 MayHear called entered left now s (ask.Call session c) (heard.Entered r) t = ⊥
 MayHear called entered left now s (ask.Call session c) heard.Left t = ⊥
 MayHear called entered left now s (ask.Call session c) (heard.Outcome o) t = called s session now c o t

@@ -3,6 +3,7 @@
 ghost use Rattle.std.specs.Prelude.{◌≡◌, ℕ, List, [], Result, OnOk, OnErr};
 ghost use Rattle.tree.specs.declared.Call.{Call};
 ghost use Rattle.tree.specs.declared.Outcome.{Outcome};
+ghost use Rattle.talks.specs.declared.ask.Leaving.{Leaving};
 ghost use Rattle.talks.specs.declared.sessions.EnterRefusal.{EnterRefusal};
 
 use crate::end::End;
@@ -12,7 +13,7 @@ use crate::sessions::Sessions;
 /// what the sessions may answer (their three relations), the message, its answer, and the sessions and the answerer before and after it.
 pub trait Answers {
     ghost answers: { (S : Type 0) → (S → ℕ → ℕ → Call → Outcome → S → Type 0) → (S → ℕ → ℕ → Result ℕ EnterRefusal → S → Type 0)
-        → (S → S → Type 0) → List ℕ → List ℕ → S → Self → S → Self → Type 0 };
+        → (S → Leaving → S → Type 0) → List ℕ → List ℕ → S → Self → S → Self → Type 0 };
 
     /// The fewest bytes that a message has.
     ghost fewest: { ℕ };

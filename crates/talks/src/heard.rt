@@ -17,7 +17,7 @@ use tree::{Attributes, Entry, LinkTarget, Outcome, Reply, Statfs};
 pub enum Heard {
     /// The session for a user, or why there is none.
     Entered(Result<u8, EnterRefusal>),
-    /// All sessions ended.
+    /// Sessions ended.
     Left,
     /// The outcome of a call.
     Outcome(Outcome),

@@ -4,9 +4,10 @@ ghost use Rattle.std.specs.Prelude.{ℕ, Result};
 ghost use Rattle.tree.specs.declared.Call.{Call};
 ghost use Rattle.tree.specs.declared.Outcome.{Outcome};
 ghost use Rattle.talks.specs.Talks.{MayHear};
+ghost use Rattle.talks.specs.declared.ask.Leaving.{Leaving};
 ghost use Rattle.talks.specs.declared.sessions.EnterRefusal.{EnterRefusal};
 
-use crate::ask::Ask;
+use crate::ask::{Ask, Leaving};
 use crate::heard::Heard;
 use tree::{Call, Outcome};
 
@@ -30,8 +31,8 @@ pub trait Sessions {
     /// What a user and a group may be answered that ask for a session.
     ghost entered: { Self → ℕ → ℕ → Result ℕ EnterRefusal → Self → Type 0 };
 
-    /// How all sessions may end.
-    ghost left: { Self → Self → Type 0 };
+    /// How sessions may end, all of them or one.
+    ghost left: { Self → Leaving → Self → Type 0 };
 
     /// A session for this user and group. A call names it by the number that is answered.
     fn enter(&mut self, uid: u16, gid: u16) -> Result<u8, EnterRefusal>
@@ -41,9 +42,9 @@ pub trait Sessions {
     fn call(&mut self, session: u8, now: u32, call: &Call<'_>) -> Outcome
         ensures { called self.old session now call.now result self.new };
 
-    /// Ends all sessions: their descriptors are closed.
-    fn leave(&mut self)
-        ensures { left self.old self.new };
+    /// Ends all sessions, or the one with a number: their descriptors are closed, and their numbers may be given again.
+    fn leave(&mut self, who: Leaving)
+        ensures { left self.old who self.new };
 }
 
 /// What the sessions answer.
@@ -52,8 +53,8 @@ pub fn heard<S: Sessions>(sessions: &mut S, now: u32, ask: &Ask<'_>) -> Heard
 {
     match ask {
         Ask::Enter { uid, gid } => Heard::Entered(sessions.enter(*uid, *gid)),
-        Ask::Leave => {
-            sessions.leave();
+        Ask::Leave(who) => {
+            sessions.leave(*who);
             Heard::Left
         }
         Ask::Call { session, call } => Heard::Outcome(sessions.call(*session, now, call)),

@@ -57,7 +57,7 @@ impl Archive for Nowhere {
 pub(crate) type Exchange = (&'static [u8], &'static [u8]);
 
 /// Puts a message, or an answer, behind the size of both.
-fn put(out: &mut Vec<u8>, message: &[u8]) -> Result<(), Fail> {
+pub(crate) fn put(out: &mut Vec<u8>, message: &[u8]) -> Result<(), Fail> {
     let size = u32::try_from(message.len())?.saturating_add(4);
     out.extend_from_slice(&size.to_le_bytes())?;
     out.extend_from_slice(message)?;
@@ -76,8 +76,18 @@ pub(crate) fn answers<R: Threads + Wait + Clock + Copy + Send + Sync + 'static>(
         put(&mut asked, message)?;
         put(&mut told, answer)?;
     }
+    answers_by(alloc, rt, &asked, &told)
+}
+
+/// The same of messages and answers as they are sent.
+pub(crate) fn answers_by<R: Threads + Wait + Clock + Copy + Send + Sync + 'static>(
+    alloc: Global,
+    rt: R,
+    asked: &[u8],
+    told: &[u8],
+) -> Result<(), Fail> {
     let streams = Streams {
-        input: asked.as_slice(),
+        input: asked,
         output: Vec::new(alloc),
         answerer: Connection::new(alloc),
         clock: Fixed,
@@ -100,7 +110,7 @@ pub(crate) fn answers<R: Threads + Wait + Clock + Copy + Send + Sync + 'static>(
         &mut err,
     );
     let came = came.ok_or("not mounted")?;
-    if status != MountStatus::Done || came.streams.output.as_slice() != told.as_slice() {
+    if status != MountStatus::Done || came.streams.output.as_slice() != told {
         let answered = came.streams.output.as_slice();
         return Err(Fail::new(format_args!("{status:?}: {answered:?}")));
     }

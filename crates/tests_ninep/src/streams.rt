@@ -5,6 +5,7 @@ use std::io;
 use std::io::{ErrorKind, Read, Write};
 use std::time::{Clock, Duration};
 use talks::answers::Answers;
+use talks::ask::Leaving;
 use talks::end::End;
 use talks::sessions::{EnterRefusal, Sessions};
 use tree::{Call, Outcome};
@@ -148,7 +149,7 @@ impl Sessions for Timed {
 
     ghost entered = { λ s uid gid result t. Unit {0} };
 
-    ghost left = { λ s t. Unit {0} };
+    ghost left = { λ s who t. Unit {0} };
 
     fn enter(&mut self, _uid: u16, _gid: u16) -> Result<u8, EnterRefusal> {
         Ok(0)
@@ -159,7 +160,7 @@ impl Sessions for Timed {
         Outcome::Cut
     }
 
-    fn leave(&mut self) {}
+    fn leave(&mut self, _who: Leaving) {}
 }
 
 /// Sessions that are never made.
@@ -171,7 +172,7 @@ impl Sessions for Idle {
 
     ghost entered = { λ s uid gid result t. Unit {0} };
 
-    ghost left = { λ s t. Unit {0} };
+    ghost left = { λ s who t. Unit {0} };
 
     fn enter(&mut self, _uid: u16, _gid: u16) -> Result<u8, EnterRefusal> {
         Err(EnterRefusal::TooMany)
@@ -181,7 +182,7 @@ impl Sessions for Idle {
         Outcome::Cut
     }
 
-    fn leave(&mut self) {}
+    fn leave(&mut self, _who: Leaving) {}
 }
 
 /// A writer that takes nothing, and isn't flushed.

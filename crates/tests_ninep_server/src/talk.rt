@@ -8,6 +8,7 @@ use std::alloc::{AllocError, Global};
 use std::collections::VecDeque;
 use std::fmt::Write;
 use std::test::Fail;
+use talks::ask::Leaving;
 use talks::sessions::{EnterRefusal, Sessions};
 use tree::{
     Attributes, Call, Entry, LinkTarget, MAX_TARGET, Outcome, PathFrom, Reply, Start, Statfs,
@@ -97,7 +98,7 @@ impl Sessions for Fake {
 
     ghost entered = { λ _ _ _ _ _. ⊤ };
 
-    ghost left = { λ _ _. ⊤ };
+    ghost left = { λ _ _ _. ⊤ };
 
     fn enter(&mut self, uid: u16, gid: u16) -> Result<u8, EnterRefusal> {
         let _ = write!(self.asked, "enter {uid} {gid};");
@@ -116,8 +117,11 @@ impl Sessions for Fake {
         }
     }
 
-    fn leave(&mut self) {
-        let _ = self.asked.push_str("leave;");
+    fn leave(&mut self, who: Leaving) {
+        let _ = match who {
+            Leaving::All => write!(self.asked, "leave;"),
+            Leaving::One(session) => write!(self.asked, "{session} leaves;"),
+        };
     }
 }
 

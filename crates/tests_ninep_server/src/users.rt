@@ -66,6 +66,60 @@ fn users(rt: HostRuntime) -> Result<(), Fail> {
     attached(rt.alloc(), &USERS)
 }
 
+/// User 1000 attaches as fid 2.
+const MEMBER: &[u8] = b"\x68\x03\0\x02\0\0\0\xff\xff\xff\xff\0\0\0\0\xe8\x03\0\0";
+
+/// What it is answered.
+const ENTERED: &[u8] = b"\x69\x03\0\x80\0\0\0\0\x01\0\0\0\0\0\0\0";
+
+static LAST_FIDS: [Row<'static>; 9] = [
+    (
+        &[Given::Node(1, 0o40755)],
+        MEMBER,
+        "enter 1000 1000;1 lstat /;",
+        ENTERED,
+    ),
+    (
+        &[],
+        b"\x6e\x05\0\x02\0\0\0\x03\0\0\0\0\0",
+        "",
+        b"\x6f\x05\0\0\0",
+    ),
+    (&[], b"\x78\x06\0\x02\0\0\0", "", b"\x79\x06\0"),
+    (&[], b"\x78\x06\0\x03\0\0\0", "1 leaves;", b"\x79\x06\0"),
+    (
+        &[Given::Node(1, 0o40755)],
+        MEMBER,
+        "enter 1000 1000;2 lstat /;",
+        ENTERED,
+    ),
+    (
+        &[Given::Descriptor(3)],
+        b"\x0c\x05\0\x02\0\0\0\0\0\0\0",
+        "2 open / 1 0;",
+        b"\x0d\x05\0\x80\0\0\0\0\x01\0\0\0\0\0\0\0\0\0\0\0",
+    ),
+    (&[], b"\x78\x06\0\x02\0\0\0", "2 leaves;", b"\x79\x06\0"),
+    (
+        &[Given::Node(1, 0o40755)],
+        MEMBER,
+        "enter 1000 1000;3 lstat /;",
+        ENTERED,
+    ),
+    (
+        &[Given::Refused(Errno::EBUSY)],
+        b"\x7a\x06\0\x02\0\0\0",
+        "3 rmdir /;3 leaves;",
+        b"\x07\x06\0\x10\0\0\0",
+    ),
+];
+
+/// A user's session ends with its last fid, be that open or removed, and not before; then the user attaches anew.
+#[test]
+fn sessions_end_with_the_last_fid(rt: HostRuntime) -> Result<(), Fail> {
+    attached(rt.alloc(), &LAST_FIDS)
+}
+
 static WALKS: [Row<'static>; 9] = [
     (
         &[Given::Node(2, 0o40755), Given::Node(3, 0o100644)],
