@@ -7,7 +7,8 @@ use std::fs::File;
 use std::io::{self, ErrorKind};
 use std::os::unix::fs::FileExt;
 
-/// How many bytes of a log are read at once (own).
+/// How many bytes of a file are read at once, how many of an image are written at once at least where so many come one behind the other, and
+/// how many zeros are written behind what lengthens a log (own).
 const AT_ONCE: u64 = 64 * UNIT as u64;
 /// How a log's head begins: the first bytes of the log's second unit.
 const HEAD: [u8; 8] = *b"MFSREDO1";
@@ -19,18 +20,22 @@ const HEAD: [u8; 8] = *b"MFSREDO1";
 #[derive(Drop)]
 pub struct ImageFiles {
     log: File,
-    ahead: Ahead,
+    log_ahead: Ahead,
     // None where there is no image yet.
     image: Option<File>,
+    image_ahead: Ahead,
+    image_behind: Behind,
     // How many bytes the image has.
     length: u64,
+    // How many bytes the log counts as having: no write within them makes it longer.
+    room: u64,
     // The unit of the log that was written last. A gate is the one write that doesn't go behind it: a record is written upward, and then its
     // gate, in front of it; and the first gate is closed.
     last: u64,
     is_doubtful: bool,
 }
 
-/// Bytes of a log, in the order of the file: what was read last, until the log is written.
+/// Bytes of a file, in its order: what was read last, until the file is written.
 #[derive(Drop)]
 struct Ahead {
     from: u64,
@@ -38,6 +43,14 @@ struct Ahead {
 }
 
 impl Ahead {
+    /// Nothing is read yet.
+    fn new(alloc: Global) -> Ahead {
+        Ahead {
+            from: 0,
+            bytes: Vec::new(alloc),
+        }
+    }
+
     /// The unit at a place, where all of it was read.
     fn unit(&self, at: u64) -> Option<[u8; UNIT]> {
         let skipped = usize::try_from(at.checked_sub(self.from)?).ok()?;
@@ -46,7 +59,6 @@ impl Ahead {
 
     /// Reads so many bytes from a place on. Where that fails nothing counts as read.
     fn fill(&mut self, file: &File, at: u64, count: usize) -> io::Result<()> {
-        self.bytes.truncate(0);
         self.bytes.resize(count, 0)?;
         self.from = at;
         let read = file.read_exact_at(&mut self.bytes, at);
@@ -54,6 +66,41 @@ impl Ahead {
             self.bytes.truncate(0);
         }
         read
+    }
+
+    /// The unit at a place of a file of so many bytes, with which those behind it are read: a settling and a comparison ask for one after
+    /// the other.
+    fn read(&mut self, file: &File, length: u64, at: u64) -> io::Result<[u8; UNIT]> {
+        let count = length.saturating_sub(at).min(AT_ONCE) as usize;
+        let _ = self.fill(file, at, count);
+        match self.unit(at) {
+            Some(unit) => Ok(unit),
+            None => unit_at(file, length, at),
+        }
+    }
+
+    /// Appends zeros to a file of so many bytes, as they are read behind its end. The bytes that were read serve as such zeros.
+    fn lengthen(&mut self, file: &File, length: u64) -> io::Result<()> {
+        self.bytes.truncate(0);
+        self.bytes.resize(AT_ONCE as usize, 0)?;
+        let written = file.write_all_at(&self.bytes, length);
+        self.bytes.truncate(0);
+        written
+    }
+}
+
+/// Bytes that an image is to have from a place on: written once others come, or are read, or the image is synced.
+#[derive(Drop)]
+struct Behind {
+    at: u64,
+    bytes: Vec<u8>,
+}
+
+impl Behind {
+    /// Whether bytes of this place lie right behind these, and are to be written with them.
+    fn takes(&self, at: u64) -> bool {
+        let count = self.bytes.len() as u64;
+        count < AT_ONCE && self.at.saturating_add(count) == at
     }
 }
 
@@ -89,14 +136,18 @@ impl ImageFiles {
             Some(image) => image.metadata()?.len(),
             None => 0,
         };
+        let room = log.metadata()?.len();
         Ok(ImageFiles {
             log,
-            ahead: Ahead {
-                from: 0,
+            log_ahead: Ahead::new(alloc),
+            image,
+            image_ahead: Ahead::new(alloc),
+            image_behind: Behind {
+                at: 0,
                 bytes: Vec::new(alloc),
             },
-            image,
             length,
+            room,
             last: 0,
             is_doubtful: false,
         })
@@ -114,30 +165,75 @@ impl ImageFiles {
         }
     }
 
-    /// The unit at a place of the log, with which those behind it are read: a settling asks for one after the other.
+    /// The unit at a place of the log.
     fn log_unit(&mut self, at: u64) -> io::Result<[u8; UNIT]> {
-        if let Some(unit) = self.ahead.unit(at) {
+        if let Some(unit) = self.log_ahead.unit(at) {
             return Ok(unit);
         }
         let length = self.file(Which::Log)?.metadata()?.len();
-        let count = length.saturating_sub(at).min(AT_ONCE) as usize;
-        let _ = self.ahead.fill(&self.log, at, count);
-        match self.ahead.unit(at) {
-            Some(unit) => Ok(unit),
-            None => unit_at(&self.log, length, at),
+        self.log_ahead.read(&self.log, length, at)
+    }
+
+    /// The unit at a place of the image.
+    fn image_unit(&mut self, at: u64) -> io::Result<[u8; UNIT]> {
+        if !self.image_behind.bytes.is_empty() {
+            self.write_behind()?;
+        }
+        match &self.image {
+            Some(image) if !self.is_doubtful => match self.image_ahead.unit(at) {
+                Some(unit) => Ok(unit),
+                None => self.image_ahead.read(image, self.length, at),
+            },
+            _ => Err(io::Error::from(ErrorKind::Other)),
         }
     }
 
-    /// Writes bytes at a place, of the image only those within its length.
-    fn write_at(&self, which: Which, at: u64, bytes: &[u8]) -> io::Result<()> {
-        let there = match which {
-            Which::Log => bytes.len(),
-            Which::Image => {
-                let rest = self.length.saturating_sub(at);
-                bytes.len().min(usize::try_from(rest).unwrap_or(usize::MAX))
-            }
-        };
-        self.file(which)?.write_all_at(&bytes[..there], at)
+    /// Appends zeros to the log, where a write to this end of it made it longer: then the next syncs wait for its bytes alone, and not for the
+    /// journal of the file system, too. They change nothing that is read of it, and may be wanting.
+    fn make_room(&mut self, end: u64) {
+        if end > self.room {
+            let _ = self.log_ahead.lengthen(&self.log, end);
+            self.room = end.saturating_add(AT_ONCE);
+        }
+    }
+
+    /// Writes bytes at a place of the log.
+    fn write_log(&mut self, first: u64, bytes: &[u8]) -> io::Result<()> {
+        let at = place_of(first)?;
+        let written = self.file(Which::Log)?.write_all_at(bytes, at);
+        self.log_ahead.bytes.truncate(0);
+        if written.is_err() && first <= self.last {
+            self.is_doubtful = true;
+        }
+        self.last = first;
+        if written.is_ok() {
+            self.make_room(at.saturating_add(bytes.len() as u64));
+        }
+        written
+    }
+
+    /// Takes bytes that are to be written at a place of the image: those that lie one behind the other go together.
+    fn write_image(&mut self, first: u64, bytes: &[u8]) -> io::Result<()> {
+        let at = place_of(first)?;
+        let _ = self.file(Which::Image)?;
+        if !self.image_behind.takes(at) {
+            self.write_behind()?;
+            self.image_behind.at = at;
+        }
+        self.image_behind.bytes.extend_from_slice(bytes)?;
+        Ok(())
+    }
+
+    /// Writes what the image is to have, of which only the bytes within its length.
+    fn write_behind(&mut self) -> io::Result<()> {
+        let image = self.file(Which::Image)?;
+        let rest = self.length.saturating_sub(self.image_behind.at);
+        let rest = usize::try_from(rest).unwrap_or(usize::MAX);
+        let there = self.image_behind.bytes.len().min(rest);
+        let written = image.write_all_at(&self.image_behind.bytes[..there], self.image_behind.at);
+        self.image_behind.bytes.truncate(0);
+        self.image_ahead.bytes.truncate(0);
+        written
     }
 }
 
@@ -146,23 +242,21 @@ impl Storage for ImageFiles {
         let at = place_of(n)?;
         match file {
             Which::Log => self.log_unit(at),
-            Which::Image => unit_at(self.file(file)?, self.length, at),
+            Which::Image => self.image_unit(at),
         }
     }
 
     fn write(&mut self, file: Which, first: u64, units: &[[u8; UNIT]]) -> io::Result<()> {
-        let written = self.write_at(file, place_of(first)?, units.as_flattened());
-        if matches!(file, Which::Log) {
-            self.ahead.bytes.truncate(0);
-            if written.is_err() && first <= self.last {
-                self.is_doubtful = true;
-            }
-            self.last = first;
+        match file {
+            Which::Log => self.write_log(first, units.as_flattened()),
+            Which::Image => self.write_image(first, units.as_flattened()),
         }
-        written
     }
 
     fn sync(&mut self, file: Which) -> io::Result<()> {
+        if matches!(file, Which::Image) {
+            self.write_behind()?;
+        }
         let synced = self.file(file)?.sync_data();
         self.is_doubtful = synced.is_err();
         synced
