@@ -163,5 +163,9 @@ removes_gone k l fid file stays q there gone left same is =
     let G : Bool → Type 0 = λ g. Leaves (removing_file file last g) l q l in
     let Q : Bool → Type 0 = λ b. Leaves (letting_go b file.user.session file.descriptor (error Stale)) l q l in
     let R : Plan → Type 0 = λ x. Leaves (letting_go stays file.user.session file.descriptor (error Stale)) l x l in
-    subst P (sym there) (l, same, subst G (sym gone) (subst Q left
-    (subst R (sym is) (lets_go stays file.user.session file.descriptor (error Stale) l))))
+    subst P (sym there) (
+      l,
+      same,
+      subst G (sym gone) (subst Q left
+          (subst R (sym is) (lets_go stays file.user.session file.descriptor (error Stale) l))),
+    )
