@@ -39,11 +39,11 @@ fn measure_cache<L: Link>(rt: &HostRuntime, cache: &mut Cache<L>, zones: u32) ->
     requires inside { AreWritable zones (caching L.Link cache.old) }
 {
     let start = Instant::now(rt)?;
-    let missed = fetch_run(cache, 16, BLOCKS);
+    let missed = fetch_run(cache, 16, BLOCKS, zones);
     tell(rt, "fetches that miss", missed, "blocks", start)?;
-    let _ = fetch_run(cache, 0, 16);
+    let _ = fetch_run(cache, 0, 16, zones);
     let start = Instant::now(rt)?;
-    let hit = fetch_again(cache, BLOCKS);
+    let hit = fetch_again(cache, BLOCKS, zones);
     tell(rt, "fetches that hit", hit, "blocks", start)?;
     let start = Instant::now(rt)?;
     let written = write_run(cache, BLOCKS / 16, zones);

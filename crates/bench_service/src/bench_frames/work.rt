@@ -19,27 +19,31 @@ pub(crate) fn driver() -> RamDriver {
     RamDriver::new(Table::whole(SECTORS))
 }
 
-/// Fetches each of so many blocks once, from the first on.
-pub(crate) fn fetch_run<L: Link>(cache: &mut Cache<L>, first: u32, count: u32) -> u32
-    requires { IsReady (caching L.Link cache.old) }
-    ensures { IsReady (caching L.Link cache.new) }
+/// Fetches each of so many blocks once, from the first on, as far as the volume has them.
+pub(crate) fn fetch_run<L: Link>(cache: &mut Cache<L>, first: u32, count: u32, zones: u32) -> u32
+    requires ready { IsReady (caching L.Link cache.old) }
+    requires inside { AreWritable zones (caching L.Link cache.old) }
+    ensures ready { IsReady (caching L.Link cache.new) }
+    ensures inside { AreWritable zones (caching L.Link cache.new) }
 {
     let mut given = 0u32;
-    for block in 0..count {
-        if cache.fetch(first.saturating_add(block)).is_ok() {
+    for block in first..first.saturating_add(count).min(zones) {
+        if cache.fetch(block).is_ok() {
             given = given.saturating_add(1);
         }
     }
     given
 }
 
-/// Fetches so often, each time one of the first 16 blocks.
-pub(crate) fn fetch_again<L: Link>(cache: &mut Cache<L>, count: u32) -> u32
-    requires { IsReady (caching L.Link cache.old) }
-    ensures { IsReady (caching L.Link cache.new) }
+/// Fetches so often, at most once for each block of the volume, one of the first 16 blocks.
+pub(crate) fn fetch_again<L: Link>(cache: &mut Cache<L>, count: u32, zones: u32) -> u32
+    requires ready { IsReady (caching L.Link cache.old) }
+    requires inside { AreWritable zones (caching L.Link cache.old) }
+    ensures ready { IsReady (caching L.Link cache.new) }
+    ensures inside { AreWritable zones (caching L.Link cache.new) }
 {
     let mut given = 0u32;
-    for turn in 0..count {
+    for turn in 0..count.min(zones) {
         if cache.fetch(turn % 16).is_ok() {
             given = given.saturating_add(1);
         }
