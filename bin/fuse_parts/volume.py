@@ -17,12 +17,8 @@ class Volume:
         self.image, self.folder, self.log = self.home / "v.img", self.home / "mnt", self.home / "log"
         self.folder.mkdir(parents=True)
         uid, gid = (user, user) if user is not None else (os.getuid(), os.getgid())
-        ran(trial.ours["mkmfs"], self.image, *(it for key, value in size.items() for it in (f"--{key.replace('_', '-')}", str(value))))
-        if uid or gid:
-            script = self.home / "script"
-            script.write_text(f"user 0 0\n1 chown / {uid} {gid}\n")
-            ran(trial.ours["mfs"], self.image, script, "--out", self.image)
-            script.unlink()
+        words = size | {"uid": uid, "gid": gid}
+        ran(trial.ours["mkmfs"], self.image, *(it for key, value in words.items() for it in (f"--{key.replace('_', '-')}", str(value))))
         if user is not None:
             for it in (self.home, self.image, self.folder):
                 os.chown(it, user, user)

@@ -23,8 +23,9 @@ Description: file server for MINIX 3 volumes whose disk drivers may die
  plays schedules of faults. mfs-mount mounts a volume by FUSE with mfsfuse, as
  any user; mfs9p serves one by 9P.
 """
-# The programs are those that were proved, byte for byte, with the symbols that their makers left in them.
-UNSTRIPPED = "# The program is packed byte for byte as it was proved and built.\n{name}: unstripped-binary-or-object [{path}]\n"
+# The programs are those that were proved, byte for byte but for the commit and the kit that --version tells, with the symbols that their
+# makers left in them.
+UNSTRIPPED = "# The program is packed as it was proved and built.\n{name}: unstripped-binary-or-object [{path}]\n"
 # python3 is recommended: most programs need none.
 SCRIPT = "{name}: python3-script-but-no-python3-dep * [{path}]\n"
 

@@ -20,7 +20,7 @@ Of these, the following have a notice of their own; the others have none.
 
 def content_of(release):
     """All files by their paths, which begin with `usr/`."""
-    files = {f"usr/bin/{name}": place.read_bytes() for name, place in release.programs.items()}
+    files = {f"usr/bin/{name}": data for name, data in release.packed.items()}
     files |= {f"usr/share/man/man1/{it}.1.gz": zipped((ROOT / "man" / f"{it}.1").read_bytes()) for it in PROGRAMS}
     files |= {f"usr/bin/{it}": script(at) for it, at in SCRIPTS.items()}
     files |= {f"usr/share/man/man1/{it}.1.gz": zipped((ROOT / "man/mfs-mount.1").read_bytes()) for it in SCRIPTS}

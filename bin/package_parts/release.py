@@ -9,6 +9,11 @@ MADE_OF = (*SOURCES, "bin", "man", "docs", "examples", "README.md", "CHANGELOG.m
 GIVEN = "programs of a folder that was named; nothing shows that they are of this commit"
 SAME = "programs of a clone with the same crates"
 BUILT = "programs proved and built of these sources by bin/NAME"
+# What --version tells of a program's commit and kit before it is packed, as crates/host/src/version.rt has it.
+COMMIT = "not told, for this program isn't packed."
+KIT = "not told: this program wasn't packed."
+CHANGED = ", and what was changed since"
+TEXT = "\ncommit {}\nkit {}"
 
 
 class Release:
@@ -19,14 +24,35 @@ class Release:
         self.version = version_of(self.programs)
         commit, seconds = told(["git", "-C", ROOT, "log", "-1", "--format=%H%n%ct"]).split("\n")
         self.seconds = int(seconds)
-        self.commit = commit + (", and what was changed since" if changed(ROOT, MADE_OF) else "")
+        self.commit = commit + (CHANGED if changed(ROOT, MADE_OF) else "")
         self.kit = told(["rt", "version"])
         self.source = BUILT if folder is None else SAME if is_same(folder) else GIVEN
         self.needs = libraries(self.programs)
+        self.packed = {name: self.stamped(name, place.read_bytes()) for name, place in self.programs.items()}
+
+    def stamp(self):
+        """What --version tells of commit and kit in a packed program, each with as many bytes as stand there before."""
+        commit = self.commit if len(self.commit) == len(COMMIT) else self.commit[: len(COMMIT) - len(", changed")] + ", changed"
+        if len(self.kit) > len(KIT):
+            refuse(f"the programs have no room for the kit's name, {self.kit}")
+        return commit, self.kit.ljust(len(KIT))
+
+    def stamped(self, name, data):
+        """A program's bytes, with its commit and its kit in the one place that is kept for them; nothing else is changed. Where nothing
+        shows of which commit it is, it stays as it is."""
+        if self.source == GIVEN:
+            return data
+        kept, (commit, kit) = TEXT.format(COMMIT, KIT).encode(), self.stamp()
+        if data.count(kept) != 1:
+            refuse(f"{name} has {data.count(kept)} places for its commit and its kit")
+        made = data.replace(kept, TEXT.format(commit, kit).encode())
+        if len(made) != len(data):
+            refuse(f"{name} would have another length: {commit}, {kit}")
+        return made
 
     def text(self):
         """The file VERSION. The sums (SHA-256) tell of a program by itself whether it is one of these."""
-        sums = "".join(f"{hashlib.sha256(place.read_bytes()).hexdigest()}  {name}\n" for name, place in self.programs.items())
+        sums = "".join(f"{hashlib.sha256(data).hexdigest()}  {name}\n" for name, data in self.packed.items())
         return f"{NAME} {self.version}\ncommit {self.commit}\nkit {self.kit}\n{self.source}\n{sums}"
 
 
@@ -52,10 +78,10 @@ def version_of(programs):
     """The version that each program says."""
     versions = set()
     for name, program in programs.items():
-        done = run([program, "--version"])
+        done = run([program, "-V"])
         found = re.fullmatch(rf"{name} (\d+\.\d+\.\d+)\n", done.stdout.decode("utf-8", "replace"))
         if done.returncode != 0 or not found:
-            refuse(f"{name} --version doesn't say its version: {said(done)}")
+            refuse(f"{name} -V doesn't say its version: {said(done)}")
         versions.add(found[1])
     if len(versions) != 1:
         refuse(f"the programs are of several versions: {' '.join(sorted(versions))}")

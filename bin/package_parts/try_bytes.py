@@ -1,6 +1,7 @@
 """Whether the packages are made of the same bytes each time, and hold the same files."""
 import os, pathlib, shutil, tarfile, tempfile
 from .common import DOC, NAME, PROGRAMS, ROOT, SCRIPTS, refuse, run, said, told
+from .release import COMMIT, GIVEN, KIT, TEXT, program_of
 
 # Where bin/package is run the second time, and how: nothing of it may be seen in the packages.
 OTHERS = {"TZ": "Pacific/Auckland", "LC_ALL": "C.UTF-8", "SOURCE_DATE_EPOCH": "1", "TAR_OPTIONS": "--exclude=*.gz --format=pax"}
@@ -30,6 +31,15 @@ class Packages:
             refuse(f"bin/package: {said(done)}")
         return [pathlib.Path(it) for it in done.stdout.decode().split("\n")[:2]]
 
+    def long_version(self, name):
+        """What --version of a packed program tells, by the file VERSION; where that doesn't know its commit, what it told before."""
+        _, commit, kit, source, *_ = (self.files / DOC / "VERSION").read_text(encoding="utf-8").split("\n")
+        commit, kit = commit.removeprefix("commit "), kit.removeprefix("kit ")
+        if source == GIVEN:
+            return told([program_of(self.programs, name), "--version"]) + "\n"
+        commit = f"{commit[:31]}, changed" if len(commit) > 40 else commit
+        return f"{name} {self.version}\ncommit {commit}\nkit {kit:37}\n"
+
     def paths(self):
         """The files of the package of Debian, without `usr/`."""
         top = self.files / "usr"
@@ -48,6 +58,18 @@ def try_bytes(tally, packages):
         return
     done = run(["lintian", "--allow-root", "--fail-on", "error,warning", packages.deb])
     tally.judge("lintian finds no error and nothing to warn of", "" if done.returncode == 0 else said(done))
+
+
+def try_packed(tally, packages):
+    """The packed programs are those that were built, but for what --version tells."""
+    for name in PROGRAMS:
+        built = program_of(packages.programs, name).read_bytes()
+        packed = (packages.files / "usr/bin" / name).read_bytes()
+        text = TEXT.format(COMMIT, KIT).encode()
+        begin = built.find(text)
+        end = begin + len(text)
+        right = packed == built or begin >= 0 and (built[:begin], built[end:], len(built)) == (packed[:begin], packed[end:], len(packed))
+        tally.judge(f"{name} is packed as it was built, but for its commit and kit", "" if right else "other bytes differ")
 
 
 def try_archive(tally, packages, root):
@@ -75,8 +97,8 @@ def try_unpacked(tally, packages, root):
     done = run(["tar", "-xzf", packages.archive, "-C", place, "--strip-components=1"])
     tally.judge(f"tar unpacks it into /opt/{NAME}", "" if done.returncode == 0 else said(done))
     for name in PROGRAMS:
-        done = root.run([f"/opt/{NAME}/bin/{name}", "--version"])
-        tally.judge(f"/opt/{NAME}/bin/{name} --version", "" if done.stdout.decode() == f"{name} {packages.version}\n" else said(done))
+        done = root.run([f"/opt/{NAME}/bin/{name}", "-V"])
+        tally.judge(f"/opt/{NAME}/bin/{name} -V", "" if done.stdout.decode() == f"{name} {packages.version}\n" else said(done))
     shutil.rmtree(place)
     if "opt" not in root.before:
         place.parent.rmdir()

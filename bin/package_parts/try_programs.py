@@ -50,9 +50,10 @@ def readme_answers(root):
 
 
 def try_words(trial, packages):
-    """--version and --help of each program."""
+    """-V, --version and --help of each program."""
     for name in PROGRAMS:
-        trial.judge([name, "--version"], f"{name} {packages.version}\n")
+        trial.judge([name, "-V"], f"{name} {packages.version}\n")
+        trial.judge([name, "--version"], packages.long_version(name))
         done = trial.root.run([f"/usr/bin/{name}", "--help"])
         right = done.returncode == 0 and f"\nUsage: {name} ".encode() in done.stdout and not done.stderr
         trial.tally.judge(f"{name} --help", "" if right else said(done))

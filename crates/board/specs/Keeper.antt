@@ -28,6 +28,14 @@ AreAllUsed used = (n : ℕ) → n < 64 → is_used n used ≡ true
 abbrev pub IsOneFree : List ℕ → Type 0
 IsOneFree used = (n : ℕ) × (n < 64) × (is_used n used ≡ false)
 
+-- one of them is that of a session
+abbrev pub IsOneUsed : List ℕ → Type 0
+IsOneUsed used = (n : ℕ) × (n < 64) × (is_used n used ≡ true)
+
+-- each of them is free
+abbrev pub AreAllFree : List ℕ → Type 0
+AreAllFree used = (n : ℕ) → n < 64 → is_used n used ≡ false
+
 -- a record is a beginning of itself
 abbrev pub begins_itself : (marks : List Mark) → IsBeginning marks marks
 begins_itself marks = record { later = []; is = refl }

@@ -6,7 +6,8 @@ use Rattle.std.specs.Bool.{OnTrue, OnFalse}
 use Rattle.std.proofs.lemmas.Bool.{cond-true, cond-false, cases_eq, cases_lt, lt-ltb}
 use Rattle.std.proofs.lemmas.Bool.Decides.{nat_tests}
 use Rattle.std.proofs.Math.Nat.{mul-le-mul_right, add-mul, mul_comm, div-add-mod, mod-lt}
-use Rattle.reissue.specs.Moves.{Begun, put}
+use Rattle.message.specs.declared.BlockRequest.{BlockRequest}
+use Rattle.reissue.specs.Moves.{put}
 use Rattle.reissue.proofs.Maps.{put-same, put-other}
 use Rattle.cache.specs.declared.slot.Slot.{Slot}
 use Rattle.cache.specs.declared.state.State.{State}
@@ -191,7 +192,7 @@ fits_in n size le =
     omega (arith, more, split, order)
 
 -- where some were begun
-pub begins_run : (most size n : ℕ) (old new : ℕ → Option Slot) (pending pending' : ℕ → Option Begun) → 0 < n
+pub begins_run : (most size n : ℕ) (old new : ℕ → Option Slot) (pending pending' : List BlockRequest) → 0 < n
     → IssuesRun most size n old new pending pending' → BeginsRun most size n old new pending pending'
 begins_run most size zero old new pending pending' some x = absurd (omega (arith, some))
 begins_run most size (suc n) old new pending pending' some x = x

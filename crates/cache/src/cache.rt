@@ -8,6 +8,8 @@ ghost use Rattle.std.specs.Borrow.{Lends, sem};
 ghost use Rattle.layout.specs.Places.{is_block_size};
 ghost use Rattle.reissue.specs.Transfers.{table_of, link_of, begun_in};
 ghost use Rattle.records.specs.Mount.{is_frame_count};
+ghost use Rattle.records.specs.Marks.{Mark};
+ghost use Rattle.reissue.specs.Agrees.{Agrees};
 ghost use Rattle.records.specs.Area.{area_of};
 ghost use Rattle.reissue.specs.Room.{room_needed};
 ghost use Rattle.reissue.specs.Posts.{is_message, HasRoom};
@@ -58,7 +60,7 @@ impl<L: Link> Cache<L> {
     ghost use Rattle.cache.specs.Calls.{IsRefusing, PostsAlone, messages_left, Does, Keeps, HandsOver, Blanks, Rewrites, LinkGoesOn};
     ghost use Rattle.cache.specs.Calls.{WantsFlush, forgotten, with_cache_link, without_flush, area_in};
     ghost use Rattle.cache.specs.Settling.{IsWantedFor, taking_in};
-    ghost use Rattle.cache.specs.Runs.{IsRunBegun, BeginsRun};
+    ghost use Rattle.cache.specs.Runs.{IsRunBegun, BeginsRun, requests_in};
     ghost use Rattle.cache.specs.contracts.cache.Cache.{the_row};
     ghost use Rattle.cache.specs.declared.frame.Frame.{Frame as FrameValue};
     ghost use Rattle.cache.specs.declared.slot.Slot.{Slot};
@@ -225,7 +227,7 @@ impl<L: Link> Cache<L> {
         ensures leaves { Leaves self.old.slots.items.items self.new.slots.items.items }
         ensures uses { self.new.slots.uses ≡ self.old.slots.uses }
         ensures begun { OnTrue result (IsRunBegun self.old.shape.block_size block count (held_by self.old) (held_by self.new)
-            (begun_in self.old.transfers) (begun_in self.new.transfers)) }
+            (requests_in (table_of self.old.transfers)) (requests_in (table_of self.new.transfers))) }
         ensures posts { PostsAlone (caching L.Link self.old) (caching L.Link self.new) }
         ensures flush { self.new.flush ≡ self.old.flush }
         ensures refused { OnFalse result (self.new ≡ self.old) }
@@ -616,7 +618,7 @@ impl<L: Link> Cache<L> {
         ensures posts { PostsAlone (caching L.Link self.old) (caching L.Link self.new) }
         ensures left { messages_left (caching L.Link self.new) ≤ messages_left (caching L.Link self.old) }
         ensures issued { BeginsRun most self.old.shape.block_size result (held_by self.old) (held_by self.new)
-            (begun_in self.old.transfers) (begun_in self.new.transfers) }
+            (requests_in (table_of self.old.transfers)) (requests_in (table_of self.new.transfers)) }
         ensures few { result ≤ most }
         ensures busy { 0 < result → IsBusy (begun_in self.new.transfers) }
         ensures stuck { result ≡ 0 → IsLive (caching L.Link self.new) → IsStuck (caching L.Link self.new) }
@@ -663,6 +665,8 @@ impl<L: Link> Cache<L> {
         ensures goes { LinkGoesOn L.Link self.old self.new }
         ensures wanted { IsWantedFor (message ≡ Incoming.Flush) self.old.flush self.new.flush }
         ensures asked { message ≡ Incoming.Flush → held_by self.new ≡ held_by self.old }
+        ensures pending { message ≡ Incoming.Flush → (marks : List Mark) → Agrees (table_of self.old.transfers) marks
+            → requests_in (table_of self.new.transfers) ≡ requests_in (table_of self.old.transfers) }
         ensures stay { AllStay self.old.slots self.new.slots }
         ensures leaves { Leaves self.old.slots.items.items self.new.slots.items.items }
         ensures end { message ≡ Incoming.End → self.new ≡ self.old }

@@ -12,7 +12,7 @@ use Rattle.block_store.specs.declared.Cut.{Cut}
 use Rattle.block_store.specs.World.{Turns}
 use Rattle.block_store.specs.Rows.{written, cleared}
 use Rattle.block_store.proofs.Turns.{turns_as}
-use Rattle.cached_blocks.specs.World.{world_by}
+use Rattle.cached_blocks.specs.World.{Sees, world_by}
 use Rattle.cached_blocks.specs.Lawful.{Fits, one_told}
 
 -- A call of a cache, as blocks have it.
@@ -52,3 +52,11 @@ turns_fresh f goes a b (Ok x) block on runs =
     turns f goes a b (λ w v. Rewrites block (λ row o. 0) (f a) (f b) w v) (λ d e. e ≡ cleared block d) (λ w v s. s.agrees) (λ w v s. s.changed)
     on runs
 turns_fresh f goes a b (Err c) block on runs = turns_as _ _ _ _ _ (λ d e x. tt) (turns_kept f goes a b on runs)
+
+-- what a call keeps is seen to stay
+pub seen_same : (a b : AbstractCache) (d e : Disk) → Keeps a b → Sees a b d e → e ≡ d
+seen_same a b d e k s =
+    let same : s.told ≡ k.told = one_told a b s.told k.told s.history k.history in
+    let tr : HasTrueReplies s.image (grown k.told s.marks) = subst (λ (l : List Told). HasTrueReplies s.image (grown l s.marks)) same s.true_replies in
+    s.after ∙ ap (λ (l : List Told). view b.size b.held (state_after s.image (grown l s.marks))) same
+    ∙ (k.related s.image s.marks s.agrees tr).same s.covered ∙ sym s.before

@@ -2,6 +2,7 @@
 use Rattle.std.proofs.Common.{◌≡◌, ℕ, zero, suc, List, [], ◌∷◌, ◌++◌, append_assoc, refl, sym, ap, subst, ◌∙◌, Option, Some}
 use mathlib.Core.Logic.{inl, inr}
 use Rattle.std.proofs.lemmas.List.{append_cancel_right}
+use Rattle.message.specs.declared.BlockRequest.{BlockRequest}
 use Rattle.message.specs.declared.Incoming.{Incoming}
 use Rattle.message.specs.declared.Incoming.TheVariants.{End}
 use Rattle.records.specs.Told.{Told, Posted, Complained, Received, took_nothing}
@@ -12,8 +13,9 @@ use Rattle.cache.specs.declared.slot.Slot.{Slot}
 use Rattle.cache.specs.declared.state.State.TheVariants.{Clean, Dirty}
 use Rattle.cache.specs.Edits.{AllClean, IssuesLowest}
 use Rattle.cache.specs.Calls.{AbstractCache, Keeps, Serves, PostsAlone, HandsOver}
+use Rattle.cache.specs.Runs.{requests_in}
 use Rattle.cache.proofs.Runs.{runs_then}
-use Rattle.flusher.specs.Flushing.{WritesLowest}
+use Rattle.flusher.specs.Flushing.{WritesLowest, WritesRuns, WritesInRuns}
 
 -- where each frame is clean no write is begun
 clean_none : (old new : ℕ → Option Slot) → AllClean old → IssuesLowest old new → ⊥
@@ -48,3 +50,14 @@ hands_then m a b c other x y p =
       none_taken = ap took_nothing all ∙ posts_take_nothing p.posts (told_of x.runs.acts) p.only_posts ∙ x.none_taken;
       no_effect = λ e. absurd (other e);
     }
+
+-- runs that are begun from one cache are begun from each with its frames and requests
+pub from_there : (a b c : AbstractCache) → b.size ≡ a.size → b.held ≡ a.held → requests_in b.table ≡ requests_in a.table → WritesInRuns 16 b c
+    → WritesInRuns 16 a c
+from_there a b c size held requests x = record {
+  counts = x.counts;
+  runs = subst (λ (n : ℕ). WritesRuns x.counts 16 n a.held c.held (requests_in a.table) (requests_in c.table)) size
+      (subst (λ (f : ℕ → Option Slot). WritesRuns x.counts 16 b.size f c.held (requests_in a.table) (requests_in c.table)) held
+      (subst (λ (l : List BlockRequest). WritesRuns x.counts 16 b.size b.held c.held l (requests_in c.table)) requests x.runs));
+  all = x.all;
+}

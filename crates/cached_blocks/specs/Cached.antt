@@ -6,8 +6,8 @@ use Rattle.volume.specs.Reading.{Disk}
 use Rattle.reissue.specs.Room.{room_needed}
 use Rattle.cache.specs.Frames.{IsWritable}
 use Rattle.cache.specs.Looking.{IsSettled, Looks}
-use Rattle.cache.specs.Calls.{AbstractCache, IsReady, IsLive, IsWhyCut}
-use Rattle.flusher.specs.Flushing.{WritesLowest, BeginsAll}
+use Rattle.cache.specs.Calls.{AbstractCache, Keeps, IsReady, IsLive, IsWhyCut}
+use Rattle.flusher.specs.Flushing.{WritesLowest, WritesInRuns, BeginsAll}
 use Rattle.block_store.specs.declared.Cut.{Cut}
 use Rattle.block_store.specs.World.{World}
 use Rattle.cached_blocks.specs.World.{Leads, Sees, world_by}
@@ -23,6 +23,7 @@ pub record IsCached {B : Type 0} (w : World B) (f : B → AbstractCache) (goes :
   pub live : (a : B) → w.live a → IsLive (f a)
   pub synced : (a : B) → w.synced a → IsSettled (f a)
   pub looks : (a b : B) → w.looks a b → Looks (f a) (f b)
+  pub keeps : (a b : B) → IsReady (f a) → w.looks a b → Keeps (f a) (f b)
   pub writable : (a : B) (block : ℕ) → IsWritable (f a).area (f a).size block → w.writable a block
 
 -- so it is of blocks that are made of one
@@ -36,7 +37,8 @@ stored_is_cached f goes = record {
   over = λ a cut x. x;
   live = λ a x. x;
   synced = λ a x. x;
-  looks = λ a b x. x;
+  looks = λ a b x. x.looks;
+  keeps = λ a b r x. x.keeps r;
   writable = λ a block x. x;
 }
 
@@ -46,7 +48,8 @@ pub record MayAbsorb (message : Incoming) (c : AbstractCache) : Type 0 where
   pub spare : c.ended ≡ false → c.table.ids + c.budget + 17 < 2 ^ 60 + length c.table.pending
   pub room : room_needed message ≤ c.room
 
--- the lowest dirty frames are begun to be written, until sixteen are, or no more can be
+-- the lowest dirty frames are begun to be written, in runs, until sixteen are, or no more can be
 pub record Flushes (old new : AbstractCache) : Type 0 where
   pub issued : WritesLowest 16 old.held new.held
+  pub runs : WritesInRuns 16 old new
   pub stuck : IsLive new → BeginsAll 16 old.held new

@@ -17,6 +17,7 @@ use Rattle.cache.specs.Calls.{AbstractCache, IsReady}
 use Rattle.cache.specs.Frames.{CacheAgrees, IsWritable, frames_of, frame_of, view, disk_block}
 use Rattle.cache.proofs.Runs.{runs_none, runs_then, true_before}
 use Rattle.cache.proofs.Looking.{looks_none, looks_then}
+use Rattle.cache.proofs.Placing.{keeps_none, keeps_then}
 use Rattle.block_store.specs.World.{IsWorld, IsBlocks, IsShown}
 use Rattle.cached_blocks.specs.World.{Leads, Sees, world_by}
 
@@ -97,8 +98,11 @@ is_world f goes stays joins = record {
     λ block bytes h. ap (λ (x : Disk). x block) s.before ∙ shown (f a) (state_after s.image s.marks) block bytes h,
     λ block bytes h. ap (λ (x : Disk). x block) s.after ∙ shown (f b) (state_after s.image (grown s.told s.marks)) block bytes h,
   );
-  look = λ a. looks_none (f a);
-  look_on = λ a b c x y. looks_then (f a) (f b) (f c) x y;
+  look = λ a. record { looks = looks_none (f a); keeps = λ r. keeps_none (f a) r };
+  look_on = λ a b c x y. record {
+    looks = looks_then (f a) (f b) (f c) x.looks y.looks;
+    keeps = λ r. keeps_then (f a) (f b) (f c) (x.keeps r) (y.keeps (x.keeps r).ready);
+  };
   writable = λ a b x block h.
       subst (λ (r : Area). IsWritable r (f b).size block) (sym x.runs.area)
       (subst (λ (n : ℕ). IsWritable (f a).area n block) (sym x.runs.size) h);

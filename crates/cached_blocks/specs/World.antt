@@ -9,7 +9,7 @@ use Rattle.reissue.specs.Agrees.{Agrees}
 use Rattle.reissue.specs.Moves.{state_after}
 use Rattle.reissue.specs.declared.link.Link.{Ghosts as LinkWords}
 use Rattle.reissue.specs.Transfers.{link_of}
-use Rattle.cache.specs.Calls.{AbstractCache, caching, frame_count, with_cache_link, Runs, IsReady, IsLive, IsWhyCut, LinkGoesOn}
+use Rattle.cache.specs.Calls.{AbstractCache, caching, frame_count, with_cache_link, Runs, Keeps, IsReady, IsLive, IsWhyCut, LinkGoesOn}
 use Rattle.cache.specs.Looking.{IsSettled, Looks}
 use Rattle.cache.specs.Frames.{CacheAgrees, IsWritable, frames_of, view}
 use Rattle.block_store.specs.World.{World}
@@ -36,6 +36,11 @@ pub record LeadsOn {B : Type 0} (f : B → AbstractCache) (goes : B → B → Ty
   pub runs : Leads (f a) (f b)
   pub on : goes a b
 
+-- a call only looks: it finds nothing to write where nothing was left to write, and leaves what would be read back
+pub record JustLooks (a b : AbstractCache) : Type 0 where
+  pub looks : Looks a b
+  pub keeps : IsReady a → Keeps a b
+
 -- what is said of things that have one
 abbrev pub world_by : {B : Type 0} → (B → AbstractCache) → (B → B → Type 0) → World B
 world_by f goes = record {
@@ -47,7 +52,7 @@ world_by f goes = record {
   over = λ c cut. IsWhyCut (f c) cut;
   live = λ c. IsLive (f c);
   synced = λ c. IsSettled (f c);
-  looks = λ a b. Looks (f a) (f b);
+  looks = λ a b. JustLooks (f a) (f b);
   writable = λ c block. IsWritable (f c).area (f c).size block;
 }
 

@@ -64,9 +64,11 @@ impl<L: Link> Stored<L> {
 
 /// Blocks in the frames of a cache, with what a server asks of it besides.
 pub trait Caches: Blocks {
-    ghost use Rattle.std.specs.Prelude.{◌≡◌, ◌≢◌, ℕ, Bool, true, false};
+    ghost use Rattle.std.specs.Prelude.{◌≡◌, ◌≢◌, ℕ, List, Bool, true, false};
     ghost use Rattle.cache.specs.Calls.{AbstractCache, IsReady, IsIdle, IsLive, Keeps, PostsAlone, HandsOver};
-    ghost use Rattle.flusher.specs.Flushing.{BeginsAll};
+    ghost use Rattle.flusher.specs.Flushing.{BeginsAll, WritesInRuns};
+    ghost use Rattle.records.specs.Marks.{Mark};
+    ghost use Rattle.reissue.specs.Agrees.{Agrees};
     ghost use Rattle.cache.specs.Edits.{AllClean};
     ghost use Rattle.cache.specs.Looking.{Looks};
     ghost use Rattle.block_store.specs.World.{Turns};
@@ -109,6 +111,8 @@ pub trait Caches: Blocks {
             → (caching self.new).told ≡ (caching self.old).told }
         ensures goes { goes_on self.old self.new }
         ensures flushed { message ≡ Incoming.Flush → IsLive (caching self.new) → BeginsAll 16 (caching self.old).held (caching self.new) }
+        ensures runs { message ≡ Incoming.Flush → (marks : List Mark) → Agrees (caching self.old).table marks
+            → WritesInRuns 16 (caching self.old) (caching self.new) }
         ensures looks { Looks (caching self.old) (caching self.new) }
         ensures done { (message ≡ Incoming.End → ⊥) → wanted self.new ≡ false }
         ensures end { message ≡ Incoming.End → self.new ≡ self.old };

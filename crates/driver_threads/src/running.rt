@@ -1,12 +1,13 @@
 //! The threads behind a link, from their start to their end.
 
-ghost use Rattle.std.specs.Prelude.{◌≡◌, [], IfOk, IfSome};
+ghost use Rattle.std.specs.Prelude.{◌≡◌, [], IfOk};
 ghost use Rattle.std.specs.Arc.{arc_value};
 ghost use Rattle.records.specs.Opening.{Opening};
 ghost use Rattle.true_replies.specs.Events.{opening_media};
 ghost use Rattle.shared_media.specs.Confined.{IsImageOutside, KeepsOutside};
 ghost use Rattle.shared_media.specs.Marking.{AreChangesOutside};
 
+use crate::alone::once_alone;
 use crate::shared::Shared;
 use crate::supervisor::{Lines, Supervisor, Worker, start_supervisor};
 use bdev::BlockDriver;
@@ -42,6 +43,8 @@ const FIRST: Endpoint = Endpoint {
 #[derive(Drop)]
 pub struct MediaHandle<N: ServiceParameters> {
     media: Arc<Mutex<Confined<N>>>,
+    // Each handle of these media has this, and no driver.
+    handles: Arc<()>,
 }
 
 impl<N: ServiceParameters> MediaHandle<N> {
@@ -66,6 +69,7 @@ impl<N: ServiceParameters> MediaHandle<N> {
     pub fn another(&self) -> Result<MediaHandle<N>, AllocError> {
         Ok(MediaHandle {
             media: Arc::try_clone(&self.media)?,
+            handles: Arc::try_clone(&self.handles)?,
         })
     }
 }
@@ -148,6 +152,7 @@ pub fn start_drivers<
     let shared = Shared::new(alloc, media, range, board, gate)?;
     let media = MediaHandle {
         media: Arc::try_clone(&shared.media)?,
+        handles: Arc::new(alloc, ())?,
     };
     let ending = Arc::try_clone(&shared.ending)?;
     let (link, lines) = open_lines(alloc, rt)?;
@@ -181,12 +186,17 @@ impl<N: ServiceParameters> Running<N> {
         &self.media
     }
 
+    /// Whether a `MediaHandle` is left beside this one's own.
+    pub fn is_shared(&self) -> bool {
+        Arc::strong_count(&self.media.handles) > 1
+    }
+
     /// Ends all drivers, joins all threads, and gives the media back: as many sectors as were handed in, and outside of the volume's range
     /// each as it was handed in. The link has to be let go of before, since else a driver may wait for room in it.
     ///
-    /// None where a `MediaHandle` is left.
-    pub fn stop<R: Threads + Wait>(self, rt: &R) -> Option<Media>
-        ensures { IfSome result (KeepsOutside N.opening) }
+    /// It waits until each `MediaHandle` was let go (`is_shared`).
+    pub fn stop<R: Threads + Wait>(self, rt: &R) -> Media
+        ensures { KeepsOutside N.opening result }
     {
         let Running {
             supervisor,
@@ -197,10 +207,7 @@ impl<N: ServiceParameters> Running<N> {
         ending.ring();
         supervisor.join(rt);
         first.end(rt);
-        let MediaHandle { media } = media;
-        match Arc::try_unwrap(media) {
-            Ok(media) => Some(media.into_inner().into_media()),
-            Err(_) => None,
-        }
+        let MediaHandle { media, handles: _ } = media;
+        once_alone(rt, media).into_inner().into_media()
     }
 }

@@ -53,6 +53,8 @@ pub record SameServing (old new : Serving) : Type 0 where
   pub told : new.told ≡ old.told
   pub ended : new.ended ≡ old.ended
   pub settled : old.settled → new.settled
+  pub unwritten : new.unwritten ≡ old.unwritten
+  pub wanted : new.wanted ≡ old.wanted
 
 -- the server serves with this record, and its link guarantees this one
 pub record Hears (s : Serving) (guarantee : Truth) (v : Opening) (tree : Tree) (marks noted : List Mark) : Type 0 where

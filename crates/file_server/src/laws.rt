@@ -19,7 +19,6 @@ pub fn message_stands<L: Link + Drop, S: FileServer<L>>()
 {}
 
 /// A call was answered, and its mark noted: the server stands with the record that has it.
-#[tactic(auto, using(crate::proofs::Standing::answer_stands))]
 pub fn answer_stands<L: Link + Drop, S: FileServer<L>>()
     ensures { AnswerStands S L S.Serve.serving L.Link.truth }
 {}

@@ -14,5 +14,6 @@ pub mod partitions;
 pub mod plays;
 pub mod refusals;
 pub mod said;
+pub mod shelf;
 pub mod texts;
 pub mod writers;

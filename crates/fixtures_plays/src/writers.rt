@@ -1,16 +1,18 @@
-//! Plays into writers that fail, or take little at a time.
+//! Plays into writers that fail, or take little at a time; and images that plays leave.
 
 ghost use Rattle.std.specs.Prelude.{◌≡◌, ◌↔◌, IsOk};
 
 use crate::left::has_left;
 use crate::plays::{Play, Played, WriterLimits};
-use fixtures::new_volume;
+use crate::shelf::Shelf;
+use fixtures::{changed, new_volume};
 use std::alloc::Global;
 use std::sync::Wait;
 use std::test::Fail;
 use std::thread::Threads;
 use std::time::Clock;
-use tools::play::{PlayStatus, finish};
+use tools::handing::hand_left;
+use tools::play::{Ended, PlayStatus};
 
 /// Whether there is an image, a script, how many bytes are taken at a call, on standard output and on standard error, how the play ends,
 /// what is written, and what bytes the image has then, if it is there.
@@ -71,8 +73,12 @@ pub fn all_come_out<R: Threads + Wait + Clock + Copy + Send + Sync + 'static>(
     Ok(())
 }
 
-/// How a play ended, whether its image was written, how it ended then, and what was told of that.
-pub type Finished = (PlayStatus, bool, PlayStatus, &'static str);
+/// What is changed of a new volume, a byte at a place, if anything; the minor; whether the image's place takes one, and what is beside.
+pub type Left = (Option<(usize, u8)>, u8, (bool, bool));
+
+/// How a play ended that left such an image, how it ended once that was handed on, what was told of it, and whether it is in its place
+/// then, and beside.
+pub type HandedOn = (PlayStatus, Left, PlayStatus, &'static str, (bool, bool));
 
 /// Looks at how a row ended, and at what was told.
 fn has_ended(ended: PlayStatus, told: &[u8], status: PlayStatus, line: &str) -> Result<(), Fail>
@@ -84,12 +90,38 @@ fn has_ended(ended: PlayStatus, told: &[u8], status: PlayStatus, line: &str) -> 
     Err(Fail::new(format_args!("no line as this: {line}")))
 }
 
-/// Each row ends as it says, whose image was to be written to a file of this name.
-pub fn are_finished(alloc: Global, name: &str, rows: &[Finished]) -> Result<(), Fail> {
-    for (played, written, status, line) in rows {
-        let mut err = Vec::new(alloc);
-        let ended = finish(alloc, *played, name, *written, &mut err);
-        has_ended(ended, err.as_slice(), *status, line)?;
+/// Looks at whether a place has this image, or none.
+fn has_taken(shelf: &Shelf, image: &[u8], taken: bool) -> Result<(), Fail> {
+    let wanted = if taken { image } else { &[] };
+    if shelf.image.as_slice() == wanted {
+        return Ok(());
+    }
+    Err(Fail::from("another image"))
+}
+
+/// A row ends as it says.
+fn is_handed_on(alloc: Global, name: &str, row: &HandedOn) -> Result<(), Fail> {
+    let (played, (change, minor, (place, beside)), ended, line, (there, aside)) = *row;
+    let image = match change {
+        Some((at, byte)) => changed(alloc, at, byte)?,
+        None => new_volume(alloc, 1024)?,
+    };
+    let left = Ended {
+        status: played,
+        image: Some(Vec::from_slice(alloc, &image)?),
+    };
+    let (mut place, mut beside) = (Shelf::new(alloc, place), Shelf::new(alloc, beside));
+    let mut err = Vec::new(alloc);
+    let status = hand_left(alloc, left, minor, name, &mut place, &mut beside, &mut err);
+    has_ended(status, err.as_slice(), ended, line)?;
+    has_taken(&place, &image, there)?;
+    has_taken(&beside, &image, aside)
+}
+
+/// Each row ends as it says, whose image's place is the file of this name.
+pub fn are_handed_on(alloc: Global, name: &str, rows: &[HandedOn]) -> Result<(), Fail> {
+    for row in rows {
+        is_handed_on(alloc, name, row)?;
     }
     Ok(())
 }

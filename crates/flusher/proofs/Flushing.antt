@@ -5,7 +5,8 @@ use mathlib.Core.Logic.{inl, inr}
 use Rattle.std.specs.Prelude.{◌-◌, sum}
 use Rattle.std.proofs.lemmas.Bool.{cases_eq, cases_lt}
 use Rattle.std.proofs.lemmas.List.Sums.{sum_by-cons}
-use Rattle.reissue.specs.Moves.{DiskState, Begun, put, IsBusy}
+use Rattle.message.specs.declared.BlockRequest.{BlockRequest}
+use Rattle.reissue.specs.Moves.{DiskState, put, IsBusy}
 use Rattle.reissue.proofs.Maps.{put-same, put-other, put_cases}
 use Rattle.reissue.specs.Entries.{pending_of}
 use Rattle.cache.specs.declared.slot.Slot.{Slot}
@@ -189,18 +190,18 @@ just_most (suc k) zero old new le h = absurd (omega (arith, le))
 just_most (suc k) (suc n) old new le h = inr (h.0, h.1, just_most k n h.0 new (omega (arith, le)) h.2)
 
 -- runs that were begun while so many more frames may be
-pub record Flushing (most size left : ℕ) (old new : ℕ → Option Slot) (pending pending' : ℕ → Option Begun) : Type 0 where
+pub record Flushing (most size left : ℕ) (old new : ℕ → Option Slot) (pending pending' : List BlockRequest) : Type 0 where
   pub counts : List ℕ
   pub runs : WritesRuns counts most size old new pending pending'
   pub left_is : sum counts + left ≡ most
   pub just : WritesJust (sum counts) old new
 
 -- none yet
-pub flushing_none : (most size : ℕ) (old : ℕ → Option Slot) (pending : ℕ → Option Begun) → Flushing most size most old old pending pending
+pub flushing_none : (most size : ℕ) (old : ℕ → Option Slot) (pending : List BlockRequest) → Flushing most size most old old pending pending
 flushing_none most size old pending = record { counts = []; runs = (refl, refl); left_is = omega arith; just = refl }
 
 -- one more
-pub flushing_more : (most size left n : ℕ) (old mid new : ℕ → Option Slot) (pending between pending' : ℕ → Option Begun)
+pub flushing_more : (most size left n : ℕ) (old mid new : ℕ → Option Slot) (pending between pending' : List BlockRequest)
     → Flushing most size left old mid pending between → n ≢ 0 → n ≤ left → BeginsRun left size n mid new between pending'
     → Flushing most size (left - n) old new pending pending'
 flushing_more most size left zero old mid new pending between pending' h some le x = absurd (some refl)
@@ -219,24 +220,24 @@ flushing_more most size left (suc n) old mid new pending between pending' h some
     }
 
 -- where none is begun they stay
-pub flushing_same : (most size left : ℕ) (old mid new : ℕ → Option Slot) (pending between pending' : ℕ → Option Begun)
+pub flushing_same : (most size left : ℕ) (old mid new : ℕ → Option Slot) (pending between pending' : List BlockRequest)
     → Flushing most size left old mid pending between → new ≡ mid → pending' ≡ between → Flushing most size left old new pending pending'
 flushing_same most size left old mid new pending between pending' h same kept =
     subst (λ (f : ℕ → Option Slot). Flushing most size left old f pending pending') (sym same)
-    (subst (λ (f : ℕ → Option Begun). Flushing most size left old mid pending f) (sym kept) h)
+    (subst (λ (f : List BlockRequest). Flushing most size left old mid pending f) (sym kept) h)
 
 -- a run that is begun, by the size of a block that stays
-pub begins_of : (most n size size' : ℕ) (mid new : ℕ → Option Slot) (between pending' : ℕ → Option Begun)
+pub begins_of : (most n size size' : ℕ) (mid new : ℕ → Option Slot) (between pending' : List BlockRequest)
     → size' ≡ size → BeginsRun most size' n mid new between pending' → BeginsRun most size n mid new between pending'
 begins_of most n size size' mid new between pending' same x = subst (λ (k : ℕ). BeginsRun most k n mid new between pending') same x
 
 -- none is begun
-pub begins_none : (most n size : ℕ) (mid new : ℕ → Option Slot) (between pending' : ℕ → Option Begun)
+pub begins_none : (most n size : ℕ) (mid new : ℕ → Option Slot) (between pending' : List BlockRequest)
     → n ≡ 0 → BeginsRun most size n mid new between pending' → (new ≡ mid) × (pending' ≡ between)
 begins_none most n size mid new between pending' none x = subst (λ (k : ℕ). BeginsRun most size k mid new between pending') none x
 
 -- a run is of dirty frames
-pub run_dirty : (most n size : ℕ) (mid new : ℕ → Option Slot) (between pending' : ℕ → Option Begun)
+pub run_dirty : (most n size : ℕ) (mid new : ℕ → Option Slot) (between pending' : List BlockRequest)
     → n ≢ 0 → BeginsRun most size n mid new between pending' → AllClean mid → ⊥
 run_dirty most zero size mid new between pending' some x clean = some refl
 run_dirty most (suc n) size mid new between pending' some x clean =
@@ -245,7 +246,7 @@ run_dirty most (suc n) size mid new between pending' some x clean =
     cc
 
 -- a run has eight frames at most, since a block has a sector at least
-pub run_few : (most n size : ℕ) (mid new : ℕ → Option Slot) (between pending' : ℕ → Option Begun)
+pub run_few : (most n size : ℕ) (mid new : ℕ → Option Slot) (between pending' : List BlockRequest)
     → 512 ≤ size → BeginsRun most size n mid new between pending' → n ≤ 8
 run_few most zero size mid new between pending' least x = omega arith
 run_few most (suc n) size mid new between pending' least x =
@@ -255,17 +256,17 @@ run_few most (suc n) size mid new between pending' least x =
     omega (arith, whole, sectors)
 
 -- then they stay
-pub flushing_end : (most size left : ℕ) (old mid new : ℕ → Option Slot) (pending between pending' : ℕ → Option Begun)
+pub flushing_end : (most size left : ℕ) (old mid new : ℕ → Option Slot) (pending between pending' : List BlockRequest)
     → Flushing most size left old mid pending between → (new ≡ mid) × (pending' ≡ between) → Flushing most size left old new pending pending'
 flushing_end most size left old mid new pending between pending' h x = flushing_same most size left old mid new pending between pending' h x.0 x.1
 
 -- those that were begun are so many at most
-pub lowest_of : (most size left : ℕ) (old new : ℕ → Option Slot) (pending pending' : ℕ → Option Begun)
+pub lowest_of : (most size left : ℕ) (old new : ℕ → Option Slot) (pending pending' : List BlockRequest)
     → Flushing most size left old new pending pending' → WritesLowest most old new
 lowest_of most size left old new pending pending' h = let is = h.left_is in just_most (sum h.counts) most old new (omega (arith, is)) h.just
 
 -- and just so many where no further one may be
-pub all_of : (most size left : ℕ) (old new : ℕ → Option Slot) (pending pending' : ℕ → Option Begun)
+pub all_of : (most size left : ℕ) (old new : ℕ → Option Slot) (pending pending' : List BlockRequest)
     → left ≤ 0 → Flushing most size left old new pending pending' → WritesJust most old new
 all_of most size left old new pending pending' none h =
     let is = h.left_is in

@@ -1,6 +1,7 @@
 -- What flushing and syncing do.
 use Rattle.std.specs.Prelude.{◌≡◌, ◌⊎◌, ℕ, zero, suc, ◌-◌, ◌<◌, ◌≤◌, length, List, [], ◌∷◌, sum, Option, Some, None, Result, Ok, Err, false}
-use Rattle.reissue.specs.Moves.{DiskState, Begun}
+use Rattle.message.specs.declared.BlockRequest.{BlockRequest}
+use Rattle.reissue.specs.Moves.{DiskState}
 use Rattle.cache.specs.declared.slot.Slot.{Slot}
 use Rattle.block_store.specs.declared.Cut.{Cut}
 use Rattle.cache.specs.Edits.{IssuesLowest, IssuesNext, NoneDirtyFrom}
@@ -8,7 +9,7 @@ use Rattle.cache.specs.Order.{IsDue}
 use Rattle.cache.specs.declared.cache.Cache.{Cache}
 use Rattle.cache.specs.Frames.{CacheAgrees, view}
 use Rattle.cache.specs.Calls.{AbstractCache, held_by, IsLive, IsStuck, IsRefusing, Serves}
-use Rattle.cache.specs.Runs.{IssuesRun}
+use Rattle.cache.specs.Runs.{IssuesRun, requests_in}
 
 -- so many writes at most are begun, each of the dirty frame that then has the lowest block
 abbrev pub WritesLowest : ℕ → (ℕ → Option Slot) → (ℕ → Option Slot) → Type 0
@@ -22,16 +23,17 @@ WritesJust (suc n) old new = (mid : ℕ → Option Slot) × IssuesLowest old mid
 
 -- Runs of so many frames are begun, the last one first: each of neighbouring dirty frames from the one on that then has the lowest block, by
 -- one request; all of them have so many frames at most.
-abbrev pub WritesRuns : List ℕ → ℕ → ℕ → (ℕ → Option Slot) → (ℕ → Option Slot) → (ℕ → Option Begun) → (ℕ → Option Begun) → Type 0
+abbrev pub WritesRuns : List ℕ → ℕ → ℕ → (ℕ → Option Slot) → (ℕ → Option Slot) → List BlockRequest → List BlockRequest → Type 0
 WritesRuns [] most size old new pending pending' = (new ≡ old) × (pending' ≡ pending)
 WritesRuns (n ∷ ns) most size old new pending pending' =
-    (mid : ℕ → Option Slot) × (between : ℕ → Option Begun) × WritesRuns ns most size old mid pending between
+    (mid : ℕ → Option Slot) × (between : List BlockRequest) × WritesRuns ns most size old mid pending between
     × IssuesRun (most - sum ns) size n mid new between pending'
 
--- writes of at most so many frames are begun in runs
-pub record WritesInRuns (most size : ℕ) (old new : ℕ → Option Slot) (pending pending' : ℕ → Option Begun) : Type 0 where
+-- writes of at most so many frames are begun in runs; while messages may come of so many, or no further one can be before a message is taken
+pub record WritesInRuns (most : ℕ) (old new : AbstractCache) : Type 0 where
   pub counts : List ℕ
-  pub runs : WritesRuns counts most size old new pending pending'
+  pub runs : WritesRuns counts most old.size old.held new.held (requests_in old.table) (requests_in new.table)
+  pub all : IsLive new → (sum counts ≡ most) ⊎ IsStuck new
 
 -- as many writes are begun as may be, or no further one can be before a message is taken
 abbrev pub BeginsAll : ℕ → (ℕ → Option Slot) → AbstractCache → Type 0

@@ -33,8 +33,7 @@ fn begin_runs<L: Link>(cache: &mut Cache<L>, most: u32)
     ensures count { frame_count cache.new ≡ frame_count cache.old }
     ensures posts { PostsAlone (caching L.Link cache.old) (caching L.Link cache.new) }
     ensures issued { WritesLowest most (held_by cache.old) (held_by cache.new) }
-    ensures runs { WritesInRuns most cache.old.shape.block_size (held_by cache.old) (held_by cache.new)
-        (begun_in cache.old.transfers) (begun_in cache.new.transfers) }
+    ensures runs { WritesInRuns most (caching L.Link cache.old) (caching L.Link cache.new) }
     ensures left { messages_left (caching L.Link cache.new) ≤ messages_left (caching L.Link cache.old) }
     ensures stuck { IsLive (caching L.Link cache.new) → BeginsAll most (held_by cache.old) (caching L.Link cache.new) }
     ensures full { 128 ≤ most → IsLive (caching L.Link cache.new) → IsStuck (caching L.Link cache.new) }
@@ -65,8 +64,7 @@ pub fn flush_some<L: Link>(cache: &mut Cache<L>)
     ensures count { frame_count cache.new ≡ frame_count cache.old }
     ensures posts { PostsAlone (caching L.Link cache.old) (caching L.Link cache.new) }
     ensures issued { WritesLowest 16 (held_by cache.old) (held_by cache.new) }
-    ensures runs { WritesInRuns 16 cache.old.shape.block_size (held_by cache.old) (held_by cache.new)
-        (begun_in cache.old.transfers) (begun_in cache.new.transfers) }
+    ensures runs { WritesInRuns 16 (caching L.Link cache.old) (caching L.Link cache.new) }
     ensures left { messages_left (caching L.Link cache.new) ≤ messages_left (caching L.Link cache.old) }
     ensures stuck { IsLive (caching L.Link cache.new) → BeginsAll 16 (held_by cache.old) (caching L.Link cache.new) }
     ensures frames { (f : Frame) → IsFrame cache.old f → IsFrame cache.new f }

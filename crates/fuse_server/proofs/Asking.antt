@@ -1,9 +1,12 @@
 -- What sessions are asked, one thing after another.
-use Rattle.std.proofs.Common.{◌≡◌, ◌⊎◌, ◌∙◌, ℕ, Bool, true, false, IsTrue, List, [], ◌∷◌, ◌++◌, Option, Some, None, Result, Ok, Err, IfOk, OnOk, OnErr, IsOk, refl, sym, ap, subst, inl, inr}
+use Rattle.std.proofs.Common.{◌≡◌, ◌⊎◌, ◌∙◌, ℕ, ℤ, Bool, true, false, IsTrue, List, [], ◌∷◌, ◌++◌, Option, Some, None, Result, Ok, Err, IfOk, OnOk, OnErr, IsOk, refl, sym, ap, subst, inl, inr}
 use Rattle.std.specs.Prelude.{⊤, MatchResult}
+use Rattle.std.specs.Global.{Vec}
+use Rattle.std.specs.Result.{result_map_both}
 use Rattle.errno.specs.declared.Errno.TheVariants.{ENOENT}
 use Rattle.tree.specs.declared.Call.{Call}
 use Rattle.tree.specs.declared.Call.TheVariants as call
+use Rattle.tree.specs.declared.OpenFlags.{OpenFlags}
 use Rattle.tree.specs.declared.Outcome.{Outcome}
 use Rattle.tree.specs.declared.Outcome.TheVariants as outcome
 use Rattle.tree.specs.declared.Reply.TheVariants as reply
@@ -12,7 +15,9 @@ use Rattle.tree.specs.declared.LinkTarget.{LinkTarget}
 use Rattle.tree.specs.declared.PathFrom.{PathFrom}
 use Rattle.tree.specs.declared.Reply.{Reply}
 use Rattle.tree.specs.declared.Statfs.{Statfs}
-use Rattle.talks.specs.Hearing.{attributes_in, done_in, room_in, target_in}
+use Rattle.tree.specs.declared.Whence.TheVariants.{Set}
+use Rattle.fuse_nodes.specs.declared.node.Descriptor.{Descriptor}
+use Rattle.talks.specs.Hearing.{attributes_in, bytes_in, descriptor_in, done_in, room_in, target_in}
 use Rattle.talks.specs.Talks.{Exchange, MayHear, Leads, IsDone}
 use Rattle.talks.specs.declared.ask.Ask.{Ask}
 use Rattle.talks.specs.declared.ask.Ask.TheVariants as ask
@@ -22,7 +27,7 @@ use Rattle.talks.specs.declared.refused.Refused.TheVariants.{By}
 use Rattle.talks.specs.declared.ask.Leaving.{Leaving}
 use Rattle.talks.specs.declared.sessions.EnterRefusal.{EnterRefusal}
 use Rattle.talks.specs.declared.refused.Refused.{Refused}
-use Rattle.fuse_server.specs.Asking.{Talked, TalkedTo, TalkedFor, TalkedLooking, LookedBefore, LookedAt, look_reply}
+use Rattle.fuse_server.specs.Asking.{Talked, TalkedTo, TalkedFor, TalkedLooking, LookedBefore, LookedAt, OpenedAt, ReadFrom, look_reply}
 use Rattle.fuse_server.specs.Losing.{AreQuiet, IsQuiet, WasLooked, takes_name}
 use Rattle.fuse_server.specs.Reach.{AsksFrom, CalledFrom, GivesTold, IsAt, IsNamed}
 use Rattle.fuse_server.specs.declared.work.Reach.{Reach}
@@ -128,6 +133,67 @@ target_so (heard_of.Outcome (outcome.Reply r)) a e = cc
 target_so (heard_of.Outcome outcome.Cut) a e = cc
 target_so (heard_of.Entered r) a e = cc
 target_so heard_of.Left a e = cc
+
+pub descriptor_so : (h : Heard) (fd : ℕ) → descriptor_in h ≡ Ok fd → h ≡ heard_of.Outcome (outcome.Reply (reply.Descriptor fd))
+descriptor_so (heard_of.Outcome (outcome.Reply (reply.Refused errno))) fd e = cc
+descriptor_so (heard_of.Outcome (outcome.Reply (reply.Descriptor given))) fd e = cc
+descriptor_so (heard_of.Outcome (outcome.Reply r)) fd e = cc
+descriptor_so (heard_of.Outcome outcome.Cut) fd e = cc
+descriptor_so (heard_of.Entered r) fd e = cc
+descriptor_so heard_of.Left fd e = cc
+
+-- a descriptor was opened
+pub opened_by : {S : Type 0} (called : S → ℕ → ℕ → Call → Outcome → S → Type 0) (entered : S → ℕ → ℕ → Result ℕ EnterRefusal → S → Type 0)
+    (left : S → Leaving → S → Type 0) (now : ℕ) (s t : S) (path : PathFrom) (flags : OpenFlags) (mode session fd : ℕ) (h : Heard)
+    → descriptor_in h ≡ Ok fd → MayHear called entered left now s (ask.Call session (call.Open path flags mode)) h t
+    → OpenedAt called entered left now s path (record { session = session; fd = fd }) t
+opened_by called entered left now s t path flags mode session fd h told may =
+    let P : Heard → Type 0 = λ x. MayHear called entered left now s (ask.Call session (call.Open path flags mode)) x t in record {
+      flags = flags;
+      mode = mode;
+      before = s;
+      first = stays called entered left now s;
+      last = subst P (descriptor_so h fd told) may;
+    }
+
+-- behind others
+pub opened_after : {S : Type 0} {called : S → ℕ → ℕ → Call → Outcome → S → Type 0} {entered : S → ℕ → ℕ → Result ℕ EnterRefusal → S → Type 0}
+    {left : S → Leaving → S → Type 0} {now : ℕ} {s t : S} (u : S) (path : PathFrom) (r : Result Descriptor Refused)
+    → Talked called entered left now s t → IfOk r (λ (d : Descriptor). OpenedAt called entered left now t path d u)
+    → IfOk r (λ (d : Descriptor). OpenedAt called entered left now s path d u)
+opened_after u path (Err e) first opened = tt
+opened_after u path (Ok d) first o =
+    record { flags = o.flags; mode = o.mode; before = o.before; first = goes_on first o.first; last = o.last }
+
+-- the reply that has these bytes
+record HasBytes (h : Heard) (bytes : List ℕ) : Type 0 where
+  read : Vec ℕ
+  is : h ≡ heard_of.Outcome (outcome.Reply (reply.Bytes read))
+  same : bytes ≡ read.items
+
+bytes_so : (h : Heard) (bytes : List ℕ) → Ok bytes ≡ bytes_in h → HasBytes h bytes
+bytes_so (heard_of.Outcome (outcome.Reply (reply.Refused errno))) bytes e = absurd (cc e)
+bytes_so (heard_of.Outcome (outcome.Reply (reply.Bytes read))) bytes e = record { read = read; is = refl; same = cc }
+bytes_so (heard_of.Outcome (outcome.Reply r)) bytes e = absurd (cc e)
+bytes_so (heard_of.Outcome outcome.Cut) bytes e = absurd (cc e)
+bytes_so (heard_of.Entered r) bytes e = absurd (cc e)
+bytes_so heard_of.Left bytes e = absurd (cc e)
+
+-- bytes were read behind a seek
+pub read_so : {S : Type 0} (called : S → ℕ → ℕ → Call → Outcome → S → Type 0) (entered : S → ℕ → ℕ → Result ℕ EnterRefusal → S → Type 0)
+    (left : S → Leaving → S → Type 0) (now : ℕ) (s t u : S) (d : Descriptor) (offset z : ℤ) (count position : ℕ) (h : Heard)
+    (r : Result (Vec ℕ) Refused) → z ≡ offset
+    → MayHear called entered left now s (ask.Call d.session (call.Seek d.fd Set z)) (heard_of.Outcome (outcome.Reply (reply.At position))) t
+    → MayHear called entered left now t (ask.Call d.session (call.Read d.fd count)) h u
+    → result_map_both (λ (it : Vec ℕ). it.items) (λ (e : Refused). e) r ≡ bytes_in h
+    → IfOk r (λ (it : Vec ℕ). ReadFrom called entered left now s d offset count it.items u)
+read_so called entered left now s t u d offset z count position h (Err e) at sought may is = tt
+read_so called entered left now s t u d offset z count position h (Ok it) at sought may is =
+    let so : HasBytes h it.items = bytes_so h it.items is in
+    let At : ℤ → Type 0 = λ y. MayHear called entered left now s (ask.Call d.session (call.Seek d.fd Set y))
+    (heard_of.Outcome (outcome.Reply (reply.At position))) t in
+    let P : Heard → Type 0 = λ x. MayHear called entered left now t (ask.Call d.session (call.Read d.fd count)) x u in
+    (so.read, so.same, record { position = position; between = t; sought = subst At at sought; last = subst P so.is may })
 
 -- a look that was refused for want of what it names
 missing_so : (h : Heard) → attributes_in h ≡ Err (By ENOENT) → h ≡ heard_of.Outcome (outcome.Reply (reply.Refused ENOENT))

@@ -1,5 +1,6 @@
 -- What is answered behind what sessions were asked.
-use Rattle.std.proofs.Common.{◌≡◌, ℕ, List, [], ◌∷◌, ◌++◌, Some, None, Option, Result, Ok, Err, IfOk, IfSome, IsTrue, true, false, ◌⊎◌, refl, inl, inr, subst, sym}
+use Rattle.std.proofs.Common.{◌≡◌, ◌<◌, ◌∙◌, ℕ, ℤ, List, [], ◌∷◌, ◌++◌, Some, None, Option, Result, Ok, Err, IfOk, IfSome, IsTrue, true, false, ◌⊎◌, ap, length, min, take, refl, inl, inr, subst, sym}
+use Rattle.std.specs.Prelude.{pos}
 use Rattle.std.specs.Borrow.{Bor}
 use Rattle.fuse.specs.declared.reply.Attributes.{Attributes as Told}
 use Rattle.fuse.specs.declared.reply.Entry.{Entry}
@@ -21,6 +22,7 @@ use Rattle.tree.specs.declared.PathFrom.{PathFrom}
 use Rattle.tree.specs.declared.Reply.{Reply}
 use Rattle.tree.specs.declared.Reply.TheVariants as reply
 use Rattle.tree.specs.declared.Statfs.{Statfs}
+use Rattle.tree.specs.declared.Whence.TheVariants.{Set}
 use Rattle.talks.specs.Hearing.{attributes_in, target_of}
 use Rattle.talks.specs.Talks.{Exchange, MayHear, Leads, IsDone}
 use Rattle.talks.specs.declared.ask.Ask.{Ask}
@@ -30,18 +32,18 @@ use Rattle.talks.specs.declared.heard.Heard.TheVariants as heard_of
 use Rattle.talks.specs.declared.refused.Refused.{Refused}
 use Rattle.talks.specs.declared.ask.Leaving.{Leaving}
 use Rattle.talks.specs.declared.sessions.EnterRefusal.{EnterRefusal}
-use Rattle.fuse_server.specs.Asking.{Talked, TalkedTo, TalkedFor, TalkedLooking, LookedBefore, LookedAt, EndsWith, look_reply}
+use Rattle.fuse_server.specs.Asking.{Talked, TalkedTo, TalkedFor, TalkedLooking, LookedBefore, LookedAt, EndsWith, OpenedAt, ReadFrom, SoughtFor, look_reply}
 use Rattle.fuse_server.specs.Kinds.{is_sync}
 use Rattle.fuse_server.specs.Losing.{Loses, is_last, takes_name}
 use Rattle.fuse_server.specs.Reach.{IsAt}
-use Rattle.fuse_server.specs.Telling.{Telling, telling, tells, told_of, room_of, IsToldAs, ToldBehind, ShownAt, AskedFor}
-use Rattle.fuse_server.specs.Telling.Telling.{Name, Node, Target, Unlinked, Removed, Renamed, Room, Other}
+use Rattle.fuse_server.specs.Telling.{Telling, telling, tells, told_of, room_of, HasOwn, IsToldAs, ToldBehind, ShownAt, AskedFor}
+use Rattle.fuse_server.specs.Telling.Telling.{Name, Node, Target, Unlinked, Removed, Renamed, Room, ReadAt, WrittenAt, Other}
 use Rattle.fuse_server.specs.declared.said.FuseAnswer.{FuseAnswer}
 use Rattle.fuse_server.specs.declared.said.FuseAnswer.TheVariants as answer_of
 use Rattle.fuse_server.specs.declared.said.Said.{Said}
 use Rattle.fuse_server.specs.declared.said.Said.TheVariants as said
 use Rattle.fuse_server.specs.declared.work.Reach.{Reach}
-use Rattle.fuse_server.proofs.Asking.{joined, after, attributes_so, looked_first, looked_then, never_takes, quiet_joined}
+use Rattle.fuse_server.proofs.Asking.{joined, after, attributes_so, looked_first, looked_then, never_takes, quiet_joined, stays}
 use Rattle.fuse_server.proofs.Losing.{loses_on, quiet_loses, replaced}
 
 -- the exchanges up to a call and its answer
@@ -54,6 +56,16 @@ abbrev leads_of : {S : Type 0} {called : S → ℕ → ℕ → Call → Outcome 
     {left : S → Leaving → S → Type 0} {now : ℕ} {s t : S} {asked : Call} {h : Heard} (talked : TalkedTo called entered left now s asked h t)
     → Leads (MayHear called entered left now) s (log_of talked) t
 leads_of talked = (talked.before, talked.first.leads, talked.last)
+
+-- the exchanges up to a seek and a call behind it
+abbrev both_of : {S : Type 0} {called : S → ℕ → ℕ → Call → Outcome → S → Type 0} {entered : S → ℕ → ℕ → Result ℕ EnterRefusal → S → Type 0}
+    {left : S → Leaving → S → Type 0} {now : ℕ} {s t u : S} → Talked called entered left now s t → (d : Descriptor) (offset : ℕ)
+    (asked : Call) (r : Reply) → SoughtFor called entered left now t d (pos offset) asked r u → List Exchange
+both_of first d offset asked r sought = record { ask = ask.Call d.session asked; heard = heard_of.Outcome (outcome.Reply r) }
+    ∷ record {
+      ask = ask.Call d.session (call.Seek d.fd Set (pos offset));
+      heard = heard_of.Outcome (outcome.Reply (reply.At sought.position));
+    } ∷ first.log
 
 -- nothing is lost by a call that takes no name away
 loses_of : {S : Type 0} {called : S → ℕ → ℕ → Call → Outcome → S → Type 0}
@@ -270,6 +282,96 @@ room_behind {k = k} x told room talked is = record {
   loses = loses_of k talked refl;
 }
 
+-- a node's descriptor
+pub own_known : {S : Type 0} (called : S → ℕ → ℕ → Call → Outcome → S → Type 0) (entered : S → ℕ → ℕ → Result ℕ EnterRefusal → S → Type 0)
+    (left : S → Leaving → S → Type 0) (now : ℕ) (s : S) (x : Reach) (d : Descriptor) → x.descriptor ≡ Some d
+    → HasOwn called entered left now s x d s
+own_known called entered left now s x d is = record { talked = stays called entered left now s; own = inl is }
+
+pub own_opened : {S : Type 0} (called : S → ℕ → ℕ → Call → Outcome → S → Type 0) (entered : S → ℕ → ℕ → Result ℕ EnterRefusal → S → Type 0)
+    (left : S → Leaving → S → Type 0) (now : ℕ) (s t : S) (x : Reach) (path : PathFrom) (r : Result Descriptor Refused)
+    → x.descriptor ≡ None → IsAt x.own [] path → IfOk r (λ (d : Descriptor). OpenedAt called entered left now s path d t)
+    → IfOk r (λ (d : Descriptor). HasOwn called entered left now s x d t)
+own_opened called entered left now s t x path (Err e) none at o = tt
+own_opened called entered left now s t x path (Ok d) none at o = record {
+  talked = record {
+    log = record {
+      ask = ask.Call d.session (call.Open path o.flags o.mode);
+      heard = heard_of.Outcome (outcome.Reply (reply.Descriptor d.fd));
+    } ∷ o.first.log;
+    leads = (o.before, o.first.leads, o.last);
+    quiet = (never_takes false _ refl, o.first.quiet);
+  };
+  own = inr (none, record { path = path; flags = o.flags; mode = o.mode; at = at; ends = (refl, refl) });
+}
+
+-- bytes were read at a position
+read_exactly : {S : Type 0} {called : S → ℕ → ℕ → Call → Outcome → S → Type 0} {entered : S → ℕ → ℕ → Result ℕ EnterRefusal → S → Type 0}
+    {left : S → Leaving → S → Type 0} {now : ℕ} {k : Known} {s t u : S} (x : Reach) (d : Descriptor) (offset count : ℕ) (told : Vec ℕ)
+    (bytes : List ℕ) → HasOwn called entered left now s x d t
+    → ReadFrom called entered left now t d (pos offset) (min count 65536) bytes u → told.items ≡ take (min count 65536) bytes
+    → ToldBehind called entered left now x (ReadAt offset count) k s (answer_of.Bytes told) u
+read_exactly {k = k} {t = t} {u} x d offset count told bytes own (read, same, sought) is = record {
+  log = both_of own.talked d offset (call.Read d.fd (min count 65536)) (reply.Bytes read) sought;
+  leads = (sought.between, (t, own.talked.leads, sought.sought), sought.last);
+  told = inl (record {
+    read = read;
+    there = record { descriptor = d; position = sought.position; ends = (refl, refl, refl, refl, own.own) };
+    is = is ∙ ap (λ (it : List ℕ). take (min count 65536) it) same;
+  });
+  loses = (λ done. tt, (λ done. tt, quiet_loses k own.talked.log own.talked.quiet));
+}
+
+pub read_behind : {S : Type 0} {called : S → ℕ → ℕ → Call → Outcome → S → Type 0} {entered : S → ℕ → ℕ → Result ℕ EnterRefusal → S → Type 0}
+    {left : S → Leaving → S → Type 0} {now : ℕ} {k : Known} {s t u : S} (x : Reach) (d : Descriptor) (offset count : ℕ) (z : ℤ) (n : ℕ)
+    (told : Vec ℕ) (bytes : List ℕ) → HasOwn called entered left now s x d t → z ≡ pos offset → n ≡ min count 65536
+    → ReadFrom called entered left now t d z n bytes u → told.items ≡ take n bytes
+    → ToldBehind called entered left now x (ReadAt offset count) k s (answer_of.Bytes told) u
+read_behind {called = called} {entered} {left} {now} {t = t} {u} x d offset count z n told bytes own at many read is =
+    let At : ℤ → Type 0 = λ y. ReadFrom called entered left now t d y n bytes u in
+    let Many : ℕ → Type 0 = λ m. ReadFrom called entered left now t d (pos offset) m bytes u in
+    read_exactly x d offset count told bytes own (subst Many many (subst At at read)) (is ∙ ap (λ m. take m bytes) many)
+
+-- nothing, past the largest position
+pub past_behind : {S : Type 0} (called : S → ℕ → ℕ → Call → Outcome → S → Type 0) (entered : S → ℕ → ℕ → Result ℕ EnterRefusal → S → Type 0)
+    (left : S → Leaving → S → Type 0) (now : ℕ) (k : Known) (s : S) (x : Reach) (offset count : ℕ) (told : Vec ℕ)
+    → 2147483647 < offset → told.items ≡ []
+    → ToldBehind called entered left now x (ReadAt offset count) k s (answer_of.Bytes told) s
+past_behind called entered left now k s x offset count told past none =
+    record { log = []; leads = refl; told = inr (past, none, refl); loses = tt }
+
+-- bytes were put there
+written_exactly : {S : Type 0} {called : S → ℕ → ℕ → Call → Outcome → S → Type 0}
+    {entered : S → ℕ → ℕ → Result ℕ EnterRefusal → S → Type 0} {left : S → Leaving → S → Type 0} {now : ℕ} {k : Known}
+    {s t u : S} (x : Reach) (d : Descriptor) (offset : ℕ) (bytes : List ℕ) (given : Bor (List ℕ)) (wrote told : ℕ)
+    → HasOwn called entered left now s x d t
+    → SoughtFor called entered left now t d (pos offset) (call.Write d.fd given) (reply.Wrote wrote) u
+    → given.now ≡ take 65536 bytes → told ≡ min wrote (length bytes)
+    → ToldBehind called entered left now x (WrittenAt offset bytes) k s (answer_of.Write told) u
+written_exactly {k = k} {t = t} {u} x d offset bytes given wrote told own sought taken is = record {
+  log = both_of own.talked d offset (call.Write d.fd given) (reply.Wrote wrote) sought;
+  leads = (sought.between, (t, own.talked.leads, sought.sought), sought.last);
+  told = record {
+    given = given;
+    first = taken;
+    wrote = wrote;
+    there = record { descriptor = d; position = sought.position; ends = (refl, refl, refl, refl, own.own) };
+    is = is;
+  };
+  loses = (λ done. tt, (λ done. tt, quiet_loses k own.talked.log own.talked.quiet));
+}
+
+pub written_behind : {S : Type 0} {called : S → ℕ → ℕ → Call → Outcome → S → Type 0}
+    {entered : S → ℕ → ℕ → Result ℕ EnterRefusal → S → Type 0} {left : S → Leaving → S → Type 0} {now : ℕ} {k : Known}
+    {s t u : S} (x : Reach) (d : Descriptor) (offset : ℕ) (z : ℤ) (bytes : List ℕ) (given : Bor (List ℕ)) (wrote told : ℕ)
+    → HasOwn called entered left now s x d t → z ≡ pos offset
+    → SoughtFor called entered left now t d z (call.Write d.fd given) (reply.Wrote wrote) u
+    → given.now ≡ take 65536 bytes → told ≡ min wrote (length bytes)
+    → ToldBehind called entered left now x (WrittenAt offset bytes) k s (answer_of.Write told) u
+written_behind {called = called} {entered} {left} {now} {t = t} {u} x d offset z bytes given wrote told own at sought taken is =
+    let At : ℤ → Type 0 = λ y. SoughtFor called entered left now t d y (call.Write d.fd given) (reply.Wrote wrote) u in
+    written_exactly x d offset bytes given wrote told own (subst At at sought) taken is
+
 -- the last exchange stays the last one behind others
 ends_on : (session : ℕ) (asked : Call) (r : Reply) (log first : List Exchange) → EndsWith session asked r log
     → EndsWith session asked r (log ++ first)
@@ -394,6 +496,8 @@ tells_nothing (request.Rename2 new_directory flags old_name new_name) none = abs
 tells_nothing (request.Link file name) none = absurd (never none)
 tells_nothing (request.Create flags mode umask open_flags name) none = absurd (never none)
 tells_nothing request.Statfs none = absurd (never none)
+tells_nothing (request.Read span) none = absurd (never none)
+tells_nothing (request.Write handle offset write_flags lock_owner flags bytes) none = absurd (never none)
 tells_nothing r none = refl
 
 pub sync_tells_nothing : (r : Request) → is_sync r ≡ true → telling r ≡ Other

@@ -1,14 +1,18 @@
 -- What sessions are asked on the way to an answer.
-use Rattle.std.specs.Prelude.{◌≡◌, ℕ, List, [], ◌∷◌, Option, Some, None, Result}
+use Rattle.std.specs.Prelude.{◌≡◌, ℕ, ℤ, List, [], ◌∷◌, Option, Some, None, Result}
+use Rattle.std.specs.Global.{Vec}
 use Rattle.errno.specs.declared.Errno.TheVariants.{ENOENT}
 use Rattle.tree.specs.declared.Attributes.{Attributes}
 use Rattle.tree.specs.declared.Call.{Call}
 use Rattle.tree.specs.declared.Call.TheVariants as call
+use Rattle.tree.specs.declared.OpenFlags.{OpenFlags}
 use Rattle.tree.specs.declared.Outcome.{Outcome}
 use Rattle.tree.specs.declared.Outcome.TheVariants as outcome
 use Rattle.tree.specs.declared.PathFrom.{PathFrom}
 use Rattle.tree.specs.declared.Reply.{Reply}
 use Rattle.tree.specs.declared.Reply.TheVariants as reply
+use Rattle.tree.specs.declared.Whence.TheVariants.{Set}
+use Rattle.fuse_nodes.specs.declared.node.Descriptor.{Descriptor}
 use Rattle.talks.specs.Talks.{Exchange, MayHear, Leads, Replies}
 use Rattle.talks.specs.declared.ask.Ask.TheVariants as ask
 use Rattle.talks.specs.declared.heard.Heard.{Heard}
@@ -70,3 +74,30 @@ LookedAt called entered left now s path None t = TalkedFor called entered left n
 abbrev pub EndsWith : ℕ → Call → Reply → List Exchange → Type 0
 EndsWith session asked r [] = ⊥
 EndsWith session asked r (e ∷ es) = (e.ask ≡ ask.Call session asked) × Replies e.heard r
+
+-- So they do, and then a descriptor is opened at this path.
+pub record OpenedAt {S : Type 0} (called : S → ℕ → ℕ → Call → Outcome → S → Type 0)
+    (entered : S → ℕ → ℕ → Result ℕ EnterRefusal → S → Type 0) (left : S → Leaving → S → Type 0) (now : ℕ)
+    (s : S) (path : PathFrom) (d : Descriptor) (t : S) : Type 0 where
+  pub flags : OpenFlags
+  pub mode : ℕ
+  pub before : S
+  pub first : Talked called entered left now s before
+  pub last : MayHear called entered left now before (ask.Call d.session (call.Open path flags mode))
+      (heard.Outcome (outcome.Reply (reply.Descriptor d.fd))) t
+
+-- A descriptor is set to a position; then comes this call by it, and this is its reply.
+pub record SoughtFor {S : Type 0} (called : S → ℕ → ℕ → Call → Outcome → S → Type 0)
+    (entered : S → ℕ → ℕ → Result ℕ EnterRefusal → S → Type 0) (left : S → Leaving → S → Type 0) (now : ℕ)
+    (s : S) (d : Descriptor) (offset : ℤ) (asked : Call) (r : Reply) (t : S) : Type 0 where
+  pub position : ℕ
+  pub between : S
+  pub sought : MayHear called entered left now s (ask.Call d.session (call.Seek d.fd Set offset))
+      (heard.Outcome (outcome.Reply (reply.At position))) between
+  pub last : MayHear called entered left now between (ask.Call d.session asked) (heard.Outcome (outcome.Reply r)) t
+
+-- bytes that were read so
+abbrev pub ReadFrom : {S : Type 0} → (S → ℕ → ℕ → Call → Outcome → S → Type 0) → (S → ℕ → ℕ → Result ℕ EnterRefusal → S → Type 0)
+    → (S → Leaving → S → Type 0) → ℕ → S → Descriptor → ℤ → ℕ → List ℕ → S → Type 0
+ReadFrom called entered left now s d offset count bytes t =
+    (read : Vec ℕ) × (bytes ≡ read.items) × SoughtFor called entered left now s d offset (call.Read d.fd count) (reply.Bytes read) t

@@ -1,5 +1,6 @@
 -- Which answer a request has.
-use Rattle.std.specs.Prelude.{⊤, ◌≤◌, ℕ, Bool, true, false, IsTrue, take, length}
+use Rattle.std.specs.Prelude.{⊤, ◌≡◌, ◌<◌, ◌≤◌, ℕ, Bool, true, false, IsTrue, take, length, min, bit_and}
+use Rattle.fuse.specs.declared.reply.InitReply.{InitReply}
 use Rattle.fuse.specs.declared.reply.Reply.{Reply}
 use Rattle.fuse.specs.declared.reply.Reply.TheVariants as reply
 use Rattle.fuse.specs.declared.request.Request.{Request}
@@ -25,10 +26,6 @@ abbrev pub is_done : FuseAnswer → Bool
 is_done answer_of.Done = true
 is_done a = is_refusal a
 
-abbrev pub is_init : FuseAnswer → Bool
-is_init (answer_of.Init settled) = true
-is_init a = is_refusal a
-
 abbrev pub is_attributes : FuseAnswer → Bool
 is_attributes (answer_of.Attributes attributes) = true
 is_attributes a = is_refusal a
@@ -52,6 +49,30 @@ IsEntry k a = IsTrue (is_refusal a)
 abbrev pub IsCreate : Known → FuseAnswer → Type 0
 IsCreate k (answer_of.Create entry opened) = IsKnown k entry
 IsCreate k a = IsTrue (is_refusal a)
+
+-- What a connection begins with: version 7.31, messages of 64 KiB, whole seconds. Of what the kernel offers it takes reads that nobody waits
+-- for (bit 0), writes of more than a page (5), READDIRPLUS, where READDIR does, too (13, 14), lookups in one directory side by side (18), a
+-- count of a message's pages (22), and targets of links that it keeps (23): so not its write-back cache (16).
+abbrev pub settled_for : ℕ → ℕ → InitReply
+settled_for readahead flags = record {
+  major = 7;
+  minor = 31;
+  readahead = min readahead 65536;
+  flags = bit_and flags 0xc46021;
+  background = 0;
+  busy = 0;
+  max_write = 65536;
+  time_unit = 1000000000;
+  max_pages = 16;
+  map_alignment = 0;
+  more_flags = 0;
+}
+
+-- to a kernel of version 7, that; to an older one, that the server has another version
+abbrev pub IsInit : ℕ → ℕ → ℕ → FuseAnswer → Type 0
+IsInit major readahead flags (answer_of.Init settled) = (7 ≤ major) × (settled ≡ settled_for readahead flags)
+IsInit major readahead flags answer_of.OtherVersion = major < 7
+IsInit major readahead flags a = IsTrue (is_refusal a)
 
 -- bytes, at most so many
 abbrev pub IsWithin : ℕ → FuseAnswer → Type 0
@@ -88,7 +109,7 @@ IsFor k (request.Read span) a = IsWithin span.count a
 IsFor k (request.Write handle offset write_flags lock_owner flags bytes) a = IsCount (length bytes.now) a
 IsFor k request.Statfs a = IsTrue (is_room a)
 IsFor k (request.Release handle flags release_flags lock_owner) a = IsTrue (is_done a)
-IsFor k (request.Init major minor readahead flags more) a = IsTrue (is_init a)
+IsFor k (request.Init major minor readahead flags more) a = IsInit major readahead flags a
 IsFor k (request.Opendir flags open_flags) a = IsTrue (is_open a)
 IsFor k (request.Readdir span) a = IsWithin span.count a
 IsFor k (request.Readdirplus span) a = IsPlus k span.count a

@@ -1,5 +1,7 @@
 -- What the last exchange before an answer has to do with it.
-use Rattle.std.specs.Prelude.{⊤, ◌≡◌, ◌⊎◌, ◌+◌, ◌/◌, ◌%◌, min, ℕ, Bool, true, false, List, [], Option, Some, None, Result}
+use Rattle.std.specs.Prelude.{⊤, ◌≡◌, ◌<◌, ◌⊎◌, ◌+◌, ◌/◌, ◌%◌, min, ℕ, pos, Bool, true, false, List, [], ◌∷◌, length, take, Option, Some, None, Result}
+use Rattle.std.specs.Borrow.{Bor}
+use Rattle.std.specs.Global.{Vec}
 use Rattle.errno.specs.declared.Errno.TheVariants.{ENOENT}
 use Rattle.fuse.specs.declared.reply.Attributes.{Attributes as Told}
 use Rattle.fuse.specs.declared.reply.Entry.{Entry}
@@ -12,17 +14,21 @@ use Rattle.tree.specs.declared.Attributes.{Attributes}
 use Rattle.tree.specs.declared.Call.{Call}
 use Rattle.tree.specs.declared.Call.TheVariants as call
 use Rattle.tree.specs.declared.LinkTarget.{LinkTarget}
+use Rattle.tree.specs.declared.OpenFlags.{OpenFlags}
 use Rattle.tree.specs.declared.Outcome.{Outcome}
 use Rattle.tree.specs.declared.PathFrom.{PathFrom}
+use Rattle.tree.specs.declared.Reply.{Reply}
 use Rattle.tree.specs.declared.Reply.TheVariants as reply
 use Rattle.tree.specs.declared.Statfs.{Statfs}
+use Rattle.tree.specs.declared.Whence.TheVariants.{Set}
 use Rattle.talks.specs.Hearing.{target_of}
-use Rattle.talks.specs.Talks.{Exchange, Leads, EndsInSync, MayHear}
+use Rattle.talks.specs.Talks.{Exchange, Leads, EndsInSync, MayHear, Replies}
 use Rattle.talks.specs.declared.ask.Ask.{Ask}
+use Rattle.talks.specs.declared.ask.Ask.TheVariants as ask
 use Rattle.talks.specs.declared.heard.Heard.{Heard}
 use Rattle.talks.specs.declared.ask.Leaving.{Leaving}
 use Rattle.talks.specs.declared.sessions.EnterRefusal.{EnterRefusal}
-use Rattle.fuse_server.specs.Asking.{EndsWith, LookedAt}
+use Rattle.fuse_server.specs.Asking.{EndsWith, LookedAt, Talked}
 use Rattle.fuse_server.specs.Losing.{Loses}
 use Rattle.fuse_server.specs.Reach.{IsAt}
 use Rattle.fuse_server.specs.declared.said.FuseAnswer.{FuseAnswer}
@@ -63,7 +69,8 @@ room_of room = record {
 }
 
 -- what an answer tells of: a name in the message's node, the node, its target, a name that was taken away from a file or a directory or
--- became another one in the second node, the room, or nothing that is said here
+-- became another one in the second node, the room, its bytes from an offset on, at most so many, or bytes that were put there, or nothing
+-- that is said here
 pub data Telling : Type 0 where
   Name : List ℕ → Telling
   Node : Telling
@@ -72,6 +79,8 @@ pub data Telling : Type 0 where
   Removed : List ℕ → Telling
   Renamed : List ℕ → List ℕ → Telling
   Room : Telling
+  ReadAt : ℕ → ℕ → Telling
+  WrittenAt : ℕ → List ℕ → Telling
   Other : Telling
 
 abbrev pub telling : Request → Telling
@@ -89,6 +98,8 @@ telling (request.Rename2 new_directory flags old_name new_name) = Renamed old_na
 telling (request.Link file name) = Name name.now
 telling (request.Create flags mode umask open_flags name) = Name name.now
 telling request.Statfs = Room
+telling (request.Read span) = ReadAt span.offset span.count
+telling (request.Write handle offset write_flags lock_owner flags bytes) = WrittenAt offset bytes.now
 telling r = Other
 
 -- something
@@ -107,6 +118,8 @@ tells (request.Rename2 new_directory flags old_name new_name) = true
 tells (request.Link file name) = true
 tells (request.Create flags mode umask open_flags name) = true
 tells request.Statfs = true
+tells (request.Read span) = true
+tells (request.Write handle offset write_flags lock_owner flags bytes) = true
 tells r = false
 
 -- The exchanges end in a look at a name in the message's node, by which these attributes are told.
@@ -156,6 +169,54 @@ pub record IsRoom (told : StatfsReply) (log : List Exchange) : Type 0 where
   pub ends : EndsWith session call.Statfs (reply.Space room) log
   pub is : told ≡ room_of room
 
+-- in an open at the message's node, which gave this descriptor
+pub record EndsInOpen (x : Reach) (d : Descriptor) (log : List Exchange) : Type 0 where
+  pub path : PathFrom
+  pub flags : OpenFlags
+  pub mode : ℕ
+  pub at : IsAt x.own [] path
+  pub ends : EndsWith d.session (call.Open path flags mode) (reply.Descriptor d.fd) log
+
+-- The descriptor is the node's: that which it has, or one that was opened at it just now.
+abbrev pub IsOwn : Reach → Descriptor → List Exchange → Type 0
+IsOwn x d log = (x.descriptor ≡ Some d) ⊎ ((x.descriptor ≡ None) × EndsInOpen x d log)
+
+-- By exchanges and nothing else sessions come from one state to another, and the descriptor is the node's behind them.
+pub record HasOwn {S : Type 0} (called : S → ℕ → ℕ → Call → Outcome → S → Type 0)
+    (entered : S → ℕ → ℕ → Result ℕ EnterRefusal → S → Type 0) (left : S → Leaving → S → Type 0) (now : ℕ)
+    (s : S) (x : Reach) (d : Descriptor) (t : S) : Type 0 where
+  pub talked : Talked called entered left now s t
+  pub own : IsOwn x d talked.log
+
+-- in a seek of the node's descriptor to a position, and then a call by it
+abbrev pub EndsAt : Reach → Descriptor → ℕ → ℕ → Call → Reply → List Exchange → Type 0
+EndsAt x d offset position asked r (last ∷ sought ∷ log) = (last.ask ≡ ask.Call d.session asked) × Replies last.heard r
+    × (sought.ask ≡ ask.Call d.session (call.Seek d.fd Set (pos offset))) × Replies sought.heard (reply.At position) × IsOwn x d log
+EndsAt x d offset position asked r log = ⊥
+
+pub record IsAtPosition (x : Reach) (offset : ℕ) (asked : ℕ → Call) (r : Reply) (log : List Exchange) : Type 0 where
+  pub descriptor : Descriptor
+  pub position : ℕ
+  pub ends : EndsAt x descriptor offset position (asked descriptor.fd) r log
+
+-- in a read there: its bytes are told
+pub record IsRead (x : Reach) (offset count : ℕ) (told : List ℕ) (log : List Exchange) : Type 0 where
+  pub read : Vec ℕ
+  pub there : IsAtPosition x offset (λ fd. call.Read fd (min count 65536)) (reply.Bytes read) log
+  pub is : told ≡ take (min count 65536) read.items
+
+-- in a write of these bytes there, of as many as a call takes: of how many is told
+pub record IsWritten (x : Reach) (offset : ℕ) (bytes : List ℕ) (told : ℕ) (log : List Exchange) : Type 0 where
+  pub given : Bor (List ℕ)
+  pub first : given.now ≡ take 65536 bytes
+  pub wrote : ℕ
+  pub there : IsAtPosition x offset (λ fd. call.Write fd given) (reply.Wrote wrote) log
+  pub is : told ≡ min wrote (length bytes)
+
+-- Past the largest position of a file there are no bytes, and none are asked for.
+abbrev pub IsReadOrPast : Reach → ℕ → ℕ → List ℕ → List Exchange → Type 0
+IsReadOrPast x offset count told log = IsRead x offset count told log ⊎ ((2147483647 < offset) × (told ≡ []) × (log ≡ []))
+
 -- in a look at a name in the message's node that leads to nothing
 pub record IsMissing (x : Reach) (name : List ℕ) (log : List Exchange) : Type 0 where
   pub session : ℕ
@@ -187,6 +248,8 @@ IsToldAs x (Unlinked name) answer_of.Done log = IsDoneAt x name (λ path. call.U
 IsToldAs x (Removed name) answer_of.Done log = IsDoneAt x name (λ path. call.Rmdir path) log
 IsToldAs x (Renamed old new) answer_of.Done log = IsRenamed x old new log
 IsToldAs x Room (answer_of.Statfs room) log = IsRoom room log
+IsToldAs x (ReadAt offset count) (answer_of.Bytes bytes) log = IsReadOrPast x offset count bytes.items log
+IsToldAs x (WrittenAt offset bytes) (answer_of.Write count) log = IsWritten x offset bytes count log
 IsToldAs x about a log = ⊤
 
 abbrev pub IsMissingAs : Reach → Telling → List Exchange → Type 0

@@ -1,6 +1,6 @@
 //! Bounds on what is moved in one call.
 
-ghost use Rattle.std.specs.Prelude.{◌≡◌, ◌≤◌, length, take};
+ghost use Rattle.std.specs.Prelude.{◌≡◌, ◌≤◌, length, min, take};
 
 use tree::MAX_TRANSFER;
 
@@ -17,6 +17,7 @@ pub(crate) fn within(bytes: &[u8], most: u32) -> &[u8]
 
 /// The smaller one of a count and what a call moves at most.
 pub(crate) fn most_of(count: u32) -> u32
+    ensures value { result ≡ min count 65536 }
     ensures least { result ≤ count }
     ensures most { result ≤ 65536 }
 {

@@ -2,7 +2,9 @@
 //! opened again when it is used.
 #![tactic(auto, using(crate::proofs::Asking::goes_on, crate::proofs::Asking::stays))]
 
-ghost use Rattle.fuse_server.specs.Asking.{Talked};
+ghost use Rattle.std.specs.Prelude.{IfOk};
+ghost use Rattle.fuse_server.specs.Asking.{OpenedAt, Talked};
+ghost use Rattle.fuse_server.specs.Telling.{HasOwn};
 ghost use Rattle.fuse_server.specs.Reach.{CalledFrom, IsNamed};
 
 use crate::mount::Mount;
@@ -51,7 +53,9 @@ fn open_by<S: Sessions>(
     opening: Opening<'_>,
 ) -> Result<Descriptor, Refused>
     requires { IsNamed work.reach opening.path }
-    ensures { Talked (CalledFrom work.reach S.called) S.entered S.left work.now sessions.old sessions.new }
+    ensures asked { Talked (CalledFrom work.reach S.called) S.entered S.left work.now sessions.old sessions.new }
+    ensures opened { IfOk result (λ descriptor. OpenedAt (CalledFrom work.reach S.called) S.entered S.left work.now
+        sessions.old opening.entry.path descriptor sessions.new) }
 {
     let call = Call::Open {
         path: opening.path,
@@ -81,7 +85,9 @@ impl Seats {
         opening: Opening<'_>,
     ) -> Result<Descriptor, Refused>
         requires { IsNamed work.reach opening.path }
-        ensures { Talked (CalledFrom work.reach S.called) S.entered S.left work.now sessions.old sessions.new }
+        ensures asked { Talked (CalledFrom work.reach S.called) S.entered S.left work.now sessions.old sessions.new }
+        ensures opened { IfOk result (λ descriptor. OpenedAt (CalledFrom work.reach S.called) S.entered S.left work.now
+            sessions.old opening.entry.path descriptor sessions.new) }
     {
         'seats: for at in 0..MOST_SEATS {
             let session = self.session(sessions, work, at)?;
@@ -121,7 +127,9 @@ impl Mount {
         but: u64,
     ) -> Result<Descriptor, Refused>
         requires { IsNamed work.reach opening.path }
-        ensures { Talked (CalledFrom work.reach S.called) S.entered S.left work.now sessions.old sessions.new }
+        ensures asked { Talked (CalledFrom work.reach S.called) S.entered S.left work.now sessions.old sessions.new }
+        ensures opened { IfOk result (λ descriptor. OpenedAt (CalledFrom work.reach S.called) S.entered S.left work.now
+            sessions.old opening.entry.path descriptor sessions.new) }
     {
         let opened = self.seats.open_somewhere(sessions, work, opening);
         if !are_full(&opened) {
@@ -137,13 +145,17 @@ impl Mount {
         sessions: &mut S,
         work: Work,
     ) -> Result<Descriptor, Refused>
-        ensures { Talked (CalledFrom work.reach S.called) S.entered S.left work.now sessions.old sessions.new }
+        ensures asked { Talked (CalledFrom work.reach S.called) S.entered S.left work.now sessions.old sessions.new }
+        ensures own { IfOk result (λ descriptor. HasOwn (CalledFrom work.reach S.called) S.entered S.left work.now sessions.old work.reach
+            descriptor sessions.new) }
     {
-        if let Some(descriptor) = work.reach.descriptor {
-            return Ok(descriptor);
+        match work.reach.descriptor {
+            Some(descriptor) => Ok(descriptor),
+            None => {
+                let path = work.reach.node()?;
+                self.open_node(sessions, work, path, work.node)
+            }
         }
-        let path = work.reach.node()?;
-        self.open_node(sessions, work, path, work.node)
     }
 
     /// Opens a node at a path: its descriptor.
@@ -155,7 +167,9 @@ impl Mount {
         node: u64,
     ) -> Result<Descriptor, Refused>
         requires { IsNamed work.reach path }
-        ensures { Talked (CalledFrom work.reach S.called) S.entered S.left work.now sessions.old sessions.new }
+        ensures asked { Talked (CalledFrom work.reach S.called) S.entered S.left work.now sessions.old sessions.new }
+        ensures opened { IfOk result (λ descriptor. OpenedAt (CalledFrom work.reach S.called) S.entered S.left work.now
+            sessions.old path.entry descriptor sessions.new) }
     {
         let opening = Opening {
             path,

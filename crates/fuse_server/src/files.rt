@@ -1,13 +1,19 @@
 //! Open files: what is read, what is written, and what reaches the disk.
 #![tactic(auto, using(crate::proofs::Asking::goes_on, crate::proofs::Asking::stays))]
 
-ghost use Rattle.std.specs.Prelude.{◌≡◌, ◌≤◌, ℕ, IfOk, IsTrue, length};
+ghost use Rattle.std.specs.Prelude.{◌≡◌, ◌<◌, ◌≤◌, ℕ, [], pos, min, length, IfNone, IfOk, IfSome, IsTrue, OnErr, Some};
 ghost use Rattle.talks.specs.Talks.{MayHear};
 ghost use Rattle.fuse_nodes.specs.Known.{known_of};
-ghost use Rattle.fuse_server.specs.Asking.{Talked};
+ghost use Rattle.tree.specs.declared.Call.TheVariants as call;
+ghost use Rattle.tree.specs.declared.Outcome.TheVariants as outcome;
+ghost use Rattle.tree.specs.declared.Reply.TheVariants as reply;
+ghost use Rattle.tree.specs.declared.Whence.TheVariants.{Set};
+ghost use Rattle.talks.specs.declared.ask.Ask.TheVariants as ask;
+ghost use Rattle.talks.specs.declared.heard.Heard.TheVariants as heard_of;
+ghost use Rattle.fuse_server.specs.Asking.{ReadFrom, SoughtFor, Talked};
 ghost use Rattle.fuse_server.specs.Reach.{CalledFrom};
-ghost use Rattle.fuse_server.specs.Telling.{AskedFor};
-ghost use Rattle.fuse_server.specs.Telling.Telling.{Other};
+ghost use Rattle.fuse_server.specs.Telling.{AskedFor, ToldBehind};
+ghost use Rattle.fuse_server.specs.Telling.Telling.{Other, ReadAt, WrittenAt};
 ghost use Rattle.fuse_server.specs.Kinds.{is_open, is_done, IsWithin, IsCount, IsOfSync};
 
 use crate::bounds::{most_of, within};
@@ -26,7 +32,10 @@ use talks::sessions::Sessions;
 use tree::{Call, MAX_SIZE, MAX_TRANSFER, Whence};
 
 /// An offset as a position; none past the largest one.
-fn position(offset: u64) -> Option<i64> {
+fn position(offset: u64) -> Option<i64>
+    ensures at { IfSome result (λ position. position ≡ pos offset) }
+    ensures past { IfNone result (2147483647 < offset) }
+{
     if offset > u64::from(MAX_SIZE) {
         return None;
     }
@@ -34,15 +43,15 @@ fn position(offset: u64) -> Option<i64> {
 }
 
 /// Nothing that was read.
-fn no_bytes(alloc: Global) -> FuseAnswer
-    ensures { (most : ℕ) → IsWithin most result }
+fn no_bytes(alloc: Global) -> Vec<u8>
+    ensures { result.items ≡ [] }
 {
-    FuseAnswer::Bytes(Vec::new(alloc))
+    Vec::new(alloc)
 }
 
 /// How many bytes were written: so many, but no more than were given.
 fn written(count: u32, bytes: &[u8]) -> u32
-    ensures { result ≤ length bytes.now }
+    ensures { result ≡ min count (length bytes.now) }
 {
     match u32::try_from(bytes.len()) {
         Ok(len) if len < count => len,
@@ -56,16 +65,18 @@ fn seek<S: Sessions>(
     work: Work,
     descriptor: Descriptor,
     offset: i64,
-) -> Result<(), Refused>
-    ensures { Talked (CalledFrom work.reach S.called) S.entered S.left work.now sessions.old sessions.new }
+) -> Result<u32, Refused>
+    ensures asked { Talked (CalledFrom work.reach S.called) S.entered S.left work.now sessions.old sessions.new }
+    ensures sought { IfOk result (λ position. MayHear (CalledFrom work.reach S.called) S.entered S.left work.now sessions.old
+        (ask.Call descriptor.session (call.Seek descriptor.fd Set offset)) (heard_of.Outcome (outcome.Reply (reply.At position)))
+        sessions.new) }
 {
     let call = Call::Seek {
         fd: descriptor.fd,
         whence: Whence::Set,
         offset,
     };
-    calling(sessions, work, descriptor.session, &call).at()?;
-    Ok(())
+    calling(sessions, work, descriptor.session, &call).at()
 }
 
 /// Reads at a position.
@@ -76,7 +87,9 @@ fn read_at<S: Sessions>(
     offset: i64,
     count: u32,
 ) -> Result<Vec<u8>, Refused>
-    ensures { Talked (CalledFrom work.reach S.called) S.entered S.left work.now sessions.old sessions.new }
+    ensures asked { Talked (CalledFrom work.reach S.called) S.entered S.left work.now sessions.old sessions.new }
+    ensures read { IfOk result (λ bytes. ReadFrom (CalledFrom work.reach S.called) S.entered S.left work.now sessions.old descriptor offset
+        count bytes.items sessions.new) }
 {
     seek(sessions, work, descriptor, offset)?;
     let call = Call::Read {
@@ -94,7 +107,9 @@ fn write_at<S: Sessions>(
     offset: i64,
     bytes: &[u8],
 ) -> Result<u32, Refused>
-    ensures { Talked (CalledFrom work.reach S.called) S.entered S.left work.now sessions.old sessions.new }
+    ensures asked { Talked (CalledFrom work.reach S.called) S.entered S.left work.now sessions.old sessions.new }
+    ensures written { IfOk result (λ count. SoughtFor (CalledFrom work.reach S.called) S.entered S.left work.now sessions.old descriptor
+        offset (call.Write descriptor.fd bytes.entry) (reply.Wrote count) sessions.new) }
 {
     seek(sessions, work, descriptor, offset)?;
     let call = Call::Write {
@@ -141,12 +156,14 @@ impl Mount {
         work: Work,
         span: Span,
     ) -> Result<FuseAnswer, Refused>
-        ensures asked { Talked (CalledFrom work.reach S.called) S.entered S.left work.now sessions.old sessions.new }
+        ensures asked { OnErr result (Talked (CalledFrom work.reach S.called) S.entered S.left work.now sessions.old sessions.new) }
         ensures told { IfOk result (IsWithin span.count) }
+        ensures behind { IfOk result (λ a. ToldBehind (CalledFrom work.reach S.called) S.entered S.left work.now work.reach (ReadAt
+            span.offset span.count) (known_of self.new.nodes) sessions.old a sessions.new) }
     {
         self.check_file(work, span.handle)?;
         let Some(offset) = position(span.offset) else {
-            return Ok(no_bytes(self.alloc));
+            return Ok(FuseAnswer::Bytes(no_bytes(self.alloc)));
         };
         let descriptor = self.descriptor(sessions, work)?;
         let count = most_of(span.count);
@@ -164,8 +181,10 @@ impl Mount {
         offset: u64,
         bytes: &[u8],
     ) -> Result<FuseAnswer, Refused>
-        ensures asked { Talked (CalledFrom work.reach S.called) S.entered S.left work.now sessions.old sessions.new }
+        ensures asked { OnErr result (Talked (CalledFrom work.reach S.called) S.entered S.left work.now sessions.old sessions.new) }
         ensures told { IfOk result (IsCount (length bytes.now)) }
+        ensures behind { IfOk result (λ a. ToldBehind (CalledFrom work.reach S.called) S.entered S.left work.now work.reach (WrittenAt
+            offset bytes.now) (known_of self.new.nodes) sessions.old a sessions.new) }
     {
         self.check_file(work, handle)?;
         let Some(offset) = position(offset) else {

@@ -1,11 +1,11 @@
 //! How each message is answered.
 #![tactic(auto, using(crate::proofs::Asking::goes_on, crate::proofs::Asking::stays))]
 
-ghost use Rattle.std.specs.Prelude.{◌≡◌, IfOk, OnErr, IsTrue};
+ghost use Rattle.std.specs.Prelude.{◌≡◌, IfOk, OnErr};
 ghost use Rattle.fuse_nodes.specs.Known.{known_of};
 ghost use Rattle.talks.specs.Talks.{MayHear};
 ghost use Rattle.fuse_server.specs.Asking.{Talked};
-ghost use Rattle.fuse_server.specs.Kinds.{is_init, is_sync, IsFor, IsSaidTo};
+ghost use Rattle.fuse_server.specs.Kinds.{is_sync, IsFor, IsInit, IsSaidTo};
 ghost use Rattle.fuse_server.specs.Reach.{CalledFrom, reach_of};
 ghost use Rattle.fuse_server.specs.Telling.{AskedFor, ToldBehind, telling, tells};
 ghost use Rattle.fuse_server.specs.Answering.{IsSaidToBytes, MayHearFrom};
@@ -43,7 +43,7 @@ const SECOND: u32 = 1_000_000_000;
 
 /// INIT: the protocol's version, and what of it is used.
 fn init(major: u32, readahead: u32, flags: u32) -> FuseAnswer
-    ensures { IsTrue (is_init result) }
+    ensures { IsInit major readahead flags result }
 {
     if major < MAJOR {
         return FuseAnswer::OtherVersion;
@@ -90,6 +90,8 @@ fn tells(request: &Request<'_>) -> bool
             | Request::Link { .. }
             | Request::Create { .. }
             | Request::Statfs
+            | Request::Read { .. }
+            | Request::Write { .. }
     )
 }
 
@@ -190,6 +192,30 @@ impl Mount {
         }
     }
 
+    /// Requests for a file's bytes.
+    fn on_bytes<S: Sessions>(
+        &mut self,
+        sessions: &mut S,
+        work: Work,
+        message: &Message<'_>,
+    ) -> Result<FuseAnswer, Refused>
+        ensures asked { OnErr result (Talked (CalledFrom work.reach S.called) S.entered S.left work.now sessions.old sessions.new) }
+        ensures told { IfOk result (IsFor (known_of self.new.nodes) message.now.request) }
+        ensures behind { IfOk result (λ a. ToldBehind (CalledFrom work.reach S.called) S.entered S.left work.now work.reach (telling
+            message.now.request) (known_of self.new.nodes) sessions.old a sessions.new) }
+    {
+        match message.request {
+            Request::Read { span } => self.read(sessions, work, span),
+            Request::Write {
+                handle,
+                offset,
+                bytes,
+                ..
+            } => self.write(sessions, work, handle, offset, bytes),
+            _ => self.on_nodes(sessions, work, message),
+        }
+    }
+
     /// Requests about what is open, and those about the mount.
     fn on_handles<S: Sessions>(
         &mut self,
@@ -209,13 +235,6 @@ impl Mount {
             } => Ok(init(major, readahead, flags)),
             Request::Destroy => Ok(FuseAnswer::Done),
             Request::Open { .. } => self.open_file(sessions, work),
-            Request::Read { span } => self.read(sessions, work, span),
-            Request::Write {
-                handle,
-                offset,
-                bytes,
-                ..
-            } => self.write(sessions, work, handle, offset, bytes),
             Request::Release { handle, .. } => self.release(sessions, work, handle),
             Request::Opendir { .. } => self.open_directory(work.node),
             Request::Readdir { span } => self.readdir(sessions, work, span),
@@ -225,7 +244,7 @@ impl Mount {
         }
     }
 
-    /// What is said to a message about a node, a name, or the room.
+    /// What is said to a message about bytes, a node, a name, or the room.
     #[tactic(auto, using(crate::proofs::Asking::goes_on, crate::proofs::KindLaws::refusal_for))]
     fn told_of<S: Sessions>(
         &mut self,
@@ -237,7 +256,7 @@ impl Mount {
             (known_of self.new.nodes) sessions.old result sessions.new }
         ensures told { IsFor (known_of self.new.nodes) message.now.request result }
     {
-        match self.on_nodes(sessions, work, message) {
+        match self.on_bytes(sessions, work, message) {
             Ok(answer) => answer,
             Err(refused) => FuseAnswer::Refused(refused),
         }

@@ -2,7 +2,9 @@
 #![tactic(auto)]
 
 pub mod command_line;
+pub mod frames;
 pub mod play_words;
 pub mod sparse;
+mod version;
 pub mod volume_words;
 pub mod whole_file;

@@ -28,14 +28,15 @@ pub(crate) fn minor<'a>(alloc: Global) -> Arg<'a> {
     )
 }
 
-/// The word that says how many blocks' frames the server has (own: 64 by default; a cache has 16 to 4096).
+/// The word that says how many blocks' frames the server has (a cache has 16 to 4096); else the image says it (`frames_for`).
 pub(crate) fn frames<'a>(alloc: Global) -> Arg<'a> {
     Arg::new(alloc, "frames")
         .long("frames")
         .value_name("F")
         .value_parser(ValueParser::Unsigned(16, 4096))
-        .default_value("64")
-        .help("How many blocks the server keeps in memory at a time, 16 to 4096")
+        .help(
+            "How many blocks the server keeps in memory at a time, 16 to 4096; else one for each 4 KiB of IMAGE, 64 to 4096",
+        )
 }
 
 /// The most drivers that stand by (own).

@@ -1,34 +1,53 @@
-//! An image that takes the place of none: it is left beside.
+//! The places of an image that is handed on: that of the locked image, and the file beside it.
 
+use crate::locked::LockedImage;
 use host::whole_file::replace;
-use std::fmt;
+use std::fs::File;
 use std::rt::Files;
+use volume_commands::handing::ImagePlace;
 
-/// What came of an image that was to be left beside the file of this name.
-#[derive(Clone, Copy, Debug, PartialEq, Eq)]
-pub enum Left<'n> {
-    /// It is in the file of this name and `.given-up`.
-    Beside(&'n str),
-    /// That file can't be written, and is as it was.
-    Nowhere(&'n str),
+/// The place of the locked image: what is put there replaces it, or makes it. What real files hold no contract says.
+#[derive(Drop)]
+pub struct InPlace<'l, R> {
+    rt: R,
+    locked: &'l mut LockedImage,
 }
 
-impl fmt::Display for Left<'_> {
-    fn fmt<W: fmt::Write>(&self, f: &mut fmt::Formatter<W>) -> fmt::Result {
-        match self {
-            Left::Beside(name) => write!(f, "image left in {name}.given-up"),
-            Left::Nowhere(name) => write!(f, "cannot write {name}.given-up"),
-        }
+impl<'l, R> InPlace<'l, R> {
+    /// That of this one, whose log is settled.
+    pub fn of(rt: R, locked: &'l mut LockedImage) -> InPlace<'l, R> {
+        InPlace { rt, locked }
     }
 }
 
-/// Puts an image that breaks a rule into the file of this name and `.given-up`, as `replace` does.
-pub fn leave_beside<'n, R: Files + Alloc>(rt: &R, name: &'n str, image: &[u8]) -> Left<'n> {
-    let Ok(beside) = format!(in rt.alloc(); "{name}.given-up") else {
-        return Left::Nowhere(name);
-    };
-    match replace(rt, beside.as_str(), image) {
-        Ok(()) => Left::Beside(name),
-        Err(_) => Left::Nowhere(name),
+impl<R: Files<File = File> + AllocGlobal> ImagePlace for InPlace<'_, R> {
+    fn put(&mut self, image: &[u8]) -> bool {
+        self.locked
+            .replace(&self.rt, image, image.len() as u64)
+            .is_ok()
+    }
+}
+
+/// The file of a name and `.given-up`, for an image that isn't handed on: it is put there as by `replace`.
+#[derive(Drop)]
+pub struct Beside<'n, R> {
+    rt: R,
+    name: &'n str,
+}
+
+impl<'n, R> Beside<'n, R> {
+    /// Beside the file of this name.
+    pub fn of(rt: R, name: &'n str) -> Beside<'n, R> {
+        Beside { rt, name }
+    }
+}
+
+impl<R: Files + Alloc> ImagePlace for Beside<'_, R> {
+    fn put(&mut self, image: &[u8]) -> bool {
+        let name = self.name;
+        match format!(in self.rt.alloc(); "{name}.given-up") {
+            Ok(beside) => replace(&self.rt, beside.as_str(), image).is_ok(),
+            Err(_) => false,
+        }
     }
 }

@@ -3,14 +3,12 @@
 use call_text::scripts::script_files::File;
 use host::play_words::mfs::MfsWords;
 use host::whole_file::read;
-use locked_image::beside::{Left, leave_beside};
+use locked_image::beside::{Beside, InPlace};
 use locked_image::locked::LockedImage;
-use output::tell;
 use std::alloc::{AllocError, Global};
-use std::io;
 use std::rt::Files;
-use tools::play::{Ended, PlayStatus, finish};
-use volume_commands::verify::{Verified, verify};
+use tools::handing::hand_left;
+use tools::play::{Ended, PlayStatus};
 
 /// A file of this name, with its bytes if it could be read.
 fn file<'n, 'b>(name: &'n str, bytes: &'b Option<Vec<u8>>) -> File<'n, 'b> {
@@ -45,8 +43,8 @@ pub(crate) fn files<'n, 'b>(
     Ok(files)
 }
 
-/// Puts the image that a play left in the place of the locked one, which has this name; how the play then ended. An image that breaks a rule
-/// takes the place of none: it goes to the file of this name and `.given-up`, and a line on standard error says so.
+/// Hands on the image that a play left: its place is that of the locked one, which has this name, and the one beside it that of an image
+/// whose volume isn't clean. How the play then ended.
 pub(crate) fn write_left(
     rt: HostRuntime,
     words: &MfsWords<'_>,
@@ -54,26 +52,15 @@ pub(crate) fn write_left(
     name: &str,
     played: Ended,
 ) -> PlayStatus {
-    let Ended { status, image } = played;
-    let Some(image) = image else {
-        return status;
-    };
-    let mut err = rt.stderr();
-    if locked.has_image() && !is_clean(rt, &image, words.minor) {
-        let left = leave_beside(&rt, name, &image);
-        let told = tell(rt.alloc(), &mut err, &left);
-        return match left {
-            Left::Beside(_) => status,
-            Left::Nowhere(_) => PlayStatus::Refused(told),
-        };
-    }
-    let written = locked.replace(&rt, &image, image.len() as u64).is_ok();
-    finish(rt.alloc(), status, name, written, &mut err)
-}
-
-/// Whether the check finds the volume of a minor in an image clean; not where no memory is found for it.
-fn is_clean(rt: HostRuntime, image: &[u8], minor: u8) -> bool {
-    let (mut out, mut err) = (io::sink(), io::sink());
-    let verified = verify(rt.alloc(), "", Some(image), minor, &mut out, &mut err);
-    matches!(verified, Verified::IsClean)
+    let mut place = InPlace::of(rt, locked);
+    let mut beside = Beside::of(rt, name);
+    hand_left(
+        rt.alloc(),
+        played,
+        words.minor,
+        name,
+        &mut place,
+        &mut beside,
+        &mut rt.stderr(),
+    )
 }

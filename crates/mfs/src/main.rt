@@ -6,6 +6,7 @@ mod files;
 use crate::files::{files, read_all, write_left};
 use gate::paced_gate::Paced;
 use host::command_line::{line_of, status_for};
+use host::frames::frames_for;
 use host::play_words::mfs::{MfsWords, read as read_words};
 use host::whole_file::{read, try_replace};
 use locked_image::FilesRefusal;
@@ -32,10 +33,12 @@ fn play_files<W: Threads + Wait + Copy + Send + Sync + 'static>(
     let image = start_on(alloc, image, words.minor, &mut rt.stderr());
     let texts = read_all(&rt, &words.scripts)?;
     let scripts = files(alloc, &words.scripts, &texts)?;
-    let table = table_in(image.as_deref().unwrap_or(&[]));
+    let bytes = image.as_deref().unwrap_or(&[]);
+    let table = table_in(bytes);
+    let frames = frames_for(words.frames, bytes.len());
     let supply = drivers_for(alloc, words.spares, words.model, table)?;
     let mut setup = setup_for(words.minor);
-    setup.frames = words.frames as usize;
+    setup.frames = frames;
     let gate = Arc::new(alloc, Paced::new(waits))?;
     let image = ImageFile {
         name: words.image,

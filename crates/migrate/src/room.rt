@@ -31,7 +31,7 @@ pub(crate) fn empty_volume(
     ensures refused { IfErr result (IsCramped old.now.image.geometry (contents old.now.image) blocks) }
 {
     let inodes = old.image.geometry().inodes;
-    let empty = match mkfs_front(alloc, blocks, BLOCK as u32, inodes, 0) {
+    let empty = match mkfs_front(alloc, blocks, BLOCK as u32, inodes, 0, 0, 0) {
         Ok(empty) => empty,
         Err(MkfsRefusal::TooFewBlocks) => return Err(MigrateRefusal::DoesNotFit),
         // No other size is refused here: blocks have 1024 bytes, and the inodes and the blocks are in their ranges.

@@ -18,6 +18,8 @@ fn make_file(rt: HostRuntime, words: &MkmfsWords<'_>) -> io::Result<ExitCode> {
         block_size: words.block_size,
         inodes: words.inodes,
         now: words.now,
+        uid: words.uid,
+        gid: words.gid,
     };
     let made = make(alloc, &wanted, &mut out, &mut err);
     let status = match made.image {

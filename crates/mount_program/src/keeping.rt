@@ -4,14 +4,13 @@ use host::play_words::mount::MountWords;
 use host::whole_file::read;
 use image_file::Kept;
 use locked_image::FilesRefusal;
-use locked_image::beside::{Left, leave_beside};
+use locked_image::beside::Beside;
 use locked_image::locked::LockedImage;
 use locked_image::reading::read_image;
 use locked_image::storing::ImageFiles;
-use mount_service::archive::Archive;
 use mount_service::file_archive::FileArchive;
-use mount_service::mount::{Ended, MountStatus, finish};
-use mount_service::program::Came;
+use mount_service::handing::hand_left;
+use mount_service::mount::{Ended, MountStatus};
 use output::tell;
 use release::{Released, release, start_on};
 use std::io;
@@ -126,34 +125,23 @@ fn kept_copy(
 /// Whether a mount may serve an image: the check finds its volume clean. Where nothing can be said of it, a line on standard error says why,
 /// and that is how the mount ended.
 fn is_served(rt: HostRuntime, words: &MountWords<'_>, image: &[u8]) -> Result<bool, MountStatus> {
-    match verdict_on(rt, words, image, &mut rt.stderr()) {
+    let (alloc, name, minor) = (rt.alloc(), words.image, words.minor);
+    match verify(
+        alloc,
+        name,
+        Some(image),
+        minor,
+        &mut io::sink(),
+        &mut rt.stderr(),
+    ) {
         Verified::IsClean => Ok(true),
         Verified::HasFinding | Verified::HasWrongLinks => Ok(false),
         Verified::Refused(told) => Err(MountStatus::Refused(told)),
     }
 }
 
-/// What the check says of the volume in an image; where it says nothing, why.
-fn verdict_on<E: io::Write>(
-    rt: HostRuntime,
-    words: &MountWords<'_>,
-    image: &[u8],
-    err: &mut E,
-) -> Verified {
-    let mut out = io::sink();
-    verify(
-        rt.alloc(),
-        words.image,
-        Some(image),
-        words.minor,
-        &mut out,
-        err,
-    )
-}
-
-/// How a mount ended that was to keep the image of this name, once that is the image that is left. Where not all went well, and the image
-/// that is left breaks a rule, it takes the place of none: it goes to the file of this name and `.given-up`, as a line on standard error
-/// says, and the image of this name is that of the last sync.
+/// How a mount ended that was to keep the image of this name, once the image that it left was handed on: the one beside it takes an image
+/// whose volume isn't clean, and the image of this name is then that of the last sync.
 pub(crate) fn finished<I: Drop, O: Drop, C: Drop, W: Drop, E: io::Write>(
     rt: HostRuntime,
     words: &MountWords<'_>,
@@ -161,28 +149,6 @@ pub(crate) fn finished<I: Drop, O: Drop, C: Drop, W: Drop, E: io::Write>(
     name: &str,
     err: &mut E,
 ) -> MountStatus {
-    let Ended { status, came } = mounted;
-    let Some(came) = came else {
-        return status;
-    };
-    let Came {
-        mut streams,
-        image,
-        ..
-    } = came;
-    if status != MountStatus::Done
-        && verdict_on(rt, words, &image, &mut io::sink()) != Verified::IsClean
-    {
-        let left = leave_beside(&rt, name, &image);
-        let told = tell(rt.alloc(), err, &left);
-        return match left {
-            Left::Beside(_) => status,
-            Left::Nowhere(_) => MountStatus::Refused(told),
-        };
-    }
-    let written = match &mut streams.archive {
-        Some(archive) => archive.finish(&image).is_ok(),
-        None => false,
-    };
-    finish(rt.alloc(), status, name, written, err)
+    let mut beside = Beside::of(rt, name);
+    hand_left(rt.alloc(), mounted, words.minor, name, &mut beside, err).status
 }

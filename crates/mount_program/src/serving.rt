@@ -3,6 +3,7 @@
 use crate::keeping::{Begun, KeptImage, begin, begin_to_keep, finished, refused};
 use gate::paced_gate::Paced;
 use host::command_line::{line_of, status_for};
+use host::frames::frames_for;
 use host::play_words::mount::{MountProgram, MountWords, read as read_words};
 use locked_image::locked::{LockedImage, open};
 use modeldisk::supply::table_in;
@@ -62,12 +63,14 @@ fn mount_image<
     let alloc = rt.alloc();
     let Begun { image, archive } = begun;
     let mortality = mortality(words.die_every, words.kill_every);
-    let table = table_in(image.as_deref().unwrap_or(&[]));
+    let bytes = image.as_deref().unwrap_or(&[]);
+    let table = table_in(bytes);
+    let frames = frames_for(words.frames, bytes.len());
     let killing = Killing::start(alloc, &waits, words.kill_every)?;
     let drivers = mortal_drivers(alloc, words.spares, words.model, mortality, table)?;
     let supply = killing.drivers(alloc, drivers)?;
     let mut setup = mortal_setup(words.minor, mortality);
-    setup.frames = words.frames as usize;
+    setup.frames = frames;
     let gate = Arc::new(alloc, teller.gate(Paced::new(waits))?)?;
     let Messages {
         input,

@@ -4,3 +4,4 @@ mod Owning
 mod Putting
 mod Speaking
 mod Leaving
+mod Ends

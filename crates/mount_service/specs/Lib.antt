@@ -5,3 +5,4 @@ pub mod Kept
 pub mod Left
 pub mod Mounted
 pub mod FilePuts
+pub mod Ending

@@ -3,6 +3,7 @@
 
 pub mod archive;
 pub mod file_archive;
+pub mod handing;
 mod keeper;
 pub mod killed;
 pub mod mortal;

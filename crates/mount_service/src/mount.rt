@@ -1,7 +1,6 @@
 //! Mounting the volume of an image: messages are answered until their stream ends, and the image is left.
 
 ghost use Rattle.std.specs.Prelude.{◌≡◌, IfErr, IfNone, IfOk, IfSome, map};
-ghost use Rattle.std.specs.Bool.{OnTrue, OnFalse};
 ghost use Rattle.mount_service.specs.Mounted.{IsMounted, IsRefused, IsStatus, IsUnmounted, status_number};
 
 use crate::archive::Archive;
@@ -21,7 +20,6 @@ use std::sync::{Arc, Wait};
 use std::thread::Threads;
 use std::time::Clock;
 use talks::answers::Answers;
-use volume_commands::make;
 use volume_mount::StartRefusal;
 
 /// How a mount ended.
@@ -132,24 +130,6 @@ pub fn mount<
             status: MountStatus::Refused(tell(alloc, err, &refusal)),
             came: None,
         },
-    }
-}
-
-/// How a mount ended whose image was to be written to the file of this name: it was written, or it wasn't, and then a line on `err` says
-/// so.
-pub fn finish<E: Write>(
-    alloc: Global,
-    mounted: MountStatus,
-    name: &str,
-    written: bool,
-    err: &mut E,
-) -> MountStatus
-    ensures written { OnTrue written (result ≡ mounted) }
-    ensures unwritten { OnFalse written (IsRefused result) }
-{
-    match make::finish(alloc, name, written, err) {
-        make::CommandStatus::Done => mounted,
-        make::CommandStatus::Refused(told) => MountStatus::Refused(told),
     }
 }
 

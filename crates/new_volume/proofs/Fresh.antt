@@ -8,14 +8,16 @@ use Rattle.std.proofs.Math.Bool.{or-false}
 use Rattle.layout.specs.declared.Geometry.{Geometry}
 use Rattle.layout.specs.Places.{IsGeometry, table_blocks}
 use Rattle.tree.specs.Space.{data_zones}
+use Rattle.tree.specs.declared.User.{User}
 use Rattle.volume.specs.declared.Inode.{Inode}
 use Rattle.volume.specs.Reading.{Disk, disk_of, map_bit, inode_bit, zone_bit, inode_in, inode_of_disk, is_inode, is_data_zone}
 use Rattle.volume.specs.Pieces.{pieces, blank}
-use Rattle.volume.specs.Fresh.{fresh_inode, fresh_entries, fresh_pieces}
+use Rattle.volume.specs.Fresh.{fresh_entries}
 use Rattle.inode.specs.Bytes.{bytes_of}
 use Rattle.inode.proofs.RoundTrip.{Fits, read_back}
 use Rattle.inode.proofs.Stat.{same_inode}
 use Rattle.new_volume.specs.Image.{is_set, map_byte}
+use Rattle.new_volume.specs.Owned.{owned_inode, owned_pieces}
 use Rattle.new_volume.proofs.Bits.{bit_of_map}
 use Rattle.new_volume.proofs.Widths.{large, bit_place, bit_offset, bit_rest, bit_within, inode_place, inode_offset, inode_within, one_block, one_part, two_parts, parts}
 use Rattle.new_volume.proofs.Parts.{image, inode_map_at, zone_map_at, table_at, data_at}
@@ -40,16 +42,21 @@ root_zones z (suc k) low = elim (cases_lt k 9) [
     zero_there (suc n) zero = refl
     zero_there (suc n) (suc k) = zero_there n k
 
-module _ (g : Geometry) (now : ℕ) (ok : IsGeometry g) (early : now < 2 ^ 32) where
+-- the owner's numbers fit their fields
+pub record Owns (owner : User) : Type 0 where
+  pub uid : owner.uid < 2 ^ 16
+  pub gid : owner.gid < 2 ^ 16
+
+module _ (g : Geometry) (now : ℕ) (owner : User) (ok : IsGeometry g) (early : now < 2 ^ 32) (owns : Owns owner) where
   -- the image, its disk and the root's inode
   abbrev bytes : List ℕ
-  bytes = image g now ok
+  bytes = image g now owner ok
 
   abbrev d : Disk
   d = disk_of g bytes
 
   abbrev root : Inode
-  root = fresh_inode g now
+  root = owned_inode g now owner
 
   abbrev B : ℕ
   B = g.block_size
@@ -70,7 +77,7 @@ module _ (g : Geometry) (now : ℕ) (ok : IsGeometry g) (early : now < 2 ^ 32) w
   -- the inode map
   inode_map_is : (n : ℕ) → (nat_le n g.inodes && inode_bit g d n) ≡ nat_le n 1
   inode_map_is n = of_piece g.inodes n (inode_bit g d n) ok.some_inode
-      (λ within. in_map 2 g.inodes n (inode_map_at g now ok (n / 8) (bit_within B ok.block_size n g.inode_map_blocks (omega (arith, ok.inode_map)))))
+      (λ within. in_map 2 g.inodes n (inode_map_at g now owner ok (n / 8) (bit_within B ok.block_size n g.inode_map_blocks (omega (arith, ok.inode_map)))))
 
   -- the zone map
   zone_map_is : (n : ℕ) → (nat_le n (data_zones g) && zone_bit g d n) ≡ nat_le n 1
@@ -79,7 +86,7 @@ module _ (g : Geometry) (now : ℕ) (ok : IsGeometry g) (early : now < 2 ^ 32) w
       let place : (2 + g.inode_map_blocks) * B + n / 8 ≡ 2 * B + (g.inode_map_blocks * B + n / 8)
       = let split = one_part B ok.block_size g.inode_map_blocks in omega arith in
       in_map (2 + g.inode_map_blocks) (data_zones g) n
-      (ap (slice_index bytes) place ∙ zone_map_at g now ok (n / 8) (bit_within B ok.block_size n g.zone_map_blocks (omega (arith, ok.zone_map)))))
+      (ap (slice_index bytes) place ∙ zone_map_at g now owner ok (n / 8) (bit_within B ok.block_size n g.zone_map_blocks (omega (arith, ok.zone_map)))))
 
   -- byte j of inode m + 1
   inode_byte : (m j : ℕ) → m < g.inodes → j < 64
@@ -90,15 +97,15 @@ module _ (g : Geometry) (now : ℕ) (ok : IsGeometry g) (early : now < 2 ^ 32) w
       = let split = two_parts B ok.block_size g.inode_map_blocks g.zone_map_blocks in omega arith in
       at (start + m / (B / 64)) (64 * (m % (B / 64)) + j) (start * B + (64 * m + j)) (inode_offset B ok.block_size m j low) (inode_place B ok.block_size start m j)
       ∙ ap (slice_index bytes) place
-      ∙ table_at g now ok (64 * m + j) (inode_within B ok.block_size g.inodes m j within low)
+      ∙ table_at g now owner ok (64 * m + j) (inode_within B ok.block_size g.inodes m j within low)
 
   -- the numbers of the root fit
   root_fits : Fits root
   root_fits = record {
     mode = omega arith;
     links = omega arith;
-    uid = omega arith;
-    gid = omega arith;
+    uid = owns.uid;
+    gid = owns.gid;
     size = omega arith;
     atime = omega (arith, early);
     mtime = omega (arith, early);
@@ -119,13 +126,13 @@ module _ (g : Geometry) (now : ℕ) (ok : IsGeometry g) (early : now < 2 ^ 32) w
       (λ k under. inode_byte m k within under ∙ get_or_past (bytes_of root) (64 * m + k) 0 (omega arith))
 
   -- the inodes
-  inodes_are : (n : ℕ) → (if is_inode g n then inode_of_disk g d n else blank) ≡ (fresh_pieces g now).inodes n
+  inodes_are : (n : ℕ) → (if is_inode g n then inode_of_disk g d n else blank) ≡ (owned_pieces g now owner).inodes n
   inodes_are n = elim (cases_eq n 1) [
     | inl is ↦
         ap (λ k. if is_inode g k then inode_of_disk g d k else blank) is
         ∙ cond-true (is_inode g 1) (inode_of_disk g d 1) blank (le-leb 1 g.inodes ok.some_inode)
         ∙ root_is
-        ∙ sym (ap (fresh_pieces g now).inodes is)
+        ∙ sym (ap (owned_pieces g now owner).inodes is)
     | inr other ↦
         let rest = if is_inode g n then inode_in (λ p. 0) 0 else blank in
         in_table n (is_inode g n) refl other ∙ sym (cond-false (n == 1) root rest (ne_eqb n 1 other))
@@ -147,7 +154,7 @@ module _ (g : Geometry) (now : ℕ) (ok : IsGeometry g) (early : now < 2 ^ 32) w
       let place : start * B + o ≡ 2 * B + (g.inode_map_blocks * B + (g.zone_map_blocks * B + (table_blocks g * B + (q * B + o))))
       = let split = parts B ok.block_size g.inode_map_blocks g.zone_map_blocks (table_blocks g) q in omega arith in
       at start o (2 * B + (g.inode_map_blocks * B + (g.zone_map_blocks * B + (table_blocks g * B + (q * B + o))))) within place
-      ∙ data_at g now ok (q * B + o)
+      ∙ data_at g now owner ok (q * B + o)
 
   -- a byte past the directory's entries
   no_entry : (p : ℕ) → 70 ≤ p → slice_index fresh_entries p ≡ 0
@@ -189,7 +196,7 @@ module _ (g : Geometry) (now : ℕ) (ok : IsGeometry g) (early : now < 2 ^ 32) w
           ∙ sym (cond-false (z == g.first_zone) (slice_index fresh_entries o) 0 (ne_eqb z g.first_zone (λ e. let same = sym first ∙ sym (ap (is_data_zone g) e) ∙ is in absurd (cc))))
 
   -- all four
-  pub pieces_are : pieces g d ≡ fresh_pieces g now
+  pub pieces_are : pieces g d ≡ owned_pieces g now owner
   pieces_are = λ i. record {
     inode_map = λ n. inode_map_is n i;
     zone_map = λ n. zone_map_is n i;

@@ -5,23 +5,23 @@ use Rattle.std.proofs.lemmas.Bool.{ltb-false, leb-false, eqb-false}
 use Rattle.lemmas.proofs.Bools.{not_false}
 use Rattle.layout.specs.declared.Geometry.{Geometry}
 use Rattle.layout.specs.Places.{IsGeometry, is_block_size, geometry_of}
-use Rattle.tree.specs.Laws.{fresh_tree}
+use Rattle.tree.specs.declared.User.{User}
 use Rattle.volume.specs.Reading.{disk_of}
 use Rattle.volume.specs.Pieces.{pieces}
-use Rattle.volume.specs.Fresh.{fresh_pieces}
 use Rattle.volume.specs.Holds.{HoldsNodes}
 use Rattle.volume.specs.Verdict.{HoldsClosed}
-use Rattle.volume.proofs.FreshHolds.{fresh_holds}
 use Rattle.volume.proofs.CleanTree.{clean_is_a_tree}
 use Rattle.new_volume.specs.declared.MkfsRefusal.{MkfsRefusal}
 use Rattle.new_volume.specs.declared.MkfsRefusal.TheVariants.{BadBlockSize, BadInodes, TooManyBlocks, TooFewBlocks}
 use Rattle.new_volume.specs.Sizes.{new_geometry, sizes_of}
 use Rattle.new_volume.specs.Image.{new_image}
-use Rattle.new_volume.specs.Made.{IsNewVolume}
+use Rattle.new_volume.specs.Made.{IsNewVolume, IsOwnedVolume}
+use Rattle.new_volume.specs.Owned.{owned_pieces, owned_tree, user_0}
 use Rattle.new_volume.proofs.Widths.{sized, held}
 use Rattle.new_volume.proofs.Parts.{image, image_is, image_length, image_parsed}
 use Rattle.new_volume.proofs.OfBytes.{image_of_bytes}
-use Rattle.new_volume.proofs.Fresh.{pieces_are}
+use Rattle.new_volume.proofs.Fresh.{Owns, pieces_are}
+use Rattle.new_volume.proofs.Owned.{owned_holds}
 
 -- a test that was passed, and what comes after it
 passed : (b : Bool) (refusal : MkfsRefusal) (rest : Result Geometry MkfsRefusal) (g : Geometry)
@@ -82,28 +82,45 @@ pub ranges : (blocks block_size inodes : ℕ) (g : Geometry) → sizes_of blocks
 ranges blocks block_size inodes g h = let a = accepted blocks block_size inodes g h in subst IsGeometry a.is a.ok
 
 -- the image of a new volume
-pub made : (blocks block_size inodes now : ℕ) (g : Geometry) (bytes : List ℕ) → sizes_of blocks block_size inodes ≡ Ok g → now < 2 ^ 32
-    → bytes ≡ new_image g now → IsNewVolume blocks block_size inodes now bytes
-made blocks block_size inodes now g bytes sizes early is =
-    let low : All (λ b. b < 256) bytes = subst (All (λ b. b < 256)) (sym is) (image_of_bytes g now) in
+pub made : (blocks block_size inodes now : ℕ) (owner : User) (g : Geometry) (bytes : List ℕ) → sizes_of blocks block_size inodes ≡ Ok g → now < 2 ^ 32
+    → Owns owner → bytes ≡ new_image g now owner → IsOwnedVolume blocks block_size inodes now owner bytes
+made blocks block_size inodes now owner g bytes sizes early owns is =
+    let low : All (λ b. b < 256) bytes = subst (All (λ b. b < 256)) (sym is) (image_of_bytes g now owner) in
     let a = accepted blocks block_size inodes g sizes in
     let ok = ranges blocks block_size inodes g sizes in
-    let same : image g now ok ≡ bytes = sym (is ∙ image_is g now ok) in
-    let parsed : geometry_of bytes ≡ Ok g = subst (λ l. geometry_of l ≡ Ok g) same (image_parsed g now ok) in
-    let piece : pieces g (disk_of g bytes) ≡ fresh_pieces g now = subst (λ l. pieces g (disk_of g l) ≡ fresh_pieces g now) same (pieces_are g now ok early) in
-    let tree : HoldsClosed bytes (fresh_tree now) = record {
+    let same : image g now owner ok ≡ bytes = sym (is ∙ image_is g now owner ok) in
+    let parsed : geometry_of bytes ≡ Ok g = subst (λ l. geometry_of l ≡ Ok g) same (image_parsed g now owner ok) in
+    let piece : pieces g (disk_of g bytes) ≡ owned_pieces g now owner
+    = subst (λ l. pieces g (disk_of g l) ≡ owned_pieces g now owner) same (pieces_are g now owner ok early owns) in
+    let tree : HoldsClosed bytes (owned_tree now owner) = record {
       geometry = g;
       parsed = parsed;
-      holds = subst (λ v. HoldsNodes g v (fresh_tree now)) (sym piece) (fresh_holds g now ok early);
+      holds = subst (λ v. HoldsNodes g v (owned_tree now owner)) (sym piece) (owned_holds g now owner ok early owns);
       closed = record { open_files = refl; descriptors = refl };
     } in
     record {
       volume = g;
       sizes = sizes;
       bytes = is;
-      whole = ap length (sym same) ∙ image_length g now ok ∙ ap (λ (v : Geometry). v.zones * v.block_size) (sym a.is);
+      whole = ap length (sym same) ∙ image_length g now owner ok ∙ ap (λ (v : Geometry). v.zones * v.block_size) (sym a.is);
       parsed = parsed;
       pieces = piece;
       held = tree;
-      clean = (clean_is_a_tree bytes low).1 (fresh_tree now, tree);
+      clean = (clean_is_a_tree bytes low).1 (owned_tree now owner, tree);
+    }
+
+-- that of user 0
+pub made_for_user_0 : (blocks block_size inodes now : ℕ) (g : Geometry) (bytes : List ℕ) → sizes_of blocks block_size inodes ≡ Ok g → now < 2 ^ 32
+    → bytes ≡ new_image g now user_0 → IsNewVolume blocks block_size inodes now bytes
+made_for_user_0 blocks block_size inodes now g bytes sizes early is =
+    let own = made blocks block_size inodes now user_0 g bytes sizes early (record { uid = omega arith; gid = omega arith }) is in
+    record {
+      volume = own.volume;
+      sizes = own.sizes;
+      bytes = own.bytes;
+      whole = own.whole;
+      parsed = own.parsed;
+      pieces = own.pieces;
+      held = own.held;
+      clean = own.clean;
     }

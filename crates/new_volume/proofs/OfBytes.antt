@@ -9,9 +9,11 @@ use Rattle.layout.specs.Places.{table_blocks}
 use Rattle.layout.specs.Superblock.{superblock_bytes, with_superblock}
 use Rattle.tree.specs.Space.{data_zones}
 use Rattle.volume.specs.declared.Inode.{Inode}
-use Rattle.volume.specs.Fresh.{fresh_inode, fresh_entries}
+use Rattle.tree.specs.declared.User.{User}
+use Rattle.volume.specs.Fresh.{fresh_entries}
 use Rattle.inode.specs.Bytes.{bytes_of}
 use Rattle.new_volume.specs.Image.{map_byte, map_bytes, filled, new_image}
+use Rattle.new_volume.specs.Owned.{owned_inode}
 use Rattle.new_volume.proofs.Bits.{map_byte_small}
 
 -- a number is a byte
@@ -87,8 +89,8 @@ entries =
     both (both (entry (46 ∷ []) dot) (zeros 59)) (entry (46 ∷ 46 ∷ []) (and 46 (omega arith) dot))
 
 -- the image
-pub image_of_bytes : (g : Geometry) (now : ℕ) → All (λ b. b < 256) (new_image g now)
-image_of_bytes g now =
+pub image_of_bytes : (g : Geometry) (now : ℕ) (owner : User) → All (λ b. b < 256) (new_image g now owner)
+image_of_bytes g now owner =
     let maps = both (both (head g (2 * g.block_size)) (mapped g.inodes (g.inode_map_blocks * g.block_size))) (mapped (data_zones g) (g.zone_map_blocks * g.block_size)) in
-    let table = full (bytes_of (fresh_inode g now)) (table_blocks g * g.block_size) (inode (fresh_inode g now)) in
+    let table = full (bytes_of (owned_inode g now owner)) (table_blocks g * g.block_size) (inode (owned_inode g now owner)) in
     (both (both maps table) (full fresh_entries (data_zones g * g.block_size) entries)).all

@@ -8,9 +8,11 @@ use Rattle.layout.specs.Places.{IsGeometry, geometry_of, table_blocks}
 use Rattle.layout.specs.Superblock.{superblock_bytes, with_superblock}
 use Rattle.layout.proofs.Written.{reads_back}
 use Rattle.tree.specs.Space.{data_zones}
-use Rattle.volume.specs.Fresh.{fresh_inode, fresh_entries}
+use Rattle.tree.specs.declared.User.{User}
+use Rattle.volume.specs.Fresh.{fresh_entries}
 use Rattle.inode.specs.Bytes.{bytes_of}
 use Rattle.new_volume.specs.Image.{map_byte, map_bytes, filled, filled_image, new_image, new_tables}
+use Rattle.new_volume.specs.Owned.{owned_inode}
 use Rattle.new_volume.proofs.Widths.{large, some_block, one_block, parts}
 
 -- zeros after bytes say no more than there is past their end
@@ -34,8 +36,8 @@ map_at : (last size k : ℕ) → k < size → slice_index (map_bytes last size) 
 map_at last size k within = get_or-map-range_with_len (map_byte last) 0 size k k 0 within (omega arith)
 
 -- an inode has 64 bytes
-inode_length : (g : Geometry) (now : ℕ) → length (bytes_of (fresh_inode g now)) ≡ 64
-inode_length g now = refl
+inode_length : (g : Geometry) (now : ℕ) (owner : User) → length (bytes_of (owned_inode g now owner)) ≡ 64
+inode_length g now owner = refl
 
 -- what comes after five lists, one by one
 regroup : (a b c d e : List ℕ) → a ++ b ++ c ++ d ++ e ≡ a ++ (b ++ (c ++ (d ++ e)))
@@ -54,7 +56,7 @@ front_length g xs long =
     let bytes : length (superblock_bytes g) ≡ 31 = refl in
     omega (arith, length-append (take 1024 xs) (superblock_bytes g ++ drop 1055 xs), length-append (superblock_bytes g) (drop 1055 xs), length-take-le 1024 xs (omega arith), length-drop 1055 xs)
 
-module _ (g : Geometry) (now : ℕ) (ok : IsGeometry g) where
+module _ (g : Geometry) (now : ℕ) (owner : User) (ok : IsGeometry g) where
   abbrev pub B : ℕ
   B = g.block_size
 
@@ -71,7 +73,7 @@ module _ (g : Geometry) (now : ℕ) (ok : IsGeometry g) where
   zone_map = map_bytes (data_zones g) (g.zone_map_blocks * B)
 
   abbrev pub table : List ℕ
-  table = filled (bytes_of (fresh_inode g now)) (table_blocks g * B)
+  table = filled (bytes_of (owned_inode g now owner)) (table_blocks g * B)
 
   abbrev pub data_part : List ℕ
   data_part = filled fresh_entries (data_zones g * B)
@@ -80,7 +82,7 @@ module _ (g : Geometry) (now : ℕ) (ok : IsGeometry g) where
   abbrev pub image : List ℕ
   image = head ++ (inode_map ++ (zone_map ++ (table ++ data_part)))
 
-  pub image_is : new_image g now ≡ image
+  pub image_is : new_image g now owner ≡ image
   image_is = regroup head inode_map zone_map table data_part
 
   long : 1055 ≤ length zeros
@@ -98,7 +100,7 @@ module _ (g : Geometry) (now : ℕ) (ok : IsGeometry g) where
   table_length : length table ≡ table_blocks g * B
   table_length =
       let some = one_block B ok.block_size (table_blocks g) (some_block B ok.block_size (64 * g.inodes) (omega (arith, ok.some_inode))) in
-      filled_length (bytes_of (fresh_inode g now)) (table_blocks g * B) (omega (arith, large B ok.block_size, inode_length g now))
+      filled_length (bytes_of (owned_inode g now owner)) (table_blocks g * B) (omega (arith, large B ok.block_size, inode_length g now owner))
 
   data_length : length data_part ≡ data_zones g * B
   data_length =
@@ -125,14 +127,14 @@ module _ (g : Geometry) (now : ℕ) (ok : IsGeometry g) where
 
   -- of the inode table
   pub table_at : (k : ℕ) → k < table_blocks g * B
-      → slice_index image (2 * B + (g.inode_map_blocks * B + (g.zone_map_blocks * B + k))) ≡ slice_index (bytes_of (fresh_inode g now)) k
+      → slice_index image (2 * B + (g.inode_map_blocks * B + (g.zone_map_blocks * B + k))) ≡ slice_index (bytes_of (owned_inode g now owner)) k
   table_at k within =
       (λ i. slice_index image (sym head_length i + (sym inode_map_length i + (sym zone_map_length i + k))))
       ∙ get_or-append-add head _ (length inode_map + (length zone_map + k)) 0
       ∙ get_or-append-add inode_map _ (length zone_map + k) 0
       ∙ get_or-append-add zone_map _ k 0
       ∙ get_or_append_left table _ 0 k (omega (arith, table_length))
-      ∙ filled_at (bytes_of (fresh_inode g now)) (table_blocks g * B) k
+      ∙ filled_at (bytes_of (owned_inode g now owner)) (table_blocks g * B) k
 
   -- of the data zones
   pub data_at : (k : ℕ)
@@ -164,11 +166,11 @@ module _ (g : Geometry) (now : ℕ) (ok : IsGeometry g) where
       )
 
   -- without the zeros at its end
-  pub front_filled : filled_image g (new_tables g now ++ fresh_entries) ≡ new_image g now
+  pub front_filled : filled_image g (new_tables g now owner ++ fresh_entries) ≡ new_image g now owner
   front_filled =
-      let tables = new_tables g now in
+      let tables = new_tables g now owner in
       let n = data_zones g * B - length fresh_entries in
-      let whole : length (new_image g now) ≡ g.zones * B = ap length image_is ∙ image_length in
+      let whole : length (new_image g now owner) ≡ g.zones * B = ap length image_is ∙ image_length in
       let left : g.zones * B - length (tables ++ fresh_entries) ≡ n = omega (
         arith,
         whole,

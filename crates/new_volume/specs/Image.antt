@@ -6,8 +6,10 @@ use Rattle.layout.specs.Places.{table_blocks}
 use Rattle.layout.specs.Superblock.{with_superblock}
 use Rattle.tree.specs.Sums.{sum_below}
 use Rattle.tree.specs.Space.{data_zones}
-use Rattle.volume.specs.Fresh.{fresh_inode, fresh_entries}
+use Rattle.tree.specs.declared.User.{User}
+use Rattle.volume.specs.Fresh.{fresh_entries}
 use Rattle.inode.specs.Bytes.{bytes_of}
+use Rattle.new_volume.specs.Owned.{owned_inode}
 
 -- Whether bit b of a new map is set, the last of whose bits that say something is this: bit 0, that of the root or its zone,
 -- and those past the last.
@@ -31,13 +33,13 @@ abbrev pub filled_image : Geometry → List ℕ → List ℕ
 filled_image g front = filled front (g.zones * g.block_size)
 
 -- two blocks with the superblock, the maps, and the inode table with the root's inode first; all else is zero
-abbrev pub new_tables : Geometry → ℕ → List ℕ
-new_tables g now =
+abbrev pub new_tables : Geometry → ℕ → User → List ℕ
+new_tables g now owner =
     with_superblock g (replicate (2 * g.block_size) 0)
     ++ map_bytes g.inodes (g.inode_map_blocks * g.block_size)
     ++ map_bytes (data_zones g) (g.zone_map_blocks * g.block_size)
-    ++ filled (bytes_of (fresh_inode g now)) (table_blocks g * g.block_size)
+    ++ filled (bytes_of (owned_inode g now owner)) (table_blocks g * g.block_size)
 
 -- These, and the data zones with the root's directory first; all else is zero.
-abbrev pub new_image : Geometry → ℕ → List ℕ
-new_image g now = new_tables g now ++ filled fresh_entries (data_zones g * g.block_size)
+abbrev pub new_image : Geometry → ℕ → User → List ℕ
+new_image g now owner = new_tables g now owner ++ filled fresh_entries (data_zones g * g.block_size)

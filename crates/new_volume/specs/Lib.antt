@@ -1,3 +1,4 @@
 pub mod Image
 pub mod Made
+pub mod Owned
 pub mod Sizes

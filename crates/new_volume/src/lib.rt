@@ -4,16 +4,17 @@
 ghost use Rattle.std.specs.Prelude.{◌≡◌, ◌≤◌, ◌<◌, ◌+◌, ◌-◌, ◌*◌, ◌++◌, ◌^◌, Ok, IfOk, IfErr, OnOk, length};
 ghost use Rattle.layout.specs.Places.{IsGeometry, table_blocks};
 ghost use Rattle.tree.specs.Space.{data_zones};
-ghost use Rattle.volume.specs.Fresh.{fresh_inode};
 ghost use Rattle.new_volume.specs.Sizes.{blocks_for, new_geometry, refusal_name, refusal_number, sizes_of};
 ghost use Rattle.new_volume.specs.Image.{filled, filled_image, is_set, map_byte, map_bytes, new_image, new_tables};
-ghost use Rattle.new_volume.specs.Made.{IsNewVolume, IsRefused};
+ghost use Rattle.new_volume.specs.Made.{IsNewVolume, IsOwnedVolume, IsRefused};
+ghost use Rattle.new_volume.specs.Owned.{owned_inode, user_0};
 
 use inode::encode;
 use layout::Geometry;
 use std::alloc::{AllocError, Global};
 use std::error::Error;
 use std::fmt;
+use tree::User;
 use volume::Inode;
 
 /// Why no volume is made: the first of these that holds, in this order.
@@ -183,7 +184,8 @@ impl NewVolume {
     }
 }
 
-/// The image that `mkfs` makes, without the zeros behind the root's directory: little memory is taken where the volume is large.
+/// The image that `mkfs` makes, but with the root of this user and this group, and without the zeros behind the root's directory:
+/// little memory is taken where the volume is large.
 ///
 /// Refused as `mkfs` is.
 pub fn mkfs_front(
@@ -192,15 +194,18 @@ pub fn mkfs_front(
     block_size: u32,
     inodes: u32,
     now: u32,
+    uid: u16,
+    gid: u16,
 ) -> Result<NewVolume, MkfsRefusal>
-    ensures made { IfOk result (λ new. IsNewVolume blocks block_size inodes now (filled_image new.volume new.front.items)) }
+    ensures made { IfOk result (λ new. IsOwnedVolume blocks block_size inodes now (record { uid = uid; gid = gid })
+        (filled_image new.volume new.front.items)) }
     ensures sizes { IfOk result (λ new. sizes_of blocks block_size inodes ≡ Ok new.volume) }
     ensures geometry { IfOk result (λ new. IsGeometry new.volume) }
     ensures refused { IfErr result (IsRefused blocks block_size inodes) }
 {
     let geometry = sizes(blocks, block_size, inodes)?;
     let room = bytes_in(&geometry, geometry.first_zone) as usize + ENTRIES.len();
-    let mut front = new_tables(alloc, &geometry, now, room)?;
+    let mut front = new_tables(alloc, &geometry, now, User { uid, gid }, room)?;
     front.extend_from_slice(&ENTRIES)?;
     Ok(NewVolume {
         volume: geometry,
@@ -208,14 +213,17 @@ pub fn mkfs_front(
     })
 }
 
+/// Whose the root is where nothing else is said.
+const USER_0: User = User { uid: 0, gid: 0 };
+
 /// The image of a new volume of these sizes, each byte of which is written once.
 fn new_image(alloc: Global, volume: &Geometry, now: u32) -> Result<Vec<u8>, AllocError>
     requires { IsGeometry volume.now }
-    ensures { IfOk result (λ image. image.items ≡ new_image volume.now now) }
+    ensures { IfOk result (λ image. image.items ≡ new_image volume.now now user_0) }
 {
     let zones = volume.zones - volume.first_zone;
     let room = bytes_in(volume, volume.zones) as usize;
-    let mut image = new_tables(alloc, volume, now, room)?;
+    let mut image = new_tables(alloc, volume, now, USER_0, room)?;
     push_filled(&mut image, &ENTRIES, bytes_in(volume, zones))?;
     Ok(image)
 }
@@ -225,10 +233,11 @@ fn new_tables(
     alloc: Global,
     volume: &Geometry,
     now: u32,
+    owner: User,
     room: usize,
 ) -> Result<Vec<u8>, AllocError>
     requires { IsGeometry volume.now }
-    ensures { IfOk result (λ image. image.items ≡ new_tables volume.now now) }
+    ensures { IfOk result (λ image. image.items ≡ new_tables volume.now now owner) }
 {
     let zones = volume.zones - volume.first_zone;
     let table = blocks_for(64 * volume.inodes, volume.block_size);
@@ -243,7 +252,7 @@ fn new_tables(
     push_map(&mut image, zones, bytes_in(volume, volume.zone_map_blocks))?;
     push_filled(
         &mut image,
-        &encode(&root(volume, now)),
+        &encode(&root(volume, now, owner)),
         bytes_in(volume, table),
     )?;
     Ok(image)
@@ -257,14 +266,14 @@ const ENTRIES: [u8; 70] = [
 ];
 
 /// The root's inode.
-fn root(volume: &Geometry, now: u32) -> Inode
-    ensures { result ≡ fresh_inode volume.now now }
+fn root(volume: &Geometry, now: u32, owner: User) -> Inode
+    ensures { result ≡ owned_inode volume.now now owner }
 {
     Inode {
         mode: 0o040755,
         links: 2,
-        uid: 0,
-        gid: 0,
+        uid: owner.uid,
+        gid: owner.gid,
         size: 128,
         atime: now,
         mtime: now,

@@ -23,4 +23,5 @@ mod ViewRows
 mod SessionRows
 mod ServerRows
 mod ServerRight
+mod FlushRows
 mod MountRows

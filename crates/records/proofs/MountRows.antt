@@ -47,6 +47,8 @@ busy told ended = record {
   told = told;
   ended = ended;
   settled = Unit {0};
+  unwritten = λ block. false;
+  wanted = false;
 }
 
 -- where a file is open, unmounting does nothing, and so takes no End

@@ -3,7 +3,7 @@ use Rattle.std.specs.Prelude.{◌≡◌, List, [], ◌∷◌, Bool, true, false,
 use Rattle.std.proofs.Common.{inl, ap, sym, subst, ◌∙◌}
 use Rattle.lemmas.proofs.Bools.{false_not_true}
 use Rattle.errno.specs.declared.Errno.TheVariants.{EIO}
-use Rattle.message.specs.declared.Incoming.TheVariants.{End}
+use Rattle.message.specs.declared.Incoming.TheVariants.{Flush, End}
 use Rattle.tree.specs.declared.Call.TheVariants as call
 use Rattle.tree.specs.Sums.{sum_below, some_below, least_below}
 use Rattle.tree.specs.Tree.{Tree, OpenFile, most_open_files}
@@ -15,7 +15,7 @@ use Rattle.records.specs.Disk.{Contents}
 use Rattle.records.specs.Acts.{empty_outbox, target}
 use Rattle.records.specs.Legal.{IsLegalTook, IsLegalCall, tree_after, tree_after_answer}
 use Rattle.records.specs.View.{server_view}
-use Rattle.records.specs.ServerCall.{Serving, has_open_file, Outcome, Replied, Cut, CallKeeps, AbsorbKeeps}
+use Rattle.records.specs.ServerCall.{Serving, KnowsUnwritten, has_open_file, Outcome, Replied, Cut, CallKeeps, AbsorbKeeps}
 use Rattle.records.specs.Mount.{OpenKeeps}
 use Rattle.records.specs.Unmount.{UnmountKeeps, Busy, Unmounted}
 use Rattle.records.proofs.LegalRows.{small, user_0, fresh, stat_root, root_of_size}
@@ -33,7 +33,13 @@ server is_busy ended = record {
   told = [];
   ended = ended;
   settled = Unit {0};
+  unwritten = λ block. false;
+  wanted = false;
 }
+
+-- it has no frames, and nothing to write
+knows : (is_busy ended : Bool) (image : Contents) (marks : List Mark) → KnowsUnwritten (server is_busy ended) image marks
+knows is_busy ended image marks = record { framed = λ block is. absurd (false_not_true is); others = λ tr block not_so none. refl }
 
 -- of no open files none is open
 none_open : some_below (λ k. is_some {T = OpenFile} None) most_open_files ≡ false
@@ -91,6 +97,12 @@ right_call = record {
   once_given_up = λ image tree marks agrees given_up. absurd (false_not_true (sym agrees.1 ∙ given_up));
   after_giving_up = λ image tree marks agrees given_up. refl;
   after_end = λ ended. refl;
+  still = λ fd is unwanted. refl;
+  flushed = λ answer is other. refl;
+  looked = λ image tree marks s true_replies only. record {
+    same = refl;
+    covered = record { each = (s.has_tree true_replies refl s.agrees.1).reads_back.covered.each };
+  };
   serves = λ image tree marks s.
       let after : tree_after small tree (Took user_0 100 stat_root (root_of_size 128) ∷ marks) ≡ tree_after small tree marks =
       stays_fresh tree marks s.agrees.0 s.agrees.1 ∙ sym s.agrees.0 in
@@ -99,6 +111,7 @@ right_call = record {
         well_formed = (s.well_formed, tt);
         inside = s.inside;
         at_rest = record { complaint = refl; post = s.at_rest.post };
+        unwritten = knows false false image (Took user_0 100 stat_root (root_of_size 128) ∷ marks);
         legal = λ true_replies. (s.legal true_replies, legal_took image tree marks s.agrees.0 s.agrees.1);
         has_tree = λ true_replies live not_given_up.
             let was = s.has_tree true_replies live not_given_up in
@@ -127,6 +140,9 @@ right_cut = record {
   once_given_up = λ image tree marks agrees given_up. inl refl;
   after_giving_up = λ image tree marks agrees given_up. refl;
   after_end = λ ended. refl;
+  still = λ fd is unwanted. refl;
+  flushed = λ answer is other. refl;
+  looked = λ image tree marks s true_replies only. absurd (false_not_true only);
   serves = λ image tree marks s. s;
 }
 
@@ -134,6 +150,10 @@ right_cut = record {
 none_due : (b : Bool) → (b && not false && not true) ≡ false
 none_due true = refl
 none_due false = refl
+
+-- an End is no Flush
+end_flush : End ≡ Flush → ⊥
+end_flush e = cc
 
 -- an End between two calls has no effect
 right_end : AbsorbKeeps (server false false) End (server false false)
@@ -144,6 +164,8 @@ right_end = record {
   none_taken = refl;
   same_files = refl;
   no_effect = λ e. refl;
+  flushed = λ other. refl;
+  flushes = λ image tree marks agrees is. absurd (end_flush is);
   rules = λ image tree marks agrees. record { keep = (tt, record { complaint = refl; post = none_due (is_some (target marks)) }); outbox = refl };
   serves = λ image tree marks s. s;
 }
@@ -178,13 +200,14 @@ right_open = record {
   geometry = refl;
   minor_is = refl;
   told = refl;
-  is_new = record { frame_count = refl; as_many = refl; frames = λ block. refl; not_busy = refl; not_ended = refl };
+  is_new = record { frame_count = refl; as_many = refl; frames = λ block. refl; not_busy = refl; not_ended = refl; not_wanted = refl };
   outbox = refl;
   serves = λ image tree first. record {
     agrees = refl;
     well_formed = tt;
     inside = tt;
     at_rest = record { complaint = refl; post = refl };
+    unwritten = record { framed = λ block is. absurd (false_not_true is); others = λ tr block not_so none. refl };
     legal = λ true_replies. tt;
     has_tree = λ true_replies live not_given_up. record {
       reads_back = record { holds = first.holds; covered = record { each = λ place is_unsure. absurd (false_not_true is_unsure) } };

@@ -11,6 +11,7 @@ pub mod Laws
 pub mod Legal
 pub mod View
 pub mod Settled
+pub mod Flushes
 pub mod ServerCall
 pub mod Mount
 pub mod Unmount

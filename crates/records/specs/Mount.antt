@@ -45,13 +45,15 @@ volume_read marks = first_bytes (bytes_read marks) (volume_size marks)
 pub record AreRead (marks : List Mark) (n : ℕ) : Type 0 where
   pub each : (place : ℕ) → place < n → is_read marks place ≡ true
 
--- a server just made with so many frames, a number that is allowed: none of them is in use, no file is open and its link hasn't ended
+-- a server just made with so many frames, a number that is allowed: none of them is in use, no file is open, its link hasn't ended, and no
+-- Flush is wanted
 pub record IsJustMade (asked : ℕ) (new : Serving) : Type 0 where
   pub frame_count : is_frame_count asked ≡ true
   pub as_many : new.frame_count ≡ asked
   pub frames : (block : ℕ) → new.frames block ≡ None
   pub not_busy : new.is_busy ≡ false
   pub not_ended : new.ended ≡ false
+  pub not_wanted : new.wanted ≡ false
 
 -- A server that was opened: it told its link nothing and took nothing. Whatever tree the link's disk holds, it serves that.
 pub record OpenKeeps (g : Geometry) (minor frames : ℕ) (before : List Told) (new : Serving) : Type 0 where

@@ -1,23 +1,27 @@
 -- What a call of a server and a message between two calls keep, over any link.
-use Rattle.std.specs.Prelude.{◌≡◌, ◌↔◌, ◌⊎◌, ℕ, List, [], ◌∷◌, ◌++◌, Bool, true, false, ◌||◌, is_some}
+use Rattle.std.specs.Prelude.{◌≡◌, ◌≢◌, ◌↔◌, ◌⊎◌, ℕ, List, [], ◌∷◌, ◌++◌, Bool, true, false, not, ◌&&◌, ◌||◌, is_some, IsSome, IsTrue}
+use Rattle.std.specs.List.{list_any}
 use Rattle.errno.specs.declared.Errno.TheVariants.{EIO}
 use Rattle.layout.specs.declared.Geometry.{Geometry}
 use Rattle.message.specs.declared.Incoming.{Incoming}
-use Rattle.message.specs.declared.Incoming.TheVariants.{End}
+use Rattle.message.specs.declared.Incoming.TheVariants.{Flush, End}
 use Rattle.tree.specs.declared.Who.{Who}
 use Rattle.tree.specs.declared.Call.{Call}
+use Rattle.tree.specs.declared.Call.TheVariants.{Dup}
 use Rattle.tree.specs.Sums.{some_below}
 use Rattle.tree.specs.Tree.{Tree, most_open_files}
 use Rattle.tree.specs.Answers.{Answer, refused}
+use Rattle.volume.specs.Reading.{blocks_of}
 use Rattle.records.specs.Marks.{Mark, Took, gave_up}
 use Rattle.records.specs.Open.{IsWellFormed}
-use Rattle.records.specs.Disk.{Contents, HasTrueReplies}
+use Rattle.records.specs.Disk.{Contents, HasTrueReplies, disk_after}
 use Rattle.records.specs.Told.{Told, took_end, took_nothing}
 use Rattle.records.specs.Acts.{Act, Absorbed, Outbox, told_of, has_absorbed, marks_after, outbox_after, IsAtRest, KeepsRules}
 use Rattle.records.specs.Legal.{IsLegal, tree_after}
-use Rattle.records.specs.View.{Frames, ReadsBack}
+use Rattle.records.specs.View.{Frames, ReadsBack, IsCovered, server_view}
 use Rattle.records.specs.Area.{area_of, WritesInside}
-use Rattle.records.specs.Settled.{is_settled, none_written, LookingWritesNothing}
+use Rattle.records.specs.Settled.{only_looks, is_settled, none_written, LookingWritesNothing}
+use Rattle.records.specs.Flushes.{Flushes, pending_requests, may_write}
 
 -- What is said of a server.
 pub record Serving : Type 1 where
@@ -39,6 +43,10 @@ pub record Serving : Type 1 where
   pub ended : Bool
   -- no frame is changed, and no write is pending
   pub settled : Type 0
+  -- the blocks whose frames were changed, and whose writes aren't under way
+  pub unwritten : ℕ → Bool
+  -- a Flush was taken that wasn't carried out yet
+  pub wanted : Bool
 
 -- whether some file is open
 abbrev pub has_open_file : Tree → Bool
@@ -54,6 +62,14 @@ pub record IsQuiet (s : Serving) (marks : List Mark) : Type 0 where
   pub settled : s.settled
   pub none_written : none_written marks ≡ true
 
+-- Which blocks are unwritten: they have frames. Over true replies, what would be read back of each other block is the disk's, unless a write
+-- is pending that may have it.
+pub record KnowsUnwritten (s : Serving) (image : Contents) (marks : List Mark) : Type 0 where
+  pub framed : (block : ℕ) → s.unwritten block ≡ true → IsSome (s.frames block)
+  pub others : HasTrueReplies image marks → (block : ℕ) → s.unwritten block ≡ false
+      → list_any (may_write s.geometry.block_size block) (pending_requests marks s.outbox) ≡ false
+      → server_view s.geometry s.frames image marks block ≡ blocks_of s.geometry (disk_after image marks) block
+
 -- A server serves a volume: it agrees with the record, which is well formed whatever the link answered, each write in it lies in the
 -- volume behind its first two blocks, and nothing is owed.
 -- Over true replies the record is legal, calls that look wrote nothing where that is promised, and the tree now is there; while calls only
@@ -63,6 +79,7 @@ pub record Serves (s : Serving) (image : Contents) (tree : Tree) (marks : List M
   pub well_formed : IsWellFormed marks
   pub inside : WritesInside s.geometry marks
   pub at_rest : IsAtRest marks s.outbox
+  pub unwritten : KnowsUnwritten s image marks
   pub legal : HasTrueReplies image marks → IsLegal s.geometry image tree marks
   pub has_tree : HasTrueReplies image marks → s.ended ≡ false → gave_up marks ≡ false → HasTree s image tree marks
   pub looking : HasTrueReplies image marks → LookingWritesNothing s.geometry tree marks
@@ -92,8 +109,14 @@ abbrev pub with_outcome : Who → ℕ → Call → Outcome → List Mark → Lis
 with_outcome who now call (Replied answer) marks = Took who now call answer ∷ marks
 with_outcome who now call Cut marks = marks
 
+-- what would be read back stays, and each unsure place lies in a block with a frame
+pub record LeavesView (old new : Serving) (image : Contents) (before after : List Mark) : Type 0 where
+  pub same : server_view new.geometry new.frames image after ≡ server_view old.geometry old.frames image before
+  pub covered : IsCovered new.geometry new.frames after
+
 -- One call. Nothing is handed over in it. It is cut exactly where a take gave End, in it or earlier. Else it answers EIO exactly where
--- the device is given up, in it or earlier. Where either was so earlier, it does nothing.
+-- the device is given up, in it or earlier. Where either was so earlier, it does nothing, and so does a dup where no Flush is wanted.
+-- None is wanted once the call is answered otherwise. A call that only looks leaves what would be read back, also where it is cut.
 pub record CallKeeps (old : Serving) (who : Who) (now : ℕ) (call : Call) (outcome : Outcome) (new : Serving) : Type 0 where
   pub acts : List Act
   pub leads : Leads old acts new
@@ -107,11 +130,21 @@ pub record CallKeeps (old : Serving) (who : Who) (now : ℕ) (call : Call) (outc
   pub after_giving_up : (image : Contents) (tree : Tree) (marks : List Mark) → old.Agrees image tree marks
       → gave_up marks ≡ true → acts ≡ []
   pub after_end : old.ended ≡ true → acts ≡ []
+  pub still : (fd : ℕ) → call ≡ Dup fd → old.wanted ≡ false → acts ≡ []
+  pub flushed : (answer : Answer) → outcome ≡ Replied answer → answer ≢ refused EIO → new.wanted ≡ false
+  pub looked : (image : Contents) (tree : Tree) (marks : List Mark) → Serves old image tree marks → HasTrueReplies image (marks_after acts marks)
+      → IsTrue (only_looks (tree_after old.geometry tree marks) who call) → LeavesView old new image marks (marks_after acts marks)
   pub serves : (image : Contents) (tree : Tree) (marks : List Mark) → Serves old image tree marks
       → Serves new image tree (with_outcome who now call outcome (marks_after acts marks))
 
+-- what a Flush makes a server write
+abbrev pub FlushesOn : Serving → Serving → List Mark → List Mark → Type 0
+FlushesOn old new before after =
+    Flushes old.geometry.block_size (not new.ended && not (gave_up after)) old.unwritten new.unwritten
+    (pending_requests before old.outbox) (pending_requests after new.outbox)
+
 -- One message between two calls: its mark, if it leaves one, stands before what the link is told then; no message is taken, no file is
--- opened or closed, and an End has no effect.
+-- opened or closed, and an End has no effect. A Flush is carried out, and no Flush is wanted after another message than End.
 pub record AbsorbKeeps (old : Serving) (message : Incoming) (new : Serving) : Type 0 where
   pub later : List Act
   pub leads : Leads old (later ++ Absorbed message ∷ []) new
@@ -119,6 +152,9 @@ pub record AbsorbKeeps (old : Serving) (message : Incoming) (new : Serving) : Ty
   pub none_taken : took_nothing (told_of later) ≡ true
   pub same_files : new.is_busy ≡ old.is_busy
   pub no_effect : message ≡ End → later ≡ []
+  pub flushed : message ≢ End → new.wanted ≡ false
+  pub flushes : (image : Contents) (tree : Tree) (marks : List Mark) → old.Agrees image tree marks → message ≡ Flush
+      → FlushesOn old new marks (marks_after (later ++ Absorbed message ∷ []) marks)
   pub rules : (image : Contents) (tree : Tree) (marks : List Mark) → old.Agrees image tree marks
       → Rules old (later ++ Absorbed message ∷ []) new marks
   pub serves : (image : Contents) (tree : Tree) (marks : List Mark) → Serves old image tree marks

@@ -1,25 +1,30 @@
 //! A service: a server that several sessions share, and the threads that it runs on.
 
-ghost use Rattle.std.specs.Prelude.{◌≡◌, [], IfErr, IfOk};
+ghost use Rattle.std.specs.Prelude.{◌≡◌, ◌<◌, [], IfErr, IfOk, None, Some};
 ghost use Rattle.std.specs.Arc.{arc_value};
+ghost use Rattle.std.specs.Bool.{OnFalse, OnTrue};
 ghost use Rattle.records.specs.Opening.{contents_at};
 ghost use Rattle.tree.specs.Tree.{Tree};
 ghost use Rattle.records.specs.Legal.{IsAtFirst};
 ghost use Rattle.shared_server.specs.Stopping.{Went};
 ghost use Rattle.records.specs.Session.{SessionState};
+ghost use Rattle.board.specs.View.{without};
+ghost use Rattle.board.specs.Keeper.{AreAllFree, IsOneUsed};
 ghost use Rattle.shared_media.specs.Confined.{IsImageOutside};
 ghost use Rattle.shared_media.specs.Marking.{AreChangesOutside};
 ghost use Rattle.serve.specs.Closing.{HasClosed};
-ghost use Rattle.serve.specs.Stopping.{IsLastImage, WhyNotSynced};
+ghost use Rattle.serve.specs.Stopping.{IsLastImage, WhoIsLeft, WhyNotSynced};
 ghost use Rattle.shared_server.specs.Held.{HoldsIfTrue, IsAdmitted, IsGood, IsGuaranteed, IsHeld, IsNotAdmitted};
 
 use crate::flusher::Flusher;
+use crate::let_go::LetGo;
 use crate::session::Session;
 use crate::stopping::{StopRefusal, image_of};
-use board::Board;
 use board::counting::parameters::ServiceParameters;
 use board::counting::recorder::Recorder;
+use board::{Board, Seat};
 use changes::Changes;
+use driver_threads::alone::once_alone;
 use driver_threads::running::{MediaHandle, Running};
 use file_server::FileServer;
 use gate::Gate;
@@ -30,7 +35,7 @@ use std::alloc::{AllocError, Global};
 use std::marker::PhantomData;
 use std::sync::{Arc, Mutex, MutexGuard, Wait};
 use std::thread::{Threads, yield_now};
-use tree::Who;
+use tree::{MAX_SESSIONS, Who};
 
 /// How often a session looks whether the server is free before it sleeps.
 const LOOKS: u32 = 10;
@@ -79,8 +84,8 @@ pub struct Service<N: ServiceParameters, R: Wait + Copy, L: Recorder<N>, S: File
     rt: R,
     board: Arc<Board>,
     shared: Arc<Shared<N, R, L, S>>,
-    // None once its thread has ended.
-    flusher: Option<Flusher>,
+    let_go: Arc<LetGo<N>>,
+    flusher: Flusher,
     running: Running<N>,
     of: PhantomData<N>,
     ghost named: { arc_value board ≡ N.table },
@@ -108,12 +113,18 @@ impl<
         requires held { IsHeld N.ServiceParameters L.Link S.Serve.serving S.line S.is_ready S.knows L.runs_on L.marks server }
         requires none_absorbed { S.absorbed server ≡ 0 }
     {
+        let Ok(let_go) = Arc::new(alloc, LetGo::new()) else {
+            drop(server);
+            let _ = running.stop(&rt);
+            return Err(AllocError);
+        };
         match shared_with_flusher(alloc, rt, server, gate) {
             Ok((shared, flusher)) => Ok(Service {
                 rt,
                 board,
                 shared,
-                flusher: Some(flusher),
+                let_go,
+                flusher,
                 running,
                 of: PhantomData,
             }),
@@ -159,7 +170,7 @@ impl<N: ServiceParameters, R: Threads + Wait + Copy, L: Recorder<N>, S: FileServ
     S,
 > {
     /// A session for this user and group, with the lowest number that is free. It has seen the whole record, and made no call. It may wait
-    /// for the calls of other sessions.
+    /// for the calls of other sessions. Sessions that were let go without `end` are ended before.
     ///
     /// It is refused: 1 TooMany where there are 64 sessions, 2 Stopped where the link to the drivers has ended, 3 OutOfMemory, which
     /// may come whatever else holds.
@@ -175,7 +186,9 @@ impl<N: ServiceParameters, R: Threads + Wait + Copy, L: Recorder<N>, S: FileServ
         ensures sound { (tree : Tree) → IsAtFirst N.geometry (contents_at N.opening) tree
             → IfOk result (λ s. IsGood N.geometry N.opening tree s.knows.seen) }
     {
+        self.end_let_go();
         let board = Arc::try_clone(&self.board)?;
+        let let_go = Arc::try_clone(&self.let_go)?;
         let shared = Arc::try_clone(&self.shared)?;
         let (session, seat, seen) = shared.server.lock(&shared.rt).admit()?;
         Ok(Session {
@@ -184,9 +197,38 @@ impl<N: ServiceParameters, R: Threads + Wait + Copy, L: Recorder<N>, S: FileServ
             who: Who { session, uid, gid },
             seen,
             left_open: LeftOpen::new(),
+            let_go,
             shared,
             of: PhantomData,
         })
+    }
+
+    /// A session that was let go without `end`, as it was then. None where there is none, or no further handle of what it shares.
+    fn let_go_session(&self) -> Option<Session<N, Shared<N, R, L, S>>> {
+        let board = Arc::try_clone(&self.board).ok()?;
+        let let_go = Arc::try_clone(&self.let_go).ok()?;
+        let shared = Arc::try_clone(&self.shared).ok()?;
+        let gone = self.let_go.take()?;
+        Some(Session {
+            board,
+            seat: gone.seat,
+            who: gone.who,
+            seen: gone.seen,
+            left_open: gone.left_open,
+            let_go,
+            shared,
+            of: PhantomData,
+        })
+    }
+
+    /// Ends each session that was let go without `end`, as that would have.
+    fn end_let_go(&self) {
+        for _ in 0..MAX_SESSIONS {
+            let Some(session) = self.let_go_session() else {
+                return;
+            };
+            session.end();
+        }
     }
 
     /// The image of the media as they stand: the bytes of as many sectors as were handed in, each of 512 bytes, and outside of the volume
@@ -221,64 +263,62 @@ impl<N: ServiceParameters, R: Threads + Wait + Copy, L: Recorder<N>, S: FileServ
         self.running.media().another()
     }
 
-    /// Whether a session is left.
-    fn has_sessions(&self) -> bool {
-        let others: usize = if self.flusher.is_some() { 2 } else { 1 };
-        Arc::strong_count(&self.shared) > others
+    /// Whether a session has a number, but for this one. It may wait for the calls of sessions.
+    fn has_sessions(&self, but: Option<u8>) -> bool
+        ensures some { OnTrue result ((line : L) × IsOneUsed (without but (L.numbers line))) }
+        ensures none { OnFalse result ((line : L) × AreAllFree (without but (L.numbers line))) }
+    {
+        self.shared.server.lock(&self.rt).has_sessions(but)
     }
 
-    /// Stops the service: the flusher is ended, a last sync is made, the drivers are ended, and the media are given back as an image: the
-    /// bytes of all sectors, as they stand. The media become the image: it takes no memory.
+    /// Stops the service: sessions that were let go without `end` are ended, then the flusher; a last sync is made, the drivers are ended,
+    /// and the media are given back as an image: the bytes of all sectors, as they stand. The media become the image: it takes no memory.
+    /// At the last sync no session has a number.
     ///
-    /// It is refused: 1 SessionsLeft, where some session neither ended nor was let go, which hands the service back; 3 OutOfMemory, where
-    /// a handle of the media is left; 2 GivenUp and 4 LinkEnded, where the last sync wasn't made, with
-    /// the image as the media stand. The first of these that holds is answered.
+    /// It is refused: 1 SessionsLeft, where some session neither ended nor was let go; 3 OutOfMemory, where a handle of the media is left,
+    /// which both hand back the service as it was, its flusher and its drivers going on; 2 GivenUp and 4 LinkEnded, where the last sync
+    /// wasn't made, with the image as the media stand. The first of these that holds is answered.
     pub fn stop(self) -> Result<Vec<u8>, StopRefusal<Service<N, R, L, S>>>
         ensures image { IfOk result (λ image. IsLastImage L.Link N.geometry N.opening [] Went image.items) }
-        ensures refused { IfErr result (WhyNotSynced L.Link N.geometry N.opening []
-            (λ left. (left.board ≡ self.board) × (left.shared ≡ self.shared))) }
+        ensures refused { IfErr result (WhyNotSynced L.Link N.geometry N.opening [] (λ left. left ≡ self)) }
+        ensures sessions { WhoIsLeft L.Link L.numbers N.geometry N.opening [] None result }
     {
-        if self.has_sessions() {
+        self.end_let_go();
+        if self.has_sessions(None) {
             return Err(StopRefusal::SessionsLeft(self));
         }
-        match self.alone() {
-            Ok((rt, locked, running)) => {
-                let how = locked.finish();
-                image_of::<N, Service<N, R, L, S>>(how, running.stop(&rt))
-            }
-            Err(service) => Err(StopRefusal::SessionsLeft(service)),
+        if self.running.is_shared() {
+            return Err(StopRefusal::OutOfMemory(self));
         }
+        let (rt, locked, running) = self.alone(None);
+        let how = locked.finish();
+        image_of::<N, Service<N, R, L, S>>(how, running.stop(&rt))
     }
 
-    /// What lies under the lock, once the flusher was ended, unless somebody shares it.
-    fn alone(self) -> Result<(R, Locked<N, L, S>, Running<N>), Service<N, R, L, S>>
-        ensures { IfErr result (λ left. (left.board ≡ self.board) × (left.shared ≡ self.shared)) }
+    /// What lies under the lock, and the threads of drivers, once the flusher has ended, nobody shares what lies there, and no session has
+    /// a number but for this one. It waits until then: a session that has just ended or was let go may still share it.
+    fn alone(self, but: Option<u8>) -> (R, Locked<N, L, S>, Running<N>)
+        ensures { AreAllFree (without but (L.numbers result.1)) }
     {
         let Service {
             rt,
-            board,
+            board: _,
             shared,
+            let_go: _,
             flusher,
             running,
-            of,
+            of: _,
         } = self;
-        if let Some(flusher) = flusher {
-            flusher.stop(&rt);
-        }
-        match Arc::try_unwrap(shared) {
-            Ok(shared) => {
-                let Shared { rt: _, server } = shared;
-                Ok((rt, server.into_inner(), running))
+        flusher.stop(&rt);
+        let Shared { rt: _, server } = once_alone(&rt, shared);
+        let locked = server.into_inner();
+        for _ in rt.forever() {
+            if !locked.has_sessions(but) {
+                return (rt, locked, running);
             }
-            Err(shared) => Err(Service {
-                rt,
-                board,
-                shared,
-                flusher: None,
-                running,
-                of,
-            }),
+            yield_now();
         }
+        unreachable!()
     }
 
     /// Stops the service once this session, which is one of its, has ended: its descriptors are closed first, as `end` does. What `stop`
@@ -288,39 +328,31 @@ impl<N: ServiceParameters, R: Threads + Wait + Copy, L: Recorder<N>, S: FileServ
         mut last: Session<N, Shared<N, R, L, S>>,
     ) -> Result<Vec<u8>, StopRefusal<Service<N, R, L, S>>>
         ensures image { IfOk result (λ image. IsLastImage L.Link N.geometry N.opening last.knows.seen Went image.items) }
-        ensures refused { IfErr result (WhyNotSynced L.Link N.geometry N.opening last.knows.seen
-            (λ left. (left.board ≡ self.board) × (left.shared ≡ self.shared))) }
+        ensures refused { IfErr result (WhyNotSynced L.Link N.geometry N.opening last.knows.seen (λ left. left ≡ self)) }
+        ensures sessions { WhoIsLeft L.Link L.numbers N.geometry N.opening last.knows.seen (Some last.knows.number) result }
         ensures closed { (closed : SessionState) × HasClosed L.Link N.opening last closed
             × IfOk result (λ image. IsLastImage L.Link N.geometry N.opening closed.knows.seen Went image.items) }
     {
         last.close_all();
-        let Session {
-            board: _,
-            seat,
-            who,
-            seen: _,
-            left_open: _,
-            shared: other,
-            of: _,
-        } = last;
-        drop(other);
-        if self.has_sessions() {
-            self.shared.server.lock(&self.rt).release(who.session, seat);
+        let (number, seat) = last.into_seat();
+        self.end_let_go();
+        if self.has_sessions(Some(number)) {
+            self.release(number, seat);
             return Err(StopRefusal::SessionsLeft(self));
         }
-        match self.alone() {
-            Ok((rt, locked, running)) => {
-                let how = locked.finish_after(who.session, seat);
-                image_of::<N, Service<N, R, L, S>>(how, running.stop(&rt))
-            }
-            Err(service) => {
-                service
-                    .shared
-                    .server
-                    .lock(&service.rt)
-                    .release(who.session, seat);
-                Err(StopRefusal::SessionsLeft(service))
-            }
+        if self.running.is_shared() {
+            self.release(number, seat);
+            return Err(StopRefusal::OutOfMemory(self));
         }
+        let (rt, locked, running) = self.alone(Some(number));
+        let how = locked.finish_after(number, seat);
+        image_of::<N, Service<N, R, L, S>>(how, running.stop(&rt))
+    }
+
+    /// The session of this seat has ended: its number is free again.
+    fn release(&self, number: u8, seat: Seat)
+        requires { (seat.table ≡ N.table) × (seat.view.number ≡ Some number) × (number < 64) }
+    {
+        self.shared.server.lock(&self.rt).release(number, seat);
     }
 }

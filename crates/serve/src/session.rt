@@ -1,6 +1,6 @@
 //! Sessions of a service.
 
-ghost use Rattle.std.specs.Prelude.{◌≡◌, ◌<◌, ◌≤◌, ◌^◌, true};
+ghost use Rattle.std.specs.Prelude.{◌≡◌, ◌<◌, ◌≤◌, ◌^◌, true, Some};
 ghost use Rattle.std.specs.Bool.{OnTrue, OnFalse};
 ghost use Rattle.tree.specs.Tree.{Tree};
 ghost use Rattle.records.specs.Marks.{counted, IsBeginning};
@@ -13,6 +13,7 @@ ghost use Rattle.serve.specs.Closing.{ClosesBelow, ClosesOne, HasClosed, IsFreed
 ghost use Rattle.shared_server.specs.Descriptors.{leaves_open};
 ghost use Rattle.shared_server.specs.Held.{HasEnded, HoldsIfTrue, IsCutAtEnd, IsEioOnceGivenUp, IsGuaranteed, IsSound};
 
+use crate::let_go::{Gone, LetGo};
 use crate::service::Shared;
 use board::counting::parameters::ServiceParameters;
 use board::counting::recorder::Recorder;
@@ -25,9 +26,10 @@ use tree::{Call, MAX_DESCRIPTORS, Outcome, Reply, Who};
 
 /// One client of a service: a user and a group, and what it has seen of the service's record. A session may move to another thread.
 ///
-/// What the sessions of a service share is a type parameter, so that what waits for nobody needs no handle that may wait. A session that is
-/// let go without `end` keeps its number.
-#[derive(Drop)]
+/// What the sessions of a service share is a type parameter, so that what waits for nobody needs no handle that may wait.
+///
+/// A session that is let go without `end` keeps its number and its open files until the service makes a further session or is stopped:
+/// then it is ended, as `end` would have.
 pub struct Session<N: ServiceParameters, S> {
     pub(crate) board: Arc<Board>,
     pub(crate) seat: Seat,
@@ -36,8 +38,32 @@ pub struct Session<N: ServiceParameters, S> {
     pub(crate) seen: u64,
     // The descriptors that its calls left open.
     pub(crate) left_open: LeftOpen,
+    // Where it leaves what it has when it is let go.
+    pub(crate) let_go: Arc<LetGo<N>>,
     pub(crate) shared: Arc<S>,
     pub(crate) of: PhantomData<N>,
+}
+
+impl<N: ServiceParameters, S: Drop> Drop for Session<N, S> {
+    fn drop(self) {
+        let Self {
+            board: _,
+            seat,
+            who,
+            seen,
+            left_open,
+            let_go,
+            shared: _,
+            of,
+        } = self;
+        let_go.put(Gone {
+            seat,
+            who,
+            seen,
+            left_open,
+            of,
+        });
+    }
 }
 
 impl<N: ServiceParameters, S> Model for Session<N, S> {
@@ -171,6 +197,25 @@ impl<N: ServiceParameters, R: Wait + Copy, L: Recorder<N>, S: FileServer<L>> Ses
         MAX_DESCRIPTORS
     }
 
+    /// Its number and its seat; what it shares is let go.
+    pub(crate) fn into_seat(self) -> (u8, Seat)
+        ensures number { result.0 ≡ self.knows.number }
+        ensures seen { result.1.view.seen ≡ self.knows.seen }
+        ensures seat { (result.1.table ≡ N.table) × (result.1.view.number ≡ Some result.0) × (result.0 < 64) }
+    {
+        let Session {
+            board: _,
+            seat,
+            who,
+            seen: _,
+            left_open: _,
+            let_go: _,
+            shared: _,
+            of: _,
+        } = self;
+        (who.session, seat)
+    }
+
     /// Ends the session: closes each descriptor that its calls left open, as `close_all` does; then its number is free again. It may wait
     /// for the calls of other sessions.
     pub fn end(mut self)
@@ -184,6 +229,7 @@ impl<N: ServiceParameters, R: Wait + Copy, L: Recorder<N>, S: FileServer<L>> Ses
             who,
             seen: _,
             left_open: _,
+            let_go: _,
             shared,
             of: _,
         } = self;

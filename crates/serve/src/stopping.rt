@@ -1,6 +1,6 @@
 //! What is left of a service that was stopped.
 
-ghost use Rattle.std.specs.Prelude.{◌≡◌, IfErr, IfOk, IfSome, Some};
+ghost use Rattle.std.specs.Prelude.{◌≡◌, IfErr, IfOk, Some};
 ghost use Rattle.media.specs.Contents.{IsWhole};
 ghost use Rattle.shared_media.specs.Confined.{IsImageOutside, KeepsOutside};
 ghost use Rattle.serve.specs.Stopping.{IsImageOf, IsLeftAfter, IsNoImageOf, no_image_name, stop_refusal_number};
@@ -13,12 +13,13 @@ use std::fmt;
 /// Why a service that is stopped gives no image of a synced volume. `S` is the service.
 #[derive(Drop)]
 pub enum StopRefusal<S> {
-    /// A session is left: the service goes on, and nothing was done but what the call did before it asked.
+    /// A session is left: the service goes on, its flusher too, and nothing was done but what the call did before it asked.
     SessionsLeft(S),
     /// The device was given up, so not all may have been written. With it comes the image, as the media stand.
     GivenUp(Vec<u8>),
-    /// A handle of the media is left; None comes with it. The image takes no memory: the media become it. The last sync was tried.
-    OutOfMemory(Option<Media>),
+    /// A handle of the media is left: the service goes on, as with SessionsLeft. Once the handle was let go it can be stopped. (The image
+    /// takes no memory: the media become it.)
+    OutOfMemory(S),
     /// The link to the drivers has ended, so not all may have been written. With it comes the image, as the media stand.
     LinkEnded(Vec<u8>),
 }
@@ -58,8 +59,8 @@ impl fmt::Display for NoImage {
     }
 }
 
-/// What stopping a service gave: how its last sync went, and the image as the media stand. Else why there is no image; what came back with
-/// the refusal, the service or its media, is let go.
+/// What stopping a service gave: how its last sync went, and the image as the media stand. Else why there is no image; the service, which
+/// came back with the refusal, is let go.
 pub fn image_left<S: Drop>(
     stopped: Result<Vec<u8>, StopRefusal<S>>,
 ) -> Result<(LastSync, Vec<u8>), NoImage>
@@ -82,20 +83,17 @@ fn has_whole_sectors(media: &Media)
     let _ = media.sectors();
 }
 
-/// The image of the media that a service leaves whose last sync went so, or why there is none of a synced volume.
+/// The image of the media that a service leaves whose last sync went so, or why it is none of a synced volume.
 ///
 /// It takes no memory: the media become the image.
 pub(crate) fn image_of<N: ServiceParameters, S>(
     how: LastSync,
-    media: Option<Media>,
+    media: Media,
 ) -> Result<Vec<u8>, StopRefusal<S>>
-    requires { IfSome media (KeepsOutside N.opening) }
+    requires { KeepsOutside N.opening media }
     ensures image { IfOk result (λ image. (how ≡ LastSync.Done) × IsImageOutside N.opening image.items) }
     ensures refused { IfErr result (IsLeftAfter N.opening how) }
 {
-    let Some(media) = media else {
-        return Err(StopRefusal::OutOfMemory(None));
-    };
     has_whole_sectors(&media);
     let image = media.into_image();
     match how {

@@ -1,5 +1,5 @@
 -- What a service that is stopped leaves.
-use Rattle.std.specs.Prelude.{◌≡◌, List, ◌∷◌, Bool, true, false, if◌then◌else◌}
+use Rattle.std.specs.Prelude.{◌≡◌, ℕ, List, ◌∷◌, Bool, true, false, if◌then◌else◌}
 use Rattle.layout.specs.declared.Geometry.{Geometry}
 use Rattle.tree.specs.declared.Who.{Who}
 use Rattle.tree.specs.declared.Call.TheVariants.{Sync}
@@ -48,3 +48,10 @@ pub record IsLastLine {L : Type 0} (link : LinkWords L) (g : Geometry) (v : Open
   pub guaranteed : link.truth line v marks
   pub goes_on : IsBeginning seen marks
   pub tells : (tree : Tree) → IsAtFirst g (contents_at v) tree → SyncTells how g v tree marks
+
+-- A server was let go after a last sync, which went so: its link then, at which sessions had these numbers.
+pub record IsFinished {L : Type 0} (link : LinkWords L) (numbers : L → List ℕ) (g : Geometry) (v : Opening) (seen : List Mark) (used : List ℕ)
+    (how : SyncEnd) : Type 0 where
+  pub line : L
+  pub last : IsLastLine link g v seen how line
+  pub same : numbers line ≡ used

@@ -10,9 +10,9 @@ ghost use Rattle.board.specs.View.{without};
 ghost use Rattle.board.specs.Steps.{SessionIsNew, SessionLearns};
 ghost use Rattle.file_server.specs.Over.{outcome_in, outcome_of};
 ghost use Rattle.shared_server.specs.Held.{AddsCall, HoldsIfTrue, IsEioOnceGivenUp, IsGood, IsGuaranteed, IsHeld, IsNotAdmitted, IsServedCall, IsSound};
-ghost use Rattle.shared_server.specs.Stopping.{IsLastLine};
+ghost use Rattle.shared_server.specs.Stopping.{IsFinished};
 ghost use Rattle.shared_server.specs.Finishing.{sync_of};
-ghost use Rattle.board.specs.Keeper.{AreAllUsed, IsLowestFree, IsOneFree};
+ghost use Rattle.board.specs.Keeper.{AreAllUsed, IsLowestFree, IsOneFree, IsOneUsed};
 
 use crate::calling::make_call;
 use crate::flushing::{take_aside, take_flush};
@@ -136,9 +136,16 @@ impl<N: ServiceParameters, L: Recorder<N>, S: FileServer<L>> Locked<N, L, S> {
         false
     }
 
-    /// A last sync, after which the server is let go with its link: how it went.
+    /// Whether a session has a number, but for this one.
+    pub fn has_sessions(&self, but: Option<u8>) -> bool
+        ensures { (result ≡ true) ↔ IsOneUsed (without but (L.numbers self.now)) }
+    {
+        self.server.link().has_sessions(but)
+    }
+
+    /// A last sync, after which the server is let go with its link: how it went. The numbers of sessions stay.
     pub fn finish(self) -> LastSync
-        ensures { (line : L) × IsLastLine L.Link N.geometry N.opening (L.marks self) (sync_of result) line }
+        ensures { IsFinished L.Link L.numbers N.geometry N.opening (L.marks self) (L.numbers self) (sync_of result) }
     {
         let Locked {
             mut server,
@@ -158,10 +165,10 @@ impl<N: ServiceParameters, L: Recorder<N>, S: FileServer<L>> Locked<N, L, S> {
         LastSync::Done
     }
 
-    /// The same once this session has ended: the record goes on from what it had seen.
+    /// The same once this session has ended, whose number is free then: the record goes on from what it had seen.
     pub fn finish_after(mut self, number: u8, mut seat: Seat) -> LastSync
         requires { (seat.table ≡ N.table) × (seat.view.number ≡ Some number) × (number < 64) }
-        ensures { (line : L) × IsLastLine L.Link N.geometry N.opening seat.view.seen (sync_of result) line }
+        ensures { IsFinished L.Link L.numbers N.geometry N.opening seat.view.seen (without (Some number) (L.numbers self)) (sync_of result) }
     {
         self.show(&mut seat);
         self.release(number, seat);
@@ -197,6 +204,7 @@ impl<N: ServiceParameters, L: Recorder<N>, S: FileServer<L>> Locked<N, L, S> {
         ensures seen { seat.new.view.seen ≡ L.marks self.new }
         ensures session { SessionLearns seat.old.view seat.new.view }
         ensures rest { (L.marks self.new ≡ L.marks self.old) × (L.Link.history self.new ≡ L.Link.history self.old) }
+        ensures numbers { L.numbers self.new ≡ L.numbers self.old }
     {
         show(&mut self.server, seat);
     }

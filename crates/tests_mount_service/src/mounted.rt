@@ -23,7 +23,7 @@ const PACE: u64 = 100;
 
 /// A clock that stands.
 #[derive(Drop)]
-struct Fixed;
+pub(crate) struct Fixed;
 
 impl Clock for Fixed {
     fn monotonic(&self) -> io::Result<Duration> {
@@ -79,26 +79,28 @@ pub(crate) fn answers<R: Threads + Wait + Clock + Copy + Send + Sync + 'static>(
     answers_by(alloc, rt, &asked, &told)
 }
 
-/// The same of messages and answers as they are sent.
-pub(crate) fn answers_by<R: Threads + Wait + Clock + Copy + Send + Sync + 'static>(
-    alloc: Global,
-    rt: R,
-    asked: &[u8],
-    told: &[u8],
-) -> Result<(), Fail> {
+/// What came of a mount over this archive that was sent these messages.
+pub(crate) type Came<'m, A> = Ended<&'m [u8], Vec<u8>, Fixed, A, Connection>;
+
+/// A new volume is mounted, over an archive or none, and is sent these messages; then the stream ends.
+pub(crate) fn mounted<
+    'm,
+    R: Threads + Wait + Clock + Copy + Send + Sync + 'static,
+    A: Archive + Drop + Send + 'static,
+>(alloc: Global, rt: R, asked: &'m [u8], archive: Option<A>) -> Result<Came<'m, A>, Fail> {
     let streams = Streams {
         input: asked,
         output: Vec::new(alloc),
         answerer: Connection::new(alloc),
         clock: Fixed,
-        archive: None::<Nowhere>,
+        archive,
         sync_every: 0,
     };
     let image = new_volume(alloc, 1024)?;
     let supply = supply_of(alloc, 128, &[None; 8])?;
     let gate = Arc::new(alloc, Ticking::new(rt, PACE))?;
     let mut err: Vec<u8> = Vec::new(alloc);
-    let Ended { status, came } = mount(
+    Ok(mount(
         alloc,
         rt,
         "v.img",
@@ -108,7 +110,17 @@ pub(crate) fn answers_by<R: Threads + Wait + Clock + Copy + Send + Sync + 'stati
         gate,
         streams,
         &mut err,
-    );
+    ))
+}
+
+/// The same of messages and answers as they are sent.
+pub(crate) fn answers_by<R: Threads + Wait + Clock + Copy + Send + Sync + 'static>(
+    alloc: Global,
+    rt: R,
+    asked: &[u8],
+    told: &[u8],
+) -> Result<(), Fail> {
+    let Ended { status, came } = mounted(alloc, rt, asked, None::<Nowhere>)?;
     let came = came.ok_or("not mounted")?;
     if status != MountStatus::Done || came.streams.output.as_slice() != told {
         let answered = came.streams.output.as_slice();

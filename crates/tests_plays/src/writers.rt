@@ -1,5 +1,5 @@
-//! Writers that fail, and writers that take little at a time; plays whose answers are lost, or whose image can't be written.
-use fixtures_plays::writers::{Finished, Narrow, all_come_out, are_finished};
+//! Writers that fail, and writers that take little at a time; plays whose answers are lost, or whose image isn't clean or can't be written.
+use fixtures_plays::writers::{HandedOn, Narrow, all_come_out, are_handed_on};
 use output::Told;
 use std::test::Fail;
 use tools::play::PlayStatus;
@@ -15,6 +15,20 @@ const CHMOD: &[u8] = b"user 0 0\n100 chmod / 700\n100 stat /\n";
 
 /// A play that was refused, or whose text was cut off, and a line that says so.
 const CUT_OFF: PlayStatus = PlayStatus::Refused(Told::Whole);
+
+/// The same, and a part of the line.
+const PARTLY: PlayStatus = PlayStatus::Refused(Told::Partly);
+
+const DONE: PlayStatus = PlayStatus::Done;
+
+const GIVEN_UP: PlayStatus = PlayStatus::GivenUp;
+
+/// Whether the place of an image takes one, and the one beside it.
+const BOTH: (bool, bool) = (true, true);
+
+const PLACE: (bool, bool) = (true, false);
+
+const ASIDE: (bool, bool) = (false, true);
 
 /// What is said of a script whose first line is bad.
 const BAD_LINE: &str = "bad line 1 of s.txt\n";
@@ -109,26 +123,60 @@ fn writers_take_some(rt: HostRuntime) -> Result<(), Fail> {
     all_come_out(rt.alloc(), rt, &ROOMS)
 }
 
-/// Plays that were whole or given up, and whose image was written or not.
-static ROWS: [Finished; 4] = [
-    (PlayStatus::Done, true, PlayStatus::Done, ""),
-    (PlayStatus::GivenUp, true, PlayStatus::GivenUp, ""),
+/// That the file can't be written.
+const UNWRITTEN: &str = "cannot write w.img\n";
+
+/// That the links of the root, one byte behind its mode, are wrong.
+const LINKS: &str = "NotClean finding 16 at 1\nimage left in w.img.given-up\n";
+
+/// Another number of them; another byte of the superblock's magic number; nothing else than in a new volume.
+const THREE: Option<(usize, u8)> = Some((4098, 3));
+
+const NO_MAGIC: Option<(usize, u8)> = Some((1048, 0x5b));
+
+const SOUND: Option<(usize, u8)> = None;
+
+/// Plays that ended in each way, and left a volume that is clean or not.
+static ROWS: [HandedOn; 11] = [
+    (DONE, (SOUND, 0, BOTH), DONE, "", (true, false)),
+    (GIVEN_UP, (SOUND, 0, BOTH), GIVEN_UP, "", (true, false)),
+    (CUT_OFF, (SOUND, 0, BOTH), CUT_OFF, "", (true, false)),
+    (DONE, (SOUND, 0, ASIDE), CUT_OFF, UNWRITTEN, (false, false)),
     (
-        PlayStatus::Done,
-        false,
-        PlayStatus::Refused(Told::Whole),
-        "cannot write w.img\n",
+        GIVEN_UP,
+        (SOUND, 0, ASIDE),
+        CUT_OFF,
+        UNWRITTEN,
+        (false, false),
+    ),
+    (DONE, (THREE, 0, BOTH), CUT_OFF, LINKS, (false, true)),
+    (GIVEN_UP, (THREE, 0, BOTH), GIVEN_UP, LINKS, (false, true)),
+    (PARTLY, (THREE, 0, BOTH), PARTLY, LINKS, (false, true)),
+    (
+        GIVEN_UP,
+        (NO_MAGIC, 0, PLACE),
+        CUT_OFF,
+        "NotClean finding 1 at 2\ncannot write w.img.given-up\n",
+        (false, false),
     ),
     (
-        PlayStatus::GivenUp,
-        false,
-        PlayStatus::Refused(Told::Whole),
-        "cannot write w.img\n",
+        DONE,
+        (SOUND, 1, BOTH),
+        CUT_OFF,
+        "Partition NoSignature\nimage left in w.img.given-up\n",
+        (false, true),
+    ),
+    (
+        DONE,
+        (SOUND, 1, PLACE),
+        CUT_OFF,
+        "Partition NoSignature\ncannot write w.img.given-up\n",
+        (false, false),
     ),
 ];
 
-/// A file that can't be written is told, whatever came before.
+/// Only an image of a clean volume is handed on; another one goes beside, and that is told, whatever came before.
 #[test]
-fn a_file_that_cannot_be_written_is_told(rt: HostRuntime) -> Result<(), Fail> {
-    are_finished(rt.alloc(), "w.img", &ROWS)
+fn clean_images_alone_are_handed_on(rt: HostRuntime) -> Result<(), Fail> {
+    are_handed_on(rt.alloc(), "w.img", &ROWS)
 }

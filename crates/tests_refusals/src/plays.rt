@@ -17,6 +17,7 @@ use std::test::Fail;
 use std::thread::Threads;
 use std::time::Clock;
 use tools::play::{ImageFile, play};
+use volume_commands::handing::{Handing, ImagePlace, NotHanded, hand_on};
 use volume_commands::make::{Wanted, make};
 use volume_commands::verify::verify;
 
@@ -407,6 +408,8 @@ pub(crate) const WANTED: Wanted = Wanted {
     block_size: 1024,
     inodes: 32,
     now: 50,
+    uid: 0,
+    gid: 0,
 };
 
 /// The making of a volume, and its bytes.
@@ -483,9 +486,48 @@ impl Trial for Verifying {
     }
 }
 
+/// A place that takes any image, and whether it has.
+#[derive(Drop)]
+struct Taking(bool);
+
+impl ImagePlace for Taking {
+    fn put(&mut self, _image: &[u8]) -> bool {
+        self.0 = true;
+        true
+    }
+}
+
+/// The handing on of a new volume.
+#[derive(Drop)]
+struct HandingOn(Vec<u8>);
+
+impl Trial for HandingOn {
+    type Came = (Handing, bool, bool);
+
+    fn run(&self, alloc: Global) -> (Handing, bool, bool) {
+        let (mut place, mut beside) = (Taking(false), Taking(false));
+        let handing = hand_on(alloc, &self.0, 0, &mut place, &mut beside);
+        (handing, place.0, beside.0)
+    }
+
+    /// It goes to its place, or beside where there was no memory for the check.
+    fn is_right(
+        &self,
+        _alloc: Global,
+        came: &(Handing, bool, bool),
+        refused: bool,
+    ) -> Result<bool, AllocError> {
+        let (handing, place, beside) = *came;
+        let unchecked = Handing::Beside(NotHanded::Unchecked);
+        let wanted = if refused { unchecked } else { Handing::Put };
+        Ok(handing == wanted && place != refused && beside == refused)
+    }
+}
+
 #[test]
 fn makings_and_checks(rt: HostRuntime) -> Result<(), Fail> {
     let alloc = rt.alloc();
     each_refused(alloc, 30, &Making(new_volume(alloc, 1024)?))?;
-    each_refused(alloc, 31, &Verifying(new_volume(alloc, 1024)?))
+    each_refused(alloc, 31, &Verifying(new_volume(alloc, 1024)?))?;
+    each_refused(alloc, 32, &HandingOn(new_volume(alloc, 1024)?))
 }

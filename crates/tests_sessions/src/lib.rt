@@ -9,6 +9,8 @@ mod endings;
 #[cfg(test)]
 mod left;
 #[cfg(test)]
+mod let_go;
+#[cfg(test)]
 mod programs;
 #[cfg(test)]
 mod read_back;

@@ -11,7 +11,8 @@ use gate::bell::Bell;
 use gate::{Gate, Point};
 use new_volume::mkfs;
 use reincarnate::policy::Setup;
-use serve::service::Service;
+use serve::service::{Service, Shared};
+use serve::session::Session;
 use serve::stopping::StopRefusal;
 use service_start::program::Program;
 use service_start::start::serve;
@@ -104,6 +105,17 @@ impl<R: Clock + Copy + Send + Sync> Gate for Late<R> {
     }
 }
 
+/// Which stop is refused before the service is left idle.
+#[derive(Clone, Copy, PartialEq, Eq)]
+enum Refused {
+    /// None is asked for.
+    None,
+    /// One while the session is left.
+    WithSession,
+    /// One while a handle of the media is left, when the session has ended.
+    WithMedia,
+}
+
 /// A service whose flusher is held until a file was written. Then nothing is called any more.
 #[derive(Drop)]
 struct Idle<R: Clock + Copy> {
@@ -112,8 +124,23 @@ struct Idle<R: Clock + Copy> {
     gate: Arc<Late<R>>,
     /// The image that was handed in.
     opening: Vec<u8>,
-    /// Whether a stop is asked for before, which is refused since the session is left.
-    is_stopped: bool,
+    refused: Refused,
+}
+
+/// The service, whose stop was refused while a handle of its media was left.
+fn kept_with_media<
+    N: ServiceParameters,
+    R: Threads + Wait + Copy,
+    L: Recorder<N>,
+    S: FileServer<L>,
+>(service: Service<N, R, L, S>) -> Option<Service<N, R, L, S>> {
+    let handle = service.media().ok()?;
+    let stopped = service.stop();
+    drop(handle);
+    match stopped {
+        Err(StopRefusal::OutOfMemory(service)) => Some(service),
+        _ => None,
+    }
 }
 
 /// What came of it.
@@ -128,20 +155,25 @@ struct Came {
 }
 
 impl<R: Clock + Copy> Idle<R> {
-    /// The service, of which a stop may have been refused.
+    /// The service, of which a stop may have been refused, and the session, if it is left.
     fn kept<N: ServiceParameters, L: Recorder<N>, S: FileServer<L>>(
         &self,
         service: Service<N, R, L, S>,
-    ) -> Option<Service<N, R, L, S>>
+        session: Session<N, Shared<N, R, L, S>>,
+    ) -> Option<(Service<N, R, L, S>, Option<Session<N, Shared<N, R, L, S>>>)>
     where
         R: Threads + Wait,
     {
-        if !self.is_stopped {
-            return Some(service);
-        }
-        match service.stop() {
-            Err(StopRefusal::SessionsLeft(service)) => Some(service),
-            _ => None,
+        match self.refused {
+            Refused::None => Some((service, Some(session))),
+            Refused::WithSession => match service.stop() {
+                Err(StopRefusal::SessionsLeft(service)) => Some((service, Some(session))),
+                _ => None,
+            },
+            Refused::WithMedia => {
+                session.end();
+                Some((kept_with_media(service)?, None))
+            }
         }
     }
 
@@ -178,9 +210,11 @@ impl<R: Threads + Wait + Clock + Copy + Send + Sync + 'static> Program<R> for Id
         let mut session = service.session(0, 0).ok()?;
         let is_answered = writes(&mut session);
         self.gate.let_go.store(true, Ordering::SeqCst);
-        let service = self.kept(service)?;
+        let (service, session) = self.kept(service, session)?;
         let idle = self.image(&service)?;
-        session.end();
+        if let Some(session) = session {
+            session.end();
+        }
         let left = service.stop().ok()?;
         Some(Came {
             is_answered,
@@ -193,7 +227,7 @@ impl<R: Threads + Wait + Clock + Copy + Send + Sync + 'static> Program<R> for Id
 /// It, on a stage.
 fn idle_on<R: Wait + Clock + Copy>(
     stage: &Stage<R>,
-    is_stopped: bool,
+    refused: Refused,
 ) -> Result<Idle<R>, AllocError> {
     let gate = Late {
         ticking: Ticking::new(stage.rt, PACE),
@@ -204,16 +238,16 @@ fn idle_on<R: Wait + Clock + Copy>(
         rt: stage.rt,
         gate: Arc::new(stage.alloc, gate)?,
         opening: Vec::from_slice(stage.alloc, &stage.image)?,
-        is_stopped,
+        refused,
     })
 }
 
 /// What comes of it on a stage.
 fn came_of<R: Threads + Wait + Clock + Copy + Send + Sync + 'static>(
     stage: &Stage<R>,
-    is_stopped: bool,
+    refused: Refused,
 ) -> Result<Came, Fail> {
-    let program = idle_on(stage, is_stopped)?;
+    let program = idle_on(stage, refused)?;
     let gate = Arc::try_clone(&program.gate)?;
     let setup = Setup {
         frames: FRAMES,
@@ -240,22 +274,28 @@ fn is_right<R: Wait + Clock + Copy>(stage: &Stage<R>, came: &Came) -> Result<(),
 fn is_written_back<R: Threads + Wait + Clock + Copy + Send + Sync + 'static>(
     alloc: Global,
     rt: R,
-    is_stopped: bool,
+    refused: Refused,
 ) -> Result<(), Fail> {
     let image = mkfs(alloc, BLOCKS, BLOCK as u32, 32, 50)?;
     let stage = Stage::new(alloc, rt, image, Holds::Flusher)?;
-    let came = came_of(&stage, is_stopped)?;
+    let came = came_of(&stage, refused)?;
     is_right(&stage, &came)
 }
 
 /// Two hundred pages and what leads to them are written by the flusher alone.
 #[test]
 fn idle_service(rt: HostRuntime) -> Result<(), Fail> {
-    is_written_back(rt.alloc(), rt, false)
+    is_written_back(rt.alloc(), rt, Refused::None)
 }
 
-/// The same of a service whose stop was refused: its flusher goes on.
+/// The same of a service whose stop was refused since a session is left: its flusher goes on.
 #[test]
 fn service_that_was_kept(rt: HostRuntime) -> Result<(), Fail> {
-    is_written_back(rt.alloc(), rt, true)
+    is_written_back(rt.alloc(), rt, Refused::WithSession)
+}
+
+/// The same of one whose stop was refused since a handle of its media was left.
+#[test]
+fn service_that_was_kept_for_its_media(rt: HostRuntime) -> Result<(), Fail> {
+    is_written_back(rt.alloc(), rt, Refused::WithMedia)
 }

@@ -104,6 +104,8 @@ fn volumes_are_made(rt: HostRuntime) -> Result<(), Fail> {
             block_size: *block_size,
             inodes: *inodes,
             now: *now,
+            uid: 3,
+            gid: 4,
         };
         if !is_said(rt.alloc(), &wanted, &mut taker(rt.alloc()), said) {
             return Err(Fail::new(format_args!("volume {number}")));
@@ -119,6 +121,8 @@ fn writers_fail(rt: HostRuntime) -> Result<(), Fail> {
         block_size: 1024,
         inodes: 32,
         now: 50,
+        uid: 0,
+        gid: 0,
     };
     for (calls, said) in &FAILING {
         let mut out = writer_of(rt.alloc(), *calls, 5);

@@ -1,6 +1,6 @@
 //! New volumes by the format's tables, byte by byte, and when none is made.
 use crate::images::{Image, image_of, read_of};
-use new_volume::{MkfsRefusal, mkfs};
+use new_volume::{MkfsRefusal, mkfs, mkfs_front};
 use std::alloc::{AllocError, Global};
 use std::test::Fail;
 use tests_texts::row_is_told;
@@ -118,6 +118,24 @@ fn holds(image: &[u8], at: usize, bytes: &[u8]) -> bool {
     }
 }
 
+/// The same volume up to the end of its root's directory; and one of user 0x1234 and group 0x5678, which stand behind mode and links.
+fn are_owned(alloc: Global) -> Result<(), Fail> {
+    let wanted = image_of(alloc, &SMALL)?;
+    let made = mkfs_front(alloc, 64, 1024, 32, 50, 0, 0)?;
+    if made.front.len() != 6214 || made.length() != 65536 || !holds(&wanted, 0, &made.front) {
+        return Err(Fail::from("not its beginning"));
+    }
+    let made = mkfs_front(alloc, 64, 1024, 32, 50, 0x1234, 0x5678)?;
+    if holds(
+        &made.front,
+        4096,
+        b"\xed\x41\x02\0\x34\x12\x78\x56\x80\0\0\0",
+    ) {
+        return Ok(());
+    }
+    Err(Fail::from("another owner"))
+}
+
 /// Volumes of these sizes are made.
 fn are_made(alloc: Global) -> Result<(), Fail> {
     for (number, (blocks, block_size, inodes, text, at, bytes)) in MADE.iter().enumerate() {
@@ -163,6 +181,7 @@ fn are_named(alloc: Global) -> Result<(), Fail> {
 #[test]
 fn volumes_are_made_or_refused(rt: HostRuntime) -> Result<(), Fail> {
     is_small(rt.alloc())?;
+    are_owned(rt.alloc())?;
     are_made(rt.alloc())?;
     are_largest(rt.alloc())?;
     are_refused(rt.alloc())?;

@@ -2,19 +2,25 @@
 
 use clap::Error;
 use host::command_line::status_for;
+use host::frames::frames_for;
 use host::play_words::{mfs, mfssim};
 use host::volume_words::{mfmig, mfsck, mkmfs};
 use std::alloc::{AllocError, Global};
 use std::test::Fail;
 
 /// Words of a line, and what they say: the files, the minor, how many drivers stand by, how many frames the server has, and whether
-/// drivers move an arm; of a new volume its blocks, its inodes, how long a block is and the time; or, of words that aren't taken or ask for
-/// help, the status.
+/// drivers move an arm; of a new volume its blocks, its inodes, how long a block is, the time and the owner; or, of words that aren't
+/// taken or ask for help, the status.
 const ROWS: &str = "\
-mkmfs v.img --blocks 64 --inodes 32 : v.img blocks 64 inodes 32 of 4096 at 0
-mkmfs v.img --blocks 64 --inodes 32 --block-size 1024 --now 50 : v.img blocks 64 inodes 32 of 1024 at 50
-mkmfs --now=4294967295 --block-size=0 --inodes=65535 --blocks=65536 v.img : v.img blocks 65536 inodes 65535 of 0 at 4294967295
-mkmfs v.img --inodes 4294967295 --blocks 4294967294 : v.img blocks 4294967294 inodes 4294967295 of 4096 at 0
+mkmfs v.img --blocks 64 --inodes 32 : v.img blocks 64 inodes 32 of 4096 at 0 uid 0 gid 0
+mkmfs v.img --blocks 64 --inodes 32 --block-size 1024 --now 50 : v.img blocks 64 inodes 32 of 1024 at 50 uid 0 gid 0
+mkmfs --now=4294967295 --block-size=0 --inodes=65535 --blocks=65536 v.img : v.img blocks 65536 inodes 65535 of 0 at 4294967295 uid 0 gid 0
+mkmfs v.img --blocks 64 --inodes 32 --uid 65535 : v.img blocks 64 inodes 32 of 4096 at 0 uid 65535 gid 0
+mkmfs v.img --gid=65535 --uid=7 --blocks 64 --inodes 32 : v.img blocks 64 inodes 32 of 4096 at 0 uid 7 gid 65535
+mkmfs v.img --blocks 64 --inodes 32 --uid 65536 : status 2
+mkmfs v.img --blocks 64 --inodes 32 --gid 65536 : status 2
+mkmfs v.img --blocks 64 --inodes 32 --gid -1 : status 2
+mkmfs v.img --inodes 4294967295 --blocks 4294967294 : v.img blocks 4294967294 inodes 4294967295 of 4096 at 0 uid 0 gid 0
 mkmfs v.img --blocks 4294967296 --inodes 32 : status 2
 mkmfs v.img --blocks 64 --inodes 4294967296 : status 2
 mkmfs v.img --blocks 64 --inodes 32 --block-size 4294967296 : status 2
@@ -50,19 +56,19 @@ mfmig o.img n.img --blocks 64 --inodes 32 : status 2
 mfmig : status 2
 mfmig --help : status 0
 mfmig o.img n.img --version : status 0
-mfs v.img s.txt : v.img [s.txt] out none minor 0 spares 5 frames 64
-mfs v.img s.txt --minor 5 : v.img [s.txt] out none minor 5 spares 5 frames 64
-mfs v.img s.txt --minor 255 : v.img [s.txt] out none minor 255 spares 5 frames 64
-mfs --spares 63 v.img s.txt : v.img [s.txt] out none minor 0 spares 63 frames 64
-mfs v.img --spares=0 s.txt : v.img [s.txt] out none minor 0 spares 0 frames 64
-mfs --model v.img s.txt : v.img [s.txt] out none minor 0 spares 5 frames 64 model
+mfs v.img s.txt : v.img [s.txt] out none minor 0 spares 5 frames by the image
+mfs v.img s.txt --minor 5 : v.img [s.txt] out none minor 5 spares 5 frames by the image
+mfs v.img s.txt --minor 255 : v.img [s.txt] out none minor 255 spares 5 frames by the image
+mfs --spares 63 v.img s.txt : v.img [s.txt] out none minor 0 spares 63 frames by the image
+mfs v.img --spares=0 s.txt : v.img [s.txt] out none minor 0 spares 0 frames by the image
+mfs --model v.img s.txt : v.img [s.txt] out none minor 0 spares 5 frames by the image model
 mfs v.img s.txt --frames 16 : v.img [s.txt] out none minor 0 spares 5 frames 16
 mfs --frames=4096 v.img s.txt : v.img [s.txt] out none minor 0 spares 5 frames 4096
-mfs v.img s.txt t.txt : v.img [s.txt t.txt] out none minor 0 spares 5 frames 64
-mfs v.img t.txt s.txt t.txt --minor 1 : v.img [t.txt s.txt t.txt] out none minor 1 spares 5 frames 64
-mfs v.img s.txt --out w.img : v.img [s.txt] out w.img minor 0 spares 5 frames 64
-mfs --out=v.img v.img s.txt t.txt : v.img [s.txt t.txt] out v.img minor 0 spares 5 frames 64
-mfs v.img - : v.img [-] out none minor 0 spares 5 frames 64
+mfs v.img s.txt t.txt : v.img [s.txt t.txt] out none minor 0 spares 5 frames by the image
+mfs v.img t.txt s.txt t.txt --minor 1 : v.img [t.txt s.txt t.txt] out none minor 1 spares 5 frames by the image
+mfs v.img s.txt --out w.img : v.img [s.txt] out w.img minor 0 spares 5 frames by the image
+mfs --out=v.img v.img s.txt t.txt : v.img [s.txt t.txt] out v.img minor 0 spares 5 frames by the image
+mfs v.img - : v.img [-] out none minor 0 spares 5 frames by the image
 mfs v.img s.txt --minor 256 : status 2
 mfs v.img s.txt --spares 64 : status 2
 mfs v.img s.txt --spares -1 : status 2
@@ -97,10 +103,15 @@ fn of_calls(alloc: Global, words: &mfs::MfsWords<'_>) -> Result<String, AllocErr
     let scripts = words.scripts.join(alloc, " ")?;
     let out = words.out.unwrap_or("none");
     let model = if words.model { " model" } else { "" };
-    format!(in alloc;
-        "{} [{scripts}] out {out} minor {} spares {} frames {}{model}",
-        words.image, words.minor, words.spares, words.frames
-    )
+    let (image, minor, spares) = (words.image, words.minor, words.spares);
+    match words.frames {
+        Some(frames) => format!(in alloc;
+            "{image} [{scripts}] out {out} minor {minor} spares {spares} frames {frames}{model}"
+        ),
+        None => format!(in alloc;
+            "{image} [{scripts}] out {out} minor {minor} spares {spares} frames by the image{model}"
+        ),
+    }
 }
 
 /// What words of `mfssim` say that are taken.
@@ -114,8 +125,8 @@ fn of_schedules(alloc: Global, words: &mfssim::MfssimWords<'_>) -> Result<String
 /// What words of `mkmfs` say that are taken.
 fn of_volume(alloc: Global, words: &mkmfs::MkmfsWords<'_>) -> Result<String, AllocError> {
     format!(in alloc;
-        "{} blocks {} inodes {} of {} at {}",
-        words.image, words.blocks, words.inodes, words.block_size, words.now
+        "{} blocks {} inodes {} of {} at {} uid {} gid {}",
+        words.image, words.blocks, words.inodes, words.block_size, words.now, words.uid, words.gid
     )
 }
 
@@ -191,6 +202,45 @@ fn words_are_taken_or_not(rt: HostRuntime) -> Result<(), Fail> {
         };
         let said = said(rt.alloc(), line)?;
         assert_eq!(rt; said.lines().next(), Some(wanted), "{line}");
+    }
+    Ok(())
+}
+
+/// What words say of frames, the image's length, and how many frames the server has.
+const FRAMES: [(Option<u32>, usize, usize); 9] = [
+    (None, 0, 64),
+    (None, 266_239, 64),
+    (None, 266_240, 65),
+    (None, 4_194_304, 1024),
+    (None, 16_777_215, 4095),
+    (None, 16_777_216, 4096),
+    (None, 67_108_864, 4096),
+    (Some(16), 67_108_864, 16),
+    (Some(4096), 0, 4096),
+];
+
+#[test]
+fn frames_fill_the_image(rt: HostRuntime) -> Result<(), Fail> {
+    for (said, length, frames) in FRAMES {
+        assert_eq!(rt; frames_for(said, length), frames, "{length} bytes");
+    }
+    Ok(())
+}
+
+/// What each program says of itself where it isn't packed, behind its name.
+const VERSION: &str =
+    " 0.1.0\ncommit not told, for this program isn't packed.\nkit not told: this program wasn't packed.\n";
+
+#[test]
+fn versions_are_told(rt: HostRuntime) -> Result<(), Fail> {
+    let alloc = rt.alloc();
+    for name in ["mkmfs", "mfsck", "mfmig", "mfs", "mfssim"] {
+        let long = said(alloc, format!(in alloc; "{name} --version")?.as_str())?;
+        let wanted = format!(in alloc; "status 0\n{name}{VERSION}")?;
+        assert_eq!(rt; long.as_str(), wanted.as_str(), "{name} --version");
+        let short = said(alloc, format!(in alloc; "{name} -V")?.as_str())?;
+        let wanted = format!(in alloc; "status 0\n{name} 0.1.0\n")?;
+        assert_eq!(rt; short.as_str(), wanted.as_str(), "{name} -V");
     }
     Ok(())
 }

@@ -2,6 +2,9 @@
 use Rattle.std.specs.Prelude.{ℕ, Bool, true, false}
 use Rattle.tools.specs.declared.play.PlayStatus.{PlayStatus}
 use Rattle.tools.specs.declared.play.PlayStatus.TheVariants.{Done, Refused, GivenUp}
+use Rattle.output.specs.declared.Told.{Told}
+use Rattle.volume_commands.specs.declared.handing.Handing.{Handing}
+use Rattle.volume_commands.specs.declared.handing.Handing.TheVariants.{Put, Beside}
 use Rattle.shared_server.specs.declared.locked.LastSync.{LastSync}
 use Rattle.shared_server.specs.declared.locked.LastSync.TheVariants as last
 
@@ -25,3 +28,10 @@ IsWhole _ = Unit {0}
 abbrev pub is_given_up : LastSync → Bool
 is_given_up last.GivenUp = true
 is_given_up _ = false
+
+-- how a play ends that had ended so, once this came of its image and was told so
+abbrev pub status_after : PlayStatus → Handing → Told → PlayStatus
+status_after status Put told = status
+status_after Done (Beside why) told = Refused told
+status_after status (Beside why) told = status
+status_after status _ told = Refused told

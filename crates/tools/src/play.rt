@@ -2,13 +2,11 @@
 
 ghost use Rattle.std.specs.Prelude.{◌≡◌, true, IfOk, IfErr, IfSome, OnOk, OnErr, map, Some, None, if◌then◌else◌};
 ghost use Rattle.std.specs.Option.{option_map};
-ghost use Rattle.std.specs.Bool.{OnTrue, OnFalse};
 ghost use Rattle.std.specs.Io.KnownBytes.{Appends};
 ghost use Rattle.reply_text.specs.Answers.{sessions_text};
 ghost use Rattle.output.specs.Output.{AppendsPart, Tells};
 ghost use Rattle.tools.specs.Played.{AreUnread, IsPlayed, IsUnplayed, IsShown, IsCutShort, gave_up, is_of_output, refusal_text};
 ghost use Rattle.tools.specs.Refusals.{refusal_of};
-ghost use Rattle.volume_commands.specs.Making.{unwritten_text};
 ghost use Rattle.tools.specs.Status.{status_number, gave_of, is_given_up, IsWhole};
 ghost use Rattle.call_text.specs.Said.{said};
 ghost use Rattle.call_text.specs.Files.{AreScripts};
@@ -28,7 +26,6 @@ use std::fmt;
 use std::io::Write;
 use std::sync::{Arc, Wait};
 use std::thread::Threads;
-use volume_commands::make;
 use volume_mount::StartRefusal;
 
 /// The file of an image, and its bytes if it could be read.
@@ -148,24 +145,6 @@ pub fn play<
     Ended {
         status,
         image: Some(came.image),
-    }
-}
-
-/// How a play ended whose image was to be written to the file of this name: it was written, or it wasn't, and then a line on `err` says so.
-pub fn finish<E: Write>(
-    alloc: Global,
-    played: PlayStatus,
-    name: &str,
-    written: bool,
-    err: &mut E,
-) -> PlayStatus
-    ensures written { OnTrue written ((result ≡ played) × (err.new ≡ err.old)) }
-    ensures unwritten { OnFalse written ((told : Told) × (result ≡ PlayStatus.Refused told)
-        × Tells (Some (unwritten_text name.now)) told (E.contents err.old) (E.contents err.new)) }
-{
-    match make::finish(alloc, name, written, err) {
-        make::CommandStatus::Done => played,
-        make::CommandStatus::Refused(told) => PlayStatus::Refused(told),
     }
 }
 

@@ -1,10 +1,15 @@
 -- What a message that is handed over to a server over a cache keeps.
-use Rattle.std.proofs.Common.{◌≡◌, ℕ, ◌<◌, List, [], ◌∷◌, ◌++◌, false, refl, sym, ◌∙◌, ap, subst, Some}
-use Rattle.std.specs.Prelude.{is_some, Option}
+use Rattle.std.proofs.Common.{◌≡◌, ◌≢◌, ℕ, ◌+◌, ◌*◌, ◌^◌, ◌<◌, ◌≤◌, List, [], ◌∷◌, ◌++◌, Bool, true, false, refl, sym, ◌∙◌, ap, subst, arith, Some}
+use mathlib.Core.Logic.{inl, inr}
+use Rattle.std.specs.Prelude.{is_some, not, map, Option}
+use Rattle.std.proofs.Math.Nat.{mul-le-mul_right}
+use Rattle.std.proofs.lemmas.Bool.{and_parts, cases_lt}
 use Rattle.std.proofs.lemmas.List.{append_cancel_right}
 use Rattle.lemmas.proofs.Bools.{from_clash, is_false}
 use Rattle.layout.specs.declared.Geometry.{Geometry}
+use Rattle.message.specs.declared.BlockRequest.{BlockRequest}
 use Rattle.message.specs.declared.Incoming.{Incoming}
+use Rattle.message.specs.declared.Incoming.TheVariants.{Flush, End}
 use Rattle.tree.specs.Sums.{some_below}
 use Rattle.tree.specs.Tree.{Tree, OpenFile, most_open_files}
 use Rattle.volume.specs.Reading.{Disk}
@@ -15,36 +20,55 @@ use Rattle.records.specs.Told.{Told, Received, received, grown, took_end}
 use Rattle.records.specs.Acts.{Absorbed, marks_after}
 use Rattle.records.specs.Legal.{tree_after}
 use Rattle.records.specs.View.{server_view}
-use Rattle.records.specs.ServerCall.{Serving, Serves, AbsorbKeeps}
+use Rattle.records.specs.ServerCall.{Serving, Serves, KnowsUnwritten, FlushesOn, AbsorbKeeps}
+use Rattle.records.specs.Flushes.{WritesLowest, IsStuck, pending_requests}
 use Rattle.records.specs.Settled.{none_written, PostsReads}
 use Rattle.records.proofs.Quiet.{settled_acts, looking_acts, written_received, written_told}
 use Rattle.records.specs.Area.{Area, area_of}
 use Rattle.records.proofs.Inside.{acts_write_inside}
 use Rattle.reissue.specs.Agrees.{Agrees}
+use Rattle.reissue.specs.Entries.{request_of}
 use Rattle.reissue.specs.Moves.{state_after}
 use Rattle.reissue.specs.Rules.{outbox_of}
 use Rattle.reissue.proofs.TableRules.{at_rest}
 use Rattle.cache.specs.Calls.{AbstractCache, Runs, Serves as Stays, HandsOver}
 use Rattle.cache.specs.Laws.{LeadsBy}
-use Rattle.cache.specs.Frames.{frames_of}
+use Rattle.cache.specs.Frames.{CacheAgrees, frames_of}
+use Rattle.cache.specs.Slots.{is_clean, is_dirty_held}
+use Rattle.cache.proofs.Begun.{dirty_held}
 use Rattle.cache.specs.Looking.{Looks}
 use Rattle.cache.proofs.Runs.{true_before}
 use Rattle.cache.proofs.Leading.{leads_by}
 use Rattle.descriptors.specs.Files.{Files, HasFiles}
 use Rattle.file_server.specs.Over.{AbsorbsOver}
-use Rattle.vfs.specs.Serving.{IsServer, server_of}
+use Rattle.vfs.specs.Serving.{IsServer, MayServe, server_of}
+use Rattle.vfs.specs.Laws.{BeginsRuns}
+use Rattle.vfs.proofs.Unwritten.{knows, pending_is}
+use Rattle.vfs.proofs.Flushed.{dirty_in, runs_written, stuck as stuck_so}
 use Rattle.vfs.proofs.Keeping.{tree_acts, legal_acts, gone_acts, view_of, covers_of}
 
-module _ (g : Geometry) (a b : AbstractCache) (n k : ℕ) (many : k ≡ n) (f : Files) (m : Incoming) (sized : a.size ≡ g.block_size) (some : 0 < g.block_size)
-    (within : a.area ≡ area_of g a.area.minor) (ends : a.ended ≡ took_end a.told) (h : HandsOver m a b) (looks : Looks a b) where
+module _ (g : Geometry) (a b : AbstractCache) (n k : ℕ) (many : k ≡ n) (w u : Bool) (f : Files) (m : Incoming) (may : MayServe g a)
+    (h : HandsOver m a b) (done : m ≢ End → u ≡ false) (begins : m ≡ Flush → BeginsRuns a b) (looks : Looks a b) where
+  abbrev sized : a.size ≡ g.block_size
+  sized = may.size
+
+  abbrev some : 0 < g.block_size
+  some = may.geometry.sized
+
+  abbrev within : a.area ≡ area_of g a.area.minor
+  within = may.area
+
+  abbrev ends : a.ended ≡ took_end a.told
+  ends = may.ends
+
   abbrev x : Runs (Some m) a b (λ w v. Stays a b w v)
   x = h.runs
 
   abbrev s : Serving
-  s = server_of g a n f
+  s = server_of g a n w f
 
   abbrev t : Serving
-  t = server_of g b k f
+  t = server_of g b k u f
 
   -- but for the disk
   abbrev bare : Runs (Some m) a b (λ w v. Unit {0})
@@ -110,6 +134,11 @@ module _ (g : Geometry) (a b : AbstractCache) (n k : ℕ) (many : k ≡ n) (f : 
   files image tree marks k tr e u = subst (λ (y : Tree). HasFiles f y) (sym (tree_is tree marks))
       (k.files (early image marks k.table tr) (opened e) (going marks u))
 
+  -- it knows which blocks are unwritten
+  unwritten : (image : Contents) (marks : List Mark) → Agrees b.table marks
+      → (HasTrueReplies image marks → CacheAgrees b.size b.held (state_after image marks)) → KnowsUnwritten t image marks
+  unwritten image marks agrees slots = knows g b k u f some (x.size ∙ sized) x.ready.tied image marks agrees slots
+
   serves : (image : Contents) (tree : Tree) (marks : List Mark) → Serves s image tree marks → Serves t image tree (after marks)
   serves image tree marks k =
       let was = k.agrees in
@@ -121,6 +150,7 @@ module _ (g : Geometry) (a b : AbstractCache) (n k : ℕ) (many : k ≡ n) (f : 
         inside = acts_write_inside g a.area.minor (x.acts ++ Absorbed m ∷ []) marks (outbox_of a.table)
             (led.rules marks was.table).keep k.inside;
         at_rest = at_rest b.table (after marks) agrees;
+        unwritten = unwritten image (after marks) agrees slots;
         legal = λ tr. legal_acts g image tree (x.acts ++ Absorbed m ∷ []) marks (k.legal (early image marks was.table tr));
         has_tree = λ tr e u.
             let first = early image marks was.table tr in
@@ -149,6 +179,51 @@ module _ (g : Geometry) (a b : AbstractCache) (n k : ℕ) (many : k ≡ n) (f : 
             };
       }
 
+  -- dirty blocks lie in the volume
+  low : (block : ℕ) → is_dirty_held (a.held block) ≡ true → block < 2 ^ 32
+  low block dirty =
+      let d = dirty_held (a.held block) dirty in
+      let unclean : is_clean d.0.state ≡ false = ap is_clean d.2 in
+      let there = may.ready.inside block d.0 d.1 unclean in
+      let zones = may.geometry.zones in
+      let area : a.area.to ≡ g.zones * g.block_size = ap (λ (z : Area). z.to) within in
+      let to : block * g.block_size + g.block_size ≤ g.zones * g.block_size = rw (sym area) (subst (λ (z : ℕ). block * z + z ≤ a.area.to) sized there.1) in
+      elim (cases_lt block g.zones) [
+        | inl lt ↦ omega (arith, lt, zones)
+        | inr le ↦ let far : g.zones * g.block_size ≤ block * g.block_size = mul-le-mul_right g.block_size le in absurd (omega (arith, far, to, some))
+      ]
+
+  -- a Flush is carried out
+  flushes : (marks : List Mark) → Agrees a.table marks → m ≡ Flush → FlushesOn s t marks (after marks)
+  flushes marks agrees is =
+      let r = begins is marks agrees in
+      let before : map request_of a.table.pending ≡ pending_requests marks (outbox_of a.table) = sym (pending_is a.table marks agrees) in
+      let later : map request_of b.table.pending ≡ pending_requests (after marks) (outbox_of b.table) =
+      sym (pending_is b.table (after marks) (table marks agrees)) in
+      let runs : WritesLowest r.counts 16 a.size (dirty_in a.held) (dirty_in b.held) (map request_of a.table.pending) (map request_of b.table.pending) =
+      runs_written r.counts 16 a.size a.held b.held (map request_of a.table.pending) (map request_of b.table.pending) low r.runs in
+      let given_up : b.table.given_up ≡ gave_up (after marks) = (table marks agrees).holds.given_up in
+      record {
+        counts = r.counts;
+        writes = subst (λ (z : ℕ). WritesLowest r.counts 16 z (dirty_in a.held) (dirty_in b.held) (pending_requests marks (outbox_of a.table))
+            (pending_requests (after marks) (outbox_of b.table))) sized
+            (subst (λ (l : List BlockRequest). WritesLowest r.counts 16 a.size (dirty_in a.held) (dirty_in b.held) l
+            (pending_requests (after marks) (outbox_of b.table))) before
+            (subst (λ (l : List BlockRequest). WritesLowest r.counts 16 a.size (dirty_in a.held) (dirty_in b.held)
+            (map request_of a.table.pending) l) later runs));
+        all = λ live.
+            let both = and_parts (not b.ended) (not (gave_up (after marks))) live in
+            elim (r.all (record { not_ended = not_true b.ended both.0; not_given_up = given_up ∙ not_true (gave_up (after marks)) both.1 })) [
+              | inl all ↦ inl all
+              | inr stuck ↦ inr (subst (λ (z : ℕ). IsStuck z (dirty_in b.held) (pending_requests (after marks) (outbox_of b.table))) (x.size ∙ sized)
+                  (subst (λ (l : List BlockRequest). IsStuck b.size (dirty_in b.held) l) later (stuck_so b x.ready (subst (λ (z : ℕ). 0 < z) (sym (x.size ∙ sized)) some) stuck)))
+            ];
+      }
+    where
+      not_true : (v : Bool) → not v ≡ true → v ≡ false
+      not_true true e = cc
+      not_true false e = refl
+
   abbrev kept : AbsorbKeeps s m t
   kept = record {
     later = x.acts;
@@ -157,6 +232,8 @@ module _ (g : Geometry) (a b : AbstractCache) (n k : ℕ) (many : k ≡ n) (f : 
     none_taken = h.none_taken;
     same_files = refl;
     no_effect = h.no_effect;
+    flushed = done;
+    flushes = λ image tree marks k is. flushes marks k.table is;
     rules = λ image tree marks k. led.rules marks k.table;
     serves = serves;
   }

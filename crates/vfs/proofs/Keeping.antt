@@ -10,6 +10,7 @@ use Rattle.message.specs.declared.Incoming.{Incoming}
 use Rattle.message.specs.declared.Incoming.TheVariants as incoming
 use Rattle.tree.specs.declared.Who.{Who}
 use Rattle.tree.specs.declared.Call.{Call}
+use Rattle.tree.specs.declared.Call.TheVariants.{Dup}
 use Rattle.tree.specs.Sums.{some_below}
 use Rattle.tree.specs.Tree.{Tree, OpenFile, most_open_files}
 use Rattle.tree.specs.Answers.{Answer, refused}
@@ -22,7 +23,7 @@ use Rattle.records.specs.Told.{Told, Posted, Complained, Received, received, gro
 use Rattle.records.specs.Acts.{Act, Began, Absorbed, AtLink, marks_after}
 use Rattle.records.specs.Legal.{IsLegal, IsLegalTook, is_sync, tree_after, tree_after_answer, is_success, IsSynced}
 use Rattle.records.specs.View.{server_view, IsCovered}
-use Rattle.records.specs.ServerCall.{Serving, Serves, IsQuiet, Replied, Cut, CallKeeps}
+use Rattle.records.specs.ServerCall.{Serving, Serves, IsQuiet, KnowsUnwritten, LeavesView, Replied, Cut, CallKeeps}
 use Rattle.records.specs.Settled.{only_looks, is_settled, none_written, LookingWritesNothing, PostsReads}
 use Rattle.records.proofs.Quiet.{settled_acts, looking_acts, written_told}
 use Rattle.records.specs.Area.{Area, WritesInside, area_of}
@@ -49,6 +50,8 @@ use Rattle.records.specs.Opening.{Opening, contents_at}
 use Rattle.file_server.specs.Over.{CallSpecification}
 use Rattle.vfs.specs.Serving.{IsServer, LooksOver, server_of}
 use Rattle.vfs.specs.UnmountingLaws.{UnmountsOver}
+use Rattle.vfs.proofs.Unwritten.{knows}
+use Rattle.cached_blocks.proofs.Calls.{seen_same}
 
 -- ---- acts leave the tree and a legal record (as in the crate `serve`)
 
@@ -132,14 +135,14 @@ covers_of g some c e image marks k = subst (λ n. IsCovered g (frames_of n c.hel
 
 -- ---- a call over a cache
 
-module _ (g : Geometry) (a b : AbstractCache) (n m : ℕ) (many : m ≡ n) (p q : Files)
+module _ (g : Geometry) (a b : AbstractCache) (n m : ℕ) (many : m ≡ n) (w u : Bool) (p q : Files)
     (sized : a.size ≡ g.block_size) (some : 0 < g.block_size)
     (within : a.area ≡ area_of g a.area.minor) (ends : a.ended ≡ took_end a.told) (x : Leads a b) where
   abbrev s : Serving
-  s = server_of g a n p
+  s = server_of g a n w p
 
   abbrev t : Serving
-  t = server_of g b m q
+  t = server_of g b m u q
 
   -- but for the disk
   abbrev bare : Runs None a b (λ w v. Unit {0})
@@ -225,10 +228,26 @@ module _ (g : Geometry) (a b : AbstractCache) (n m : ℕ) (many : m ≡ n) (p q 
       let same : l.told ≡ x.told = append_cancel_right l.told x.told a.told (sym l.history ∙ x.history) in
       ap none_written (grows marks k) ∙ written_told x.told marks (subst (λ (told : List Told). PostsReads told) same l.reads) none
 
-  -- a call that only looks finds nothing to write, after any record
+  -- a call that only looks finds nothing to write, after any record, and leaves what would be read back
   abbrev pub LooksThere : Who → Call → Type 0
   LooksThere who call = (image : Contents) (tree : Tree) (marks : List Mark) → Serves s image tree marks → HasTrueReplies image (after marks)
-      → IsTrue (only_looks (tree_after g tree marks) who call) → Looks a b
+      → IsTrue (only_looks (tree_after g tree marks) who call)
+      → Looks a b × (view b.size b.held (state_after image (after marks)) ≡ view a.size a.held (state_after image marks))
+
+  -- and leaves what would be read back
+  leaves : (who : Who) (call : Call) → LooksThere who call → (image : Contents) (tree : Tree) (marks : List Mark) → Serves s image tree marks
+      → HasTrueReplies image (after marks) → IsTrue (only_looks (tree_after g tree marks) who call) → LeavesView s t image marks (after marks)
+  leaves who call looks image tree marks k tr only =
+      let sized' = x.size ∙ sized in
+      record {
+        same = view_of g some b sized' image (after marks) ∙ (looks image tree marks k tr only).1 ∙ sym (view_of g some a sized image marks);
+        covered = covers_of g some b sized' image (after marks) (slots image tree marks k.agrees tr);
+      }
+
+  -- it knows which blocks are unwritten
+  unwritten : (image : Contents) (tree : Tree) (marks : List Mark) → IsServer g a p image tree marks → KnowsUnwritten t image (after marks)
+  unwritten image tree marks k =
+      knows g b m u q some (x.size ∙ sized) x.ready.tied image (after marks) (table marks k.table) (slots image tree marks k)
 
   -- the tree is there before it
   pub looks_there : (who : Who) (call : Call) → a.ended ≡ false → ((marks : List Mark) → Agrees a.table marks → gave_up marks ≡ false)
@@ -237,9 +256,16 @@ module _ (g : Geometry) (a b : AbstractCache) (n m : ℕ) (many : m ≡ n) (p q 
       let first = early image marks k.agrees.table tr in
       let up = going marks k.agrees.table in
       let d = view a.size a.held (state_after image marks) in
-      looks d (view b.size b.held (state_after image (after marks))) (seen image tree marks k.agrees tr) (tree_after g tree marks)
+      let e = view b.size b.held (state_after image (after marks)) in
+      let there = seen image tree marks k.agrees tr in
+      let l = looks d e there (tree_after g tree marks)
       (subst (λ (y : Disk). HoldsVolume g y (tree_after g tree marks)) (view_of g some a sized image marks) (k.has_tree first live up).reads_back.holds)
-      (k.agrees.files first live up) only
+      (k.agrees.files first live up) only in
+      (l.0, seen_same a b d e l.1 there)
+
+  -- a dup does nothing, where no Flush is wanted
+  abbrev pub IsCalm : Call → Type 0
+  IsCalm call = (fd : ℕ) → call ≡ Dup fd → w ≡ false → x.acts ≡ []
 
   -- a call that was finished
   module _ (who : Who) (now : ℕ) (call : Call) (answer : Answer) (unended : a.ended ≡ false) (looks : LooksThere who call) where
@@ -250,7 +276,7 @@ module _ (g : Geometry) (a b : AbstractCache) (n m : ℕ) (many : m ≡ n) (p q 
         let both = and_parts (only_looks (tree_after g tree (after marks)) who call) (is_settled g tree (after marks)) h in
         let was = k.settled (early image marks k.agrees.table tr) unended (sym (settled_acts g tree x.acts marks) ∙ both.1) in
         let only = subst (λ (y : Tree). IsTrue (only_looks y who call)) (tree_acts g tree x.acts marks) both.0 in
-        let l = looks image tree marks k tr only was.settled in
+        let l = (looks image tree marks k tr only).0 was.settled in
         (l, quiet marks k.agrees.table l was.none_written)
 
     took_looking : (image : Contents) (tree : Tree) (marks : List Mark) → Serves s image tree marks → HasTrueReplies image (after marks)
@@ -270,8 +296,8 @@ module _ (g : Geometry) (a b : AbstractCache) (n m : ℕ) (many : m ≡ n) (p q 
     }
 
   -- a call that was answered
-  module _ (who : Who) (now : ℕ) (call : Call) (answer : Answer) (live : b.ended ≡ false) (going : b.table.given_up ≡ false)
-      (proper : answer ≢ refused EIO) (clean : IsTrue (is_sync call) → IsTrue (is_success answer) → IsSettled b)
+  module _ (who : Who) (now : ℕ) (call : Call) (answer : Answer) (calm : IsCalm call) (done_with : u ≡ false)
+      (live : b.ended ≡ false) (going : b.table.given_up ≡ false) (proper : answer ≢ refused EIO) (clean : IsTrue (is_sync call) → IsTrue (is_success answer) → IsSettled b)
       (looks : LooksOver g who call p a b)
       (does : (d e : Disk) → Sees a b d e → DoesCall g who now call answer p q d e) where
     -- before it the tree was there
@@ -332,6 +358,7 @@ module _ (g : Geometry) (a b : AbstractCache) (n m : ℕ) (many : m ≡ n) (p q 
           well_formed = took.holds.well_formed;
           inside = inside marks k.agrees.table k.inside;
           at_rest = at_rest b.table (more marks) took;
+          unwritten = knows g b m u q some (x.size ∙ sized) x.ready.tied image (more marks) took (λ tr. slots image tree marks k.agrees tr);
           legal = λ tr. (
             legal_acts g image tree x.acts marks (k.legal (early image marks k.agrees.table tr)),
             subst (λ (z : Bool). IsLegalTook g image (tree_after g tree (after marks)) (after marks) z who now call answer)
@@ -365,6 +392,9 @@ module _ (g : Geometry) (a b : AbstractCache) (n m : ℕ) (many : m ≡ n) (p q 
       once_given_up = λ image tree marks k e. from_clash (sym e ∙ sym (given_up marks k.table) ∙ going);
       after_giving_up = λ image tree marks k e. from_clash (sym e ∙ goes_on marks k.table);
       after_end = λ e. from_clash (sym e ∙ opened);
+      still = calm;
+      flushed = λ answer' is other. done_with;
+      looked = λ image tree marks k tr only. leaves who call there image tree marks k tr only;
       serves = serves;
     }
 
@@ -415,6 +445,7 @@ module _ (g : Geometry) (a b : AbstractCache) (n m : ℕ) (many : m ≡ n) (p q 
           well_formed = agrees.holds.well_formed;
           inside = inside marks k.agrees.table k.inside;
           at_rest = at_rest b.table (after marks) agrees;
+          unwritten = unwritten image tree marks k.agrees;
           legal = λ tr. legal_acts g image tree x.acts marks (k.legal (early image marks k.agrees.table tr));
           has_tree = λ tr e u.
               let sized' = x.size ∙ sized in
@@ -470,7 +501,7 @@ module _ (g : Geometry) (a b : AbstractCache) (n m : ℕ) (many : m ≡ n) (p q 
 
   -- a call that is cut, or answered EIO
   module _ (who : Who) (now : ℕ) (call : Call) (before : a.ended ≡ true → x.acts ≡ []) (over : a.table.given_up ≡ true → x.acts ≡ [])
-      (looks : LooksThere who call) where
+      (calm : IsCalm call) (looks : LooksThere who call) where
     over_is : (marks : List Mark) → Agrees a.table marks → gave_up marks ≡ true → x.acts ≡ []
     over_is marks k e = over (k.holds.given_up ∙ e)
 
@@ -485,6 +516,9 @@ module _ (g : Geometry) (a b : AbstractCache) (n m : ℕ) (many : m ≡ n) (p q 
       once_given_up = λ image tree marks k e. inl refl;
       after_giving_up = λ image tree marks k e. over_is marks k.table e;
       after_end = before;
+      still = calm;
+      flushed = λ answer is other. absurd (cut_replied answer (sym is));
+      looked = λ image tree marks k tr only. leaves who call looks image tree marks k tr only;
       serves = λ image tree marks k.
           let agrees = table marks k.agrees.table in
           record {
@@ -492,6 +526,7 @@ module _ (g : Geometry) (a b : AbstractCache) (n m : ℕ) (many : m ≡ n) (p q 
             well_formed = agrees.holds.well_formed;
             inside = inside marks k.agrees.table k.inside;
             at_rest = at_rest b.table (after marks) agrees;
+            unwritten = unwritten image tree marks k.agrees;
             legal = λ tr. legal_acts g image tree x.acts marks (k.legal (early image marks k.agrees.table tr));
             has_tree = λ tr e u. from_clash (sym end ∙ e);
             looking = λ tr. looking_acts g tree x.acts marks (k.looking (early image marks k.agrees.table tr));
@@ -510,6 +545,9 @@ module _ (g : Geometry) (a b : AbstractCache) (n m : ℕ) (many : m ≡ n) (p q 
       once_given_up = λ image tree marks k e. inr refl;
       after_giving_up = λ image tree marks k e. over_is marks k.table e;
       after_end = before;
+      still = calm;
+      flushed = λ answer is other. absurd (other (sym (same_reply (refused EIO) answer is)));
+      looked = λ image tree marks k tr only. leaves who call looks image tree marks k tr only;
       serves = λ image tree marks k.
           let agrees = table marks k.agrees.table in
           let took = agrees_took b.table (after marks) who now call (refused EIO) agrees in
@@ -520,6 +558,8 @@ module _ (g : Geometry) (a b : AbstractCache) (n m : ℕ) (many : m ≡ n) (p q 
             well_formed = took.holds.well_formed;
             inside = inside marks k.agrees.table k.inside;
             at_rest = at_rest b.table (Took who now call (refused EIO) ∷ after marks) took;
+            unwritten = knows g b m u q some (x.size ∙ sized) x.ready.tied image (Took who now call (refused EIO) ∷ after marks) took
+                (λ tr. slots image tree marks k.agrees tr);
             legal = λ tr. (
               legal_acts g image tree x.acts marks (k.legal (early image marks k.agrees.table tr)),
               subst (λ (z : Bool). IsLegalTook g image (tree_after g tree (after marks)) (after marks) z who now call (refused EIO)) (sym up) refl,

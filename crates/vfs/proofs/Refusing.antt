@@ -31,18 +31,18 @@ no_success refusal.Eio same = cc
 no_success refusal.Busy same = cc
 
 -- it is refused where it is asked
-pub refused_at_once : (g : Geometry) (a : AbstractCache) (n : ℕ) (f : Files) → MayServe g a → ((d e : Disk) → Sees a a d e → e ≡ d) → (why : Why) (r : UnmountRefusal)
-    → r ≡ refused_by why → IsWhyCut a why → UnmountsOver (server_of g a n f) (server_of g a n f) a.truth a.truth (in_words r)
-refused_at_once g a n f may same why r e h =
-    unmounts g a a n n refl f f may.size may.geometry.sized may.area may.ends (none a may.ready) refl same
+pub refused_at_once : (g : Geometry) (a : AbstractCache) (n : ℕ) (w : Bool) (f : Files) → MayServe g a → ((d e : Disk) → Sees a a d e → e ≡ d) → (why : Why) (r : UnmountRefusal)
+    → r ≡ refused_by why → IsWhyCut a why → UnmountsOver (server_of g a n w f) (server_of g a n w f) a.truth a.truth (in_words r)
+refused_at_once g a n w f may same why r e h =
+    unmounts g a a n n refl w w f f may.size may.geometry.sized may.area may.ends (none a may.ready) refl same
     (λ z. refl) (λ z. refl) (looks_none a) (in_words r) (λ z. refl)
     (ap in_words e ∙ is_cut a why (is_busy f) h) (λ z. absurd (no_success r z))
 
 -- it is refused while it writes
-pub refused_later : (g : Geometry) (a b : AbstractCache) (n m : ℕ) → m ≡ n → (f : Files) → MayServe g a → IsLive a → is_busy f ≡ false → (x : Leads a b)
+pub refused_later : (g : Geometry) (a b : AbstractCache) (n m : ℕ) → m ≡ n → (w u : Bool) (f : Files) → MayServe g a → IsLive a → is_busy f ≡ false → (x : Leads a b)
     → ((d e : Disk) → Sees a b d e → e ≡ d) → (why : Why) (r : UnmountRefusal) → r ≡ refused_by why → IsWhyCut b why → Looks a b
-    → UnmountsOver (server_of g a n f) (server_of g b m f) a.truth b.truth (in_words r)
-refused_later g a b n m many f may l idle x same why r e h looks =
-    unmounts g a b n m many f f may.size may.geometry.sized may.area may.ends x refl same
+    → UnmountsOver (server_of g a n w f) (server_of g b m u f) a.truth b.truth (in_words r)
+refused_later g a b n m many w u f may l idle x same why r e h looks =
+    unmounts g a b n m many w u f f may.size may.geometry.sized may.area may.ends x refl same
     (λ z. absurd (false_true a.ended z l.not_ended)) (λ z. absurd (false_true a.table.given_up z l.not_given_up)) looks
     (in_words r) (λ z. absurd (false_true (is_busy f) z idle)) (ap in_words e ∙ is_cut b why (is_busy f) h) (λ z. absurd (no_success r z))

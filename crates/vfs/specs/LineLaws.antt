@@ -22,6 +22,8 @@ stays_by words s l told = record {
   told = told;
   ended = refl;
   settled = λ h. record { clean = h.clean; no_write = h.no_write };
+  unwritten = refl;
+  wanted = refl;
 }
 
 -- as many messages are left, or fewer

@@ -28,7 +28,7 @@ caching_of words s = stored_caching words s.blocks
 
 -- a server as contracts see it
 abbrev pub serving_over : {L : Type 0} → LinkWords L → Server (Stored L) → Serving
-serving_over words s = serving (stored_caching words) (λ b. frame_count b.cache) s
+serving_over words s = serving (stored_caching words) (λ b. frame_count b.cache) (λ b. b.cache.flush) s
 
 -- ids are left for the messages that may still come, one for each, besides those for what was handed over
 pub record HasIds (c : AbstractCache) (absorbed : ℕ) : Type 0 where

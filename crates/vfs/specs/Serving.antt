@@ -1,5 +1,5 @@
 -- A server over a cache, by the geometry of its volume, its cache and its open files.
-use Rattle.std.specs.Prelude.{◌≡◌, ◌≤◌, ℕ, ◌+◌, List, length, false, IsTrue}
+use Rattle.std.specs.Prelude.{◌≡◌, ◌≤◌, ℕ, ◌+◌, List, length, Bool, false, IsTrue}
 use Rattle.layout.specs.declared.Geometry.{Geometry}
 use Rattle.layout.specs.Places.{IsGeometry}
 use Rattle.tree.specs.declared.Who.{Who}
@@ -17,9 +17,10 @@ use Rattle.records.specs.Settled.{only_looks}
 use Rattle.reissue.specs.Agrees.{Agrees}
 use Rattle.reissue.specs.Moves.{state_after}
 use Rattle.reissue.specs.Rules.{outbox_of}
-use Rattle.cache.specs.Calls.{AbstractCache, IsReady, messages_left}
+use Rattle.cache.specs.Calls.{AbstractCache, Keeps, IsReady, messages_left}
 use Rattle.cache.specs.Frames.{CacheAgrees, frames_of}
 use Rattle.cache.specs.Looking.{IsSettled, Looks}
+use Rattle.cache.specs.Slots.{is_dirty_held}
 use Rattle.cached_blocks.specs.World.{Sees}
 use Rattle.descriptors.specs.Files.{Files, HasFiles, is_busy}
 
@@ -37,9 +38,9 @@ pub record IsServer (g : Geometry) (c : AbstractCache) (f : Files) (image : Cont
   pub slots : HasTrueReplies image marks → CacheAgrees c.size c.held (state_after image marks)
   pub files : HasTrueReplies image marks → c.ended ≡ false → gave_up marks ≡ false → HasFiles f (tree_after g tree marks)
 
--- a server over a cache of so many frames, with these open files
-abbrev pub server_of : Geometry → AbstractCache → ℕ → Files → Serving
-server_of g c frames f = record {
+-- a server over a cache of so many frames, which wants a Flush or not, with these open files
+abbrev pub server_of : Geometry → AbstractCache → ℕ → Bool → Files → Serving
+server_of g c frames wanted f = record {
   geometry = g;
   minor = c.area.minor;
   Agrees = IsServer g c f;
@@ -50,12 +51,16 @@ server_of g c frames f = record {
   told = c.told;
   ended = c.ended;
   settled = IsSettled c;
+  unwritten = λ block. is_dirty_held (c.held block);
+  wanted = wanted;
 }
 
--- a call that only looks, of some tree that would be read back with these open files, finds nothing to write where nothing was left to write
+-- a call that only looks, of some tree that would be read back with these open files, finds nothing to write where nothing was left to write,
+-- and leaves what would be read back
 abbrev pub LooksOver : Geometry → Who → Call → Files → AbstractCache → AbstractCache → Type 0
 LooksOver g who call f a b =
-    (d e : Disk) → Sees a b d e → (t : Tree) → HoldsVolume g d t → HasFiles f t → IsTrue (only_looks t who call) → Looks a b
+    (d e : Disk) → Sees a b d e → (t : Tree) → HoldsVolume g d t → HasFiles f t → IsTrue (only_looks t who call)
+    → Looks a b × Keeps a b
 
 -- Messages were taken from those that were left, and each spent an id at most, as did those that were handed over.
 pub record Spends (handed : ℕ) (old new : AbstractCache) : Type 0 where

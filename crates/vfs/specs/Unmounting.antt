@@ -1,5 +1,5 @@
 -- What unmounting a server over a cache promises, and why one is refused.
-use Rattle.std.specs.Prelude.{ℕ, Result, Ok, Err}
+use Rattle.std.specs.Prelude.{ℕ, Bool, Result, Ok, Err}
 use Rattle.records.specs.Unmount.{Unmounting}
 use Rattle.records.specs.Unmount as legal
 use Rattle.cache.specs.Calls.{AbstractCache}
@@ -34,6 +34,6 @@ unmounting_as (Ok u) = legal.Unmounted
 unmounting_as (Err refusal) = in_words refusal
 
 -- unmounting a server over the blocks of a cache
-abbrev pub Unmounts : {B : Type 0} → (B → AbstractCache) → (B → ℕ) → Server B → Server B → Unmounting → Type 0
-Unmounts caching frame_count old new result =
-    UnmountsOver (serving caching frame_count old) (serving caching frame_count new) (caching old.blocks).truth (caching new.blocks).truth result
+abbrev pub Unmounts : {B : Type 0} → (B → AbstractCache) → (B → ℕ) → (B → Bool) → Server B → Server B → Unmounting → Type 0
+Unmounts caching frame_count wanted old new result =
+    UnmountsOver (serving caching frame_count wanted old) (serving caching frame_count wanted new) (caching old.blocks).truth (caching new.blocks).truth result

@@ -48,8 +48,8 @@ pub fn answer<B: Caches>(
 ) -> Ending
     requires may { MayServe geometry.now (B.caching blocks.old) }
     ensures may { MayServe geometry.now (B.caching blocks.new) }
-    ensures calls { CallSpecification (server_of geometry.now (B.caching blocks.old) (B.frame_count blocks.old) (files_of opens.old))
-        (server_of geometry.now (B.caching blocks.new) (B.frame_count blocks.new) (files_of opens.new))
+    ensures calls { CallSpecification (server_of geometry.now (B.caching blocks.old) (B.frame_count blocks.old) (B.wanted blocks.old) (files_of opens.old))
+        (server_of geometry.now (B.caching blocks.new) (B.frame_count blocks.new) (B.wanted blocks.new) (files_of opens.new))
         (B.caching blocks.old).truth (B.caching blocks.new).truth who now call.now (outcome_of (outcome_in result reply.new)) }
     ensures goes { B.goes_on blocks.old blocks.new }
     ensures flushed { OnAnswered (outcome_of (outcome_in result reply.new)) (B.wanted blocks.new ≡ false) }

@@ -63,7 +63,7 @@ impl<B: Caches> Server<B> {
     pub fn call(&mut self, who: Who, now: u32, call: &Call, reply: &mut Reply) -> Ending
         requires may { IsOpen B.caching self.old }
         ensures may { IsOpen B.caching self.new }
-        ensures calls { Answers B.caching B.frame_count self.old self.new who now call.now (outcome_of (outcome_in result reply.new)) }
+        ensures calls { Answers B.caching B.frame_count B.wanted self.old self.new who now call.now (outcome_of (outcome_in result reply.new)) }
         ensures goes { B.goes_on self.old.blocks self.new.blocks }
         ensures flushed { OnAnswered (outcome_of (outcome_in result reply.new)) (B.wanted self.new.blocks ≡ false) }
         ensures spends { Spends 0 (B.caching self.old.blocks) (B.caching self.new.blocks) }
@@ -91,7 +91,7 @@ impl<B: Caches> Server<B> {
         requires may { MayAbsorb message (B.caching self.old.blocks) }
         requires few { self.old.absorbed < 2 ^ 48 }
         ensures open { IsOpen B.caching self.new }
-        ensures absorbs { Absorbs B.caching B.frame_count self.old self.new message }
+        ensures absorbs { Absorbs B.caching B.frame_count B.wanted self.old self.new message }
         ensures silent { message ≢ Incoming.Flush → B.wanted self.old.blocks ≡ false → IsIdle (B.caching self.old.blocks)
             → (B.caching self.new.blocks).told ≡ (B.caching self.old.blocks).told }
         ensures goes { B.goes_on self.old.blocks self.new.blocks }
@@ -114,5 +114,5 @@ impl<B: Caches> Server<B> {
 impl<B: Caches> Serve for Server<B> {
     ghost use Rattle.vfs.specs.Server.{serving as as_seen};
 
-    ghost serving = { as_seen B.caching B.frame_count };
+    ghost serving = { as_seen B.caching B.frame_count B.wanted };
 }

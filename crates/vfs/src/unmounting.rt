@@ -59,7 +59,7 @@ impl<B: Caches> Server<B> {
     pub fn unmount(&mut self) -> Result<(), UnmountRefusal>
         requires may { IsOpen B.caching self.old }
         ensures may { IsOpen B.caching self.new }
-        ensures unmounts { Unmounts B.caching B.frame_count self.old self.new (unmounting_as result) }
+        ensures unmounts { Unmounts B.caching B.frame_count B.wanted self.old self.new (unmounting_as result) }
         ensures goes { B.goes_on self.old.blocks self.new.blocks }
         ensures flushed { OnOk result (B.wanted self.new.blocks ≡ false) }
         ensures spends { Spends 0 (B.caching self.old.blocks) (B.caching self.new.blocks) }

@@ -3,7 +3,7 @@ use Rattle.std.specs.Prelude.{◌≡◌, ℕ, ◌-◌, List, ◌++◌, Ok, codes
 use Rattle.layout.specs.declared.Geometry.{Geometry}
 use Rattle.tree.specs.Space.{data_zones}
 use Rattle.new_volume.specs.Sizes.{sizes_of, refusal_name}
-use Rattle.new_volume.specs.Made.{IsNewVolume, IsRefused}
+use Rattle.new_volume.specs.Made.{IsOwnedVolume, IsRefused}
 use Rattle.volume_commands.specs.declared.make.Wanted.{Wanted}
 use Rattle.volume_commands.specs.declared.make.CommandStatus.{CommandStatus}
 use Rattle.volume_commands.specs.declared.make.CommandStatus.TheVariants.{Done, Refused}
@@ -39,7 +39,9 @@ HasSizes w g = sizes_of w.blocks w.block_size w.inodes ≡ Ok g
 
 -- the image is that of the volume that is wanted, and the line about it went out
 abbrev pub IsMade : Wanted → List ℕ → (List ℕ → Type 0) → Type 0
-IsMade w image WentOut = IsNewVolume w.blocks w.block_size w.inodes w.now image × ((g : Geometry) × HasSizes w g × WentOut (made_text g))
+IsMade w image WentOut =
+    IsOwnedVolume w.blocks w.block_size w.inodes w.now (record { uid = w.uid; gid = w.gid }) image
+    × ((g : Geometry) × HasSizes w g × WentOut (made_text g))
 
 -- there is no such volume or no memory, and nothing went out; or a part of the line about it went out
 abbrev pub IsUnmade : Wanted → MakeRefusal → Type 0 → (List ℕ → Type 0) → Type 0

@@ -24,6 +24,10 @@ pub struct Wanted {
     pub inodes: u32,
     /// The time at which it is made, in seconds since 1970.
     pub now: u32,
+    /// The user that its root belongs to.
+    pub uid: u16,
+    /// The group that its root belongs to.
+    pub gid: u16,
 }
 
 /// How a making ended.
@@ -111,6 +115,8 @@ fn try_make<W: Write>(alloc: Global, wanted: &Wanted, out: &mut W) -> Result<New
         wanted.block_size,
         wanted.inodes,
         wanted.now,
+        wanted.uid,
+        wanted.gid,
     ) {
         Ok(image) => image,
         Err(refusal) => return Err(MakeRefusal::Mkfs(refusal)),

@@ -56,7 +56,7 @@ impl fmt::Display for VerifyRefusal<'_> {
 }
 
 /// What is said where there is no volume.
-fn text_of_missing(refusal: NoVolume) -> &'static str
+pub(crate) fn text_of_missing(refusal: NoVolume) -> &'static str
     ensures { result.now ≡ missing_text refusal }
 {
     match refusal {
@@ -234,7 +234,7 @@ fn verdict_on<'n>(
 }
 
 /// The bytes in which the volume of a minor lies.
-fn volume_in(bytes: &[u8], minor: u8) -> Result<&[u8], NoVolume>
+pub(crate) fn volume_in(bytes: &[u8], minor: u8) -> Result<&[u8], NoVolume>
     ensures volume { IfOk result (λ volume. volume_at bytes.now minor ≡ Ok volume.now) }
     ensures refused { IfErr result (λ refusal. volume_at bytes.now minor ≡ Err refusal) }
 {

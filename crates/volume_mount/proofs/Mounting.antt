@@ -189,8 +189,8 @@ mounted {L} words link minor frames clean old new s over agrees owes goes ok r n
       held = (r.end agrees).1.held;
       at_first = λ image tr. subst (λ (g : Geometry). IsAtFirst g image (r.end agrees).1.tree) (sym n.geometry) (first image tr);
       serves = λ image.
-          subst (λ (g : Geometry). Serves (server_of g (caching_of words s) (frame_count s.blocks.cache) (files_of s.opens)) image (r.end agrees).1.tree marks) (sym n.geometry)
-          (serves_new clean.geometry (caching_of words s) (frame_count s.blocks.cache) (files_of s.opens) image (r.end agrees).1.tree marks
+          subst (λ (g : Geometry). Serves (server_of g (caching_of words s) (frame_count s.blocks.cache) s.blocks.cache.flush (files_of s.opens)) image (r.end agrees).1.tree marks) (sym n.geometry)
+          (serves_new clean.geometry (caching_of words s) (frame_count s.blocks.cache) s.blocks.cache.flush (files_of s.opens) image (r.end agrees).1.tree marks
           (r.end agrees).1.sizes.sized n.made.size_is n.made.none n.files now
           (λ tr. let l = r.went.leaves image [] agrees tr in record { disk = λ place. l.disk place; sure = λ place. l.sure place refl })
           (first image) (tree_acts clean.geometry (r.end agrees).1.tree r.went.acts []) (legal_acts clean.geometry image (r.end agrees).1.tree r.went.acts [] tt)

@@ -13,7 +13,7 @@ use Rattle.records.specs.Disk.{Contents, HasTrueReplies, disk_after, unsure}
 use Rattle.records.specs.Acts.{empty_outbox}
 use Rattle.records.specs.Area.{Area, WritesInside}
 use Rattle.records.specs.Legal.{IsAtFirst, IsLegal, tree_after}
-use Rattle.records.specs.View.{Frames, server_view}
+use Rattle.records.specs.View.{Frames, frame_or, server_view}
 use Rattle.records.specs.Mount.{IsJustMade, OpenKeeps, is_frame_count}
 use Rattle.records.specs.ServerCall.{Serves}
 use Rattle.records.specs.Settled.{none_written, LookingWritesNothing}
@@ -27,6 +27,7 @@ use Rattle.reissue.specs.Moves.{Begun, state_after}
 use Rattle.reissue.specs.Rules.{outbox_of}
 use Rattle.reissue.proofs.TableRules.{at_rest}
 use Rattle.cache.specs.declared.slot.Slot.{Slot}
+use Rattle.cache.specs.Slots.{is_dirty_held}
 use Rattle.cache.specs.Calls.{AbstractCache, frame_count}
 use Rattle.cache.specs.Frames.{CacheAgrees, frame_of, frames_of}
 use Rattle.descriptors.specs.Files.{Files, HasFiles, is_busy}
@@ -63,16 +64,20 @@ pub none_busy : (f : Files) → f ≡ no_files → is_busy f ≡ false
 none_busy f e = ap (λ (x : Files). is_busy x) e ∙ none_open
 
 -- A server whose cache has no frame in use, over a record that left the image as it was and the tree unmoved, serves.
-pub serves_new : (g : Geometry) (c : AbstractCache) (n : ℕ) (f : Files) (image : Contents) (tree : Tree) (marks : List Mark)
+pub serves_new : (g : Geometry) (c : AbstractCache) (n : ℕ) (w : Bool) (f : Files) (image : Contents) (tree : Tree) (marks : List Mark)
     → 0 < g.block_size → c.size ≡ g.block_size → ((b : ℕ) → c.held b ≡ None) → f ≡ no_files → Agrees c.table marks
     → (HasTrueReplies image marks → IsUnchanged image marks) → (HasTrueReplies image marks → IsAtFirst g image tree)
     → tree_after g tree marks ≡ tree → IsLegal g image tree marks → LookingWritesNothing g tree marks → none_written marks ≡ true
-    → WritesInside g marks → c.table.pending ≡ [] → Serves (server_of g c n f) image tree marks
-serves_new g c n f image tree marks some sized none closed agrees same first stays legal looking quiet inside idle = record {
+    → WritesInside g marks → c.table.pending ≡ [] → Serves (server_of g c n w f) image tree marks
+serves_new g c n w f image tree marks some sized none closed agrees same first stays legal looking quiet inside idle = record {
   agrees = record { table = agrees; slots = slots; files = λ tr e u. files tr };
   well_formed = agrees.holds.well_formed;
   inside = inside;
   at_rest = at_rest c.table marks agrees;
+  unwritten = record {
+    framed = λ block is. absurd (no_slot (c.held block) (none block) is);
+    others = λ tr block written clear. ap (λ (o : Option Slot). frame_or (frame_of c.size o) (blocks_of g (disk_after image marks) block)) (none block);
+  };
   legal = λ tr. legal;
   has_tree = λ tr e u. record {
     reads_back = record {
@@ -92,6 +97,9 @@ serves_new g c n f image tree marks some sized none closed agrees same first sta
   };
 }
   where
+    no_slot : (o : Option Slot) → o ≡ None → is_dirty_held o ≡ true → ⊥
+    no_slot o e dirty = let clash : true ≡ false = sym dirty ∙ ap is_dirty_held e in cc
+
     slots : HasTrueReplies image marks → CacheAgrees c.size c.held (state_after image marks)
     slots tr = record {
       clean = λ b s is clean o lt. absurd (some_none (sym (none b) ∙ is));
@@ -116,6 +124,7 @@ just_made words transfers minor g frames s many new = record {
   frames = λ block. ap (λ (o : Option Slot). frame_of (caching_of words s).size o) (new.made.none block);
   not_busy = none_busy (files_of s.opens) new.files;
   not_ended = new.made.not_ended;
+  not_wanted = new.no_flush;
 }
 
 -- what opening promises
@@ -133,8 +142,8 @@ opened {L} words transfers link minor g frames s over agrees owes idle many some
       let c = caching_of words s in
       let table = subst (λ (t : Transfers L). Agrees (table_of t) []) (sym new.over) agrees in
       let count = frame_count s.blocks.cache in
-      subst (λ (h : Geometry). Serves (server_of h c count (files_of s.opens)) image tree []) (sym new.geometry)
-      (serves_new g c count (files_of s.opens) image tree [] some new.made.size_is new.made.none new.files table
+      subst (λ (h : Geometry). Serves (server_of h c count s.blocks.cache.flush (files_of s.opens)) image tree []) (sym new.geometry)
+      (serves_new g c count s.blocks.cache.flush (files_of s.opens) image tree [] some new.made.size_is new.made.none new.files table
       (λ tr. record { disk = λ place. refl; sure = λ place. refl }) (λ tr. first) refl tt tt refl tt
       (ap (λ (t : Transfers L). (table_of t).pending) new.over ∙ idle));
 }

@@ -34,7 +34,7 @@ impl<N: ServiceParameters> Keeper<N> {
     ghost use Rattle.board.specs.View.{opener, new_caller, caller_after, without};
     ghost use Rattle.board.specs.Words.{mark_of};
     ghost use Rattle.board.specs.Steps.{SessionLearns, SessionIsNew};
-    ghost use Rattle.board.specs.Keeper.{record_of, numbers_of, AreAllUsed, IsLowestFree};
+    ghost use Rattle.board.specs.Keeper.{record_of, numbers_of, AreAllUsed, IsLowestFree, IsOneUsed};
 
     /// The record's seat of a new board: nothing is in the record, and no session has a number.
     pub fn new(board: Arc<Board>, seat: Seat) -> Keeper<N>
@@ -115,6 +115,29 @@ impl<N: ServiceParameters> Keeper<N> {
         ensures { (result ≡ true) ↔ AreAllUsed (numbers_of self.now) }
     {
         self.used.iter().all(|used| *used)
+    }
+
+    /// Whether this number is that of a session, but for the second one.
+    fn has_session(&self, number: u8, but: Option<u8>) -> bool
+        requires { number < 64 }
+        ensures { result ≡ is_used number (without but (numbers_of self.now)) }
+    {
+        match but {
+            Some(other) => number != other && self.used[number as usize],
+            None => self.used[number as usize],
+        }
+    }
+
+    /// Whether a number is that of a session, but for this number.
+    pub fn has_sessions(&self, but: Option<u8>) -> bool
+        ensures { (result ≡ true) ↔ IsOneUsed (without but (numbers_of self.now)) }
+    {
+        for number in 0..64 {
+            if self.has_session(number, but) {
+                return true;
+            }
+        }
+        false
     }
 
     /// A seat with the lowest number that no session has, if there is one: its session has seen the whole record. With it comes how many

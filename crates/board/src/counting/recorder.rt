@@ -9,7 +9,7 @@ ghost use Rattle.records.specs.Session.{tally_of};
 ghost use Rattle.board.specs.View.{without};
 ghost use Rattle.board.specs.Steady.{IsAside};
 ghost use Rattle.board.specs.Steps.{SessionLearns, SessionIsNew};
-ghost use Rattle.board.specs.Keeper.{AreAllUsed, IsLowestFree};
+ghost use Rattle.board.specs.Keeper.{AreAllUsed, IsLowestFree, IsOneUsed};
 ghost use Rattle.board.specs.Recorder.{SameLink};
 ghost use Rattle.file_server.specs.Leaving.{IsEndLast};
 
@@ -86,6 +86,10 @@ pub trait Recorder<N: ServiceParameters>: Supplied + Drop {
     /// Whether each of the 64 numbers is that of a session.
     fn is_full(&self) -> bool
         ensures { (result ≡ true) ↔ AreAllUsed (numbers self.now) };
+
+    /// Whether a number is that of a session, but for this number.
+    fn has_sessions(&self, but: Option<u8>) -> bool
+        ensures { (result ≡ true) ↔ IsOneUsed (without but (numbers self.now)) };
 
     /// A seat with the lowest number that no session has, if there is one: its session has seen the whole record, and made no call. With it
     /// comes how many counted marks that has, modulo 2^64.

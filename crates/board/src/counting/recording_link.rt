@@ -183,6 +183,10 @@ impl<N: ServiceParameters, L: Steady + Supplied + Drop> Recorder<N> for Recordin
         self.keeper.is_full()
     }
 
+    fn has_sessions(&self, but: Option<u8>) -> bool {
+        self.keeper.has_sessions(but)
+    }
+
     fn admit(&mut self) -> Option<(u8, Seat, u64)> {
         self.keeper.admit()
     }

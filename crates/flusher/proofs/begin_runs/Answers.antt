@@ -75,7 +75,7 @@ returns-then-begun-eq0-clause-runs g c =
     let i = c.runs.invariant in
     let e = c.write_run-begun.ensures in
     let h = flushing_end c.args.most _ c.runs.left _ _ _ _ _ _ i.flushing (begins_none c.runs.left c.write_run-begun.result _ _ _ _ _ c.if-begun-eq0.true e.issued) in
-    record { counts = h.counts; runs = h.runs }
+    record { counts = h.counts; runs = h.runs; all = λ live. inr (e.stuck c.if-begun-eq0.true live) }
 
 pub returns-then-begun-eq0-clause-left : goal.returns-then-begun-eq0-clause-left
 returns-then-begun-eq0-clause-left g c = omega (arith, c.runs.invariant.messages, c.write_run-begun.ensures.left)
@@ -102,7 +102,11 @@ pub returns-clause-issued : goal.returns-clause-issued
 returns-clause-issued g c = lowest_of c.args.most _ c.runs.left _ _ _ _ c.runs.invariant.flushing
 
 pub returns-clause-runs : goal.returns-clause-runs
-returns-clause-runs g c = let h = c.runs.invariant.flushing in record { counts = h.counts; runs = h.runs }
+returns-clause-runs g c =
+    let h = c.runs.invariant.flushing in
+    let is = h.left_is in
+    let none : c.runs.left ≤ 0 = c.runs-test.false in
+    record { counts = h.counts; runs = h.runs; all = λ live. inl (omega (arith, is, none)) }
 
 pub returns-clause-left : goal.returns-clause-left
 returns-clause-left g c = c.runs.invariant.messages

@@ -4,6 +4,7 @@ use Rattle.reissue.specs.Entries.{pending_of}
 use Rattle.cache.specs.declared.frame.Frame.{Frame}
 use Rattle.cache.specs.Calls.{caching, held_by, frame_count, Keeps, PostsAlone, IsFrame, LinkGoesOn, messages_left}
 use Rattle.cache.specs.Edits.{AllClean}
+use Rattle.cache.specs.Runs.{requests_in}
 use Rattle.cache.specs.Takes.{NoReadBegun}
 use Rattle.flusher.proofs.Flushing.{Flushing}
 use Rattle.flusher.proofs.begin_runs.Given as goal
@@ -13,7 +14,7 @@ invariant-runs g l = record {
   keeps : Keeps (caching g.L.Link l.initial.cache) (caching g.L.Link l.cache);
   posts : PostsAlone (caching g.L.Link l.initial.cache) (caching g.L.Link l.cache);
   flushing : Flushing l.initial.most l.initial.cache.shape.block_size l.left (caching g.L.Link l.initial.cache).held (caching g.L.Link l.cache).held
-      (pending_of l.initial.cache.transfers.table.pending) (pending_of l.cache.transfers.table.pending);
+      (requests_in l.initial.cache.transfers.table) (requests_in l.cache.transfers.table);
   messages : messages_left (caching g.L.Link l.cache) ≤ messages_left (caching g.L.Link l.initial.cache);
   frames : (f : Frame) → IsFrame l.initial.cache f → IsFrame l.cache f;
   reads : NoReadBegun (pending_of l.initial.cache.transfers.table.pending) (pending_of l.cache.transfers.table.pending);

@@ -1,6 +1,7 @@
 //! The words that `mfs` takes, and what they say.
 
 use crate::play_words::{frames, image, minor, model, out, spares};
+use crate::version;
 use clap::{Arg, ArgAction, ArgMatches, Command, Error};
 use std::alloc::{AllocError, Global};
 
@@ -39,7 +40,8 @@ Modes are octal, bytes lower-case hexadecimal, other numbers decimal. One space 
 fn command<'a>(alloc: Global) -> Result<Command<'a>, AllocError> {
     let file = "The file of a MINIX 3 volume; it is read only, unless --out names it";
     Command::new(alloc, "mfs")
-        .version("0.1.0")
+        .version(version::SHORT)
+        .long_version(version::LONG)
         .about(
             "Plays scripts of client calls against a file server over the image of a volume, and prints the replies",
         )
@@ -78,8 +80,8 @@ pub struct MfsWords<'a> {
     pub minor: u8,
     /// How many drivers stand by, 0 to 63.
     pub spares: u8,
-    /// How many blocks the server keeps in memory at a time, 16 to 4096.
-    pub frames: u32,
+    /// How many blocks the server keeps in memory at a time, 16 to 4096, if the words say so.
+    pub frames: Option<u32>,
     /// The drivers move an arm.
     pub model: bool,
 }
@@ -93,7 +95,7 @@ impl<'a> MfsWords<'a> {
             out: matches.get_str("out"),
             minor: matches.get_one::<u8>("minor").unwrap_or(0),
             spares: matches.get_one::<u8>("spares").unwrap_or(0),
-            frames: matches.get_one::<u32>("frames").unwrap_or(64),
+            frames: matches.get_one::<u32>("frames"),
             model: matches.get_flag("model"),
         })
     }

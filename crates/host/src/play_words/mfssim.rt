@@ -1,13 +1,15 @@
 //! The words that `mfssim` takes, and what they say.
 
 use crate::play_words::{image, minor, spares};
+use crate::version;
 use clap::{Arg, ArgMatches, Command, Error};
 use std::alloc::{AllocError, Global};
 
 /// The words that `mfssim` knows.
 fn command<'a>(alloc: Global) -> Result<Command<'a>, AllocError> {
     Command::new(alloc, "mfssim")
-        .version("0.1.0")
+        .version(version::SHORT)
+        .long_version(version::LONG)
         .about(
             "Runs a file server over the image of a volume while a schedule moves its drivers, and prints the transcript",
         )

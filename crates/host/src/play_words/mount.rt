@@ -1,6 +1,7 @@
 //! The words that `mfs9p` and `mfsfuse` take, and what they say.
 
 use crate::play_words::{frames, image, minor, model, number, out};
+use crate::version;
 use clap::{Arg, ArgMatches, Command, Error};
 use std::alloc::{AllocError, Global};
 
@@ -75,7 +76,8 @@ impl MountProgram {
 fn command<'a>(alloc: Global, program: MountProgram) -> Result<Command<'a>, AllocError> {
     let file = "The file of a MINIX 3 volume; it is read only, unless --out names it";
     Command::new(alloc, program.name())
-        .version("0.1.0")
+        .version(version::SHORT)
+        .long_version(version::LONG)
         .about(program.about())
         .after_help(program.mounting())
         .arg(image(alloc, file))?
@@ -131,8 +133,8 @@ pub struct MountWords<'a> {
     pub minor: u8,
     /// How many drivers stand by, 0 to 4095.
     pub spares: u16,
-    /// How many blocks the server keeps in memory at a time, 16 to 4096.
-    pub frames: u32,
+    /// How many blocks the server keeps in memory at a time, 16 to 4096, if the words say so.
+    pub frames: Option<u32>,
     /// The drivers move an arm.
     pub model: bool,
     /// In which of the requests that it takes each driver dies, counted from 1; 0: none does.
@@ -151,7 +153,7 @@ impl<'a> MountWords<'a> {
             out: matches.get_str("out"),
             minor: matches.get_one::<u8>("minor").unwrap_or(0),
             spares: matches.get_one::<u16>("spares").unwrap_or(0),
-            frames: matches.get_one::<u32>("frames").unwrap_or(64),
+            frames: matches.get_one::<u32>("frames"),
             model: matches.get_flag("model"),
             die_every: matches.get_one::<u32>("die-every").unwrap_or(0),
             kill_every: matches.get_one::<u32>("kill-every").unwrap_or(0),

@@ -1,5 +1,6 @@
 //! The words that `mfmig` takes, and what they say.
 
+use crate::version;
 use crate::volume_words::{file, number};
 use clap::{ArgMatches, Command, Error};
 use std::alloc::{AllocError, Global};
@@ -13,7 +14,8 @@ fn command<'a>(alloc: Global) -> Result<Command<'a>, AllocError> {
     let new = "The file of the new volume; a file that is there is replaced";
     let blocks = "How many blocks of 1024 bytes the new volume has, at most 65536";
     Command::new(alloc, "mfmig")
-        .version("0.1.0")
+        .version(version::SHORT)
+        .long_version(version::LONG)
         .about("Makes the image of a new MINIX 3 volume with the tree of a MINIX 2 volume")
         .arg(file(alloc, "OLD", old))?
         .arg(file(alloc, "NEW", new))?

@@ -1,5 +1,6 @@
 //! The words that `mfsck` takes, and what they say.
 
+use crate::version;
 use crate::volume_words::{image, number};
 use clap::{Arg, ArgMatches, Command, Error};
 use std::alloc::{AllocError, Global};
@@ -7,7 +8,8 @@ use std::alloc::{AllocError, Global};
 /// The words that `mfsck` knows.
 fn command<'a>(alloc: Global) -> Result<Command<'a>, AllocError> {
     Command::new(alloc, "mfsck")
-        .version("0.1.0")
+        .version(version::SHORT)
+        .long_version(version::LONG)
         .about(
             "Checks a MINIX 3 volume: prints `clean`, or the first rule that it breaks and where",
         )

@@ -2,9 +2,9 @@ use Rattle.std.proofs.Common.{◌≡◌, ◌*◌, ◌++◌, ℕ, length, replica
 use Rattle.layout.specs.Places.{table_blocks}
 use Rattle.layout.specs.Superblock.{with_superblock}
 use Rattle.tree.specs.Space.{data_zones}
-use Rattle.volume.specs.Fresh.{fresh_inode}
 use Rattle.inode.specs.Bytes.{bytes_of}
 use Rattle.new_volume.specs.Image.{map_bytes, filled}
+use Rattle.new_volume.specs.Owned.{owned_inode}
 use Rattle.new_volume.proofs.Parts.{all_zeros, put_back, front_length}
 use Rattle.new_volume.proofs.Widths.{large}
 use Rattle.std.proofs.lemmas.List.{length-replicate}
@@ -25,6 +25,6 @@ returns c =
     ∙ ap (λ l. l ++ map_bytes g.inodes c.bytes_in-2.result) (put_back c.resize.new.self.len c.write.new.image c.resize.new.self.items same room ∙ head)
     ∙ ap (λ n. with_superblock g (replicate (2 * B) 0) ++ map_bytes g.inodes n) c.bytes_in-2.ensures.bytes in
     let zone = c.in_ok-push_map-2.ensures ∙ (λ i. inodes i ++ map_bytes (data_zones g) (c.bytes_in-3.ensures.bytes i)) in
-    let root : c.encode.result ≡ bytes_of (fresh_inode g c.args.now) = c.encode.ensures.bytes ∙ ap bytes_of c.root.ensures in
+    let root : c.encode.result ≡ bytes_of (owned_inode g c.args.now c.args.owner) = c.encode.ensures.bytes ∙ ap bytes_of c.root.ensures in
     let blocks : c.bytes_in-4.result ≡ table_blocks g * B = c.bytes_in-4.ensures.bytes ∙ ap (λ n. n * B) c.blocks_for-table.ensures in
     c.in_ok-push_filled.ensures ∙ (λ i. zone i ++ filled (root i) (blocks i))

@@ -14,6 +14,9 @@ returns-clause-turns g c =
 pub returns-clause-looks : goal.returns-clause-looks
 returns-clause-looks g c =
     let f = stored_caching g.L.Link in
-    looks_then _ _ _
-    (looks_same (f c.args.self.now) (f (record { cache = c.make_way.new.cache })) (λ clean. ap (λ k. f (record { cache = k })) (c.make_way.ensures.at_once clean)))
-    c.fetch.ensures.looks
+    record {
+      looks = looks_then _ _ _
+          (looks_same (f c.args.self.now) (f (record { cache = c.make_way.new.cache })) (λ clean. ap (λ k. f (record { cache = k })) (c.make_way.ensures.at_once clean)))
+          c.fetch.ensures.looks;
+      keeps = λ ready. keeps_then _ _ _ c.make_way.ensures.keeps c.fetch.ensures.keeps;
+    }

@@ -6,5 +6,5 @@ pub returns : goal.returns
 returns g c = record {
   turns = turns_kept (stored_caching g.L.Link) (GoesOn g.L.Link) _ _ (record { link = c.forget.ensures.goes; frames = c.forget.ensures.count })
       c.forget.ensures.keeps;
-  looks = c.forget.ensures.looks;
+  looks = record { looks = c.forget.ensures.looks; keeps = λ ready. c.forget.ensures.keeps };
 }

@@ -1,4 +1,6 @@
-use Rattle.std.proofs.Common.{ap}
+use Rattle.std.proofs.Common.{ap, None}
+use Rattle.cache.specs.Calls.{Serves}
+use Rattle.cache.proofs.Runs.{runs_as}
 use Rattle.cache.proofs.Looking.{looks_same}
 use Rattle.flusher.specs.Flushing.{Syncs}
 use Rattle.cached_blocks.specs.World.{stored_caching, GoesOn}
@@ -14,5 +16,9 @@ returns-clause-turns g c =
 pub returns-clause-looks : goal.returns-clause-looks
 returns-clause-looks g c =
     let f = stored_caching g.L.Link in
-    looks_same (f c.args.self.now) (f (record { cache = c.sync.new.cache }))
-    (λ clean. ap (λ s. f (record { cache = s })) (c.sync.ensures.at_once clean).1)
+    let old = f c.args.self.now in
+    let new = f (record { cache = c.sync.new.cache }) in
+    record {
+      looks = looks_same old new (λ clean. ap (λ s. f (record { cache = s })) (c.sync.ensures.at_once clean).1);
+      keeps = λ ready. runs_as None old new (λ w v. Syncs c.sync.result old new w v) (λ w v. Serves old new w v) (λ w v p. p.serves) c.sync.ensures.runs;
+    }

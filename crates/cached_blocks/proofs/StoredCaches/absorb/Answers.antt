@@ -2,7 +2,7 @@ use Rattle.std.proofs.Common.{ℕ, Option, ◌∙◌, ap, subst}
 use Rattle.cache.specs.declared.slot.Slot.{Slot}
 use Rattle.flusher.specs.Flushing.{BeginsAll}
 use Rattle.cached_blocks.specs.World.{goes_joins, stored_caching}
-use Rattle.cached_blocks.proofs.Flushes.{hands_then}
+use Rattle.cached_blocks.proofs.Flushes.{hands_then, from_there}
 use Rattle.cache.proofs.Looking.{looks_then}
 use Rattle.cached_blocks.proofs.StoredCaches.absorb.Goals as goal
 
@@ -34,3 +34,11 @@ returns-then-not-last-clause-looks g c = looks_then _ _ _ c.absorb.ensures.looks
 
 pub returns-else-not-last-clause-looks : goal.returns-else-not-last-clause-looks
 returns-else-not-last-clause-looks g c = c.absorb.ensures.looks
+
+-- what a Flush begins, it begins from the frames and requests that there were
+pub returns-then-not-last-clause-runs : goal.returns-then-not-last-clause-runs
+returns-then-not-last-clause-runs g c = λ is marks agrees.
+    let old = stored_caching g.L.Link c.args.self.now in
+    let new = stored_caching g.L.Link c.flush_wanted.new.self in
+    let x = (c.flush_wanted.ensures.flushed (c.absorb.ensures.wanted.0 is)).runs in
+    from_there old _ new c.absorb.ensures.hands_over.runs.size (c.absorb.ensures.asked is) (c.absorb.ensures.pending is marks agrees) x

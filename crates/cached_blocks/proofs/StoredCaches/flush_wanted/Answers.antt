@@ -40,6 +40,7 @@ returns-else-take_flush-clause-turns g c =
 pub returns-then-take_flush-clause-flushed : goal.returns-then-take_flush-clause-flushed
 returns-then-take_flush-clause-flushed g c = λ wanted. record {
   issued = rw c.take_flush.ensures.done at c.flush_some.ensures.issued;
+  runs = rw c.take_flush.ensures.done at c.flush_some.ensures.runs;
   stuck = rw c.take_flush.ensures.done at c.flush_some.ensures.stuck;
 }
 

@@ -1,4 +1,6 @@
-use Rattle.std.proofs.Common.{◌≡◌, refl, sym, subst, ap}
+use Rattle.std.proofs.Common.{◌≡◌, ◌∙◌, map, refl, sym, subst, ap}
+use Rattle.reissue.specs.Entries.{request_of}
+use Rattle.reissue.specs.Hears.{Hears}
 use Rattle.reissue.specs.declared.transfers.Transfers.{Transfers}
 use Rattle.reissue.specs.Transfers.{table_of, link_of}
 use Rattle.reissue.specs.Posts.{HasRoom}
@@ -49,5 +51,8 @@ returns g c =
       asked = λ is.
           let flushes : came ≡ settled.Flush = subst (λ (m : Incoming). IsAnswerTo m came) is x.answer in
           ap held (subst (λ (r : Settlement). Settles r s.slots.items.items items) flushes (e.slots bytes));
+      pending = λ is marks k.
+          let hears = subst (λ (m : Incoming). Hears m s.transfers.table x.absorbs.mid marks) is (x.absorbs.hears marks k) in
+          ap (map request_of) (x.absorbs.same ∙ hears.0.pending);
       wanted = wanted_for c.args.message came _ _ x.answer (e.wanted bytes);
     }

@@ -1,4 +1,8 @@
-use Rattle.std.proofs.Common.{◌≡◌, ℕ, List, refl, sym, subst, arith, Err}
+use Rattle.std.proofs.Common.{◌≡◌, ℕ, List, [], ◌∷◌, refl, sym, ap, ◌∙◌, subst, arith, Err}
+use Rattle.std.specs.Prelude.{map}
+use Rattle.std.proofs.lemmas.List.{map-append}
+use Rattle.message.specs.Good.{is_write}
+use Rattle.reissue.specs.Entries.{request_of}
 use Rattle.cache.specs.Slots.{held}
 use Rattle.cache.specs.Runs.{AreGathered}
 use Rattle.cache.specs.Calls.{AbstractCache, caching, caching_of, Keeps}
@@ -24,13 +28,15 @@ returns-in-Ok-clause-busy g c = busy_begun c.in-Ok.ticket _ _ _ c.in-Ok.ensures.
 pub returns-in-Ok-clause-begun : goal.returns-in-Ok-clause-begun
 returns-in-Ok-clause-begun g c =
     let a = c.write_run-ask.ensures in
+    let x = c.in-Ok.ensures.adds in
     record {
       ticket = c.in-Ok.ticket;
-      request = _;
+      request = x.entry.request;
       begun = c.set_writing.ensures.begun;
-      pending_is = c.in-Ok.ensures.opens.1;
-      start = a.position;
-      whole = a.count;
+      added = ap (map request_of) x.pending ∙ map-append request_of c.args.self.now.transfers.table.pending (x.entry ∷ []);
+      write = ap is_write (x.request.kind ∙ a.kind);
+      start = x.request.position ∙ a.position;
+      whole = x.request.count ∙ a.count;
     }
 
 pub returns-in-Err-clause-keeps : goal.returns-in-Err-clause-keeps

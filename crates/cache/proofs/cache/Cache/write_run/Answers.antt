@@ -1,7 +1,7 @@
 use Rattle.std.proofs.Common.{◌≡◌, ℕ, ◌/◌, ◌≤◌, [], refl, ap, ◌∙◌, subst}
 use mathlib.Core.Logic.{inl, inr}
 use Rattle.std.specs.Prelude.{min}
-use Rattle.reissue.specs.Transfers.{begun_in}
+use Rattle.cache.specs.Runs.{requests_in}
 use Rattle.cache.specs.Calls.{held_by}
 use Rattle.cache.proofs.Begun.{begins_run}
 use Rattle.cache.proofs.Placing.{keeps_none}
@@ -26,9 +26,10 @@ returns-clause-issued g c =
     let d = c.dirty_from-count.ensures in
     let top : c.min-most.result ≡ min c.args.most (4096 / s.shape.block_size) =
     c.min-most.ensures ∙ ap (λ (k : ℕ). min c.args.most k) c.most_blocks.ensures in
-    begins_run c.args.most s.shape.block_size n (held_by s) (held_by c.issue_run.new.self) (begun_in s.transfers) (begun_in c.issue_run.new.self.transfers)
+    begins_run c.args.most s.shape.block_size n (held_by s) (held_by c.issue_run.new.self) (requests_in s.transfers.table) (requests_in c.issue_run.new.self.transfers.table)
     d.some (record {
       block = c.in-Some.block;
+      some = d.some;
       run = c.if-not-issue_run.ensures.begun;
       lowest = c.in-Some.ensures.1;
       few = subst (λ (k : ℕ). n ≤ k) top d.few;

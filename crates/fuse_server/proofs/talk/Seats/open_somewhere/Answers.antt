@@ -1,11 +1,16 @@
-use Rattle.fuse_server.proofs.Asking.{goes_on}
+use Rattle.fuse_server.proofs.Asking.{goes_on, opened_after}
 use Rattle.fuse_server.proofs.talk.Seats.open_somewhere.Goals as goal
 
-pub returns-in_err-session : goal.returns-in_err-session
-returns-in_err-session g c = goes_on c.seats.invariant c.session.ensures
+pub returns-in_err-session-clause-asked : goal.returns-in_err-session-clause-asked
+returns-in_err-session-clause-asked g c = goes_on c.seats.invariant c.session.ensures
 
-pub returns-then-not-is_full : goal.returns-then-not-is_full
-returns-then-not-is_full g c = goes_on (goes_on c.seats.invariant c.session.ensures) c.open_by-opened.ensures
+pub returns-then-not-is_full-clause-asked : goal.returns-then-not-is_full-clause-asked
+returns-then-not-is_full-clause-asked g c = goes_on (goes_on c.seats.invariant c.session.ensures) c.open_by-opened.ensures.asked
+
+pub returns-then-not-is_full-clause-opened : goal.returns-then-not-is_full-clause-opened
+returns-then-not-is_full-clause-opened g c =
+    opened_after c.open_by-opened.new.sessions c.args.opening.path c.open_by-opened.result
+    (goes_on c.seats.invariant c.session.ensures) c.open_by-opened.ensures.opened
 
 pub seats-preserved : goal.seats-preserved
-seats-preserved g c = goes_on (goes_on c.seats.invariant c.session.ensures) c.open_by-opened.ensures
+seats-preserved g c = goes_on (goes_on c.seats.invariant c.session.ensures) c.open_by-opened.ensures.asked

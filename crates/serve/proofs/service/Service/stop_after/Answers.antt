@@ -1,25 +1,52 @@
-use Rattle.std.proofs.Common.{sym, subst}
-use Rattle.records.specs.Marks.{IsBeginning}
-use Rattle.records.specs.Session.{SessionState}
+use Rattle.std.proofs.Common.{◌∙◌, ap, sym, subst, ℕ, List, Some}
+use Rattle.tree.specs.declared.Who.{Who}
+use Rattle.records.specs.Marks.{Mark, IsBeginning}
+use Rattle.board.specs.Keeper.{begins_itself}
 use Rattle.serve.proofs.ClosingLaws.{closed_all}
-use Rattle.serve.proofs.StoppingLaws.{LastLine, image_after, line_after, why_after}
+use Rattle.serve.proofs.StoppingLaws.{finished_after, image_after, left_told, none_told, who_after, why_after}
 use Rattle.serve.proofs.service.Service.stop_after.Goals as goal
 
-pub returns-in-Ok-clause-image : goal.returns-in-Ok-clause-image
-returns-in-Ok-clause-image g c =
-    image_after g.L.Link g.N.ServiceParameters.geometry g.N.ServiceParameters.opening c.args.last.knows.seen c.finish_after-how.result c.image_of.result
-    c.image_of.ensures.image
-    (line_after g.L.Link g.N.ServiceParameters.geometry g.N.ServiceParameters.opening c.args.last.knows.seen c.last.inside.seat.view.seen c.finish_after-how.result
-    (subst (λ (s : SessionState). IsBeginning c.args.last.knows.seen s.knows.seen) (sym c.last.view_is) c.close_all.ensures.seen)
+pub returns-clause-image : goal.returns-clause-image
+returns-clause-image g c =
+    image_after g.L.Link g.L.Recorder.numbers g.N.ServiceParameters.geometry g.N.ServiceParameters.opening c.args.last.knows.seen _
+    c.finish_after-how.result c.image_of.result c.image_of.ensures.image
+    (finished_after g.L.Link g.L.Recorder.numbers g.N.ServiceParameters.geometry g.N.ServiceParameters.opening c.args.last.knows.seen
+    c.into_seat-number.result.1.view.seen _ c.finish_after-how.result
+    (subst (λ (ms : List Mark). IsBeginning c.args.last.knows.seen ms) (sym c.into_seat-number.ensures.seen) c.close_all.ensures.seen)
     c.finish_after-how.ensures)
 
-pub returns-in-Ok-clause-refused : goal.returns-in-Ok-clause-refused
-returns-in-Ok-clause-refused g c =
-    why_after g.L.Link g.N.ServiceParameters.geometry g.N.ServiceParameters.opening c.args.last.knows.seen c.finish_after-how.result _ c.image_of.result
-    c.image_of.ensures.refused
-    (line_after g.L.Link g.N.ServiceParameters.geometry g.N.ServiceParameters.opening c.args.last.knows.seen c.last.inside.seat.view.seen c.finish_after-how.result
-    (subst (λ (s : SessionState). IsBeginning c.args.last.knows.seen s.knows.seen) (sym c.last.view_is) c.close_all.ensures.seen)
+pub returns-clause-refused : goal.returns-clause-refused
+returns-clause-refused g c =
+    why_after g.L.Link g.L.Recorder.numbers g.N.ServiceParameters.geometry g.N.ServiceParameters.opening c.args.last.knows.seen _
+    c.finish_after-how.result _ c.image_of.result c.image_of.ensures.refused
+    (finished_after g.L.Link g.L.Recorder.numbers g.N.ServiceParameters.geometry g.N.ServiceParameters.opening c.args.last.knows.seen
+    c.into_seat-number.result.1.view.seen _ c.finish_after-how.result
+    (subst (λ (ms : List Mark). IsBeginning c.args.last.knows.seen ms) (sym c.into_seat-number.ensures.seen) c.close_all.ensures.seen)
     c.finish_after-how.ensures)
+
+pub returns-clause-sessions : goal.returns-clause-sessions
+returns-clause-sessions g c =
+    who_after g.L.Link g.L.Recorder.numbers g.N.ServiceParameters.geometry g.N.ServiceParameters.opening c.args.last.knows.seen _
+    (Some c.args.last.knows.number) c.finish_after-how.result c.image_of.result c.image_of.ensures.image c.image_of.ensures.refused
+    (finished_after g.L.Link g.L.Recorder.numbers g.N.ServiceParameters.geometry g.N.ServiceParameters.opening c.args.last.knows.seen
+    c.into_seat-number.result.1.view.seen _ c.finish_after-how.result
+    (subst (λ (ms : List Mark). IsBeginning c.args.last.knows.seen ms) (sym c.into_seat-number.ensures.seen) c.close_all.ensures.seen)
+    c.finish_after-how.ensures)
+    c.alone-rt.ensures
+
+pub returns-then-has_sessions-clause-sessions : goal.returns-then-has_sessions-clause-sessions
+returns-then-has_sessions-clause-sessions g c =
+    left_told g.L.Recorder.numbers (Some c.into_seat-number.result.0) (Some c.args.last.knows.number) c.has_sessions.result
+    (ap (λ (n : ℕ). Some n)
+    (c.into_seat-number.ensures.number ∙ ap (λ (w : Who). w.session) c.close_all.ensures.caller))
+    c.if-has_sessions.true c.has_sessions.ensures.some
+
+pub returns-then-is_shared-clause-sessions : goal.returns-then-is_shared-clause-sessions
+returns-then-is_shared-clause-sessions g c =
+    none_told g.L.Recorder.numbers (Some c.into_seat-number.result.0) (Some c.args.last.knows.number) c.has_sessions.result
+    (ap (λ (n : ℕ). Some n)
+    (c.into_seat-number.ensures.number ∙ ap (λ (w : Who). w.session) c.close_all.ensures.caller))
+    c.if-has_sessions.false c.has_sessions.ensures.none
 
 pub returns-then-has_sessions-clause-closed : goal.returns-then-has_sessions-clause-closed
 returns-then-has_sessions-clause-closed g c = (
@@ -29,21 +56,24 @@ returns-then-has_sessions-clause-closed g c = (
   tt,
 )
 
-pub returns-clause-closed : goal.returns-clause-closed
-returns-clause-closed g c = (
+pub returns-then-is_shared-clause-closed : goal.returns-then-is_shared-clause-closed
+returns-then-is_shared-clause-closed g c = (
   c.close_all.new.self,
   closed_all g.L.Link g.N.ServiceParameters.opening _ _ c.close_all.result
       c.close_all.ensures.later c.close_all.ensures.bound c.close_all.ensures.closed c.close_all.ensures.cut,
   tt,
 )
 
-pub returns-in-Ok-clause-closed : goal.returns-in-Ok-clause-closed
-returns-in-Ok-clause-closed g c = (
+pub returns-clause-closed : goal.returns-clause-closed
+returns-clause-closed g c = (
   c.close_all.new.self,
   closed_all g.L.Link g.N.ServiceParameters.opening _ _ c.close_all.result c.close_all.ensures.later c.close_all.ensures.bound
       c.close_all.ensures.closed c.close_all.ensures.cut,
-  image_after g.L.Link g.N.ServiceParameters.geometry g.N.ServiceParameters.opening c.close_all.new.self.knows.seen c.finish_after-how.result c.image_of.result
-      c.image_of.ensures.image
-      (subst (λ (s : SessionState). LastLine g.L.Link g.N.ServiceParameters.geometry g.N.ServiceParameters.opening s.knows.seen c.finish_after-how.result)
-      c.last.view_is c.finish_after-how.ensures),
+  image_after g.L.Link g.L.Recorder.numbers g.N.ServiceParameters.geometry g.N.ServiceParameters.opening c.close_all.new.self.knows.seen _
+      c.finish_after-how.result c.image_of.result c.image_of.ensures.image
+      (finished_after g.L.Link g.L.Recorder.numbers g.N.ServiceParameters.geometry g.N.ServiceParameters.opening
+      c.close_all.new.self.knows.seen c.into_seat-number.result.1.view.seen _ c.finish_after-how.result
+      (subst (λ (ms : List Mark). IsBeginning ms c.into_seat-number.result.1.view.seen) c.into_seat-number.ensures.seen
+      (begins_itself c.into_seat-number.result.1.view.seen))
+      c.finish_after-how.ensures),
 )

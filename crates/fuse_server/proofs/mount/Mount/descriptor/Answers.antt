@@ -1,0 +1,14 @@
+use Rattle.fuse_server.specs.Reach.{CalledFrom}
+use Rattle.fuse_server.proofs.Telling.{own_known, own_opened}
+use Rattle.fuse_server.proofs.mount.Mount.descriptor.Goals as goal
+
+pub returns-in-Some-clause-own : goal.returns-in-Some-clause-own
+returns-in-Some-clause-own g c =
+    own_known (CalledFrom c.args.work.reach g.S.Sessions.called) g.S.Sessions.entered g.S.Sessions.left c.args.work.now c.args.sessions.now
+    c.args.work.reach c.in-Some.descriptor c.in-Some.is
+
+pub returns-in_ok-path-in-None-clause-own : goal.returns-in_ok-path-in-None-clause-own
+returns-in_ok-path-in-None-clause-own g c =
+    own_opened (CalledFrom c.args.work.reach g.S.Sessions.called) g.S.Sessions.entered g.S.Sessions.left c.args.work.now c.args.sessions.now
+    c.open_node.new.sessions c.args.work.reach c.in_ok-path-in-None.path c.open_node.result c.in-None.is c.in_ok-path-in-None.ensures.at
+    c.open_node.ensures.opened

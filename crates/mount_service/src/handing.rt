@@ -1,0 +1,88 @@
+//! What becomes of the image that a mount leaves.
+
+ghost use Rattle.std.specs.Prelude.{◌≡◌, true, IfNone, IfSome, None};
+ghost use Rattle.volume_commands.specs.Handing.{HoldsTreeIn, IsHandedOn, TellsHanding};
+ghost use Rattle.mount_service.specs.Ending.{IsEndedIn, status_after};
+
+use crate::archive::Archive;
+use crate::mount::{Ended, MountStatus};
+use crate::program::{Came, Streams};
+use output::Told;
+use std::alloc::Global;
+use std::io::Write;
+use volume_commands::handing::{Handing, ImagePlace, hand_on, tell_handing};
+
+/// The archive of a mount, as the place of its image at the end; none where a thread still has it.
+#[derive(Drop)]
+struct Ending<A> {
+    archive: Option<A>,
+}
+
+impl<A: Archive + Drop> ImagePlace for Ending<A> {
+    ghost puts = { λ s image put t. IsEndedIn A.ends s.archive image put t.archive };
+
+    fn put(&mut self, image: &[u8]) -> bool {
+        match &mut self.archive {
+            Some(archive) => archive.finish(image).is_ok(),
+            None => false,
+        }
+    }
+}
+
+/// What is left of a mount once its image was handed on.
+#[derive(Drop)]
+pub struct HandedOn<A> {
+    /// How the mount ended then.
+    pub status: MountStatus,
+    /// Where its changes were put, and the image if it was clean; none where there was none, or a thread still has it.
+    pub archive: Option<A>,
+}
+
+/// How a mount ended, which had ended so, once this came of its image and was told so.
+fn ended_with(mounted: MountStatus, handing: Handing, told: Told) -> MountStatus
+    ensures { result ≡ status_after mounted handing told }
+{
+    match (handing, mounted) {
+        (Handing::Put, _) => mounted,
+        (Handing::Beside(_), MountStatus::Done) => MountStatus::Refused(told),
+        (Handing::Beside(_), _) => mounted,
+        _ => MountStatus::Refused(told),
+    }
+}
+
+/// Hands on the image that a mount left, whose place is the archive, the file of this name: it goes there only where the check finds the
+/// volume of this minor in it clean, and beside where not (`hand_on`): the archive then stays that of the last sync that was put. How the
+/// mount ended then: `Done` only where the image is in the archive. Where it isn't, a line on `err` says so, or two.
+pub fn hand_left<I: Drop, O: Drop, C: Drop, A: Archive + Drop, W: Drop, B: ImagePlace, E: Write>(
+    alloc: Global,
+    mounted: Ended<I, O, C, A, W>,
+    minor: u8,
+    name: &str,
+    beside: &mut B,
+    err: &mut E,
+) -> HandedOn<A>
+    ensures none { IfNone mounted.came ((result.status ≡ mounted.status) × (result.archive ≡ None) × (beside.new ≡ beside.old)
+        × (err.new ≡ err.old)) }
+    ensures handed { IfSome mounted.came (λ came. (handing : Handing) × (told : Told)
+        × IsHandedOn (IsEndedIn A.ends) B.puts came.image.items minor came.streams.archive beside.old handing result.archive beside.new
+        × TellsHanding E.contents name.now handing told err.old err.new × (result.status ≡ status_after mounted.status handing told)) }
+    ensures done { result.status ≡ MountStatus.Done → IfSome mounted.came (λ came. HoldsTreeIn came.image.items minor
+        × IsEndedIn A.ends came.streams.archive came.image.items true result.archive) }
+{
+    let Ended { status, came } = mounted;
+    let Some(came) = came else {
+        return HandedOn {
+            status,
+            archive: None,
+        };
+    };
+    let Came { streams, image, .. } = came;
+    let Streams { archive, .. } = streams;
+    let mut ending = Ending { archive };
+    let handing = hand_on(alloc, &image, minor, &mut ending, beside);
+    let told = tell_handing(alloc, name, handing, err);
+    HandedOn {
+        status: ended_with(status, handing, told),
+        archive: ending.archive,
+    }
+}

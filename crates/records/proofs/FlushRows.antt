@@ -1,0 +1,179 @@
+-- What a Flush makes pending, by three unwritten blocks of 1024 bytes, 5, 6 and 9; a dup that flushes, and a look that loses a frame.
+use Rattle.std.specs.Prelude.{◌≡◌, ℕ, ◌+◌, ◌*◌, ◌<◌, List, [], ◌∷◌, ◌++◌, sum, Bool, true, false, ◌&&◌, ◌||◌, ◌==◌, if◌then◌else◌, ◌≤◌, Some, None, replicate, refl}
+use Rattle.std.proofs.Common.{arith, sym, ap, ◌∙◌, inl, inr}
+use Rattle.std.proofs.lemmas.Bool.{cases_lt}
+use Rattle.std.proofs.lemmas.Bool.Decides.{nat_tests}
+use Rattle.message.specs.Good.{is_write}
+use Rattle.message.specs.declared.Kind.{Kind}
+use Rattle.message.specs.declared.Kind.TheVariants.{Read, Write}
+use Rattle.message.specs.declared.BlockRequest.{BlockRequest}
+use Rattle.tree.specs.declared.Who.{Who}
+use Rattle.tree.specs.declared.Call.TheVariants.{Dup}
+use Rattle.records.specs.Acts.{Began, empty_outbox}
+use Rattle.records.specs.Flushes.{Flushes, WritesLowest, WritesRun, without_run}
+use Rattle.records.specs.ServerCall.{Serving, Outcome, CallKeeps, KnowsUnwritten, LeavesView}
+use Rattle.records.proofs.LegalRows.{small, zeros}
+
+-- the unwritten blocks
+abbrev three : ℕ → Bool
+three b = (b == 5) || (b == 6) || (b == 9)
+
+-- without the two neighbours, and without any
+abbrev one_left : ℕ → Bool
+one_left = without_run 5 2 three
+
+abbrev none_left : ℕ → Bool
+none_left = without_run 9 1 one_left
+
+-- a request for so many blocks
+abbrev request : Kind → ℕ → ℕ → BlockRequest
+request kind block count = record { id = 1; kind = kind; minor = 0; position = block * 1024; count = count * 1024; bytes = replicate 4096 0 }
+
+none_is_left : (b : ℕ) → none_left b ≡ false
+none_is_left b = grind (arith, nat_tests)
+
+below_five : (b : ℕ) → b < 5 → three b ≡ false
+below_five b lt = grind (arith, nat_tests, lt)
+
+below_nine : (b : ℕ) → b < 9 → one_left b ≡ false
+below_nine b lt = grind (arith, nat_tests, lt)
+
+of_two : (i : ℕ) → i < 2 → three (5 + i) ≡ true
+of_two i lt = grind (arith, nat_tests, lt)
+
+of_one : (i : ℕ) → i < 1 → one_left (9 + i) ≡ true
+of_one i lt = grind (arith, nat_tests, lt)
+
+-- right: the neighbours by one request, then the other block
+two_requests : Flushes 1024 true three none_left [] (request Write 5 2 ∷ request Write 9 1 ∷ [])
+two_requests = record {
+  counts = 1 ∷ 2 ∷ [];
+  writes = (
+    one_left,
+    request Write 5 2 ∷ [],
+    (
+      three,
+      [],
+      (refl, refl),
+      record {
+        request = request Write 5 2;
+        block = 5;
+        added = refl;
+        write = refl;
+        position = refl;
+        bytes = refl;
+        some = omega arith;
+        lowest = below_five;
+        unwritten = of_two;
+        few = omega arith;
+        end = inr refl;
+        left = refl;
+      },
+    ),
+    record {
+      request = request Write 9 1;
+      block = 9;
+      added = refl;
+      write = refl;
+      position = refl;
+      bytes = refl;
+      some = omega arith;
+      lowest = below_nine;
+      unwritten = of_one;
+      few = omega arith;
+      end = inr refl;
+      left = refl;
+    },
+  );
+  all = λ live. inr (inl none_is_left);
+}
+
+-- a run behind a list is no empty list
+no_end : (rs : List BlockRequest) (r : BlockRequest) → [] ≡ rs ++ r ∷ [] → ⊥
+no_end [] r e = cc
+no_end (x ∷ rs) r e = cc
+
+-- refused: a Flush that is ignored
+ignored : Flushes 1024 true three three [] [] → ⊥
+ignored f = elim (f.all refl) [
+  | inl all ↦ begun f.counts f.writes all
+  | inr (inl none) ↦ clash (none 5)
+  | inr (inr (inl full)) ↦ absurd (omega (arith, full))
+  | inr (inr (inr read)) ↦ clash (sym read.2)
+]
+  where
+    clash : true ≡ false → ⊥
+    clash e = cc
+
+    begun : (counts : List ℕ) → WritesLowest counts 16 1024 three three [] [] → sum counts ≡ 16 → ⊥
+    begun [] w all = absurd (omega (arith, all))
+    begun (n ∷ counts) w all = no_end w.1 w.3.request w.3.added
+
+-- the run of the lowest unwritten block begins at block 5
+begins_at_five : (n : ℕ) (new : ℕ → Bool) (pending pending' : List BlockRequest) (w : WritesRun 16 1024 n three new pending pending') → w.block ≡ 5
+begins_at_five n new pending pending' w = by (three_are (w.block + 0) (w.unwritten 0 w.some))
+  where
+    high : 5 < w.block → ⊥
+    high lt = let e : true ≡ false = w.lowest 5 lt in cc
+
+    three_are : (b : ℕ) → three b ≡ true → 5 ≤ b
+    three_are b is = elim (cases_lt b 5) [
+      | inl lt ↦ absurd (let e : true ≡ false = sym is ∙ below_five b lt in cc)
+      | inr le ↦ le
+    ]
+
+    by : 5 ≤ w.block + 0 → w.block ≡ 5
+    by le = elim (cases_lt 5 w.block) [
+      | inl lt ↦ absurd (high lt)
+      | inr least ↦ omega (arith, le, least)
+    ]
+
+-- refused: block 5 alone, though 6 is unwritten too; so also the two by two requests
+one_alone : (new : ℕ → Bool) (pending pending' : List BlockRequest) → WritesRun 16 1024 1 three new pending pending' → ⊥
+one_alone new pending pending' w = elim w.end [
+  | inl whole ↦ absurd (omega (arith, whole))
+  | inr over ↦
+      let e : three 6 ≡ false = ap (λ b. three (b + 1)) (sym (begins_at_five 1 new pending pending' w)) ∙ over in
+      let f : true ≡ false = e in
+      cc
+]
+
+-- refused: the highest block first
+highest : (n : ℕ) (new : ℕ → Bool) (pending pending' : List BlockRequest) (w : WritesRun 16 1024 n three new pending pending') → w.block ≡ 9 → ⊥
+highest n new pending pending' w is = let e = begins_at_five n new pending pending' w in absurd (omega (arith, e, is))
+
+-- refused: a read in its place
+reading : (n : ℕ) (new : ℕ → Bool) (pending pending' : List BlockRequest) (w : WritesRun 16 1024 n three new pending pending')
+    → w.request ≡ request Read 5 2 → ⊥
+reading n new pending pending' w is = let e : true ≡ false = sym w.write ∙ ap (λ (r : BlockRequest). is_write r.kind) is in cc
+
+-- refused: a dup that begins a write
+flushing_dup : (old new : Serving) (who : Who) (now fd : ℕ) (outcome : Outcome) (keeps : CallKeeps old who now (Dup fd) outcome new)
+    → old.wanted ≡ false → keeps.acts ≡ Began (request Write 5 2) ∷ [] → ⊥
+flushing_dup old new who now fd outcome keeps unwanted is =
+    let e : [] ≡ Began (request Write 5 2) ∷ [] = sym (keeps.still fd refl unwanted) ∙ is in cc
+
+-- a server with ones in the frame of block 5 alone, or without frames
+abbrev with_frame : Bool → Serving
+with_frame has = record {
+  geometry = record small { block_size = 1024 };
+  minor = 0;
+  Agrees = λ image tree marks. marks ≡ [];
+  frames = λ block. if has && (block == 5) then Some (replicate 1024 1) else None;
+  frame_count = 64;
+  outbox = empty_outbox;
+  is_busy = false;
+  told = [];
+  ended = false;
+  settled = Unit {0};
+  unwritten = λ block. false;
+  wanted = false;
+}
+
+-- refused: a look that takes that frame away, over a disk of zeros
+frame_taken : LeavesView (with_frame true) (with_frame false) zeros [] [] → ⊥
+frame_taken h = let e : 0 ≡ 1 = ap (λ (d : ℕ → ℕ → ℕ). d 5 0) h.same in absurd (omega (arith, e))
+
+-- refused: that it has nothing to write
+frame_unsaid : KnowsUnwritten (with_frame true) zeros [] → ⊥
+frame_unsaid h = let e : 1 ≡ 0 = ap (λ (row : ℕ → ℕ). row 0) (h.others tt 5 refl refl) in absurd (omega (arith, e))

@@ -1,0 +1,203 @@
+//! What becomes of the image that a mount leaves. The links of the root, at byte 4098, are 2 in a new volume.
+
+ghost use Rattle.std.specs.Prelude.{⊤, ◌≡◌, if◌then◌else◌, is_ok};
+
+use crate::mounted::mounted;
+use changes::Changes;
+use errno::Errno;
+use mount_service::archive::Archive;
+use mount_service::handing::{HandedOn, hand_left};
+use mount_service::mount::{Ended, MountStatus};
+use output::Told;
+use std::alloc::Global;
+use std::sync::Wait;
+use std::test::Fail;
+use std::thread::Threads;
+use std::time::Clock;
+use volume_commands::handing::ImagePlace;
+
+/// A place of an image in memory, which takes one or refuses it. As an archive it takes no changes.
+#[derive(Drop)]
+struct Shelf {
+    alloc: Global,
+    takes: bool,
+    image: Vec<u8>,
+}
+
+impl Shelf {
+    /// An empty one.
+    fn new(alloc: Global, takes: bool) -> Shelf {
+        Shelf {
+            alloc,
+            takes,
+            image: Vec::new(alloc),
+        }
+    }
+
+    /// Takes an image, or refuses it. Whether it did.
+    fn take(&mut self, image: &[u8]) -> bool
+        ensures { self.new.image.items ≡ (if result then image.now else self.old.image.items) }
+    {
+        if !self.takes {
+            return false;
+        }
+        match Vec::from_slice(self.alloc, image) {
+            Ok(bytes) => {
+                self.image = bytes;
+                true
+            }
+            Err(_) => false,
+        }
+    }
+}
+
+impl ImagePlace for Shelf {
+    ghost puts = { λ s image put t. t.image.items ≡ (if put then image else s.image.items) };
+
+    fn put(&mut self, image: &[u8]) -> bool {
+        self.take(image)
+    }
+}
+
+impl Archive for Shelf {
+    ghost puts = { λ _ _ _ _. ⊤ };
+
+    ghost ends = { λ s image answer t. t.image.items ≡ (if is_ok answer then image else s.image.items) };
+
+    fn put(&mut self, _changes: &Changes) -> Result<(), Errno> {
+        Ok(())
+    }
+
+    fn finish(&mut self, image: &[u8]) -> Result<(), Errno> {
+        if self.take(image) {
+            Ok(())
+        } else {
+            Err(Errno::EIO)
+        }
+    }
+}
+
+/// How a mount ended; the root's links; whether the archive takes an image, and what is beside; how the mount ended once its image was
+/// handed on, and what was told of that; whether the image is in the archive then, and beside.
+type Row = (
+    MountStatus,
+    u8,
+    (bool, bool),
+    MountStatus,
+    &'static str,
+    (bool, bool),
+);
+
+const REFUSED: MountStatus = MountStatus::Refused(Told::Whole);
+
+/// What is told of a root with three links.
+const LINKS: &str = "NotClean finding 16 at 1\nimage left in v.img.given-up\n";
+
+const LOST: &str = "NotClean finding 16 at 1\ncannot write v.img.given-up\n";
+
+const UNWRITTEN: &str = "cannot write v.img\n";
+
+static ROWS: [Row; 7] = [
+    (
+        MountStatus::Done,
+        2,
+        (true, true),
+        MountStatus::Done,
+        "",
+        (true, false),
+    ),
+    (
+        MountStatus::GivenUp,
+        2,
+        (true, true),
+        MountStatus::GivenUp,
+        "",
+        (true, false),
+    ),
+    (
+        MountStatus::Done,
+        2,
+        (false, true),
+        REFUSED,
+        UNWRITTEN,
+        (false, false),
+    ),
+    (
+        MountStatus::Done,
+        3,
+        (true, true),
+        REFUSED,
+        LINKS,
+        (false, true),
+    ),
+    (
+        MountStatus::GivenUp,
+        3,
+        (true, true),
+        MountStatus::GivenUp,
+        LINKS,
+        (false, true),
+    ),
+    (
+        MountStatus::Cut,
+        3,
+        (true, true),
+        MountStatus::Cut,
+        LINKS,
+        (false, true),
+    ),
+    (
+        MountStatus::Cut,
+        3,
+        (true, false),
+        REFUSED,
+        LOST,
+        (false, false),
+    ),
+];
+
+/// Whether a place has this image, or none.
+fn has_taken(shelf: &Shelf, image: &[u8], taken: bool) -> bool {
+    let wanted = if taken { image } else { &[] };
+    shelf.image.as_slice() == wanted
+}
+
+/// A mount leaves an image, in which the root gets so many links, and which is handed on as a row says.
+fn is_handed_on<R: Threads + Wait + Clock + Copy + Send + Sync + 'static>(
+    alloc: Global,
+    rt: R,
+    row: &Row,
+) -> Result<(), Fail> {
+    let (mount, links, (archive, beside), ended, line, (there, aside)) = *row;
+    let mut left = mounted(alloc, rt, &[], Some(Shelf::new(alloc, archive)))?;
+    let mut image = Vec::new(alloc);
+    if let Some(came) = &mut left.came {
+        for byte in came.image.iter_mut().skip(4098).take(1) {
+            *byte = links;
+        }
+        image.extend_from_slice(&came.image)?;
+    }
+    let left = Ended {
+        status: mount,
+        came: left.came,
+    };
+    let mut beside = Shelf::new(alloc, beside);
+    let mut err = Vec::new(alloc);
+    let HandedOn { status, archive } = hand_left(alloc, left, 0, "v.img", &mut beside, &mut err);
+    let archive = archive.ok_or("no archive")?;
+    let is_told = status == ended && err.as_slice() == line.as_bytes();
+    if is_told && has_taken(&archive, &image, there) && has_taken(&beside, &image, aside) {
+        return Ok(());
+    }
+    let told = str::from_utf8(err.as_slice()).unwrap_or("no text");
+    Err(Fail::new(format_args!("{status:?} {told}")))
+}
+
+/// Only an image of a clean volume goes into the archive at the end; another one goes beside, and that is told, whatever came before.
+#[test]
+fn clean_images_alone_are_handed_on(rt: HostRuntime) -> Result<(), Fail> {
+    for row in &ROWS {
+        is_handed_on(rt.alloc(), rt, row)?;
+    }
+    Ok(())
+}
