@@ -5,8 +5,8 @@ ghost use Rattle.std.specs.Prelude.{◌≡◌, ◌≤◌, ◌^◌, [], true, map
 ghost use Rattle.std.specs.Arc.{arc_value};
 ghost use Rattle.records.specs.Opening.{contents_at};
 ghost use Rattle.records.specs.Mount.{is_frame_count};
-ghost use Rattle.volume_mount.specs.Laws.{sizes_in};
-ghost use Rattle.volume_mount.specs.Starting.{opening_of, IsPrepared};
+ghost use Rattle.service_start.specs.Laws.{sizes_in};
+ghost use Rattle.service_start.specs.Starting.{opening_of, IsPrepared};
 ghost use Rattle.true_replies.specs.Events.{opening_media};
 ghost use Rattle.board.specs.View.{IsKeeper, opener};
 
@@ -32,8 +32,8 @@ use std::io;
 use std::marker::Brand;
 use std::sync::{Arc, Wait};
 use std::thread::Threads;
-use volume_mount::mounted::mount;
-use volume_mount::{Prepared, prepare};
+use service_start::volume_mount::mounted::mount;
+use service_start::volume_mount::{Prepared, prepare};
 
 /// Mounts the volume over this link, and measures calls on the service of it.
 fn mount_and_measure<

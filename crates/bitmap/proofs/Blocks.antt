@@ -8,7 +8,7 @@ use mathlib.Core.Logic.{inl, inr}
 use Rattle.layout.specs.declared.Geometry.{Geometry}
 use Rattle.layout.specs.Places.{is_block_size}
 use Rattle.layout.proofs.Parsed.{block_sizes}
-use Rattle.tree.specs.Sums.{count_below, sum_below, one_if}
+use Rattle.lemmas.specs.Sums.{count_below, sum_below, one_if}
 use Rattle.volume.specs.Reading.{Disk, bit_in}
 use Rattle.volume.specs.Pieces.{pieces}
 use Rattle.bitmap.specs.declared.Map.{Map}

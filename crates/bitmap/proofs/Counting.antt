@@ -3,7 +3,7 @@ use Rattle.std.proofs.Common.{◌≡◌, ◌≤◌, ◌<◌, ◌+◌, ◌-◌, �
 use mathlib.Core.Logic.{inl, inr}
 use Rattle.std.specs.Prelude.{not, Option, Some, None, IsSome}
 use Rattle.std.proofs.lemmas.Bool.{cases_lt}
-use Rattle.tree.specs.Sums.{count_below, sum_below, one_if}
+use Rattle.lemmas.specs.Sums.{count_below, sum_below, one_if}
 use Rattle.bitmap.specs.Numbers.{AllIn, IsLowestFree, count_free_in}
 
 -- where all are in the set none is free

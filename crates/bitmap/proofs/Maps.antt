@@ -7,8 +7,8 @@ use Rattle.std.proofs.lemmas.Nat.{div_below, div-add-mod'}
 use Rattle.std.proofs.lemmas.Bool.{cases_eq, cases_lt, le-leb}
 use Rattle.layout.specs.declared.Geometry.{Geometry}
 use Rattle.layout.specs.Places.{IsGeometry}
-use Rattle.tree.specs.Sums.{put}
-use Rattle.tree.proofs.Maps.{put-same, put-other, is_put}
+use Rattle.lemmas.specs.Sums.{put}
+use Rattle.lemmas.proofs.Maps.{put-same, put-other, is_put}
 use Rattle.volume.specs.Reading.{Disk, bit_in, map_bit}
 use Rattle.volume.specs.Pieces.{pieces}
 use Rattle.block_store.specs.Rows.{with_bytes, written}

@@ -11,8 +11,8 @@ use Rattle.std.proofs.lemmas.List.{get_or-drop}
 use Rattle.std.proofs.lemmas.Nat.{pow-add, trailing_le}
 use Rattle.std.proofs.lemmas.Nat.Bits.{bit_at-lt, bit_at-trailing_ones, bit_at_cat_high, bit_at_cat_low, bit_at_not, bit_at_ones}
 use Rattle.byteorder.specs.Endian.{little_from, little_number}
-use Rattle.tree.specs.Sums.{count_below, sum_below, one_if}
-use Rattle.tree.proofs.Maps.{same_sum}
+use Rattle.lemmas.specs.Sums.{count_below, sum_below, one_if}
+use Rattle.lemmas.proofs.Maps.{same_sum}
 use Rattle.volume.specs.Reading.{bit_in}
 use Rattle.volume.proofs.Sums.{count_most}
 use Rattle.bitmap.specs.Numbers.{count_free_in}

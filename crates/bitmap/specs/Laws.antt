@@ -1,6 +1,6 @@
 -- Laws of free numbers.
 use Rattle.std.specs.Prelude.{◌≡◌, ℕ, ◌<◌, ◌+◌, Bool, Option, IsSome}
-use Rattle.tree.specs.Sums.{count_below}
+use Rattle.lemmas.specs.Sums.{count_below}
 use Rattle.bitmap.specs.Numbers.{IsLowestFree, count_free_in}
 
 -- where some number is free, the lowest one is found

@@ -2,7 +2,7 @@
 -- and number 0 of either for nothing.
 use Rattle.std.specs.Prelude.{ℕ, ◌+◌, ◌-◌, ◌*◌, Bool, min, max}
 use Rattle.layout.specs.declared.Geometry.{Geometry}
-use Rattle.tree.specs.Sums.{put}
+use Rattle.lemmas.specs.Sums.{put}
 use Rattle.volume.specs.Pieces.{Pieces}
 use Rattle.block_store.specs.Regions.{zone_map_start}
 use Rattle.bitmap.specs.declared.Map.{Map}

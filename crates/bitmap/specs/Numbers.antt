@@ -1,6 +1,6 @@
 -- Sets of numbers: which are free, and how many. A number that isn't in the set is free.
 use Rattle.std.specs.Prelude.{◌≡◌, ℕ, ◌≤◌, ◌<◌, ◌+◌, ◌-◌, ◌/◌, not, Bool, true, false, Option, Some, None}
-use Rattle.tree.specs.Sums.{count_below}
+use Rattle.lemmas.specs.Sums.{count_below}
 
 -- each number from one up to another is in the set
 abbrev pub AllIn : (ℕ → Bool) → ℕ → ℕ → Type 0

@@ -7,8 +7,8 @@ use Rattle.std.proofs.lemmas.Nat.{div_below}
 use Rattle.std.proofs.lemmas.Bool.{and_parts, leb-true, lt-leb, cond-true, cond-false, cases_lt, cases_Bool}
 use Rattle.layout.specs.declared.Geometry.{Geometry}
 use Rattle.layout.specs.Places.{IsGeometry}
-use Rattle.tree.specs.Sums.{put}
-use Rattle.tree.proofs.Maps.{put-same, put-other, is_put}
+use Rattle.lemmas.specs.Sums.{put}
+use Rattle.lemmas.proofs.Maps.{put-same, put-other, is_put}
 use Rattle.volume.specs.declared.Inode.{Inode}
 use Rattle.volume.specs.Reading.{Disk, is_inode, is_data_zone, inode_in, inode_block, inode_offset, inode_of_disk, inode_bit, zone_bit, bit_in}
 use Rattle.volume.specs.Pieces.{pieces, blank}

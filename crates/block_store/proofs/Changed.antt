@@ -5,8 +5,8 @@ use Rattle.std.specs.Prelude.{◌⊎◌, ◌&&◌, nat_le, nat_lt, if◌then◌e
 use Rattle.std.proofs.Math.Nat.{mul-le-mul_right}
 use Rattle.std.proofs.lemmas.Bool.{cases_lt, lt-ltb, le-ltb, cond-true, cond-false}
 use Rattle.std.proofs.lemmas.List.{get_or-replicate, length-replicate}
-use Rattle.tree.specs.Sums.{put}
-use Rattle.tree.proofs.Maps.{is_put}
+use Rattle.lemmas.specs.Sums.{put}
+use Rattle.lemmas.proofs.Maps.{is_put}
 use Rattle.volume.specs.Reading.{Disk}
 use Rattle.block_store.specs.Rows.{with_bytes, written, cleared}
 use Rattle.block_store.proofs.Rows.{row_new, row_old}

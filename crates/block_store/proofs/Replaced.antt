@@ -3,7 +3,7 @@ use Rattle.std.proofs.Common.{◌≡◌, ◌≤◌, ◌+◌, ℕ, List, length, 
 use mathlib.Core.Logic.{inl, inr}
 use Rattle.std.specs.Prelude.{◌⊎◌}
 use Rattle.std.proofs.lemmas.Bool.{cases_lt}
-use Rattle.tree.proofs.Maps.{is_put, put-same, put-other}
+use Rattle.lemmas.proofs.Maps.{is_put, put-same, put-other}
 use Rattle.volume.specs.Reading.{Disk}
 use Rattle.block_store.specs.World.{World, IsWorld, Turns}
 use Rattle.block_store.specs.Rows.{with_bytes, written, cleared}

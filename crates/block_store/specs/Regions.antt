@@ -2,7 +2,7 @@
 use Rattle.std.specs.Prelude.{◌≤◌, ◌<◌, ℕ, ◌+◌, IsTrue}
 use Rattle.layout.specs.declared.Geometry.{Geometry}
 use Rattle.layout.specs.Places.{IsGeometry}
-use Rattle.tree.specs.Sums.{put}
+use Rattle.lemmas.specs.Sums.{put}
 use Rattle.volume.specs.Reading.{Disk, is_data_zone}
 use Rattle.volume.specs.Pieces.{Pieces, pieces}
 use Rattle.block_store.specs.Volume.{Alters}

@@ -1,7 +1,7 @@
 -- Rows of bytes that are changed.
 use Rattle.std.specs.Prelude.{◌≡◌, ℕ, ◌+◌, ◌-◌, ◌<◌, List, length, ◌&&◌, nat_le, nat_lt, if◌then◌else◌, slice_index}
 use Rattle.volume.specs.Reading.{Disk}
-use Rattle.tree.specs.Sums.{put}
+use Rattle.lemmas.specs.Sums.{put}
 
 -- these bytes from a place on, in a row of bytes
 abbrev pub with_bytes : ℕ → List ℕ → (ℕ → ℕ) → ℕ → ℕ

@@ -9,7 +9,7 @@ use Rattle.tree.specs.declared.Who.{Who}
 use Rattle.tree.specs.declared.Call.{Call}
 use Rattle.tree.specs.declared.Call.TheVariants.{Dup}
 use Rattle.tree.specs.Tree.{Tree, OpenFile}
-use Rattle.tree.specs.Sums.{put}
+use Rattle.lemmas.specs.Sums.{put}
 use Rattle.tree.specs.IsTree.{IsTree}
 use Rattle.tree.specs.Refusals.{◌>>=◌, refuse_if}
 use Rattle.tree.specs.Effects.{effect_in_session, tree_after_call}

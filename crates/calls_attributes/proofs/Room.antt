@@ -4,12 +4,12 @@ use Rattle.std.specs.Prelude.{is_some, ◌&&◌, nat_le, if◌then◌else◌}
 use Rattle.std.proofs.lemmas.Bool.{le-leb}
 use Rattle.layout.specs.declared.Geometry.{Geometry}
 use Rattle.layout.specs.Places.{IsGeometry}
-use Rattle.tree.specs.Sums.{sum_below, count_below, one_if}
+use Rattle.lemmas.specs.Sums.{sum_below, count_below, one_if}
 use Rattle.tree.specs.Space.{data_zones, free_zones, free_inodes}
 use Rattle.tree.specs.Tree.{Tree, Node}
 use Rattle.tree.specs.NodeCalls.{statfs}
 use Rattle.tree.specs.Answers.{room_is}
-use Rattle.tree.proofs.Maps.{same_sum}
+use Rattle.lemmas.proofs.Maps.{same_sum}
 use Rattle.tree.proofs.Needs.{sum_add}
 use Rattle.volume.specs.Reading.{Disk}
 use Rattle.volume.specs.Pieces.{Pieces, pieces}

@@ -10,7 +10,7 @@ use Rattle.errno.specs.declared.Errno.TheVariants.{EBADF, EINVAL, ENOENT, EFBIG,
 use Rattle.layout.specs.declared.Geometry.{Geometry}
 use Rattle.layout.specs.Places.{IsGeometry}
 use Rattle.tree.specs.declared.Call.TheVariants.{Write}
-use Rattle.tree.specs.Sums.{put}
+use Rattle.lemmas.specs.Sums.{put}
 use Rattle.tree.specs.Tree.{Tree, Node, File, Directory, OpenFile, is_file, is_directory, most_bytes, most_size, with_node}
 use Rattle.tree.specs.Space.{zones_used, data_zones}
 use Rattle.tree.specs.Refusals.{◌>>=◌, refuse_if, or_refuse}

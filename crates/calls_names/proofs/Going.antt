@@ -10,7 +10,7 @@ use Rattle.layout.specs.declared.Geometry.{Geometry}
 use Rattle.layout.specs.Places.{IsGeometry}
 use Rattle.tree.specs.declared.PathFrom.{PathFrom}
 use Rattle.tree.specs.declared.User.{User}
-use Rattle.tree.specs.Sums.{put}
+use Rattle.lemmas.specs.Sums.{put}
 use Rattle.tree.specs.Names.{Names, without_name}
 use Rattle.tree.specs.Tree.{Body, Node, Tree, is_dir, is_directory, is_file, is_open, names_of, on_node, size_of, with_node}
 use Rattle.tree.specs.IsTree.{IsTree}
@@ -19,7 +19,7 @@ use Rattle.tree.specs.Walk.{Place}
 use Rattle.tree.specs.Changes.{fewer_links, with_link_lost, with_names}
 use Rattle.tree.specs.Answers.{Effect, done, refused}
 use Rattle.tree.specs.NameCalls.{is_empty, rmdir, without_entry}
-use Rattle.tree.proofs.Maps.{not_nothing, put-other, put-same}
+use Rattle.lemmas.proofs.Maps.{not_nothing, put-other, put-same}
 use Rattle.tree.proofs.CallsKeep.{rmdir_keeps}
 use Rattle.tree.proofs.Gone.{empty_weighs, gone_apart}
 use Rattle.tree.proofs.Shapes.{kind_of}

@@ -11,7 +11,7 @@ use Rattle.layout.specs.declared.Geometry.{Geometry}
 use Rattle.layout.specs.Places.{IsGeometry}
 use Rattle.tree.specs.declared.PathFrom.{PathFrom}
 use Rattle.tree.specs.declared.User.{User}
-use Rattle.tree.specs.Sums.{put}
+use Rattle.lemmas.specs.Sums.{put}
 use Rattle.tree.specs.Names.{Name, Names, inode_of, is_dots, is_name, most_name, with_name}
 use Rattle.tree.specs.Tree.{Body, Node, Tree, is_dir, is_directory, most_size, names_of, size_of, with_node}
 use Rattle.tree.specs.IsTree.{IsTree}
@@ -21,7 +21,7 @@ use Rattle.tree.specs.Changes.{more_links, with_ctime, with_names}
 use Rattle.tree.specs.Space.{data_zones, zones_of, zones_used}
 use Rattle.tree.specs.Answers.{Effect, done, if_it_fits, refused}
 use Rattle.tree.specs.NameCalls.{link, with_entry}
-use Rattle.tree.proofs.Maps.{put-other, put-same, same_sum}
+use Rattle.lemmas.proofs.Maps.{put-other, put-same, same_sum}
 use Rattle.tree.proofs.CallsKeep.{link_keeps}
 use Rattle.tree.proofs.Growth.{grown_fits}
 use Rattle.tree.proofs.PathNames.{last_is_name}

@@ -7,7 +7,7 @@ use Rattle.lemmas.proofs.Bools.{false_not_true}
 use Rattle.errno.specs.declared.Errno.TheVariants.{ENOSPC}
 use Rattle.layout.specs.declared.Geometry.{Geometry}
 use Rattle.layout.specs.Places.{IsGeometry}
-use Rattle.tree.specs.Sums.{put}
+use Rattle.lemmas.specs.Sums.{put}
 use Rattle.tree.specs.Names.{Names, inode_of}
 use Rattle.tree.specs.Tree.{Node, Tree, names_of, size_of}
 use Rattle.tree.specs.Space.{data_zones, zones_of}

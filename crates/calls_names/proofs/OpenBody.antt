@@ -11,7 +11,7 @@ use Rattle.tree.specs.declared.Who.{Who}
 use Rattle.tree.specs.declared.Call.TheVariants.{Open}
 use Rattle.tree.specs.IsCall.{IsBytes}
 use Rattle.tree.specs.IsTree.{IsTree}
-use Rattle.tree.specs.Sums.{put}
+use Rattle.lemmas.specs.Sums.{put}
 use Rattle.tree.specs.Tree.{OpenFile, Tree}
 use Rattle.tree.specs.Answers.{Answer, Effect, descriptor, refused}
 use Rattle.tree.specs.FileCalls.{Slot, open_path, with_open}

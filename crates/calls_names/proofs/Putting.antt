@@ -8,13 +8,13 @@ use Rattle.errno.specs.declared.Errno.TheVariants.{ENOSPC}
 use Rattle.layout.specs.declared.Geometry.{Geometry}
 use Rattle.layout.specs.Places.{IsGeometry}
 use Rattle.tree.specs.declared.User.{User}
-use Rattle.tree.specs.Sums.{put}
+use Rattle.lemmas.specs.Sums.{put}
 use Rattle.tree.specs.Names.{Name, is_dots, is_name, most_name, with_name}
 use Rattle.tree.specs.Tree.{Node, Tree, most_links}
 use Rattle.tree.specs.Walk as tree
 use Rattle.tree.specs.Changes.{empty_directory, empty_file, free_inode, more_links, new_link, new_node, with_ctime, with_names}
 use Rattle.tree.specs.Space.{zones_of}
-use Rattle.tree.proofs.Maps.{put-same}
+use Rattle.lemmas.proofs.Maps.{put-same}
 use Rattle.tree.proofs.Outcomes.{IsFree, free_inode_is}
 use Rattle.tree.proofs.Steps.{not_refused, ok_is}
 use Rattle.volume.specs.declared.Inode.{Inode}

@@ -6,7 +6,7 @@ use Rattle.layout.specs.declared.Geometry.{Geometry}
 use Rattle.layout.specs.Places.{IsGeometry}
 use Rattle.tree.specs.declared.PathFrom.{PathFrom}
 use Rattle.tree.specs.declared.User.{User}
-use Rattle.tree.specs.Sums.{put}
+use Rattle.lemmas.specs.Sums.{put}
 use Rattle.tree.specs.Names.{Names, inode_of, without_name}
 use Rattle.tree.specs.Tree.{Body, Node, Tree, is_dir, is_directory, most_size, names_of, size_of}
 use Rattle.tree.specs.IsTree.{IsBody}

@@ -5,13 +5,13 @@ use Rattle.layout.specs.declared.Geometry.{Geometry}
 use Rattle.layout.specs.Places.{IsGeometry}
 use Rattle.tree.specs.declared.User.{User}
 use Rattle.tree.specs.Names.{inode_of, with_name}
-use Rattle.tree.specs.Sums.{put}
+use Rattle.lemmas.specs.Sums.{put}
 use Rattle.tree.specs.Tree.{Node, Tree, is_dir, names_of, on_node, with_node}
 use Rattle.tree.specs.Walk.{Place}
 use Rattle.tree.specs.Changes.{empty_directory, empty_file, more_links, new_link, new_node, with_ctime, with_names}
 use Rattle.tree.specs.NameCalls.{with_entry}
 use Rattle.tree.specs.Space.{zones_of}
-use Rattle.tree.proofs.Maps.{not_nothing, put-other, put-same}
+use Rattle.lemmas.proofs.Maps.{not_nothing, put-other, put-same}
 use Rattle.tree.proofs.TreeOver.{over_itself, over_on_node, over_with_node}
 use Rattle.tree.proofs.Views.{on_node_there}
 use Rattle.zone.specs.Room.{taken_by}

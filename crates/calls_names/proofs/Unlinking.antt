@@ -7,7 +7,7 @@ use Rattle.layout.specs.declared.Geometry.{Geometry}
 use Rattle.layout.specs.Places.{IsGeometry}
 use Rattle.tree.specs.declared.PathFrom.{PathFrom}
 use Rattle.tree.specs.declared.User.{User}
-use Rattle.tree.specs.Sums.{put}
+use Rattle.lemmas.specs.Sums.{put}
 use Rattle.tree.specs.Tree.{Node, Tree, is_dir, on_node, with_node}
 use Rattle.tree.specs.IsTree.{IsTree}
 use Rattle.tree.specs.Refusals.{◌>>=◌, refuse_if}
@@ -15,7 +15,7 @@ use Rattle.tree.specs.Walk.{Place}
 use Rattle.tree.specs.Changes.{with_link_lost, with_names, without_nameless}
 use Rattle.tree.specs.Answers.{Effect, done, refused}
 use Rattle.tree.specs.NameCalls.{unlink, with_name_lost, without_entry}
-use Rattle.tree.proofs.Maps.{put-other}
+use Rattle.lemmas.proofs.Maps.{put-other}
 use Rattle.tree.proofs.Unlinked.{unlink_keeps}
 use Rattle.tree.proofs.Views.{on_node_there}
 use Rattle.volume.specs.Reading.{Disk}

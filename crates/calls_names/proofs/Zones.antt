@@ -7,13 +7,13 @@ use Rattle.lemmas.proofs.Bools.{false_not_true}
 use Rattle.layout.specs.declared.Geometry.{Geometry}
 use Rattle.layout.specs.Places.{IsGeometry, is_block_size}
 use Rattle.tree.specs.declared.User.{User}
-use Rattle.tree.specs.Sums.{count_below, one_if, put, some_below, sum_below}
+use Rattle.lemmas.specs.Sums.{count_below, one_if, put, some_below, sum_below}
 use Rattle.tree.specs.Names.{Name, inode_of, with_name}
 use Rattle.tree.specs.Tree.{Body, Directory, Node, is_dir, is_directory, is_file, names_of, size_of}
 use Rattle.tree.specs.Changes.{empty_directory, empty_file, new_link, new_node, with_names}
 use Rattle.tree.specs.Space.{numbers_in_zone, pages_of, zones_of}
 use Rattle.tree.specs.ZonesNeeded.{double_blocks, from_page, page_limit, single_blocks, triple_blocks, zones_needed}
-use Rattle.tree.proofs.Maps.{put-other, put-same, same_sum, sum_put}
+use Rattle.lemmas.proofs.Maps.{put-other, put-same, same_sum, sum_put}
 use Rattle.tree.proofs.Needs.{none_counted}
 use Rattle.tree.proofs.Freed.{part_below}
 use Rattle.tree.proofs.NeedGrows.{need_grows}

@@ -10,7 +10,7 @@ use Rattle.tree.specs.Tree.{Node, Tree, is_dir, is_open, most_links}
 use Rattle.tree.specs.Refusals.{◌>>=◌, or_refuse, refuse_if}
 use Rattle.tree.specs.Answers.{Effect}
 use Rattle.tree.specs.NameCalls.{can_replace, has_room_for_link, is_empty, is_within}
-use Rattle.tree.proofs.Maps.{not_nothing}
+use Rattle.lemmas.proofs.Maps.{not_nothing}
 use Rattle.volume.specs.declared.Inode.{Inode}
 use Rattle.volume.specs.Reading.{Disk}
 use Rattle.volume.specs.Pieces.{Pieces, pieces}

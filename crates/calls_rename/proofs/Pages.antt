@@ -5,7 +5,7 @@ use Rattle.std.specs.Prelude.{◌&&◌, ◌||◌, ◌==◌, nat_lt, nat_le, IsTr
 use Rattle.std.proofs.lemmas.Bool.{cases_eq, cases_lt, cases_Bool, eq-eqb, ne_eqb, eqb-true, lt-ltb, le-ltb, le-leb, leb-true, ltb-true, and_parts, and_from, or_cases}
 use Rattle.lemmas.proofs.Bools.{false_not_true}
 use Rattle.layout.specs.Places.{is_block_size}
-use Rattle.tree.specs.Sums.{sum_below, count_below, some_below, one_if}
+use Rattle.lemmas.specs.Sums.{sum_below, count_below, some_below, one_if}
 use Rattle.tree.specs.ZonesNeeded.{zones_needed, page_limit}
 use Rattle.tree.specs.ZonesNeededByPlace.{last_needed, second_needed, third_needed}
 use Rattle.tree.proofs.Needs.{zones_needed_is_by_place}

@@ -8,7 +8,7 @@ use Rattle.lemmas.proofs.Bools.{false_not_true}
 use Rattle.lemmas.proofs.Options.{some_same}
 use Rattle.layout.specs.declared.Geometry.{Geometry}
 use Rattle.layout.specs.Places.{IsGeometry}
-use Rattle.tree.specs.Sums.{one_if, put, sum_below}
+use Rattle.lemmas.specs.Sums.{one_if, put, sum_below}
 use Rattle.tree.specs.Names.{inode_of, name_cmp, with_name}
 use Rattle.tree.specs.Tree.{Node, Tree, is_dir, most_size, names_of, size_of}
 use Rattle.tree.specs.Changes.{with_names}

@@ -18,3 +18,6 @@ pub use laws::{found_is_asked, moves_that_fit};
 pub use moves::{a_move_takes_zones, moves_are_possible};
 pub use renamed::rename;
 pub use room::has_room;
+
+// passed on, for the body of each call
+pub use calls_names;

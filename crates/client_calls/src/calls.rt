@@ -14,7 +14,7 @@ ghost use Rattle.client_calls.specs.Calls.{DoesCall, MeetsCall, OnlyLooks};
 use block_store::{Blocks, Cut, Halt};
 use calls_attributes::{chmod, chown, dup, fstat, lstat, readlink, stat, statfs, sync, utime};
 use calls_files::{close, read, readdir, seek, truncate, write};
-use calls_names::{link, mkdir, open, rmdir, symlink, unlink};
+use calls_rename::calls_names::{link, mkdir, open, rmdir, symlink, unlink};
 use calls_rename::rename;
 use descriptors::Descriptors;
 use errno::Errno;

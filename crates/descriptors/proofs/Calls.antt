@@ -10,12 +10,12 @@ use Rattle.lemmas.proofs.Bools.{false_not_true}
 use Rattle.lemmas.proofs.Options.{none_from}
 use Rattle.errno.specs.declared.Errno.{Errno}
 use Rattle.errno.specs.declared.Errno.TheVariants.{EBADF, EMFILE, ENFILE}
-use Rattle.tree.specs.Sums.{some_below}
+use Rattle.lemmas.specs.Sums.{some_below}
 use Rattle.tree.specs.Tree.{OpenFile, Tree, leads_to, has_descriptor, with_descriptor, with_open_file, most_sessions, most_descriptors, most_open_files}
 use Rattle.tree.specs.Refusals.{◌>>=◌, free_place, or_refuse}
 use Rattle.tree.specs.Changes.{open_file_of, without_unused}
 use Rattle.tree.specs.FileCalls.{with_open}
-use Rattle.tree.proofs.Maps.{not_nothing}
+use Rattle.lemmas.proofs.Maps.{not_nothing}
 use Rattle.descriptors.specs.Keys.{at_position}
 use Rattle.descriptors.specs.Files.{Files, AreFiles, files_in, tree_with, put_file, room_for_file, dup_file, close_file, let_go, file_at, moved}
 use Rattle.descriptors.specs.Table.{Table, IsTable, session_at, opened_at, number_at, files_of}

@@ -6,7 +6,7 @@ use Rattle.std.proofs.lemmas.List.{length-set, get_or_past, get_or-set_same, get
 use Rattle.lemmas.proofs.Bools.{false_not_true}
 use Rattle.lemmas.proofs.Options.{some_same}
 use Rattle.tree.specs.Tree.{OpenFile, most_sessions, most_descriptors, most_open_files, most_size}
-use Rattle.tree.proofs.Maps.{not_nothing}
+use Rattle.lemmas.proofs.Maps.{not_nothing}
 use Rattle.descriptors.specs.Table.{Table, IsTable, session_at, opened_at, number_at}
 use Rattle.descriptors.proofs.Tables.{with_number, with_file, number-here, number-beside, number-apart, opened-here, opened-apart}
 

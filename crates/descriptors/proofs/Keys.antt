@@ -8,7 +8,7 @@ use Rattle.std.proofs.lemmas.List.Sums.{sum_by-set, count_by-le-length}
 use Rattle.lemmas.proofs.Bools.{false_not_true}
 use Rattle.lemmas.proofs.Options.{some_same}
 use Rattle.slab.specs.Slab.{with_value, Slab, get, slab_len, HasRoomFor, Updates}
-use Rattle.tree.proofs.Maps.{not_nothing}
+use Rattle.lemmas.proofs.Maps.{not_nothing}
 use Rattle.descriptors.specs.declared.opened.Opened.{Opened}
 use Rattle.tree.specs.Tree.{OpenFile}
 use Rattle.descriptors.specs.Keys.{at_position, file_of, file_under, AreKeys}

@@ -5,7 +5,7 @@ use Rattle.std.proofs.lemmas.Bool.{cases_lt}
 use Rattle.std.proofs.lemmas.List.{get_or-replicate, get_or_past, length-replicate}
 use Rattle.lemmas.proofs.Bools.{false_not_true}
 use Rattle.tree.specs.Tree.{OpenFile, most_sessions, most_descriptors, most_open_files}
-use Rattle.tree.proofs.Maps.{not_nothing}
+use Rattle.lemmas.proofs.Maps.{not_nothing}
 use Rattle.descriptors.specs.Made.{no_files}
 use Rattle.descriptors.specs.Table.{Table, IsTable, session_at, opened_at, number_at, files_of}
 use Rattle.descriptors.proofs.Tables.{nothing, none_at, same_files}

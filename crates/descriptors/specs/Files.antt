@@ -2,7 +2,7 @@
 use Rattle.std.specs.Prelude.{◌≡◌, ◌≤◌, ◌<◌, ℕ, Bool, Option, None, Some, Result, Ok, Err, is_some, IsTrue, if◌then◌else◌}
 use Rattle.errno.specs.declared.Errno.{Errno}
 use Rattle.errno.specs.declared.Errno.TheVariants.{EMFILE, ENFILE}
-use Rattle.tree.specs.Sums.{some_below}
+use Rattle.lemmas.specs.Sums.{some_below}
 use Rattle.tree.specs.Tree.{OpenFile, Tree, has_descriptor, with_descriptor, most_sessions, most_descriptors, most_open_files, most_size}
 use Rattle.tree.specs.Refusals.{◌>>=◌, free_place}
 use Rattle.tree.specs.Changes.{open_file_of, without_unused, at_position}

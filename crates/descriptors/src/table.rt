@@ -3,7 +3,7 @@
 ghost use Rattle.std.specs.Prelude.{◌≡◌, ◌<◌, ◌≤◌, IfOk, IsSome, OnErr, None, Some, is_none, length, position, option_map};
 ghost use Rattle.std.specs.Prelude.{slice_index_or};
 ghost use Rattle.tree.specs.Tree.{is_open, leads_to, most_sessions, most_size};
-ghost use Rattle.tree.specs.Sums.{some_below};
+ghost use Rattle.lemmas.specs.Sums.{some_below};
 
 use crate::free::first_free;
 use crate::opened::{OpenFiles, Opened};

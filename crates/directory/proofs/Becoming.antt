@@ -4,7 +4,7 @@ use Rattle.std.specs.Prelude.{◌||◌, ◌&&◌, nat_lt, IsTrue, slice_index, i
 use Rattle.std.proofs.lemmas.Bool.{and_parts, cond-true, ltb-true, ne_eqb, not_from_false}
 use Rattle.layout.specs.declared.Geometry.{Geometry}
 use Rattle.layout.specs.Places.{is_block_size}
-use Rattle.tree.specs.Sums.{put}
+use Rattle.lemmas.specs.Sums.{put}
 use Rattle.tree.specs.Names.{Name, Names, with_name}
 use Rattle.tree.specs.Tree.{File, Directory, Body, is_file, is_directory, Node}
 use Rattle.tree.specs.Changes.{with_names, with_parent, with_body}
@@ -18,8 +18,8 @@ use Rattle.volume.specs.Nodes.{permissions_in}
 use Rattle.volume.specs.Entries.{entry_count}
 use Rattle.volume.specs.Holds.{IsSoundDirectory}
 use Rattle.volume.proofs.Sums.{count_most}
-use Rattle.zone.specs.ZoneSteps.{body_from, node_from, marked_in}
-use Rattle.zone.proofs.Keeps.{sound_but_is_sound, sound_is_sound_but}
+use Rattle.file.specs.ZoneSteps.{body_from, node_from, marked_in}
+use Rattle.file.proofs.Keeps.{sound_but_is_sound, sound_is_sound_but}
 use Rattle.directory.specs.Directories.{IsDirectoryOf, before}
 use Rattle.directory.specs.Files.{IsEntryBytes}
 use Rattle.directory.proofs.Writes.{file_inserted, file_reparented}

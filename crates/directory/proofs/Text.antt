@@ -5,7 +5,7 @@ use Rattle.std.specs.Prelude.{not, ◌&&◌, ◌||◌, ◌==◌, nat_lt, nat_le,
 use Rattle.std.specs.List.{list_any}
 use Rattle.std.proofs.lemmas.Bool.{cases_eq, cond-true, cond-false, eq-eqb, ne_eqb, eqb-true, leb-true, and_parts, and_from, or_parts, not-true, not-false, not_from_false, not_from_true}
 use Rattle.lemmas.proofs.Bools.{and_false_right}
-use Rattle.tree.specs.Sums.{some_below}
+use Rattle.lemmas.specs.Sums.{some_below}
 use Rattle.tree.specs.Names.{Name, is_name, is_dots, most_name, dot, dot_dot}
 use Rattle.volume.specs.Nodes.{text_in, entry_name}
 use Rattle.volume.proofs.Sums.{none_below, none_from}

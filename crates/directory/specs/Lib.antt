@@ -10,3 +10,4 @@ pub mod Places
 pub mod First
 pub mod Names
 pub mod Removal
+pub use Rattle.file.specs.Reading

@@ -2,7 +2,7 @@
 use Rattle.std.specs.Prelude.{◌≡◌, ◌≢◌, ℕ, ◌+◌, ◌≤◌, List, length, None, Some, IsTrue}
 use Rattle.layout.specs.declared.Geometry.{Geometry}
 use Rattle.layout.specs.Places.{IsGeometry}
-use Rattle.tree.specs.Sums.{put}
+use Rattle.lemmas.specs.Sums.{put}
 use Rattle.tree.specs.Names.{Name, Names, dot_dot, has_name, is_name, inode_of, with_name, without_name}
 use Rattle.tree.specs.Tree.{Node, most_size}
 use Rattle.tree.specs.Changes.{with_names, with_parent}

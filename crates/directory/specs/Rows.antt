@@ -1,7 +1,7 @@
 -- A row of entries by its bytes alone, and what a change of one entry does to its names.
 use Rattle.std.specs.Prelude.{◌≡◌, ◌≢◌, ℕ, ◌+◌, ◌-◌, ◌*◌, ◌<◌, ◌≤◌, ◌⊎◌, length, slice_index, Bool, false, not, ◌&&◌, ◌==◌, None, Some, IsTrue}
 use Rattle.std.specs.FinMap.Entries.{is_sorted}
-use Rattle.tree.specs.Sums.{some_below}
+use Rattle.lemmas.specs.Sums.{some_below}
 use Rattle.tree.specs.Names.{Name, Names, name_cmp, is_name, dot, dot_dot, inode_of, with_name, without_name}
 use Rattle.volume.specs.Nodes.{entry_inode, entry_name, names_in}
 

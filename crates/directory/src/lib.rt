@@ -16,3 +16,6 @@ pub use entries::{ENTRY_SIZE, Placed, entry_inode, entry_name};
 pub use look_up::{entry, find, parent, stands_at};
 pub use positions::position;
 pub use removal::remove;
+
+// passed on, for paths
+pub use file;

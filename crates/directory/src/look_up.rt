@@ -15,8 +15,8 @@ use block_store::words::read_bytes;
 use block_store::{Blocks, Cut, Halt};
 use layout::Geometry;
 use volume::Inode;
-use zone::numbers::is_data_zone;
-use zone::places::lookup;
+use file::zone::numbers::is_data_zone;
+use file::zone::places::lookup;
 
 /// The last entry of a page, from one entry on to another, that has a name. In a page without a data zone no entry has one.
 fn find_in_page<B: Blocks>(

@@ -11,8 +11,8 @@ use crate::entries::is_named;
 use block_store::{Blocks, Cut};
 use layout::Geometry;
 use volume::Inode;
-use zone::numbers::is_data_zone;
-use zone::places::lookup;
+use file::zone::numbers::is_data_zone;
+use file::zone::places::lookup;
 
 /// The first of the entries of some bytes, from one on to another, that has a name.
 fn position_in(bytes: &[u8], from: usize, to: usize, name: &[u8]) -> Option<usize>

@@ -4,11 +4,11 @@ use Rattle.std.specs.Prelude.{IsTrue, Some, None, ◌&&◌}
 use Rattle.std.proofs.lemmas.Bool.{cond-true, and_parts}
 use Rattle.layout.specs.declared.Geometry.{Geometry}
 use Rattle.layout.specs.Places.{IsGeometry}
-use Rattle.tree.specs.Sums.{put}
+use Rattle.lemmas.specs.Sums.{put}
 use Rattle.tree.specs.Tree.{File}
 use Rattle.tree.specs.ZonesNeeded.{zones_needed}
 use Rattle.tree.specs.Space.{numbers_in_zone, zones_of, pages_of}
-use Rattle.tree.proofs.Maps.{put-same, put-other}
+use Rattle.lemmas.proofs.Maps.{put-same, put-other}
 use Rattle.volume.specs.declared.Inode.{Inode}
 use Rattle.volume.specs.Reading.{is_inode}
 use Rattle.volume.specs.Pieces.{Pieces}

@@ -6,11 +6,11 @@ use Rattle.std.proofs.lemmas.Bool.{cases_eq, cases_lt, cond-true, cond-false, lt
 use Rattle.std.proofs.lemmas.Nat.{div-add-mod', div-mul-add, mod-mul-add}
 use Rattle.layout.specs.declared.Geometry.{Geometry}
 use Rattle.tree.specs.Tree.{File}
-use Rattle.tree.specs.Sums.{put}
+use Rattle.lemmas.specs.Sums.{put}
 use Rattle.tree.specs.Changes.{file_after_write}
 use Rattle.tree.specs.Space.{numbers_in_zone}
 use Rattle.tree.specs.ZonesNeeded.{page_limit}
-use Rattle.tree.proofs.Maps.{put-other}
+use Rattle.lemmas.proofs.Maps.{put-other}
 use Rattle.tree.proofs.Pages.{pages_fit}
 use Rattle.volume.specs.declared.Inode.{Inode}
 use Rattle.volume.specs.Reading.{Disk}

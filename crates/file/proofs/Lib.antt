@@ -13,3 +13,4 @@ pub mod Spaces
 pub mod Needed
 pub mod Touched
 pub mod RoomSpaces
+pub use Rattle.zone.proofs.Keeps

@@ -8,10 +8,10 @@ use Rattle.std.proofs.Math.Nat.{mul_comm, mod-lt}
 use Rattle.lemmas.proofs.Numbers.{not_zero}
 use Rattle.zone.proofs.Filling.{above_place}
 use Rattle.layout.specs.declared.Geometry.{Geometry}
-use Rattle.tree.specs.Sums.{put, count_below, sum_below, one_if}
+use Rattle.lemmas.specs.Sums.{put, count_below, sum_below, one_if}
 use Rattle.tree.specs.ZonesNeeded.{zones_needed}
 use Rattle.tree.specs.Space.{numbers_in_zone}
-use Rattle.tree.proofs.Maps.{put-same, put-other}
+use Rattle.lemmas.proofs.Maps.{put-same, put-other}
 use Rattle.volume.specs.declared.Inode.{Inode}
 use Rattle.volume.specs.Pieces.{Pieces}
 use Rattle.volume.specs.Nodes.{word, number}

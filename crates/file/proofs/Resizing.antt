@@ -8,7 +8,7 @@ use Rattle.layout.specs.declared.Geometry.{Geometry}
 use Rattle.tree.specs.Tree.{File}
 use Rattle.tree.specs.Changes.{file_after_resize}
 use Rattle.tree.specs.Space.{pages_of}
-use Rattle.tree.proofs.Maps.{put-same, put-other}
+use Rattle.lemmas.proofs.Maps.{put-same, put-other}
 use Rattle.volume.specs.declared.Inode.{Inode}
 use Rattle.volume.specs.Reading.{Disk, is_inode}
 use Rattle.volume.specs.Pieces.{Pieces, pieces}

@@ -4,12 +4,12 @@ use mathlib.Core.Logic.{inl, inr}
 use Rattle.std.specs.Prelude.{slice_index, Some, take}
 use Rattle.std.proofs.lemmas.Bool.{cases_eq, cases_lt, cond-true, cond-false, lt-ltb, le-ltb}
 use Rattle.layout.specs.declared.Geometry.{Geometry}
-use Rattle.tree.specs.Sums.{put, sum_below}
+use Rattle.lemmas.specs.Sums.{put, sum_below}
 use Rattle.tree.specs.Tree.{Node}
 use Rattle.tree.specs.FileCalls.{bytes_from}
 use Rattle.tree.specs.ZonesNeeded.{zones_needed}
 use Rattle.tree.specs.Space.{numbers_in_zone, zones_of}
-use Rattle.tree.proofs.Maps.{put-same, put-other, same_sum, sum_put}
+use Rattle.lemmas.proofs.Maps.{put-same, put-other, same_sum, sum_put}
 use Rattle.volume.specs.Pieces.{Pieces}
 use Rattle.volume.specs.declared.Inode.{Inode}
 use Rattle.volume.specs.Nodes.{file_of, nodes_of}

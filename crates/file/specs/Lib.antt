@@ -9,3 +9,4 @@ pub mod Laws
 pub mod Need
 pub mod Room
 pub mod RoomLaws
+pub use Rattle.zone.specs.ZoneSteps

@@ -1,7 +1,7 @@
 -- How many zones more a file takes when a row of its pages is held.
 use Rattle.std.specs.Prelude.{◌≡◌, ℕ, ◌+◌, ◌-◌, Bool, not, ◌&&◌, ◌||◌, ◌==◌, nat_le, nat_lt}
 use Rattle.layout.specs.declared.Geometry.{Geometry}
-use Rattle.tree.specs.Sums.{count_below}
+use Rattle.lemmas.specs.Sums.{count_below}
 use Rattle.tree.specs.Space.{numbers_in_zone}
 use Rattle.tree.specs.ZonesNeeded.{zones_needed}
 use Rattle.volume.specs.declared.Inode.{Inode}

@@ -2,7 +2,7 @@
 use Rattle.std.specs.Prelude.{◌↔◌, ◌≤◌, ◌≡◌, ℕ, ◌+◌, Bool, Some, IsTrue}
 use Rattle.layout.specs.declared.Geometry.{Geometry}
 use Rattle.layout.specs.Places.{IsGeometry}
-use Rattle.tree.specs.Sums.{put}
+use Rattle.lemmas.specs.Sums.{put}
 use Rattle.tree.specs.Tree.{Node}
 use Rattle.tree.specs.Space.{data_zones, held_of}
 use Rattle.volume.specs.Pieces.{Pieces}

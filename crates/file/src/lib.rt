@@ -7,3 +7,6 @@ pub mod file_room;
 pub mod laws;
 
 pub use changing::write_at;
+
+// passed on, for directories
+pub use zone;

@@ -6,7 +6,7 @@ use Rattle.std.specs.Prelude.{not, ◌&&◌, ◌||◌, ◌==◌, nat_le}
 use Rattle.std.specs.List.{list_any}
 use Rattle.std.specs.Borrow.{Bor}
 use Rattle.std.proofs.lemmas.Bool.{or_left, or_right, or_from, and_from, and_left, and_right}
-use Rattle.tree.specs.Sums.{some_below}
+use Rattle.lemmas.specs.Sums.{some_below}
 use Rattle.tree.specs.Names.{same_name}
 use Rattle.image.specs.declared.Image.{Image}
 use Rattle.image.proofs.Texts.{same_names}

@@ -7,7 +7,7 @@ use Rattle.std.specs.Prelude.{not, ◌&&◌, ◌||◌, ◌==◌, nat_lt, nat_le,
 use Rattle.std.proofs.lemmas.List.{length-take, length-drop, length-take-le, get_or-take, get_or-drop, get_or-replicate, get_or_past}
 use Rattle.std.proofs.lemmas.List.{length-replicate, length-set, get_or-set_same, get_or-set_other}
 use Rattle.std.proofs.lemmas.Bool.{cases_eq, cases_lt, cond-true, and_parts, and_right, or_parts, ltb-false, eq-eqb}
-use Rattle.tree.specs.Sums.{some_below}
+use Rattle.lemmas.specs.Sums.{some_below}
 use Rattle.tree.specs.Names.{Name, is_name, dot, dot_dot}
 use Rattle.tree.specs.Tree.{most_size}
 use Rattle.volume.specs.declared.Inode.{Inode}

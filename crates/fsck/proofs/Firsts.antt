@@ -14,7 +14,7 @@ use Rattle.volume.specs.Findings.{lacks_inode_bit, lacks_zone_bit, lacks_root, h
 use Rattle.volume.proofs.Sums.{none_below}
 use Rattle.image.specs.declared.Image.{Image}
 use Rattle.image.proofs.Contents.{g, v, out_of_range}
-use Rattle.tree.specs.Sums.{some_below, least_below}
+use Rattle.lemmas.specs.Sums.{some_below, least_below}
 use Rattle.volume.specs.declared.Finding.{Finding}
 use Rattle.volume.specs.Verdict.{Verdict, Clean, Found, Test, found, first_found, place_limit, tests as tests_3, verdict_of}
 use Rattle.volume.specs.Verdict.{verdict_of_pieces}

@@ -7,7 +7,7 @@ use Rattle.std.specs.List.{list_any}
 use Rattle.std.proofs.lemmas.Bool.{and_left, or_right, eq-eqb, ne_eqb, le-ltb}
 use Rattle.std.proofs.lemmas.List.{take_all}
 use Rattle.std.proofs.lemmas.List.Folds.{list_any_more}
-use Rattle.tree.specs.Sums.{some_below}
+use Rattle.lemmas.specs.Sums.{some_below}
 use Rattle.tree.specs.Tree.{most_target}
 use Rattle.volume.specs.declared.Inode.{Inode}
 use Rattle.volume.specs.Reading.{is_data_zone}

@@ -7,7 +7,7 @@ use Rattle.std.proofs.lemmas.Bool.{cases_eq, cases_lt, cases_Bool, both_ways, eq
 use Rattle.std.proofs.lemmas.Bool.{or_right, and_from, and_parts}
 use Rattle.std.proofs.lemmas.List.{length-set, get_or-set_same, get_or-set_other, get_or_append_left, get_or_push, length_push, get_or_past}
 use Rattle.std.proofs.lemmas.List.Sums.{sum_by-cons, sum_by-set}
-use Rattle.tree.specs.Sums.{some_below, one_if}
+use Rattle.lemmas.specs.Sums.{some_below, one_if}
 use Rattle.volume.proofs.Sums.{some_from, some_witness}
 use Rattle.volume.proofs.Reach.{reached}
 use Rattle.volume.proofs.Reached.{fuel_enough}

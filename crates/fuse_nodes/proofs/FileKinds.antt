@@ -9,7 +9,7 @@ use Rattle.tree.specs.Tree.{Body, is_file, is_directory, Node, Tree, with_node, 
 use Rattle.tree.specs.Changes.{with_names, with_parent}
 use Rattle.tree.specs.NameCalls.{with_entry, without_entry}
 use Rattle.tree.specs.Walk.{Place}
-use Rattle.tree.proofs.Maps.{put-same, put-other}
+use Rattle.lemmas.proofs.Maps.{put-same, put-other}
 use Rattle.tree.proofs.Views.{view_kept}
 use Rattle.fuse_nodes.specs.Files.{kind, links}
 

@@ -10,7 +10,7 @@ use Rattle.tree.specs.declared.Who.{Who}
 use Rattle.tree.specs.declared.Call.{Call}
 use Rattle.tree.specs.declared.Call.TheVariants.{Open, Close, Dup, Read, Write, Seek, Stat, Fstat, Link, Unlink, Mkdir, Rmdir, Rename}
 use Rattle.tree.specs.declared.Call.TheVariants.{Chmod, Chown, Utime, Truncate, Readdir, Sync, Statfs, Symlink, Readlink, Lstat}
-use Rattle.tree.specs.Sums.{one_if, some_below}
+use Rattle.lemmas.specs.Sums.{one_if, some_below}
 use Rattle.tree.specs.Tree.{File, is_file, Node, Tree, is_dir, is_dir_at, is_open, opens, has_descriptor, with_node, on_node, with_open_file, with_descriptor, most_sessions, most_open_files}
 use Rattle.tree.specs.Space.{zones_used, data_zones}
 use Rattle.tree.specs.Refusals.{refuse_if}
@@ -22,7 +22,7 @@ use Rattle.tree.specs.Answers.{Answer, if_it_fits}
 use Rattle.tree.specs.Effects.{user_of, effect_in_session, effect_of, tree_after_call}
 use Rattle.tree.specs.Room.{with_zones}
 use Rattle.tree.proofs.Steps.{tree_after}
-use Rattle.tree.proofs.Maps.{put-same, not_nothing}
+use Rattle.lemmas.proofs.Maps.{put-same, not_nothing}
 use Rattle.tree.proofs.Views.{on_node_is}
 use Rattle.tree.proofs.TreeOver.{IsOver, over_itself, over_on_node}
 use Rattle.tree.proofs.Outcomes.{Effects, IsClosed, plain_refuse}

@@ -4,11 +4,11 @@ use mathlib.Core.Logic.{inl, inr}
 use mathlib.Core.Bool.{beq}
 use Rattle.std.specs.Prelude.{min, not, ◌&&◌, ◌==◌, nat_lt, nat_le}
 use Rattle.std.proofs.lemmas.Bool.{cases_lt, cases_Bool, cond-true, cond-false, and_left, and_right, lt-ltb, le-ltb, eq-eqb, ne_eqb}
-use Rattle.tree.specs.Sums.{sum_below}
+use Rattle.lemmas.specs.Sums.{sum_below}
 use Rattle.volume.specs.Reading.{is_data_zone}
 use Rattle.volume.specs.Places.{is_entered, uses, uses_in_inodes, uses_in_zones}
 use Rattle.volume.specs.Findings.{is_used_twice, has_bad_bit}
-use Rattle.tree.proofs.Maps.{same_sum}
+use Rattle.lemmas.proofs.Maps.{same_sum}
 use Rattle.image.specs.declared.Image.{Image}
 use Rattle.image.specs.Entered.{AreEntered, is_in}
 use Rattle.image.specs.Counts.{AreCounted, AreCountedTo, named_by_inode, named_by_zone, named_by_entered}

@@ -5,7 +5,7 @@ use Rattle.std.specs.Prelude.{not, ◌&&◌, ◌||◌, ◌==◌, nat_lt, nat_le}
 use Rattle.std.proofs.lemmas.Bool.{cases_eq, cases_lt, cases_Bool, cond-true, cond-false, eq-eqb, ne_eqb, lt-ltb, le-ltb, and_from, and_parts, and_left, and_right, or_cases, or_left, or_right, or_from, not-true, both_ways}
 use Rattle.std.proofs.lemmas.Nat.{div-add-mod'}
 use Rattle.std.proofs.Math.Nat.{mod-lt, mul-le-mul_left}
-use Rattle.tree.specs.Sums.{some_below}
+use Rattle.lemmas.specs.Sums.{some_below}
 use Rattle.tree.specs.Space.{pages_of, numbers_in_zone}
 use Rattle.tree.specs.ZonesNeeded.{page_limit}
 use Rattle.volume.specs.Nodes.{slot, word, is_marked}

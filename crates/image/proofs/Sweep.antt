@@ -7,7 +7,7 @@ use Rattle.std.proofs.lemmas.Nat.{mul-add-lt, same_from_place}
 use Rattle.std.proofs.lemmas.List.{length-set, get_or-set_same, get_or-set_other}
 use Rattle.tree.specs.Space.{numbers_in_zone}
 use Rattle.tree.specs.ZonesNeeded.{page_limit}
-use Rattle.tree.specs.Sums.{some_below}
+use Rattle.lemmas.specs.Sums.{some_below}
 use Rattle.volume.specs.Reading.{is_data_zone}
 use Rattle.volume.specs.Nodes.{word, slot, is_marked}
 use Rattle.volume.specs.Places.{zone_at, is_entered}

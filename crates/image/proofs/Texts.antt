@@ -7,7 +7,7 @@ use lib.Pointwise.{pointwise}
 use lib.Dec.{eqb}
 use Rattle.tree.specs.Names.{same_name, is_name, is_dots, most_name}
 use Rattle.std.proofs.lemmas.Bool.{cases_eq, cases_lt, cond-true, cond-false, eq-eqb, ne_eqb, eqb-true, not-true, not-false, le-ltb, le-leb, lt-leb, and_from, and_left, and_right}
-use Rattle.tree.specs.Sums.{some_below}
+use Rattle.lemmas.specs.Sums.{some_below}
 use Rattle.volume.proofs.Sums.{some_from, none_below, none_from}
 use Rattle.image.specs.Entry.{is_field, is_padded, name_in}
 use Rattle.std.proofs.lemmas.List.{length-take, length-drop, length-take-le, get_or-take, get_or-drop}

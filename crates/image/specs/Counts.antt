@@ -1,6 +1,6 @@
 -- Counts of the uses of zones, up to two.
 use Rattle.std.specs.Prelude.{◌≡◌, ◌≤◌, ◌<◌, ℕ, ◌+◌, List, length, slice_index, Bool, ◌==◌, min, if◌then◌else◌}
-use Rattle.tree.specs.Sums.{sum_below, count_below}
+use Rattle.lemmas.specs.Sums.{sum_below, count_below}
 use Rattle.tree.specs.Space.{numbers_in_zone}
 use Rattle.volume.specs.Nodes.{word, slot, is_marked}
 use Rattle.volume.specs.Places.{uses}

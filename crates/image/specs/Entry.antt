@@ -1,6 +1,6 @@
 -- An entry by its 64 bytes.
 use Rattle.std.specs.Prelude.{ℕ, ◌+◌, slice_index, Bool, not, ◌&&◌, ◌==◌}
-use Rattle.tree.specs.Sums.{some_below}
+use Rattle.lemmas.specs.Sums.{some_below}
 use Rattle.tree.specs.Names.{Name, is_name}
 use Rattle.volume.specs.Nodes.{text_in}
 

@@ -1,6 +1,6 @@
 -- The least number that passes a test.
 use Rattle.std.specs.Prelude.{ℕ, ◌<◌, Bool, true, false, Option, None, Some, IfSome, unwrap_or, if◌then◌else◌}
-use Rattle.tree.specs.Sums.{some_below, least_below}
+use Rattle.lemmas.specs.Sums.{some_below, least_below}
 
 -- the least number below n that passes, where one does
 abbrev pub least_of : (ℕ → Bool) → ℕ → Option ℕ

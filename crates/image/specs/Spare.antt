@@ -1,6 +1,6 @@
 -- Zones past the end of a file and empty blocks, at a place and below it.
 use Rattle.std.specs.Prelude.{ℕ, zero, suc, ◌+◌, ◌*◌, Bool, ◌||◌, ◌==◌, nat_lt, if◌then◌else◌}
-use Rattle.tree.specs.Sums.{some_below}
+use Rattle.lemmas.specs.Sums.{some_below}
 use Rattle.tree.specs.Space.{numbers_in_zone}
 use Rattle.volume.specs.Places.{zone_at}
 use Rattle.volume.specs.Findings.{is_past_end, is_empty_block}

@@ -1,7 +1,7 @@
 //! The 64 bytes of an entry of a directory: a number of four, and a field of 60 with the name, filled with zeros.
 
 ghost use Rattle.std.specs.Prelude.{◌≡◌, ◌≢◌, ◌≤◌, ◌<◌, ◌&&◌, ◌==◌, ℕ, length, not, slice_index};
-ghost use Rattle.tree.specs.Sums.{some_below};
+ghost use Rattle.lemmas.specs.Sums.{some_below};
 ghost use Rattle.tree.specs.Names.{is_dots, is_name};
 ghost use Rattle.image.specs.Entry.{has_name, is_field, is_padded, name_in};
 

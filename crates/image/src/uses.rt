@@ -1,7 +1,7 @@
 //! How often each zone is named.
 
 ghost use Rattle.std.specs.Prelude.{◌≡◌, ◌≤◌, ◌<◌, ◌+◌, ◌*◌, ℕ, ◌==◌, min, length, slice_index, if◌then◌else◌};
-ghost use Rattle.tree.specs.Sums.{count_below, one_if, sum_below};
+ghost use Rattle.lemmas.specs.Sums.{count_below, one_if, sum_below};
 ghost use Rattle.tree.specs.Space.{numbers_in_zone};
 ghost use Rattle.volume.specs.Nodes.{is_marked, slot, word};
 ghost use Rattle.volume.specs.Places.{uses};

@@ -5,8 +5,8 @@ use Rattle.std.specs.Prelude.{IsTrue, ◌⊎◌, slice_index, if◌then◌else�
 use Rattle.std.proofs.lemmas.Bool.{cond-true, cond-false, cases_eq, cases_Bool}
 use Rattle.layout.specs.declared.Geometry.{Geometry}
 use Rattle.layout.specs.Places.{IsGeometry}
-use Rattle.tree.specs.Sums.{put}
-use Rattle.tree.proofs.Maps.{put-same, put-other, is_put}
+use Rattle.lemmas.specs.Sums.{put}
+use Rattle.lemmas.proofs.Maps.{put-same, put-other, is_put}
 use Rattle.volume.specs.declared.Inode.{Inode}
 use Rattle.volume.specs.Reading.{Disk, is_inode, inode_in, inode_block, inode_offset, inode_of_disk, u16_in, u32_in}
 use Rattle.volume.specs.Pieces.{pieces, blank}

@@ -1,6 +1,6 @@
 -- The inode table of a volume.
 use Rattle.std.specs.Prelude.{ℕ}
-use Rattle.tree.specs.Sums.{put}
+use Rattle.lemmas.specs.Sums.{put}
 use Rattle.volume.specs.declared.Inode.{Inode}
 use Rattle.volume.specs.Pieces.{Pieces}
 

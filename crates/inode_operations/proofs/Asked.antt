@@ -5,7 +5,7 @@ use Rattle.layout.specs.Places.{IsGeometry}
 use Rattle.tree.specs.Names.{Names, with_name, without_name}
 use Rattle.tree.specs.Tree.{Node, Tree, on_node}
 use Rattle.tree.specs.Changes.{fewer_links, more_links, with_names}
-use Rattle.tree.proofs.Maps.{put-other}
+use Rattle.lemmas.proofs.Maps.{put-other}
 use Rattle.inode_operations.specs.Moves.{IsParent}
 use Rattle.inode_operations.specs.Whole.{links_of, out_of}
 use Rattle.inode_operations.specs.Asking.{MoveToMayBeMade}

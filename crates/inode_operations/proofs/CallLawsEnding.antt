@@ -1,10 +1,10 @@
 -- Nodes without a name.
 use Rattle.std.proofs.Common.{◌≡◌, ℕ, Bool, true, false, refl, ap, ◌∙◌, Some, None}
 use Rattle.std.specs.Prelude.{Option, not, ◌&&◌, ◌==◌, if◌then◌else◌}
-use Rattle.tree.specs.Sums.{some_below}
+use Rattle.lemmas.specs.Sums.{some_below}
 use Rattle.tree.specs.Tree.{Node, OpenFile, Tree, is_open, most_open_files, opens, with_node}
 use Rattle.tree.specs.Changes.{has_no_link, without_nameless}
-use Rattle.tree.proofs.Maps.{put-same}
+use Rattle.lemmas.proofs.Maps.{put-same}
 use Rattle.descriptors.specs.Files.{Files, HasFiles, tree_with}
 use Rattle.inode_operations.proofs.Nodes.{put_back, put_twice}
 use Rattle.inode_operations.specs.Ending.{LeftIsLeft, PutIsLeft}

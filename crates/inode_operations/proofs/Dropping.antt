@@ -4,7 +4,7 @@ use Rattle.layout.specs.declared.Geometry.{Geometry}
 use Rattle.layout.specs.Places.{IsGeometry}
 use Rattle.tree.specs.Tree.{Node, Tree, on_node, with_node}
 use Rattle.tree.specs.Changes.{fewer_links, with_link_lost, without_nameless}
-use Rattle.tree.proofs.Maps.{put-other}
+use Rattle.lemmas.proofs.Maps.{put-other}
 use Rattle.volume.specs.Reading.{Disk}
 use Rattle.volume.specs.Pieces.{pieces}
 use Rattle.descriptors.specs.Files.{Files}

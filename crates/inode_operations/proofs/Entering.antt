@@ -5,7 +5,7 @@ use Rattle.std.specs.Prelude.{IsTrue, Option, ◌||◌, ◌&&◌, ◌==◌, not,
 use Rattle.std.proofs.lemmas.Bool.{and_parts, cases_eq, cases_lt, cond-true, eq-eqb, ne_eqb, lt-ltb, le-ltb, not_from_false}
 use Rattle.layout.specs.declared.Geometry.{Geometry}
 use Rattle.layout.specs.Places.{IsGeometry, is_block_size}
-use Rattle.tree.specs.Sums.{put}
+use Rattle.lemmas.specs.Sums.{put}
 use Rattle.tree.specs.Names.{Name, Names, inode_of, with_name}
 use Rattle.tree.specs.Tree.{Body, Node, is_dir, is_directory, is_file, names_of, size_of}
 use Rattle.tree.specs.Changes.{with_names}

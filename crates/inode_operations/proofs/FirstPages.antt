@@ -3,7 +3,7 @@ use Rattle.std.proofs.Common.{◌≡◌, ◌<◌, ◌+◌, ℕ, Bool, true, refl
 use Rattle.std.specs.Prelude.{◌==◌, IsTrue}
 use Rattle.layout.specs.declared.Geometry.{Geometry}
 use Rattle.layout.specs.Places.{IsGeometry}
-use Rattle.tree.specs.Sums.{one_if, put}
+use Rattle.lemmas.specs.Sums.{one_if, put}
 use Rattle.tree.specs.Tree.{File}
 use Rattle.tree.specs.Space.{data_zones, numbers_in_zone}
 use Rattle.tree.specs.ZonesNeeded.{zones_needed}

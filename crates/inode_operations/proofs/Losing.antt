@@ -3,10 +3,10 @@ use Rattle.std.proofs.Common.{◌≡◌, ◌≢◌, ℕ, Bool, true, false, refl
 use Rattle.std.specs.Prelude.{Option, not, ◌==◌, ◌&&◌, if◌then◌else◌}
 use Rattle.std.proofs.lemmas.Bool.{eq-eqb, ne_eqb}
 use Rattle.layout.specs.declared.Geometry.{Geometry}
-use Rattle.tree.specs.Sums.{put}
+use Rattle.lemmas.specs.Sums.{put}
 use Rattle.tree.specs.Tree.{Node, is_open}
 use Rattle.tree.specs.Changes.{with_link_lost}
-use Rattle.tree.proofs.Maps.{put-same}
+use Rattle.lemmas.proofs.Maps.{put-same}
 use Rattle.volume.specs.declared.Inode.{Inode}
 use Rattle.volume.specs.Reading.{Disk}
 use Rattle.volume.specs.Pieces.{Pieces, pieces}

@@ -4,7 +4,7 @@ use Rattle.std.specs.Prelude.{◌&&◌, ◌==◌, nat_le, Option, None, Some, Ok
 use Rattle.std.proofs.lemmas.Bool.{and_from, cond-true, cond-false, eq-eqb, le-leb, ne_eqb}
 use Rattle.layout.specs.declared.Geometry.{Geometry}
 use Rattle.errno.specs.declared.Errno.TheVariants.{ENOSPC}
-use Rattle.tree.specs.Sums.{least_below}
+use Rattle.lemmas.specs.Sums.{least_below}
 use Rattle.tree.specs.Tree.{Node}
 use Rattle.tree.specs.Refusals.{◌>>=◌}
 use Rattle.volume.specs.Reading.{is_inode}

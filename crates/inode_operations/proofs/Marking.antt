@@ -8,10 +8,10 @@ use Rattle.lemmas.proofs.Bools.{false_not_true}
 use Rattle.layout.specs.declared.Geometry.{Geometry}
 use Rattle.layout.specs.Places.{IsGeometry}
 use Rattle.tree.specs.declared.User.{User}
-use Rattle.tree.specs.Sums.{put}
+use Rattle.lemmas.specs.Sums.{put}
 use Rattle.tree.specs.Tree.{File, Node, directory_type, file_type}
 use Rattle.tree.specs.Changes.{empty_file, new_node}
-use Rattle.tree.proofs.Maps.{not_nothing, put-same, put-other}
+use Rattle.lemmas.proofs.Maps.{not_nothing, put-same, put-other}
 use Rattle.volume.specs.declared.Inode.{Inode}
 use Rattle.volume.specs.Reading.{Disk, is_inode}
 use Rattle.volume.specs.Pieces.{Pieces, pieces}

@@ -6,10 +6,10 @@ use Rattle.lemmas.proofs.Bools.{false_not_true}
 use Rattle.layout.specs.declared.Geometry.{Geometry}
 use Rattle.layout.specs.Places.{IsGeometry}
 use Rattle.tree.specs.declared.User.{User}
-use Rattle.tree.specs.Sums.{put}
+use Rattle.lemmas.specs.Sums.{put}
 use Rattle.tree.specs.Tree.{File, link_type, most_permissions, most_target}
 use Rattle.tree.specs.Changes.{file_after_write, new_link, target_file}
-use Rattle.tree.proofs.Maps.{put-same}
+use Rattle.lemmas.proofs.Maps.{put-same}
 use Rattle.tree.proofs.Targets.{target_is_written}
 use Rattle.volume.specs.declared.Inode.{Inode}
 use Rattle.volume.specs.Pieces.{Pieces, pieces}

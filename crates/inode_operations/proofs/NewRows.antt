@@ -8,11 +8,11 @@ use Rattle.layout.specs.declared.Geometry.{Geometry}
 use Rattle.layout.specs.Places.{IsGeometry, is_block_size}
 use Rattle.tree.specs.declared.User.{User}
 use Rattle.tree.specs.Names.{dot, dot_dot}
-use Rattle.tree.specs.Sums.{put}
+use Rattle.lemmas.specs.Sums.{put}
 use Rattle.tree.specs.Tree.{File, directory_type}
 use Rattle.tree.specs.Changes.{empty_directory, file_after_write, new_node}
 use Rattle.tree.specs.Space.{pages_of}
-use Rattle.tree.proofs.Maps.{put-same, put-other}
+use Rattle.lemmas.proofs.Maps.{put-same, put-other}
 use Rattle.volume.specs.declared.Inode.{Inode}
 use Rattle.volume.specs.Pieces.{Pieces, pieces}
 use Rattle.volume.specs.Reading.{Disk}

@@ -3,9 +3,9 @@ use Rattle.std.proofs.Common.{◌≡◌, ℕ, Bool, true, false, refl, ap, ◌�
 use Rattle.std.specs.Prelude.{None, Some, if◌then◌else◌}
 use Rattle.lemmas.proofs.Options.{some_same}
 use Rattle.layout.specs.declared.Geometry.{Geometry}
-use Rattle.tree.specs.Sums.{put}
+use Rattle.lemmas.specs.Sums.{put}
 use Rattle.tree.specs.Tree.{Node}
-use Rattle.tree.proofs.Maps.{is_put, put-other, put-same}
+use Rattle.lemmas.proofs.Maps.{is_put, put-other, put-same}
 use Rattle.volume.specs.Pieces.{Pieces}
 use Rattle.volume.specs.Nodes.{is_marked, nodes_of}
 use Rattle.inode_operations.specs.Steps.{node_at}
@@ -13,7 +13,7 @@ use Rattle.inode_operations.specs.Steps.{node_at}
 -- what stands where a test holds
 there : (b : Bool) (x y : Node) → (if b then Some x else None) ≡ Some y → (b ≡ true) × (x ≡ y)
 there true x y e = (refl, some_same x y e)
-there false x y e = absurd (Rattle.tree.proofs.Maps.not_nothing y e)
+there false x y e = absurd (Rattle.lemmas.proofs.Maps.not_nothing y e)
 
 -- a node is that of a marked inode
 pub node_is : (g : Geometry) (v : Pieces) (n : ℕ) (x : Node) → nodes_of g v n ≡ Some x → (is_marked g v n ≡ true) × (node_at g v n ≡ x)

@@ -5,7 +5,7 @@ use Rattle.layout.specs.Places.{IsGeometry}
 use Rattle.tree.specs.Names.{Name, Names, without_name}
 use Rattle.tree.specs.Tree.{Body, is_file, is_directory, Node, Tree, is_dir, on_node, with_node}
 use Rattle.tree.specs.Changes.{fewer_links, with_link_lost, with_names}
-use Rattle.tree.proofs.Maps.{put-same}
+use Rattle.lemmas.proofs.Maps.{put-same}
 use Rattle.volume.specs.Reading.{Disk}
 use Rattle.volume.specs.Pieces.{pieces}
 use Rattle.directory.specs.Names.{HasName}

@@ -4,7 +4,7 @@ use Rattle.layout.specs.declared.Geometry.{Geometry}
 use Rattle.layout.specs.Places.{IsGeometry}
 use Rattle.tree.specs.Tree.{Body, is_file, is_directory, Node, Tree, is_dir, on_node, with_node}
 use Rattle.tree.specs.Changes.{with_ctime, with_parent}
-use Rattle.tree.proofs.Maps.{put-same}
+use Rattle.lemmas.proofs.Maps.{put-same}
 use Rattle.volume.specs.declared.Inode.{Inode}
 use Rattle.volume.specs.Reading.{Disk}
 use Rattle.volume.specs.Pieces.{pieces}

@@ -4,7 +4,7 @@ use Rattle.std.specs.Prelude.{IsTrue}
 use Rattle.std.proofs.lemmas.Bool.{and_parts, and_from}
 use Rattle.layout.specs.declared.Geometry.{Geometry}
 use Rattle.tree.specs.Changes.{with_ctime}
-use Rattle.tree.proofs.Maps.{put-same}
+use Rattle.lemmas.proofs.Maps.{put-same}
 use Rattle.volume.specs.declared.Inode.{Inode}
 use Rattle.volume.specs.Reading.{Disk, is_inode}
 use Rattle.volume.specs.Pieces.{Pieces, pieces}

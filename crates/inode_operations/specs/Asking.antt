@@ -2,7 +2,7 @@
 use Rattle.std.specs.Prelude.{◌≡◌, ◌≢◌, ◌≤◌, ◌+◌, None, Some, IsTrue}
 use Rattle.layout.specs.declared.Geometry.{Geometry}
 use Rattle.layout.specs.Places.{IsGeometry}
-use Rattle.tree.specs.Sums.{put}
+use Rattle.lemmas.specs.Sums.{put}
 use Rattle.tree.specs.Names.{inode_of, is_name, with_name}
 use Rattle.tree.specs.Tree.{Node, Tree, is_dir, most_size, names_of, size_of}
 use Rattle.tree.specs.Changes.{with_names}

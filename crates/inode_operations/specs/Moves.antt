@@ -1,7 +1,7 @@
 -- The steps of a rename, by what each makes of a tree.
 use Rattle.std.specs.Prelude.{◌≡◌, ◌≢◌, ◌≤◌, ◌+◌, ℕ, Bool, None, Some, IsTrue, true}
 use Rattle.layout.specs.declared.Geometry.{Geometry}
-use Rattle.tree.specs.Sums.{put}
+use Rattle.lemmas.specs.Sums.{put}
 use Rattle.tree.specs.Names.{Name, has_name, inode_of, is_name, with_name, without_name}
 use Rattle.tree.specs.Tree.{Node, Tree, is_dir, most_links, most_size, names_of, on_node, size_of}
 use Rattle.tree.specs.Changes.{fewer_links, more_links, with_ctime, with_names, with_parent}

@@ -1,7 +1,7 @@
 -- Whole moves, by what each makes of a tree.
 use Rattle.std.specs.Prelude.{◌≡◌, ◌≤◌, ℕ, None, Some, IsTrue}
 use Rattle.layout.specs.declared.Geometry.{Geometry}
-use Rattle.tree.specs.Sums.{one_if}
+use Rattle.lemmas.specs.Sums.{one_if}
 use Rattle.tree.specs.Names.{inode_of, is_name}
 use Rattle.tree.specs.Tree.{Node, Tree, is_dir, names_of}
 use Rattle.tree.specs.Walk.{Place}

@@ -1,7 +1,7 @@
 //! Steps that change one directory, or the node that moves.
 
 ghost use Rattle.std.specs.Prelude.{◌≤◌, ◌<◌, IfErr, length};
-ghost use Rattle.tree.specs.Sums.{one_if};
+ghost use Rattle.lemmas.specs.Sums.{one_if};
 ghost use Rattle.block_store.specs.Halts.{IsHalt};
 ghost use Rattle.block_store.specs.Volume.{IsOn};
 ghost use Rattle.block_store.specs.World.{Turns};

@@ -19,7 +19,7 @@ use Rattle.shared_server.specs.declared.refusal.SessionRefusal.{SessionRefusal}
 use Rattle.shared_server.specs.declared.refusal.SessionRefusal.TheVariants.{Stopped}
 use Rattle.shared_media.specs.Confined.{IsImageOutside}
 use Rattle.serve.specs.Stopping.{no_image_name}
-use Rattle.volume_mount.specs.StartupRefusals.{start_refusal_text}
+use Rattle.service_start.specs.StartupRefusals.{start_refusal_text}
 use Rattle.service_start.specs.Ran.{IsNotStarted}
 use Rattle.lecternowl.specs.declared.tasks.Came.{Came}
 use Rattle.lecternowl.specs.declared.refusal.ServeRefusal.{ServeRefusal}

@@ -44,7 +44,7 @@ pub use tasks::{Came, Task};
 pub use tree::{
     Attributes, Call, Entry, LinkTarget, OpenFlags, Outcome, Reply, Statfs, User, Whence, Who,
 };
-pub use volume_mount::StartRefusal;
+pub use service_start::volume_mount::StartRefusal;
 
 // runs of schedules
 pub use schedule::Event;

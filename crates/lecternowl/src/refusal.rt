@@ -6,7 +6,7 @@ ghost use Rattle.lecternowl.specs.Serving.{serve_refusal_text};
 use serve::stopping::NoImage;
 use shared_server::refusal::SessionRefusal;
 use std::{error, fmt};
-use volume_mount::StartRefusal;
+use service_start::volume_mount::StartRefusal;
 
 /// Why a service gives nothing. What the tasks wrote before is lost.
 #[derive(Clone, Copy, Debug, PartialEq, Eq)]

@@ -3,3 +3,4 @@ pub mod Bools
 pub mod Numbers
 pub mod Lists
 pub mod Options
+pub mod Maps

@@ -8,7 +8,7 @@ use Rattle.layout.specs.declared.Geometry.{Geometry}
 use Rattle.tree.specs.Tree.{Body, is_file, is_directory, Node, size_of}
 use Rattle.tree.specs.ZonesNeeded.{zones_needed}
 use Rattle.tree.specs.Space.{numbers_in_zone, held_of, zones_of, data_zones}
-use Rattle.tree.proofs.Maps.{same_sum}
+use Rattle.lemmas.proofs.Maps.{same_sum}
 use Rattle.volume.specs.Pieces.{Pieces}
 use Rattle.new_volume.specs.Sizes.{sizes_of, new_geometry}
 use Rattle.new_volume.specs.declared.MkfsRefusal.{MkfsRefusal}

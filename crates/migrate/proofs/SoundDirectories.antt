@@ -4,7 +4,7 @@ use Rattle.std.specs.Prelude.{not, ◌&&◌, ◌||◌, ◌==◌, nat_lt, nat_le}
 use Rattle.std.proofs.lemmas.Bool.{or_parts, eqb-true, eqb-false, ltb-false, le-leb, not-false, both_ways, and_from}
 use Rattle.lemmas.proofs.Bools.{and_false_right}
 use Rattle.layout.specs.declared.Geometry.{Geometry}
-use Rattle.tree.specs.Sums.{some_below}
+use Rattle.lemmas.specs.Sums.{some_below}
 use Rattle.tree.specs.Names.{same_name, dot, dot_dot}
 use Rattle.tree.specs.Space.{pages_of}
 use Rattle.volume.specs.Pieces.{Pieces, pieces}

@@ -2,7 +2,7 @@
 use Rattle.std.proofs.Common.{◌≡◌, ◌<◌, ◌≤◌, ◌+◌, ◌*◌, ◌/◌, ℕ, sym, ap, subst, ◌∙◌}
 use Rattle.std.specs.Prelude.{not, ◌||◌, nat_le, Option, IsTrue, if◌then◌else◌}
 use Rattle.layout.specs.declared.Geometry.{Geometry}
-use Rattle.tree.specs.Sums.{sum_below}
+use Rattle.lemmas.specs.Sums.{sum_below}
 use Rattle.tree.specs.Tree.{File, Body, is_file, is_directory, Node, Tree, is_dir, names_of}
 use Rattle.tree.specs.IsTree.{IsFile, IsBody, IsNode, IsPlaced, NodesAgree, IsTree, all_names_to, names_to, links_due, subdirectories}
 use Rattle.std.specs.Prelude.{Some}

@@ -4,8 +4,8 @@ use mathlib.Core.Logic.{inl, inr}
 use Rattle.std.specs.Prelude.{not, ◌==◌}
 use Rattle.std.proofs.lemmas.Bool.{cases_eq, cond-true, cond-false, eq-eqb, ne_eqb}
 use Rattle.layout.specs.declared.Geometry.{Geometry}
-use Rattle.tree.specs.Sums.{sum_below, count_below, one_if}
-use Rattle.tree.proofs.Maps.{same_sum}
+use Rattle.lemmas.specs.Sums.{sum_below, count_below, one_if}
+use Rattle.lemmas.proofs.Maps.{same_sum}
 use Rattle.tree.proofs.Needs.{sum_add}
 use Rattle.volume.specs.Pieces.{Pieces}
 use Rattle.volume.specs.Nodes.{number, slot}

@@ -6,7 +6,7 @@ use Rattle.std.specs.Ordering.{eq_by_cmp}
 use Rattle.std.specs.Cmp.Lexicographic.{nat_list_cmp_total}
 use Rattle.std.specs.FinMap.Entries.{length-put, is_sorted}
 use Rattle.std.proofs.lemmas.Bool.{cases_Bool, cond-true, cond-false}
-use Rattle.tree.specs.Sums.{sum_below, count_below, one_if}
+use Rattle.lemmas.specs.Sums.{sum_below, count_below, one_if}
 use Rattle.tree.specs.Names.{Name, Names, name_cmp, inode_of, with_name}
 use Rattle.tree.proofs.Names.{inode_of-with_name, sorted-with_name}
 use Rattle.volume.proofs.Entries.{cmp_apart}

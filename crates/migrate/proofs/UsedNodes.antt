@@ -3,7 +3,7 @@ use Rattle.std.proofs.Common.{◌≡◌, ◌≢◌, ◌<◌, ◌≤◌, ◌+◌,
 use Rattle.std.specs.Prelude.{not, ◌==◌, nat_lt, None, Some}
 use Rattle.std.proofs.lemmas.Bool.{cond-true, cond-false, and_from}
 use Rattle.layout.specs.declared.Geometry.{Geometry}
-use Rattle.tree.specs.Sums.{some_below}
+use Rattle.lemmas.specs.Sums.{some_below}
 use Rattle.tree.specs.Tree.{is_file, is_directory, most_size}
 use Rattle.tree.specs.ZonesNeeded.{zones_needed}
 use Rattle.tree.specs.Space.{numbers_in_zone, zones_of, held_of}

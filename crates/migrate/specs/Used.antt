@@ -1,7 +1,7 @@
 -- The zones that the tree of an old volume uses, with entries of version 3 and blocks of 1024 bytes.
 use Rattle.std.specs.Prelude.{◌≡◌, ℕ, zero, suc, ◌+◌, ◌-◌, ◌*◌, ◌/◌, Bool, false, not, ◌&&◌, ◌==◌, nat_lt, nat_le, Option}
 use Rattle.layout.specs.declared.Geometry.{Geometry}
-use Rattle.tree.specs.Sums.{sum_below, count_below, one_if}
+use Rattle.lemmas.specs.Sums.{sum_below, count_below, one_if}
 use Rattle.tree.specs.Tree.{Node}
 use Rattle.tree.specs.Space.{zones_of, data_zones}
 use Rattle.volume.specs.declared.Inode.{Inode}

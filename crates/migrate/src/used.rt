@@ -1,7 +1,7 @@
 //! How many zones the tree of an old volume uses, with entries of version 3 and blocks of 1024 bytes.
 
 ghost use Rattle.std.specs.Prelude.{◌≡◌, ◌≤◌, ◌<◌, ◌+◌, ◌*◌, ◌-◌, ℕ, true};
-ghost use Rattle.tree.specs.Sums.{one_if};
+ghost use Rattle.lemmas.specs.Sums.{one_if};
 ghost use Rattle.tree.specs.Tree.{most_size};
 ghost use Rattle.tree.specs.Space.{zones_of};
 ghost use Rattle.image.specs.Contents.{contents};

@@ -20,7 +20,7 @@ use std::sync::{Arc, Wait};
 use std::thread::Threads;
 use std::time::Clock;
 use talks::answers::Answers;
-use volume_mount::StartRefusal;
+use service_start::volume_mount::StartRefusal;
 
 /// How a mount ended.
 #[derive(Clone, Copy, Debug, PartialEq, Eq)]

@@ -29,7 +29,7 @@ use std::sync::{Arc, Wait};
 use std::thread::Threads;
 use std::time::Clock;
 use talks::answers::Answers;
-use volume_mount::{Prepared, StartRefusal, prepare};
+use service_start::volume_mount::{Prepared, StartRefusal, prepare};
 
 /// Mounts the volume over this link, answers messages by its sessions, and stops the service. It is refused as a mount
 /// is, and then nothing is answered.

@@ -4,7 +4,7 @@ use Rattle.std.specs.List.{range_with_len}
 use Rattle.layout.specs.declared.Geometry.{Geometry}
 use Rattle.layout.specs.Places.{table_blocks}
 use Rattle.layout.specs.Superblock.{with_superblock}
-use Rattle.tree.specs.Sums.{sum_below}
+use Rattle.lemmas.specs.Sums.{sum_below}
 use Rattle.tree.specs.Space.{data_zones}
 use Rattle.tree.specs.declared.User.{User}
 use Rattle.volume.specs.Fresh.{fresh_entries}

@@ -2,7 +2,7 @@
 use Rattle.std.specs.Prelude.{ℕ, ◌==◌, None, Some, if◌then◌else◌}
 use Rattle.layout.specs.declared.Geometry.{Geometry}
 use Rattle.tree.specs.declared.User.{User}
-use Rattle.tree.specs.Sums.{put}
+use Rattle.lemmas.specs.Sums.{put}
 use Rattle.tree.specs.Tree.{Node, Tree}
 use Rattle.tree.specs.Changes.{new_node, empty_directory}
 use Rattle.volume.specs.declared.Inode.{Inode}

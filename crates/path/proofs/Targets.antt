@@ -11,7 +11,7 @@ use Rattle.volume.specs.Holds.{Holds}
 use Rattle.volume.specs.Nodes.{directory_of, file_of, is_directory_mode, is_link_mode, node_of, body_of, type_in}
 use Rattle.volume.specs.Pieces.{pieces}
 use Rattle.volume.specs.Reading.{Disk}
-use Rattle.file.specs.Reading.{HasFileBytes, read_count}
+use Rattle.directory.specs.Reading.{HasFileBytes, read_count}
 use Rattle.path.proofs.Entering.{IsHeld}
 
 -- the first bytes of a row, one by one

@@ -18,7 +18,7 @@ use crate::{NameCache, Parts, Path, Wish, is_dot, is_dot_dot, may};
 use block_store::{Blocks, Cut};
 use directory::{find, parent, stands_at};
 use errno::Errno;
-use file::file_pages::reading::read_at;
+use directory::file::file_pages::reading::read_at;
 use inode::inode_table::load;
 use layout::Geometry;
 use tree::{MAX_TARGET, Start, User};

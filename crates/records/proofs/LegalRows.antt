@@ -12,7 +12,7 @@ use Rattle.tree.specs.declared.Who.{Who}
 use Rattle.tree.specs.declared.Whence.TheVariants.{Set}
 use Rattle.tree.specs.declared.Call.{Call}
 use Rattle.tree.specs.declared.Call.TheVariants as call
-use Rattle.tree.specs.Sums.{sum_below, some_below, least_below}
+use Rattle.lemmas.specs.Sums.{sum_below, some_below, least_below}
 use Rattle.tree.specs.Tree.{Tree}
 use Rattle.tree.specs.Laws.{fresh_tree}
 use Rattle.tree.specs.Answers.{Answer, refused, done, some_bytes, node_is}

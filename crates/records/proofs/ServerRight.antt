@@ -5,7 +5,7 @@ use Rattle.lemmas.proofs.Bools.{false_not_true}
 use Rattle.errno.specs.declared.Errno.TheVariants.{EIO}
 use Rattle.message.specs.declared.Incoming.TheVariants.{Flush, End}
 use Rattle.tree.specs.declared.Call.TheVariants as call
-use Rattle.tree.specs.Sums.{sum_below, some_below, least_below}
+use Rattle.lemmas.specs.Sums.{sum_below, some_below, least_below}
 use Rattle.tree.specs.Tree.{Tree, OpenFile, most_open_files}
 use Rattle.tree.specs.IsTree.{IsClosed}
 use Rattle.tree.specs.Answers.{Answer, refused}

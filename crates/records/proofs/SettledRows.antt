@@ -7,7 +7,7 @@ use Rattle.message.specs.declared.Kind.TheVariants.{Read}
 use Rattle.message.specs.declared.BlockRequest.{BlockRequest}
 use Rattle.message.specs.declared.endpoint.Endpoint.{Endpoint}
 use Rattle.tree.specs.declared.Call.TheVariants as call
-use Rattle.tree.specs.Sums.{sum_below, some_below, least_below}
+use Rattle.lemmas.specs.Sums.{sum_below, some_below, least_below}
 use Rattle.tree.specs.Answers.{refused, done}
 use Rattle.tree.specs.Effects.{tree_after_call}
 use Rattle.records.specs.Marks.{Mark, Took, Issued}

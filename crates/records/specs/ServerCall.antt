@@ -8,7 +8,7 @@ use Rattle.message.specs.declared.Incoming.TheVariants.{Flush, End}
 use Rattle.tree.specs.declared.Who.{Who}
 use Rattle.tree.specs.declared.Call.{Call}
 use Rattle.tree.specs.declared.Call.TheVariants.{Dup}
-use Rattle.tree.specs.Sums.{some_below}
+use Rattle.lemmas.specs.Sums.{some_below}
 use Rattle.tree.specs.Tree.{Tree, most_open_files}
 use Rattle.tree.specs.Answers.{Answer, refused}
 use Rattle.volume.specs.Reading.{blocks_of}

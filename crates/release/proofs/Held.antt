@@ -6,7 +6,7 @@ use Rattle.std.proofs.lemmas.Bool.{cases_eq, cases_Bool, cases_lt, or_from, cond
 use Rattle.std.proofs.lemmas.Bool.{and_parts, eqb-true, or_right, not_from_false}
 use Rattle.std.proofs.Math.Nat.{zero-div}
 use Rattle.layout.specs.declared.Geometry.{Geometry}
-use Rattle.tree.specs.Sums.{least_below, one_if, some_below}
+use Rattle.lemmas.specs.Sums.{least_below, one_if, some_below}
 use Rattle.tree.specs.Tree.{Tree, is_file, is_directory, most_target, most_size}
 use Rattle.tree.specs.IsTree.{IsBody, HasTarget, IsTree, above}
 use Rattle.volume.specs.Pieces.{Pieces, pieces}

@@ -5,10 +5,10 @@ use Rattle.std.specs.Prelude.{Option, None, Some, nat_lt, ◌==◌, if◌then◌
 use Rattle.std.proofs.lemmas.Bool.{cases_lt, cond-true, cond-false, lt-ltb, le-ltb}
 use Rattle.layout.specs.declared.Geometry.{Geometry}
 use Rattle.layout.specs.Places.{IsGeometry}
-use Rattle.tree.specs.Sums.{one_if, put, sum_below}
+use Rattle.lemmas.specs.Sums.{one_if, put, sum_below}
 use Rattle.tree.specs.Tree.{Node}
 use Rattle.tree.specs.Changes.{has_no_link}
-use Rattle.tree.proofs.Maps.{is_put}
+use Rattle.lemmas.proofs.Maps.{is_put}
 use Rattle.volume.specs.Reading.{Disk}
 use Rattle.volume.specs.Pieces.{Pieces, pieces}
 use Rattle.volume.specs.Nodes.{is_marked, node_of, nodes_of}

@@ -1,6 +1,6 @@
 -- Nodes without a link, and a tree without them.
 use Rattle.std.specs.Prelude.{ℕ, Option, None, nat_lt, if◌then◌else◌}
-use Rattle.tree.specs.Sums.{count_below}
+use Rattle.lemmas.specs.Sums.{count_below}
 use Rattle.tree.specs.Tree.{Node, Tree}
 use Rattle.tree.specs.Changes.{has_no_link}
 

@@ -1,7 +1,7 @@
 //! The nodes of a volume that have no link are given back.
 
 ghost use Rattle.std.specs.Prelude.{◌≡◌, ◌+◌, IfErr, IfOk};
-ghost use Rattle.tree.specs.Sums.{one_if};
+ghost use Rattle.lemmas.specs.Sums.{one_if};
 ghost use Rattle.tree.specs.Changes.{has_no_link};
 ghost use Rattle.volume.specs.Nodes.{nodes_of};
 ghost use Rattle.image.specs.Contents.{contents};

@@ -21,9 +21,9 @@ use Rattle.volume_mount.specs.declared.whole.MountRefusal.TheVariants as mount
 use Rattle.volume_mount.specs.Laws.{sizes_in}
 use Rattle.volume_mount.specs.Mounts.{in_words}
 use Rattle.volume_mount.proofs.OfImage.{mounted_on_image, refused_by_image}
-use Rattle.vfs.specs.declared.server.Server.{Server}
+use Rattle.volume_mount.specs.Server.{Server}
 use Rattle.volume_mount.specs.Mounted.{IsMounted, IsNotMounted}
-use Rattle.vfs.specs.OverLink.{IsReadyOver, line_of, serving_over}
+use Rattle.volume_mount.specs.OverLink.{IsReadyOver, line_of, serving_over}
 use Rattle.shared_server.proofs.HeldLaws.{held_mounted}
 use Rattle.service_start.specs.Stopped.{IsMountedTruly, IsMountRefused, IsStopped, refusal_of}
 

@@ -6,3 +6,6 @@ pub mod ending;
 pub mod opened;
 pub mod program;
 pub mod start;
+
+// passed on, for who starts one
+pub use volume_mount;

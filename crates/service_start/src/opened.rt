@@ -8,7 +8,7 @@ ghost use Rattle.records.specs.Opening.{contents_at};
 ghost use Rattle.records.specs.Legal.{IsAtFirst};
 ghost use Rattle.records.specs.Mount.{is_frame_count};
 ghost use Rattle.shared_server.specs.Held.{IsHeld};
-ghost use Rattle.vfs.specs.OverLink.{IsReadyOver, line_of, serving_over};
+ghost use Rattle.volume_mount.specs.OverLink.{IsReadyOver, line_of, serving_over};
 ghost use Rattle.service_start.specs.Started.{IsFreshLink, IsStarted};
 ghost use Rattle.service_start.specs.Stopped.{IsMountedTruly, IsStopped, refusal_of as start_refusal_of};
 
@@ -23,7 +23,7 @@ use serve::service::Service;
 use std::alloc::{AllocError, Global};
 use std::sync::{Arc, Wait};
 use std::thread::Threads;
-use vfs::Server;
+use volume_mount::Server;
 use volume_mount::mounted::mount;
 use volume_mount::opening::open;
 use volume_mount::{MountRefusal, StartRefusal};

@@ -1,7 +1,7 @@
 //! A run of a schedule, from the bytes of its two files to the lines of its transcript.
 
 ghost use Rattle.std.specs.Prelude.{◌≡◌, ◌<◌, ◌^◌, length, map};
-ghost use Rattle.transcript.specs.ShownTranscript.{transcript_of};
+ghost use Rattle.world.specs.ShownTranscript.{transcript_of};
 ghost use Rattle.simulation.specs.Simulated.{Runs, ShowsRun, Simulates};
 
 use crate::inputs::{File, InputRefusal, read_inputs};
@@ -12,7 +12,7 @@ use schedule::Event;
 use std::alloc::Global;
 use std::io::Write;
 use synchronous_driver::local::LocalDriver;
-use transcript::Transcript;
+use world::transcript::Transcript;
 use world::World;
 
 /// Runs the schedule in a file on the image in another, and writes the transcript on `out`: a line for each mark, the oldest first, and

@@ -3,7 +3,7 @@ use Rattle.std.proofs.Common.{◌≡◌, ℕ, List, [], ◌∷◌, map, refl, Bo
 use Rattle.std.specs.Prelude.{Option, None, Some, option_map}
 use Rattle.tree.specs.declared.Attributes.{Attributes}
 use Rattle.tree.specs.declared.Call.TheVariants.{Mkdir}
-use Rattle.tree.specs.Sums.{sum_below, some_below, least_below}
+use Rattle.lemmas.specs.Sums.{sum_below, some_below, least_below}
 use Rattle.tree.specs.Names.{Names}
 use Rattle.tree.specs.Tree.{is_file, is_directory, OpenFile, Tree, names_of, parent_of}
 use Rattle.tree.specs.NodeCalls.{attributes_of}

@@ -4,7 +4,7 @@ use Rattle.std.specs.Prelude.{pos, negsuc}
 use Rattle.errno.specs.declared.Errno.TheVariants.{EBADF, ENOTDIR, EISDIR, EINVAL, EFBIG, ENOSPC}
 use Rattle.tree.specs.declared.Call.TheVariants.{Open, Read, Write, Seek, Fstat, Mkdir, Truncate, Readdir, Statfs}
 use Rattle.tree.specs.declared.Whence.TheVariants.{Set, Cur, End}
-use Rattle.tree.specs.Sums.{sum_below, some_below, least_below}
+use Rattle.lemmas.specs.Sums.{sum_below, some_below, least_below}
 use Rattle.tree.specs.Tree.{Tree}
 use Rattle.tree.specs.Answers.{refused, some_bytes, wrote, position, node_is, names_are, room_is}
 use Rattle.tree.specs.Effects.{tree_after_call}

@@ -1,6 +1,6 @@
 -- Verdicts on images whose layout is refused.
 use Rattle.std.proofs.Common.{ℕ, List, [], ◌∷◌, ◌++◌, take, replicate, refl}
-use Rattle.tree.specs.Sums.{some_below, least_below}
+use Rattle.lemmas.specs.Sums.{some_below, least_below}
 use Rattle.volume.specs.Verdict.{found, verdict_of}
 use Rattle.tests_definitions.proofs.SmallVolumes.{Gives, u16, u32}
 

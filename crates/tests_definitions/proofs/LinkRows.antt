@@ -3,7 +3,7 @@ use Rattle.std.proofs.Common.{◌++◌, List, [], ◌∷◌, refl, codes, replic
 use Rattle.tree.specs.declared.PathFrom.{PathFrom}
 use Rattle.errno.specs.declared.Errno.TheVariants.{EPERM, ENOENT, EACCES, EEXIST, ENOTDIR, EINVAL, ENAMETOOLONG, EMLINK, ENOSPC}
 use Rattle.tree.specs.declared.Call.TheVariants.{Stat, Link, Unlink, Statfs}
-use Rattle.tree.specs.Sums.{sum_below, some_below, least_below}
+use Rattle.lemmas.specs.Sums.{sum_below, some_below, least_below}
 use Rattle.tree.specs.Tree.{Tree, on_node}
 use Rattle.tree.specs.Changes.{more_links}
 use Rattle.tree.specs.Answers.{refused, done, node_is, room_is}

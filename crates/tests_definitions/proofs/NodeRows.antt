@@ -6,7 +6,7 @@ use Rattle.errno.specs.declared.Errno.TheVariants.{EPERM, ENOENT, EACCES, ENOTDI
 use Rattle.tree.specs.declared.Call.{Call}
 use Rattle.tree.specs.declared.Call.TheVariants.{Open, Close, Dup, Read, Write, Seek, Stat, Fstat, Link, Unlink, Mkdir, Rmdir, Rename, Chmod, Chown, Utime, Truncate, Readdir, Sync, Statfs, Symlink, Readlink, Lstat}
 use Rattle.tree.specs.declared.Whence.TheVariants.{Set}
-use Rattle.tree.specs.Sums.{sum_below, some_below, least_below}
+use Rattle.lemmas.specs.Sums.{sum_below, some_below, least_below}
 use Rattle.tree.specs.Tree.{Tree}
 use Rattle.tree.specs.Answers.{refused, done, some_bytes, descriptor, node_is, room_is}
 use Rattle.tree.specs.Effects.{tree_after_call, may_want_memory}

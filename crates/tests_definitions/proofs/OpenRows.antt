@@ -5,7 +5,7 @@ use Rattle.errno.specs.declared.Errno.{Errno}
 use Rattle.errno.specs.declared.Errno.TheVariants.{ENOENT, EBADF, EACCES, EEXIST, ENOTDIR, EISDIR, EINVAL, ENFILE, EMFILE, ENOSPC, ENAMETOOLONG}
 use Rattle.tree.specs.declared.Call.TheVariants.{Open, Close, Dup, Read, Write, Seek, Stat, Fstat, Unlink, Mkdir, Statfs}
 use Rattle.tree.specs.declared.Whence.TheVariants.{Set}
-use Rattle.tree.specs.Sums.{sum_below, some_below, least_below}
+use Rattle.lemmas.specs.Sums.{sum_below, some_below, least_below}
 use Rattle.tree.specs.Tree.{OpenFile, Tree}
 use Rattle.tree.specs.Answers.{refused, done, descriptor, some_bytes, node_is, room_is}
 use Rattle.tests_definitions.proofs.SmallTrees.{text, small, tight, user0, other, path, flags, after, house, Row, Rows, empty_path, long_path}

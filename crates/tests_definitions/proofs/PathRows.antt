@@ -2,7 +2,7 @@
 use Rattle.std.proofs.Common.{◌++◌, [], ◌∷◌, refl, codes, replicate}
 use Rattle.tree.specs.declared.Call.TheVariants.{Chmod, Chown, Open, Stat}
 use Rattle.errno.specs.declared.Errno.TheVariants.{ENOENT, EACCES, ENOTDIR, EINVAL, ENAMETOOLONG}
-use Rattle.tree.specs.Sums.{sum_below, some_below, least_below}
+use Rattle.lemmas.specs.Sums.{sum_below, some_below, least_below}
 use Rattle.tree.specs.Tree.{Tree}
 use Rattle.tree.specs.Answers.{Answer, refused, done, descriptor, node_is}
 use Rattle.tests_definitions.proofs.SmallTrees.{small, user, user0, other, at, path, flags, after, house, Rows, empty_path, long_path}

@@ -3,7 +3,7 @@ use Rattle.std.proofs.Common.{◌++◌, List, [], ◌∷◌, refl, ℕ}
 use Rattle.tree.specs.declared.PathFrom.{PathFrom}
 use Rattle.errno.specs.declared.Errno.TheVariants.{ENOENT, EACCES, EBUSY, ENOTDIR, EISDIR, EINVAL, ENAMETOOLONG, ENOTEMPTY, EMLINK, ENOSPC}
 use Rattle.tree.specs.declared.Call.TheVariants.{Open, Stat, Fstat, Link, Rename, Chmod, Statfs}
-use Rattle.tree.specs.Sums.{sum_below, some_below, least_below}
+use Rattle.lemmas.specs.Sums.{sum_below, some_below, least_below}
 use Rattle.tree.specs.Tree.{Tree, on_node}
 use Rattle.tree.specs.Changes.{more_links}
 use Rattle.tree.specs.Answers.{refused, done, node_is, room_is}

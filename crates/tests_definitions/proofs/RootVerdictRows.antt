@@ -1,6 +1,6 @@
 -- Verdicts on a root alone, and on changes of it.
 use Rattle.std.proofs.Common.{◌≡◌, [], ◌∷◌, refl}
-use Rattle.tree.specs.Sums.{sum_below, some_below, least_below}
+use Rattle.lemmas.specs.Sums.{sum_below, some_below, least_below}
 use Rattle.volume.specs.Reading.{Disk}
 use Rattle.volume.specs.Nodes.{names_in}
 use Rattle.volume.specs.Verdict.{Verdict, Clean, found}

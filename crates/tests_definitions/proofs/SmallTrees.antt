@@ -10,7 +10,7 @@ use Rattle.tree.specs.declared.Start.TheVariants.{Root, Inode}
 use Rattle.tree.specs.declared.PathFrom.{PathFrom}
 use Rattle.tree.specs.declared.Call.{Call}
 use Rattle.tree.specs.declared.Call.TheVariants.{Open, Close, Write, Mkdir}
-use Rattle.tree.specs.Sums.{put}
+use Rattle.lemmas.specs.Sums.{put}
 use Rattle.tree.specs.Names.{Names}
 use Rattle.tree.specs.Tree.{Node, is_file, is_directory, Tree}
 use Rattle.tree.specs.Answers.{Answer}

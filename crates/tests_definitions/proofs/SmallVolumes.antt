@@ -2,7 +2,7 @@
 use Rattle.std.proofs.Common.{◌≡◌, ℕ, List, [], ◌∷◌, ◌/◌, ◌%◌, ◌-◌, ◌++◌, map, drop}
 use Rattle.std.specs.Prelude.{slice_index, flat_map}
 use Rattle.layout.specs.declared.Geometry.{Geometry}
-use Rattle.tree.specs.Sums.{put}
+use Rattle.lemmas.specs.Sums.{put}
 use Rattle.volume.specs.Reading.{Disk}
 use Rattle.volume.specs.Pieces.{Pieces, pieces}
 use Rattle.volume.specs.Verdict.{Verdict, tests, first_found, place_limit, verdict_of_pieces}

@@ -3,7 +3,7 @@ use Rattle.std.proofs.Common.{[], ◌∷◌, refl, codes, replicate}
 use Rattle.tree.specs.declared.Start.TheVariants.{Inode}
 use Rattle.tree.specs.declared.Call.TheVariants.{Chmod, Chown, Close, Fstat, Link, Lstat, Open, Mkdir, Readlink, Rename, Rmdir, Stat, Symlink, Truncate, Unlink}
 use Rattle.errno.specs.declared.Errno.TheVariants.{ENOENT, EACCES, EEXIST, ENOTDIR, EISDIR, EINVAL, ENAMETOOLONG, ELOOP}
-use Rattle.tree.specs.Sums.{sum_below, some_below, least_below}
+use Rattle.lemmas.specs.Sums.{sum_below, some_below, least_below}
 use Rattle.tree.specs.Tree.{Tree}
 use Rattle.tree.specs.Answers.{Answer, refused, done, descriptor, node_is, some_bytes}
 use Rattle.tests_definitions.proofs.SmallTrees.{small, user0, other, path, text, from, flags, after, house, Rows}

@@ -8,7 +8,7 @@ use Rattle.layout.specs.declared.Geometry.{Geometry}
 use Rattle.tree.specs.declared.Call.{Call}
 use Rattle.tree.specs.declared.Call.TheVariants.{Open, Stat, Link, Unlink, Mkdir, Rmdir, Rename, Chmod, Chown, Utime, Truncate, Statfs}
 use Rattle.tree.specs.declared.Call.TheVariants.{Symlink, Readlink, Lstat}
-use Rattle.tree.specs.Sums.{put, sum_below, some_below, least_below}
+use Rattle.lemmas.specs.Sums.{put, sum_below, some_below, least_below}
 use Rattle.tree.specs.Tree.{Node, is_file, Tree}
 use Rattle.tree.specs.Changes.{target_file}
 use Rattle.tree.specs.Answers.{Answer, refused, done, some_bytes, descriptor, node_is, room_is}

@@ -1,7 +1,7 @@
 -- Verdicts on symbolic links: finding 17 by each of its causes, and the findings that go before it.
 use Rattle.std.proofs.Common.{◌≡◌, ◌++◌, ℕ, List, [], ◌∷◌, replicate, drop, refl}
 use Rattle.layout.specs.declared.Geometry.{Geometry}
-use Rattle.tree.specs.Sums.{sum_below, some_below, least_below}
+use Rattle.lemmas.specs.Sums.{sum_below, some_below, least_below}
 use Rattle.tree.specs.Tree.{target_of}
 use Rattle.std.specs.Prelude.{None, Some}
 use Rattle.volume.specs.Reading.{Disk}

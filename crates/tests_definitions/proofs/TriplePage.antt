@@ -5,7 +5,7 @@ use Rattle.std.specs.Prelude.{◌==◌}
 use Rattle.std.proofs.lemmas.Bool.{cases_eq, eq-eqb, ne_eqb, or_from, or_left, or_right, cond-true, cond-false}
 use Rattle.std.proofs.lemmas.Nat.{div_below, div-mul-add}
 use Rattle.std.proofs.Math.Nat.{div-add-mod, le-mul_of_pos_right, mod-lt}
-use Rattle.tree.specs.Sums.{sum_below, some_below, count_below, one_if}
+use Rattle.lemmas.specs.Sums.{sum_below, some_below, count_below, one_if}
 use Rattle.tree.specs.ZonesNeeded.{page_limit, from_page, quotients, single_blocks, double_blocks, triple_blocks, zones_needed}
 use Rattle.tree.proofs.Needs.{none_counted}
 

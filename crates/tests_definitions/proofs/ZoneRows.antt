@@ -3,7 +3,7 @@ use Rattle.std.proofs.Common.{◌≡◌, ◌≤◌, ◌+◌, ◌-◌, ◌*◌, �
 use Rattle.std.specs.Prelude.{◌||◌, nat_lt, if◌then◌else◌}
 use Rattle.std.proofs.lemmas.Bool.{ne_eqb, le-ltb, or_from}
 use Rattle.lemmas.proofs.Bools.{false_not_true}
-use Rattle.tree.specs.Sums.{sum_below, some_below, count_below}
+use Rattle.lemmas.specs.Sums.{sum_below, some_below, count_below}
 use Rattle.tree.specs.ZonesNeeded.{page_limit, from_page, single_blocks, double_blocks, triple_blocks, zones_needed}
 use Rattle.tree.proofs.Needs.{sum_add, none_counted}
 use Rattle.tests_definitions.proofs.TriplePage.{only, triple_page}

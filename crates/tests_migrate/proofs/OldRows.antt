@@ -2,7 +2,7 @@
 use Rattle.std.proofs.Common.{◌≡◌, ℕ, List, [], ◌∷◌, ◌/◌, ◌%◌, ◌++◌, map, replicate, refl}
 use Rattle.std.specs.Prelude.{slice_index, flat_map}
 use Rattle.layout.specs.declared.Geometry.{Geometry}
-use Rattle.tree.specs.Sums.{put, sum_below, some_below, least_below}
+use Rattle.lemmas.specs.Sums.{put, sum_below, some_below, least_below}
 use Rattle.volume.specs.Reading.{Disk}
 use Rattle.volume.specs.Pieces.{pieces}
 use Rattle.volume.specs.Verdict.{Verdict, Clean, found}

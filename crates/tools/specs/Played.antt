@@ -6,8 +6,8 @@ use Rattle.std.specs.List.{list_any}
 use Rattle.layout.specs.declared.Geometry.{Geometry}
 use Rattle.bdev.specs.DriverState.{DriverState}
 use Rattle.reincarnate.specs.declared.policy.Setup.{Setup}
-use Rattle.volume_mount.specs.StartupRefusals.{start_refusal_text}
-use Rattle.volume_mount.specs.Starting.{opening_of}
+use Rattle.service_start.specs.StartupRefusals.{start_refusal_text}
+use Rattle.service_start.specs.Starting.{opening_of}
 use Rattle.service_start.specs.Ran.{IsNotStarted, IsStartable}
 use Rattle.service_start.specs.Spent.{IsSpent}
 use Rattle.call_text.specs.declared.scripts.timed.TimedCall.{TimedCall}

@@ -26,7 +26,7 @@ use std::fmt;
 use std::io::Write;
 use std::sync::{Arc, Wait};
 use std::thread::Threads;
-use volume_mount::StartRefusal;
+use service_start::volume_mount::StartRefusal;
 
 /// The file of an image, and its bytes if it could be read.
 #[derive(Drop)]

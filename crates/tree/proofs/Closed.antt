@@ -11,7 +11,7 @@ use Rattle.tree.specs.Tree.{OpenFile, Tree, opens, is_open, has_descriptor, with
 use Rattle.tree.specs.IsTree.{IsTree}
 use Rattle.tree.specs.Changes.{without_unused, without_nameless}
 use Rattle.tree.specs.Keeps.{CloseKeeps}
-use Rattle.tree.proofs.Maps.{put-same, put-other, not_nothing}
+use Rattle.lemmas.proofs.Maps.{put-same, put-other, not_nothing}
 use Rattle.tree.proofs.Search.{found_below, one_below}
 use Rattle.tree.proofs.FileOutcomes.{close_each}
 use Rattle.tree.proofs.Keeping.{Keeps, keeps_closed, in_session}

@@ -6,7 +6,7 @@ use Rattle.std.specs.Ordering.{eq_by_cmp}
 use Rattle.std.proofs.Math.Nat.{div-mul-le_self, le-div_iff_mul-le}
 use Rattle.std.proofs.lemmas.Bool.{cases_eq, cond_both, cond-true, and_parts, ltb-true, lt-ltb}
 use Rattle.layout.specs.declared.Geometry.{Geometry}
-use Rattle.tree.specs.Sums.{sum_below, count_below, some_below, one_if, put}
+use Rattle.lemmas.specs.Sums.{sum_below, count_below, some_below, one_if, put}
 use Rattle.tree.specs.ZonesNeeded.{page_limit, from_page, quotients, zones_needed}
 use Rattle.tree.specs.Names.{Name, Names, name_cmp, without_name}
 use Rattle.tree.specs.Tree.{Body, File, is_file, is_directory, Node, Tree, size_of, with_node, on_node, is_open}
@@ -14,7 +14,7 @@ use Rattle.tree.specs.Space.{numbers_in_zone, pages_of, zones_of, zones_used}
 use Rattle.tree.specs.Walk.{Place}
 use Rattle.tree.specs.Changes.{with_names, with_body, without_nameless, has_no_link, file_after_resize}
 use Rattle.tree.specs.NameCalls.{without_entry}
-use Rattle.tree.proofs.Maps.{put-same, put-other}
+use Rattle.lemmas.proofs.Maps.{put-same, put-other}
 use Rattle.tree.proofs.Search.{found_below, one_below}
 use Rattle.tree.proofs.Views.{on_node_is}
 

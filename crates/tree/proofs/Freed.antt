@@ -7,12 +7,12 @@ use Rattle.std.proofs.lemmas.Bool.{cases_eq, cases_Bool, cond-true, cond-false, 
 use Rattle.lemmas.proofs.Bools.{false_not_true}
 use Rattle.lemmas.proofs.Options.{some_same}
 use Rattle.layout.specs.declared.Geometry.{Geometry}
-use Rattle.tree.specs.Sums.{put, sum_below, one_if}
+use Rattle.lemmas.specs.Sums.{put, sum_below, one_if}
 use Rattle.tree.specs.Names.{Name, Names, name_cmp, inode_of}
 use Rattle.tree.specs.Tree.{Body, is_file, is_directory, Node, Tree, is_dir, is_dir_at, names_of, parent_of, with_node, opens, is_open, most_open_files}
 use Rattle.tree.specs.IsTree.{IsPlaced, NodesAgree, OpenFilesAgree, IsTree, names_to, all_names_to, subdirectories, above, links_due}
 use Rattle.tree.specs.Changes.{has_no_link, without_nameless}
-use Rattle.tree.proofs.Maps.{put-same, put-other, same_sum, not_nothing}
+use Rattle.lemmas.proofs.Maps.{put-same, put-other, same_sum, not_nothing}
 use Rattle.tree.proofs.Search.{found_below}
 use Rattle.tree.proofs.OpenFiles.{alike_put}
 

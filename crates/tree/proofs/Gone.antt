@@ -11,7 +11,7 @@ use Rattle.tree.specs.IsTree.{NodesAgree, IsTree}
 use Rattle.tree.specs.Walk.{Place}
 use Rattle.tree.specs.Changes.{fewer_links}
 use Rattle.tree.specs.NameCalls.{without_entry, is_empty}
-use Rattle.tree.proofs.Maps.{put-same, put-other}
+use Rattle.lemmas.proofs.Maps.{put-same, put-other}
 use Rattle.tree.proofs.Places.{IsPlace}
 use Rattle.tree.proofs.Weights.{weigh}
 use Rattle.tree.proofs.Totals.{one_for, one_for_itself, only_at, only_here, only_elsewhere, weigh_found}

@@ -5,7 +5,7 @@ use Rattle.std.specs.Prelude.{None, is_some}
 use Rattle.std.proofs.lemmas.Bool.{cases_eq}
 use Rattle.lemmas.proofs.Bools.{false_not_true}
 use Rattle.layout.specs.declared.Geometry.{Geometry}
-use Rattle.tree.specs.Sums.{one_if}
+use Rattle.lemmas.specs.Sums.{one_if}
 use Rattle.tree.specs.Tree.{names_of, parent_of}
 use Rattle.tree.specs.IsTree.{above}
 use Rattle.tree.proofs.Freed.{part_below}

@@ -5,11 +5,11 @@ use Rattle.std.specs.Prelude.{Option, Some, is_some, IsTrue, if◌then◌else◌
 use Rattle.std.proofs.lemmas.Bool.{cases_eq}
 use Rattle.lemmas.proofs.Options.{some_same}
 use Rattle.layout.specs.declared.Geometry.{Geometry}
-use Rattle.tree.specs.Sums.{put, one_if}
+use Rattle.lemmas.specs.Sums.{put, one_if}
 use Rattle.tree.specs.Names.{Names, inode_of}
 use Rattle.tree.specs.Tree.{Node, Tree, is_dir, is_dir_at, names_of, parent_of, with_node, is_open}
 use Rattle.tree.specs.IsTree.{IsNode, IsPlaced, NodesAgree, IsTree, names_to, all_names_to, subdirectories, above, links_due}
-use Rattle.tree.proofs.Maps.{put-same, put-other, same_sum}
+use Rattle.lemmas.proofs.Maps.{put-same, put-other, same_sum}
 
 module _ (g : Geometry) (nodes : ℕ → Option Node) (n : ℕ) (node other : Node) (there : nodes n ≡ Some node)
     (same_kind : is_dir other ≡ is_dir node) (same_names : names_of (Some other) ≡ names_of (Some node))

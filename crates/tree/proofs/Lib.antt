@@ -1,4 +1,3 @@
-pub mod Maps
 pub mod Pages
 pub mod Leaves
 pub mod Fresh

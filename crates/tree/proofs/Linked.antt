@@ -12,7 +12,7 @@ use Rattle.tree.specs.IsTree.{IsNode, NodesAgree, IsTree}
 use Rattle.tree.specs.Space.{zones_used, data_zones}
 use Rattle.tree.specs.Walk.{Place}
 use Rattle.tree.specs.NameCalls.{with_entry}
-use Rattle.tree.proofs.Maps.{put-same, put-other}
+use Rattle.lemmas.proofs.Maps.{put-same, put-other}
 use Rattle.tree.proofs.Freed.{no_names}
 use Rattle.tree.proofs.Weights.{weigh}
 use Rattle.tree.proofs.OpenFiles.{alike_put}

@@ -14,7 +14,7 @@ use Rattle.tree.specs.Space.{zones_used, data_zones}
 use Rattle.tree.specs.Walk.{Place}
 use Rattle.tree.specs.Changes.{new_node, empty_directory, more_links}
 use Rattle.tree.specs.NameCalls.{with_entry}
-use Rattle.tree.proofs.Maps.{put-same, put-other}
+use Rattle.lemmas.proofs.Maps.{put-same, put-other}
 use Rattle.tree.proofs.OpenFiles.{alike_put}
 use Rattle.tree.proofs.Weights.{weigh}
 use Rattle.tree.proofs.Totals.{only_at, only_here, only_elsewhere}

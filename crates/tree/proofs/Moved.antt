@@ -9,14 +9,14 @@ use Rattle.std.specs.FinMap.Entries.{find_tied}
 use Rattle.lemmas.proofs.Options.{some_same}
 use Rattle.lemmas.proofs.Bools.{false_not_true, is_equal}
 use Rattle.layout.specs.declared.Geometry.{Geometry}
-use Rattle.tree.specs.Sums.{one_if}
+use Rattle.lemmas.specs.Sums.{one_if}
 use Rattle.tree.specs.Names.{Name, Names, name_cmp, is_name, inode_of, with_name, without_name}
 use Rattle.tree.specs.Tree.{Body, is_file, is_directory, Node, Tree, is_dir, names_of, parent_of, on_node, most_size}
 use Rattle.tree.specs.IsTree.{IsNode, IsTree}
 use Rattle.tree.specs.Walk.{Place}
 use Rattle.tree.specs.Changes.{with_ctime, with_names, with_parent, more_links, fewer_links}
 use Rattle.tree.specs.NameCalls.{with_entry, without_entry, without_moved, with_moved}
-use Rattle.tree.proofs.Maps.{not_nothing}
+use Rattle.lemmas.proofs.Maps.{not_nothing}
 use Rattle.tree.proofs.Places.{IsPlace, found_without}
 use Rattle.tree.proofs.Weights.{weigh}
 use Rattle.tree.proofs.Totals.{one_for, one_for_itself, only_at, weigh_found}

@@ -6,7 +6,7 @@ use Rattle.std.proofs.lemmas.Bool.{cases_eq, cond_both}
 use Rattle.lemmas.proofs.Bools.{false_not_true}
 use Rattle.layout.specs.declared.Geometry.{Geometry}
 use Rattle.layout.specs.Places.{IsGeometry}
-use Rattle.tree.specs.Sums.{one_if}
+use Rattle.lemmas.specs.Sums.{one_if}
 use Rattle.tree.specs.Names.{is_name, inode_of}
 use Rattle.tree.specs.Tree.{Node, Tree, is_dir, names_of, parent_of, with_node, on_node, is_open, most_size}
 use Rattle.tree.specs.IsTree.{NodesAgree, IsTree}
@@ -14,7 +14,7 @@ use Rattle.tree.specs.Space.{zones_used, data_zones}
 use Rattle.tree.specs.Walk.{Place}
 use Rattle.tree.specs.Changes.{with_link_lost, has_no_link, without_nameless}
 use Rattle.tree.specs.NameCalls.{without_moved, with_moved}
-use Rattle.tree.proofs.Maps.{put-other}
+use Rattle.lemmas.proofs.Maps.{put-other}
 use Rattle.tree.proofs.Places.{IsPlace}
 use Rattle.tree.proofs.Weights.{weigh}
 use Rattle.tree.proofs.Freed.{part_below, without_nameless_is_tree}

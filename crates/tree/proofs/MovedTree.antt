@@ -6,7 +6,7 @@ use Rattle.std.proofs.lemmas.Bool.{cases_eq, and_cases, leb-false, eqb-true, not
 use Rattle.lemmas.proofs.Bools.{false_not_true}
 use Rattle.layout.specs.declared.Geometry.{Geometry}
 use Rattle.layout.specs.Places.{IsGeometry}
-use Rattle.tree.specs.Sums.{one_if}
+use Rattle.lemmas.specs.Sums.{one_if}
 use Rattle.tree.specs.Names.{is_name, inode_of}
 use Rattle.tree.specs.Tree.{Node, Tree, is_dir, names_of, parent_of, with_node, on_node, is_open, most_links, most_size}
 use Rattle.tree.specs.IsTree.{NodesAgree, IsTree, above}
@@ -14,7 +14,7 @@ use Rattle.tree.specs.Space.{zones_used, data_zones}
 use Rattle.tree.specs.Walk.{Place}
 use Rattle.tree.specs.Changes.{fewer_links}
 use Rattle.tree.specs.NameCalls.{without_entry, without_moved, with_moved}
-use Rattle.tree.proofs.Maps.{put-same, put-other}
+use Rattle.lemmas.proofs.Maps.{put-same, put-other}
 use Rattle.tree.proofs.Places.{IsPlace}
 use Rattle.tree.proofs.Weights.{weigh}
 use Rattle.tree.proofs.Totals.{one_for, only_few, none_for_other, only_at, only_here, only_elsewhere, only_nothing}

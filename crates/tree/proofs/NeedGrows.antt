@@ -4,9 +4,9 @@ use mathlib.Core.Logic.{inl, inr}
 use Rattle.std.specs.Prelude.{not, ◌&&◌, nat_lt, if◌then◌else◌}
 use Rattle.std.proofs.lemmas.Bool.{cases_eq, cases_Bool, cond-true, cond-false, and_parts}
 use Rattle.lemmas.proofs.Bools.{false_not_true}
-use Rattle.tree.specs.Sums.{sum_below, count_below, some_below, one_if, put}
+use Rattle.lemmas.specs.Sums.{sum_below, count_below, some_below, one_if, put}
 use Rattle.tree.specs.ZonesNeeded.{page_limit, from_page, quotients, double_blocks, triple_blocks}
-use Rattle.tree.proofs.Maps.{put-same, put-other}
+use Rattle.lemmas.proofs.Maps.{put-same, put-other}
 use Rattle.tree.specs.Zones.{only_in, newly_some, newly_used, new_double, new_triple, pages_below, NeedGrows, OnePageMore, PagesLetGo}
 use Rattle.tree.proofs.Search.{found_below, one_below}
 use Rattle.tree.proofs.Fewer.{some_less}

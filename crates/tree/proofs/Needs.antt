@@ -2,7 +2,7 @@
 use Rattle.std.proofs.Common.{◌≡◌, ◌+◌, ◌*◌, ℕ, zero, suc, Bool, true, false, refl, sym, ap, ◌∙◌, arith}
 use Rattle.std.specs.Prelude.{◌||◌, if◌then◌else◌}
 use Rattle.lemmas.proofs.Bools.{false_not_true}
-use Rattle.tree.specs.Sums.{sum_below, some_below, count_below, one_if}
+use Rattle.lemmas.specs.Sums.{sum_below, some_below, count_below, one_if}
 use Rattle.tree.specs.ZonesNeeded.{zones_needed, from_page, quotients, double_blocks, triple_blocks}
 use Rattle.tree.specs.ZonesNeededByPlace.{last_needed, second_needed, third_needed, zones_needed_by_place, ZonesNeededIsByPlace}
 

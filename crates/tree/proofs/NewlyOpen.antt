@@ -10,7 +10,7 @@ use Rattle.tree.specs.Tree.{OpenFile, Tree, opens, is_open, with_open_file, most
 use Rattle.tree.specs.Flags.{writes, bad_flags}
 use Rattle.tree.specs.IsTree.{IsOpenFile, IsTree}
 use Rattle.tree.specs.FileCalls.{Slot, with_open}
-use Rattle.tree.proofs.Maps.{put-same, put-other, not_nothing}
+use Rattle.lemmas.proofs.Maps.{put-same, put-other, not_nothing}
 use Rattle.tree.proofs.Search.{found_below, one_below}
 use Rattle.tree.proofs.OpenFiles.{of_put, holder, held, descriptor_cases, at_place, is_at_place, still_held}
 use Rattle.tree.proofs.Shapes.{kind_of}

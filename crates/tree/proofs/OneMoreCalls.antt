@@ -19,7 +19,7 @@ use Rattle.tree.specs.Answers.{done, descriptor}
 use Rattle.tree.specs.FileCalls.{Slot, with_open, after_truncate_flag}
 use Rattle.tree.specs.NameCalls.{with_entry}
 use Rattle.tree.specs.Effects.{user_of, effect_in_session, effect_of}
-use Rattle.tree.proofs.Maps.{put-same}
+use Rattle.lemmas.proofs.Maps.{put-same}
 use Rattle.tree.specs.Room.{with_one_inode_more, NoInodeFree, may_make, FullIsRefused, EnospcMeans}
 use Rattle.tree.proofs.Outcomes.{plain_refuse}
 use Rattle.tree.proofs.OpenOutcomes.{with_new_file, open_up_to_inode}

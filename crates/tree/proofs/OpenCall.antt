@@ -23,7 +23,7 @@ use Rattle.tree.specs.Answers.{descriptor, if_it_fits}
 use Rattle.tree.specs.NameCalls.{with_entry}
 use Rattle.tree.specs.FileCalls.{Slot, with_open, after_truncate_flag}
 use Rattle.tree.specs.Effects.{user_of}
-use Rattle.tree.proofs.Maps.{put-same}
+use Rattle.lemmas.proofs.Maps.{put-same}
 use Rattle.tree.specs.Keeps.{OpenKeeps}
 use Rattle.tree.proofs.Steps.{both_steps, ok_is}
 use Rattle.tree.proofs.Places.{is_place}

@@ -6,11 +6,11 @@ use Rattle.std.proofs.lemmas.Bool.{cases_eq, eqb-true, eq-eqb}
 use Rattle.lemmas.proofs.Bools.{false_not_true}
 use Rattle.lemmas.proofs.Options.{some_same}
 use Rattle.layout.specs.declared.Geometry.{Geometry}
-use Rattle.tree.specs.Sums.{put, some_below}
+use Rattle.lemmas.specs.Sums.{put, some_below}
 use Rattle.tree.specs.Tree.{OpenFile, Tree, opens, is_open, leads_to, with_descriptor, most_sessions, most_descriptors, most_open_files, most_size}
 use Rattle.tree.specs.IsTree.{IsOpenFile, IsTree}
 use Rattle.tree.specs.Changes.{at_position}
-use Rattle.tree.proofs.Maps.{put-same, put-other, not_nothing}
+use Rattle.lemmas.proofs.Maps.{put-same, put-other, not_nothing}
 use Rattle.tree.proofs.Search.{found_below, one_below}
 
 -- what f says of what is put and of what was there, it says of both maps

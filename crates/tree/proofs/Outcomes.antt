@@ -13,7 +13,7 @@ use Rattle.tree.specs.declared.PathFrom.{PathFrom}
 use Rattle.tree.specs.declared.Start.{Start}
 use Rattle.tree.specs.declared.Start.TheVariants.{Root, Inode}
 use Rattle.tree.specs.declared.User.{User}
-use Rattle.tree.specs.Sums.{some_below, least_below}
+use Rattle.lemmas.specs.Sums.{some_below, least_below}
 use Rattle.tree.specs.Names.{Name, Names, same_name, dot, dot_dot, inode_of}
 use Rattle.tree.specs.Tree.{Body, is_file, is_directory, Node, Tree}
 use Rattle.tree.specs.Refusals.{◌>>=◌, or_refuse, refuse_if, free_place}

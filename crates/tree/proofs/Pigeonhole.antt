@@ -5,7 +5,7 @@ use Rattle.std.specs.Prelude.{◌==◌}
 use Rattle.std.proofs.lemmas.Bool.{cases_eq, cases_Bool, cases_lt, cond-true, cond-false, eqb-true, eq-eqb, ne_eqb}
 use Rattle.lemmas.proofs.Bools.{false_not_true}
 use Rattle.layout.specs.declared.Geometry.{Geometry}
-use Rattle.tree.specs.Sums.{sum_below, count_below, some_below, one_if}
+use Rattle.lemmas.specs.Sums.{sum_below, count_below, some_below, one_if}
 use Rattle.tree.specs.Tree.{Tree, parent_of}
 use Rattle.tree.specs.IsTree.{above}
 use Rattle.tree.specs.NameCalls.{is_within}

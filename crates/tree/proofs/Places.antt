@@ -16,7 +16,7 @@ use Rattle.tree.specs.Tree.{Body, Directory, is_file, is_directory, Node, Tree}
 use Rattle.tree.specs.IsTree.{IsDirectory}
 use Rattle.tree.specs.Refusals.{◌>>=◌}
 use Rattle.tree.specs.Walk.{enter, may_access, to_search, walk_parts, parent_walk, parent_way, Place, last_part, Way}
-use Rattle.tree.proofs.Maps.{not_nothing}
+use Rattle.lemmas.proofs.Maps.{not_nothing}
 use Rattle.tree.proofs.Steps.{not_refused, ok_is, both_steps}
 
 -- a place's directory, and its names

@@ -21,7 +21,7 @@ use Rattle.tree.specs.Answers.{Answer, refused, some_bytes, wrote, position, Eff
 use Rattle.tree.specs.NodeCalls.{file_or}
 use Rattle.tree.specs.FileCalls.{write, seek, read, bytes_from, bytes_read, seek_base, seek_place}
 use Rattle.tree.specs.Effects.{effect_of, reply_to, tree_after_call}
-use Rattle.tree.proofs.Maps.{put-same}
+use Rattle.lemmas.proofs.Maps.{put-same}
 use Rattle.tree.specs.Room.{with_zones}
 use Rattle.tree.specs.Sessions.{ReadGivesWritten}
 use Rattle.tree.proofs.Steps.{not_refused, ok_is, passed, both_steps, IsOpened}

@@ -13,7 +13,7 @@ use Rattle.tree.specs.Refusals.{◌>>=◌, refuse_if}
 use Rattle.tree.specs.NameCalls.{rename}
 use Rattle.tree.specs.Walk.{Place, read_path, parent_walk, Way}
 use Rattle.tree.specs.Effects.{user_of}
-use Rattle.tree.proofs.Maps.{not_nothing}
+use Rattle.lemmas.proofs.Maps.{not_nothing}
 use Rattle.tree.specs.Room.{with_zones}
 use Rattle.tree.specs.Sessions.{IsNameOf, RenameOfSameStays}
 use Rattle.tree.proofs.Steps.{tree_after, ok_is}

@@ -5,11 +5,11 @@ use Rattle.std.specs.Prelude.{Option, None, Some, is_some, IsTrue}
 use Rattle.std.proofs.lemmas.Bool.{cases_eq, cases_Bool, cond-true, cond-false}
 use Rattle.lemmas.proofs.Bools.{false_not_true}
 use Rattle.layout.specs.declared.Geometry.{Geometry}
-use Rattle.tree.specs.Sums.{sum_below, one_if}
+use Rattle.lemmas.specs.Sums.{sum_below, one_if}
 use Rattle.tree.specs.Names.{Name, inode_of}
 use Rattle.tree.specs.Tree.{Body, is_file, is_directory, Node, is_dir, is_dir_at, names_of, parent_of, most_links}
 use Rattle.tree.specs.IsTree.{IsDirectory, IsBody, IsNode, NodesAgree, names_to, all_names_to, subdirectories, above, links_due}
-use Rattle.tree.proofs.Maps.{same_sum}
+use Rattle.lemmas.proofs.Maps.{same_sum}
 use Rattle.tree.proofs.Weights.{weigh, names_weigh, subdirectories_weigh}
 use Rattle.tree.proofs.Freed.{no_names, no_parent}
 use Rattle.tree.proofs.Totals.{one_for, one_for_itself, weigh_found, name_found, sum_of_none}

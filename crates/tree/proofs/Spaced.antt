@@ -11,7 +11,7 @@ use Rattle.tree.specs.Tree.{Node, Tree, is_open, with_node, on_node}
 use Rattle.tree.specs.Space.{zones_used, data_zones}
 use Rattle.tree.specs.Changes.{has_no_link, without_nameless}
 use Rattle.tree.specs.Answers.{Answer, Effect, if_it_fits}
-use Rattle.tree.proofs.Maps.{put-same, put-other}
+use Rattle.lemmas.proofs.Maps.{put-same, put-other}
 use Rattle.tree.specs.Room.{with_zones, NoInodeFree}
 use Rattle.tree.proofs.Steps.{not_refused, ok_is}
 use Rattle.tree.proofs.Outcomes.{Effects, IsClosed, is_enospc}

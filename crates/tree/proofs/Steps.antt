@@ -9,7 +9,7 @@ use Rattle.tree.specs.IsTree.{IsTree}
 use Rattle.tree.specs.Refusals.{◌>>=◌, refuse_if, or_refuse}
 use Rattle.tree.specs.Changes.{open_file_of}
 use Rattle.tree.specs.Answers.{Effect}
-use Rattle.tree.proofs.Maps.{not_nothing}
+use Rattle.lemmas.proofs.Maps.{not_nothing}
 
 -- the tree that an effect leaves
 abbrev pub tree_after : Tree → Effect → Tree

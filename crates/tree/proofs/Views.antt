@@ -5,14 +5,14 @@ use Rattle.std.specs.Prelude.{Option, None, Some, is_some, IsTrue}
 use Rattle.std.proofs.lemmas.Bool.{cases_eq}
 use Rattle.lemmas.proofs.Bools.{false_not_true, to_T}
 use Rattle.layout.specs.declared.Geometry.{Geometry}
-use Rattle.tree.specs.Sums.{put}
+use Rattle.lemmas.specs.Sums.{put}
 use Rattle.tree.specs.Names.{Names, is_name, inode_of, with_name, without_name}
 use Rattle.tree.specs.Tree.{Body, Directory, is_file, is_directory, Node, Tree, names_of, parent_of, with_node, on_node, most_size}
 use Rattle.tree.specs.IsTree.{IsNode}
 use Rattle.tree.specs.Walk.{Place}
 use Rattle.tree.specs.Changes.{with_names, with_body}
 use Rattle.tree.specs.NameCalls.{with_entry, without_entry}
-use Rattle.tree.proofs.Maps.{put-same, put-other, not_nothing}
+use Rattle.lemmas.proofs.Maps.{put-same, put-other, not_nothing}
 use Rattle.tree.proofs.OpenFiles.{alike_put, of_put}
 use Rattle.tree.proofs.Places.{without_name_fits}
 use Rattle.tree.proofs.Weights.{weigh, weigh_with_name, weigh_without_name}

@@ -8,7 +8,7 @@ use Rattle.tree.specs.declared.Who.{Who}
 use Rattle.tree.specs.declared.Start.TheVariants.{Root, Inode}
 use Rattle.tree.specs.declared.Call.{Call}
 use Rattle.tree.specs.declared.Call.TheVariants.{Stat, Fstat, Readdir, Sync, Statfs, Readlink, Lstat}
-use Rattle.tree.specs.Sums.{put}
+use Rattle.lemmas.specs.Sums.{put}
 use Rattle.tree.specs.ZonesNeeded.{page_limit}
 use Rattle.tree.specs.Tree.{Body, Node, Tree, is_link_at, most_size}
 use Rattle.tree.specs.Space.{numbers_in_zone, held_of}

@@ -1,5 +1,4 @@
 -- The file tree of a volume, and the client calls on it.
-pub mod Sums
 pub mod ZonesNeeded
 pub mod ZonesNeededByPlace
 pub mod Names

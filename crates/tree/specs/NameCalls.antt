@@ -7,7 +7,7 @@ use Rattle.errno.specs.declared.Errno.TheVariants.{ENOTEMPTY}
 use Rattle.std.specs.List.{list_any}
 use Rattle.tree.specs.declared.PathFrom.{PathFrom}
 use Rattle.tree.specs.declared.User.{User}
-use Rattle.tree.specs.Sums.{one_if, some_below}
+use Rattle.lemmas.specs.Sums.{one_if, some_below}
 use Rattle.tree.specs.Names.{inode_of, with_name, without_name}
 use Rattle.tree.specs.Tree.{Node, Tree, names_of, is_dir, is_open, with_node, on_node, most_target, most_links, most_permissions}
 use Rattle.tree.specs.IsTree.{above}

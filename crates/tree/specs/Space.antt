@@ -1,7 +1,7 @@
 -- The zones and inodes that a tree takes of a volume.
 use Rattle.std.specs.Prelude.{ℕ, ◌+◌, ◌-◌, ◌/◌, Bool, nat_lt, Option, None, Some, is_some}
 use Rattle.layout.specs.declared.Geometry.{Geometry}
-use Rattle.tree.specs.Sums.{sum_below, count_below}
+use Rattle.lemmas.specs.Sums.{sum_below, count_below}
 use Rattle.tree.specs.ZonesNeeded.{zones_needed}
 use Rattle.tree.specs.Tree.{Body, is_file, is_directory, Node, Tree, size_of}
 

@@ -1,6 +1,6 @@
 -- How the zones that a file needs change with the pages that are held, where a zone holds n zone numbers.
 use Rattle.std.specs.Prelude.{◌≡◌, ◌≤◌, ◌<◌, ℕ, ◌+◌, ◌*◌, Bool, true, false, not, ◌&&◌, nat_lt}
-use Rattle.tree.specs.Sums.{one_if, count_below, some_below, put}
+use Rattle.lemmas.specs.Sums.{one_if, count_below, some_below, put}
 use Rattle.tree.specs.ZonesNeeded.{page_limit, from_page, zones_needed}
 
 -- pages held of `more` and not of `fewer`

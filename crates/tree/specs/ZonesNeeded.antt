@@ -1,6 +1,6 @@
 -- How many zones the pages of a file take, its indirect blocks among them, where a zone holds n zone numbers.
 use Rattle.std.specs.Prelude.{ℕ, ◌+◌, ◌*◌, Bool, if◌then◌else◌}
-use Rattle.tree.specs.Sums.{one_if, count_below, some_below}
+use Rattle.lemmas.specs.Sums.{one_if, count_below, some_below}
 
 -- all pages that an inode has room for: 7 direct, n single, n * n double, n * n * n triple
 abbrev pub page_limit : ℕ → ℕ

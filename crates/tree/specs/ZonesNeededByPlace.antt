@@ -1,6 +1,6 @@
 -- The zones of a file by the numbers of its blocks: the single's, then the double's, then the triple's.
 use Rattle.std.specs.Prelude.{◌≡◌, ℕ, ◌+◌, ◌*◌, Bool}
-use Rattle.tree.specs.Sums.{one_if, count_below, some_below}
+use Rattle.lemmas.specs.Sums.{one_if, count_below, some_below}
 use Rattle.tree.specs.ZonesNeeded.{page_limit, zones_needed}
 
 -- Of the blocks that name pages, number 0 is the single's, the next n are the double's, the next n * n the triple's:

@@ -10,7 +10,7 @@ use Rattle.layout.specs.declared.Geometry.{Geometry}
 use Rattle.message.specs.declared.BlockRequest.{BlockRequest}
 use Rattle.message.specs.declared.Incoming.{Incoming}
 use Rattle.message.specs.declared.Incoming.TheVariants.{Flush, End}
-use Rattle.tree.specs.Sums.{some_below}
+use Rattle.lemmas.specs.Sums.{some_below}
 use Rattle.tree.specs.Tree.{Tree, OpenFile, most_open_files}
 use Rattle.volume.specs.Reading.{Disk}
 use Rattle.volume.specs.Holds.{HoldsVolume}

@@ -11,7 +11,7 @@ use Rattle.message.specs.declared.Incoming.TheVariants as incoming
 use Rattle.tree.specs.declared.Who.{Who}
 use Rattle.tree.specs.declared.Call.{Call}
 use Rattle.tree.specs.declared.Call.TheVariants.{Dup}
-use Rattle.tree.specs.Sums.{some_below}
+use Rattle.lemmas.specs.Sums.{some_below}
 use Rattle.tree.specs.Tree.{Tree, OpenFile, most_open_files}
 use Rattle.tree.specs.Answers.{Answer, refused}
 use Rattle.volume.specs.Reading.{Disk}

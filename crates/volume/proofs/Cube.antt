@@ -1,6 +1,6 @@
 -- A count over three numbers: when it is at most one.
 use Rattle.std.proofs.Common.{◌≡◌, ◌<◌, ◌≤◌, ℕ, Bool, true, ap, ◌∙◌, arith}
-use Rattle.tree.specs.Sums.{sum_below, count_below, one_if}
+use Rattle.lemmas.specs.Sums.{sum_below, count_below, one_if}
 use Rattle.volume.proofs.Sums.{one_most, one_true, true_one, sum_at, sum_some, sum_same, sum_single}
 
 -- the sum over three numbers of a test

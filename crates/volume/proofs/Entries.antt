@@ -12,7 +12,7 @@ use Rattle.std.specs.FinMap.Entries.{length-put, find-put, by_order, is_sorted, 
 use Rattle.std.proofs.lemmas.Bool.{cases_eq, cases_Bool, and_parts, and_from, cond-true, cond-false}
 use Rattle.lemmas.proofs.Options.{some_same}
 use Rattle.lemmas.proofs.Bools.{from_T, is_equal, to_T}
-use Rattle.tree.specs.Sums.{count_below, sum_below, one_if}
+use Rattle.lemmas.specs.Sums.{count_below, sum_below, one_if}
 use Rattle.tree.specs.Names.{Name, Names, name_cmp, inode_of, with_name}
 
 -- the first k entries as a map, where entry e has that name and leads to that inode

@@ -6,12 +6,12 @@ use Rattle.std.proofs.lemmas.Bool.{cases_eq, cond-true, cond-false, eq-eqb, ne_e
 use Rattle.std.proofs.Math.Nat.{div-eq_of_lt, div-eq_of_lt-le, mod-eq_of_lt}
 use Rattle.layout.specs.declared.Geometry.{Geometry}
 use Rattle.layout.specs.Places.{IsGeometry}
-use Rattle.tree.specs.Sums.{some_below}
+use Rattle.lemmas.specs.Sums.{some_below}
 use Rattle.tree.specs.Names.{Name, dot, dot_dot}
 use Rattle.tree.specs.Tree.{is_directory}
 use Rattle.tree.specs.Space.{numbers_in_zone, pages_of}
 use Rattle.tree.specs.Laws.{fresh_root, fresh_tree}
-use Rattle.tree.proofs.Maps.{put-same, put-other}
+use Rattle.lemmas.proofs.Maps.{put-same, put-other}
 use Rattle.tree.proofs.Fresh.{fresh_is_tree}
 use Rattle.volume.specs.declared.Inode.{Inode}
 use Rattle.volume.specs.Reading.{is_inode, is_data_zone, u32_in}

@@ -3,7 +3,7 @@ use Rattle.std.proofs.Common.{◌≡◌, ◌<◌, ◌≤◌, ◌+◌, ℕ, zero,
 use mathlib.Core.Logic.{inl, inr}
 use Rattle.std.specs.Prelude.{◌==◌, ◌||◌, if◌then◌else◌}
 use Rattle.std.proofs.lemmas.Bool.{cases_Bool, cases_eq, cond-true, cond-false, eq-eqb, ne_eqb, or_parts, cases_lt, false≢true, true≢false}
-use Rattle.tree.specs.Sums.{some_below, least_below}
+use Rattle.lemmas.specs.Sums.{some_below, least_below}
 use Rattle.volume.specs.declared.Finding.{Finding}
 use Rattle.volume.specs.Verdict.{Verdict, Clean, Found, Test, found, first_found}
 use Rattle.volume.specs.IsVerdict.{is_true_at}

@@ -1,7 +1,7 @@
 -- The tree that a volume holds leaves room.
 use Rattle.std.proofs.Common.{◌+◌, ◌∙◌, arith}
 use Rattle.layout.proofs.Parsed.{geometry_fits}
-use Rattle.tree.specs.Sums.{sum_below}
+use Rattle.lemmas.specs.Sums.{sum_below}
 use Rattle.tree.specs.Space.{zones_of, data_zones}
 use Rattle.volume.specs.Reading.{disk_of}
 use Rattle.volume.specs.Pieces.{pieces}

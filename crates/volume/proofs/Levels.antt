@@ -4,10 +4,10 @@ use mathlib.Core.Logic.{inl, inr}
 use Rattle.std.specs.Prelude.{not, ◌==◌, nat_lt}
 use Rattle.std.proofs.lemmas.Bool.{cases_eq, cond-true, cond-false, eq-eqb, ne_eqb, le-ltb, not_from_false}
 use Rattle.std.proofs.lemmas.Nat.{div-mul-add}
-use Rattle.tree.specs.Sums.{sum_below, count_below, some_below, one_if}
+use Rattle.lemmas.specs.Sums.{sum_below, count_below, some_below, one_if}
 use Rattle.tree.specs.ZonesNeeded.{page_limit, zones_needed}
 use Rattle.tree.specs.ZonesNeededByPlace.{last_needed, second_needed, third_needed}
-use Rattle.tree.proofs.Maps.{same_sum}
+use Rattle.lemmas.proofs.Maps.{same_sum}
 use Rattle.tree.proofs.Needs.{zones_needed_is_by_place}
 use Rattle.volume.proofs.Naming.{Naming, room, spot}
 use Rattle.volume.proofs.Sums.{some_from, same_some, some_witness, none_from}

@@ -3,9 +3,9 @@ use Rattle.std.proofs.Common.{◌≡◌, ◌⊎◌, ◌<◌, ◌+◌, ℕ, zero,
 use mathlib.Core.Logic.{inl, inr}
 use Rattle.std.specs.Prelude.{◌&&◌, ◌==◌, if◌then◌else◌}
 use Rattle.std.proofs.lemmas.Bool.{cases_eq, and_parts, and_from, cond-true, cond-false, eq-eqb, ne_eqb, eqb-true}
-use Rattle.tree.specs.Sums.{sum_below, count_below}
+use Rattle.lemmas.specs.Sums.{sum_below, count_below}
 use Rattle.volume.proofs.Naming.{Naming, entered, uses}
-use Rattle.tree.proofs.Maps.{same_sum}
+use Rattle.lemmas.proofs.Maps.{same_sum}
 use Rattle.volume.proofs.Cube.{cube, Point}
 
 -- One row of numbers for each (k, y): row y of k = 3 is inode y, of k < 3 the zone y entered at height k.

@@ -1,6 +1,6 @@
 -- Which places of the inodes name which zones, over plain functions.
 use Rattle.std.specs.Prelude.{◌≡◌, ℕ, zero, suc, ◌+◌, ◌-◌, ◌/◌, ◌%◌, Bool, true, not, ◌&&◌, ◌||◌, ◌==◌, nat_lt, if◌then◌else◌}
-use Rattle.tree.specs.Sums.{sum_below, count_below, some_below}
+use Rattle.lemmas.specs.Sums.{sum_below, count_below, some_below}
 
 -- The marked inodes below `inodes`, each with ten numbers; the zones below `zones`, each with `width` numbers.
 pub record Naming : Type 0 where

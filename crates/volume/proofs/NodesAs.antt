@@ -7,11 +7,11 @@ use Rattle.std.specs.FinMap.Entries.{is_sorted}
 use Rattle.std.proofs.lemmas.Bool.{cases_Bool, and_parts, and_left, cond-true, cond-false}
 use Rattle.lemmas.proofs.Options.{some_same}
 use Rattle.layout.specs.declared.Geometry.{Geometry}
-use Rattle.tree.specs.Sums.{count_below, one_if}
+use Rattle.lemmas.specs.Sums.{count_below, one_if}
 use Rattle.tree.specs.Names.{Name, Names, name_cmp, is_name, inode_of, with_name}
 use Rattle.tree.specs.Tree.{Body, is_file, is_directory, Node, is_dir_at, names_of, parent_of}
 use Rattle.tree.specs.IsTree.{names_to, subdirectories, all_names_to}
-use Rattle.tree.proofs.Maps.{same_sum}
+use Rattle.lemmas.proofs.Maps.{same_sum}
 use Rattle.volume.specs.Pieces.{Pieces}
 use Rattle.volume.specs.Nodes.{file_byte, entry_inode, entry_name, names_in, is_directory_mode, body_of, node_of, nodes_of, directory_of, file_of, is_marked}
 use Rattle.volume.specs.Entries.{is_directory_inode, entry_count, name_at, target_at}

@@ -4,7 +4,7 @@ use mathlib.Core.Logic.{inl, inr}
 use Rattle.std.specs.Prelude.{◌&&◌}
 use Rattle.std.proofs.lemmas.Bool.{cases_Bool, cond-true, cond-false}
 use Rattle.layout.specs.declared.Geometry.{Geometry}
-use Rattle.tree.specs.Sums.{some_below, least_below}
+use Rattle.lemmas.specs.Sums.{some_below, least_below}
 use Rattle.volume.specs.Pieces.{Pieces}
 use Rattle.volume.specs.Findings.{lacks_inode_bit, lacks_zone_bit, lacks_root, has_bad_mode, has_bad_size, has_bad_number, is_used_twice}
 use Rattle.volume.specs.Findings.{has_bad_bit, has_spare_zone, has_hole, has_bad_dots, has_bad_entry, has_bad_target, is_misplaced}

@@ -6,7 +6,7 @@ use Rattle.std.proofs.lemmas.Bool.{cases_eq, cases_Bool, cases_lt, or_from, cond
 use Rattle.std.proofs.lemmas.Bool.{both_ways, and_parts, eqb-true, or_right, not_from_false}
 use Rattle.std.proofs.Math.Nat.{zero-div}
 use Rattle.layout.specs.declared.Geometry.{Geometry}
-use Rattle.tree.specs.Sums.{one_if}
+use Rattle.lemmas.specs.Sums.{one_if}
 use Rattle.tree.specs.Tree.{Tree, is_file, is_directory, most_target, is_dir, names_of, opens, is_open, most_size, most_links}
 use Rattle.tree.specs.Tree.{most_open_files}
 use Rattle.tree.specs.IsTree.{IsBody, HasTarget, IsTree, IsClosed, above, links_due, subdirectories}

@@ -1,6 +1,6 @@
 -- Reached by names, and climbing to the parents, over plain functions.
 use Rattle.std.specs.Prelude.{ℕ, zero, suc, Bool, ◌&&◌, ◌||◌, ◌==◌}
-use Rattle.tree.specs.Sums.{some_below}
+use Rattle.lemmas.specs.Sums.{some_below}
 
 -- in at most k steps from the root, through numbers below the bound
 unfoldable pub reached : (ℕ → ℕ → Bool) → ℕ → ℕ → ℕ → Bool

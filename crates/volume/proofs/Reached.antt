@@ -3,7 +3,7 @@ use Rattle.std.proofs.Common.{◌≡◌, ◌≢◌, ◌⊎◌, ◌<◌, ◌≤�
 use mathlib.Core.Logic.{inl, inr}
 use Rattle.std.specs.Prelude.{not, ◌&&◌, ◌||◌, ◌==◌}
 use Rattle.std.proofs.lemmas.Bool.{cases_eq, cases_Bool, or_cases, or_left, or_right, and_parts, and_from, eq-eqb, eqb-true, not-true, not_from_false, both_ways}
-use Rattle.tree.specs.Sums.{sum_below, count_below, some_below, one_if}
+use Rattle.lemmas.specs.Sums.{sum_below, count_below, some_below, one_if}
 use Rattle.volume.proofs.Reach.{reached, climb}
 use Rattle.volume.proofs.Sums.{some_from, some_witness, none_below, one_true, count_most}
 

@@ -3,7 +3,7 @@ use Rattle.std.proofs.Common.{◌≡◌, ◌<◌, ◌≤◌, ◌+◌, ℕ, zero,
 use mathlib.Core.Logic.{inl, inr}
 use Rattle.std.specs.Prelude.{◌||◌}
 use Rattle.std.proofs.lemmas.Bool.{cases_eq, cases_Bool, cases_order, or_cases, or_left, or_right, cases_lt}
-use Rattle.tree.specs.Sums.{sum_below, count_below, some_below, one_if}
+use Rattle.lemmas.specs.Sums.{sum_below, count_below, some_below, one_if}
 
 -- a number that passes
 pub some_from : (p : ℕ → Bool) (n j : ℕ) → j < n → p j ≡ true → some_below p n ≡ true

@@ -2,7 +2,7 @@
 use Rattle.std.proofs.Common.{◌≡◌, ◌≢◌, ◌<◌, ◌≤◌, ◌+◌, ◌-◌, ℕ, zero, suc, Bool, true, false, refl, sym, ap, ◌∙◌, arith}
 use Rattle.std.specs.Prelude.{not, ◌&&◌, ◌==◌}
 use Rattle.std.proofs.lemmas.Bool.{eq-eqb, ne_eqb, eqb-true}
-use Rattle.tree.specs.Sums.{sum_below, count_below, one_if}
+use Rattle.lemmas.specs.Sums.{sum_below, count_below, one_if}
 use Rattle.volume.proofs.Sums.{one_most, one_true, true_one, sum_at, sum_single}
 
 -- a sum of sums of two functions

@@ -4,12 +4,12 @@ use mathlib.Core.Logic.{inl, inr}
 use Rattle.std.specs.Prelude.{not, ◌&&◌, ◌||◌, ◌==◌, nat_lt, None, Some}
 use Rattle.std.proofs.lemmas.Bool.{cases_Bool, and_parts, or_parts, cond-true, cond-false, ne_eqb, eqb-true, eqb-false, ltb-true, ltb-false, lt-ltb, not-false}
 use Rattle.layout.specs.declared.Geometry.{Geometry}
-use Rattle.tree.specs.Sums.{one_if, some_below}
+use Rattle.lemmas.specs.Sums.{one_if, some_below}
 use Rattle.tree.specs.Names.{is_name}
 use Rattle.tree.specs.Tree.{Node, Tree, is_file, is_directory, is_dir, names_of, most_links, most_target}
 use Rattle.tree.specs.IsTree.{IsBody, HasTarget, IsDirectory, IsNode, IsPlaced, NodesAgree, OpenFilesAgree, IsTree, IsClosed, links_due}
 use Rattle.tree.specs.IsTree.{subdirectories}
-use Rattle.tree.proofs.Maps.{not_nothing}
+use Rattle.lemmas.proofs.Maps.{not_nothing}
 use Rattle.volume.specs.Pieces.{Pieces}
 use Rattle.volume.specs.Nodes.{is_marked, node_of, directory_of, file_of, file_byte, body_of, page_zone, type_in, is_directory_mode}
 use Rattle.volume.specs.Nodes.{is_link_mode}

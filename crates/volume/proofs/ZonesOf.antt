@@ -4,7 +4,7 @@ use mathlib.Core.Logic.{inl, inr}
 use Rattle.std.specs.Prelude.{not, ◌&&◌, ◌==◌, nat_lt}
 use Rattle.std.proofs.lemmas.Bool.{cases_Bool, cases_eq, cases_lt, eq-eqb, ne_eqb, lt-ltb, le-ltb, not_from_false}
 use Rattle.layout.specs.declared.Geometry.{Geometry}
-use Rattle.tree.specs.Sums.{sum_below, count_below, some_below}
+use Rattle.lemmas.specs.Sums.{sum_below, count_below, some_below}
 use Rattle.tree.specs.Space.{pages_of, held_of, numbers_in_zone, zones_of}
 use Rattle.volume.specs.Pieces.{Pieces}
 use Rattle.volume.specs.Nodes.{page_zone, word, is_marked, body_of, directory_of}

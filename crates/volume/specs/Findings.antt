@@ -1,7 +1,7 @@
 -- The findings of the check: of each its number, and the places at which it is true.
 use Rattle.std.specs.Prelude.{ℕ, zero, suc, ◌+◌, ◌-◌, ◌%◌, Bool, not, ◌&&◌, ◌||◌, ◌==◌, nat_lt, nat_le, if◌then◌else◌}
 use Rattle.layout.specs.declared.Geometry.{Geometry}
-use Rattle.tree.specs.Sums.{sum_below, count_below, some_below, one_if}
+use Rattle.lemmas.specs.Sums.{sum_below, count_below, some_below, one_if}
 use Rattle.tree.specs.ZonesNeeded.{page_limit}
 use Rattle.tree.specs.Names.{same_name, dot, dot_dot}
 use Rattle.tree.specs.Tree.{most_size, most_target, most_links}

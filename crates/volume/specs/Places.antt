@@ -2,7 +2,7 @@
 use Rattle.std.specs.Prelude.{◌≡◌, ℕ, zero, suc, ◌+◌, ◌-◌, Bool, not, ◌&&◌, ◌||◌, ◌==◌, if◌then◌else◌, IsTrue}
 use Rattle.layout.specs.declared.Geometry.{Geometry}
 use Rattle.volume.specs.declared.Inode.{Inode}
-use Rattle.tree.specs.Sums.{sum_below, count_below, some_below}
+use Rattle.lemmas.specs.Sums.{sum_below, count_below, some_below}
 use Rattle.tree.specs.Space.{numbers_in_zone}
 use Rattle.volume.specs.Pieces.{Pieces}
 use Rattle.volume.specs.Nodes.{word, slot, second_block, last_block, zone_of, is_marked}

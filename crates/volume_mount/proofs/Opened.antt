@@ -4,7 +4,7 @@ use Rattle.std.specs.Prelude.{is_some, Result, Ok, Err, IfOk, IsErrOf, ◌↔◌
 use Rattle.cache.specs.declared.refusals.CacheRefusal.{CacheRefusal}
 use Rattle.cache.specs.declared.refusals.CacheRefusal.TheVariants.{BadFrames, OutOfMemory}
 use Rattle.layout.specs.declared.Geometry.{Geometry}
-use Rattle.tree.specs.Sums.{some_below}
+use Rattle.lemmas.specs.Sums.{some_below}
 use Rattle.tree.specs.Tree.{Tree, OpenFile, most_open_files}
 use Rattle.volume.specs.Reading.{Disk, blocks_of}
 use Rattle.volume.specs.Holds.{HoldsVolume}

@@ -10,3 +10,5 @@ pub mod Mounts
 pub mod Laws
 pub mod Opening
 pub mod Mounted
+pub use Rattle.vfs.specs.OverLink
+pub use Rattle.vfs.specs.declared.server.Server

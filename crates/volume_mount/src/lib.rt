@@ -17,3 +17,6 @@ pub use prepared::{Prepared, prepare};
 pub use reading::{Stop, read_range};
 pub use refusal::StartRefusal;
 pub use whole::{MountRefusal, sizes};
+
+// passed on, for who opens one
+pub use vfs::Server;

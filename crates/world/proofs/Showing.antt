@@ -39,8 +39,8 @@ use Rattle.world.specs.Shows.{Shows}
 use Rattle.world.proofs.RunShowing.{runs_are_shown}
 use Rattle.world.proofs.Throughout.{held_throughout}
 use Rattle.cached_blocks.specs.declared.Stored.{Stored}
-use Rattle.vfs.specs.declared.server.Server.{Server}
-use Rattle.vfs.specs.OverLink.{line_of, serving_over}
+use Rattle.volume_mount.specs.Server.{Server}
+use Rattle.volume_mount.specs.OverLink.{line_of, serving_over}
 use Rattle.world.specs.declared.run_refusal.RunRefusal.TheVariants.{OutOfMemory}
 use Rattle.world.specs.Beginning.{IsBegun, IsNotBegun, range_of}
 use Rattle.transcript.specs.ShownTranscript.{frames_in}

@@ -8,3 +8,4 @@ pub mod ServerRuns
 pub mod Runs
 pub mod Ends
 pub mod Starts
+pub use Rattle.transcript.specs.ShownTranscript

@@ -7,8 +7,8 @@ use Rattle.schedule.specs.declared.Event.{Event}
 use Rattle.simulated_link.specs.StateView.{RunState}
 use Rattle.world.specs.Starts.{IsBeforeFirst, RunsAll}
 use Rattle.cached_blocks.specs.declared.Stored.{Stored}
-use Rattle.vfs.specs.declared.server.Server.{Server}
-use Rattle.vfs.specs.OverLink.{line_of, serving_over}
+use Rattle.volume_mount.specs.Server.{Server}
+use Rattle.volume_mount.specs.OverLink.{line_of, serving_over}
 
 -- A server that was opened over this link, with so many frames, has run the schedule out; so many calls are left.
 pub record RunsFrom {L : Type 0} (words : LinkWords L) (run : L → RunState) (link : L) (minor : ℕ) (g : Geometry) (frames : ℕ) (s : Server (Stored L)) (unanswered : ℕ) : Type 0 where

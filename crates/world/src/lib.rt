@@ -13,3 +13,6 @@ pub mod world_run;
 pub use preparing::{PreparedRun, prepare_run};
 pub use run_refusal::RunRefusal;
 pub use world_run::World;
+
+// passed on, for who shows one
+pub use transcript;

@@ -12,7 +12,7 @@ use crate::run_loop::run::run_all;
 use cached_blocks::Stored;
 use fsck::Clean;
 use std::alloc::{AllocError, Global};
-use vfs::Server;
+use volume_mount::Server;
 use volume_mount::mounted::open;
 
 /// A server is opened over this link, which has noted the first start alone, and runs the schedule out: the server then, and how many

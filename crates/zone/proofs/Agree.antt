@@ -5,8 +5,8 @@ use Rattle.std.specs.Prelude.{◌&&◌, ◌==◌, IsTrue}
 use Rattle.std.proofs.lemmas.Bool.{cases_eq, both_ways}
 use Rattle.layout.specs.declared.Geometry.{Geometry}
 use Rattle.layout.specs.Places.{IsGeometry}
-use Rattle.tree.specs.Sums.{put}
-use Rattle.tree.proofs.Maps.{put-same, put-other}
+use Rattle.lemmas.specs.Sums.{put}
+use Rattle.lemmas.proofs.Maps.{put-same, put-other}
 use Rattle.volume.specs.Reading.{is_data_zone, is_inode}
 use Rattle.volume.specs.Pieces.{Pieces}
 use Rattle.volume.specs.Nodes.{is_marked}

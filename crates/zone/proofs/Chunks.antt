@@ -8,9 +8,9 @@ use Rattle.std.proofs.Math.Nat.{mul-le-mul_right}
 use Rattle.std.proofs.lemmas.List.{get_or-append_right, get_or_append_left}
 use Rattle.layout.specs.declared.Geometry.{Geometry}
 use Rattle.tree.specs.Tree.{File}
-use Rattle.tree.specs.Sums.{put}
+use Rattle.lemmas.specs.Sums.{put}
 use Rattle.tree.specs.Changes.{file_after_write}
-use Rattle.tree.proofs.Maps.{put-same, put-other}
+use Rattle.lemmas.proofs.Maps.{put-same, put-other}
 use Rattle.zone.specs.Chunks.{grown, resized, Replaces, ChunkIsWritten, WritesJoin}
 use Rattle.zone.proofs.Files.{same_file}
 

@@ -5,10 +5,10 @@ use Rattle.std.specs.Prelude.{not, ◌&&◌, ◌==◌, nat_lt, IsTrue, Some}
 use Rattle.std.proofs.lemmas.Bool.{cases_eq, cond-true, cond-false, eq-eqb, ne_eqb, lt-ltb, le-ltb, not_from_false}
 use Rattle.layout.specs.declared.Geometry.{Geometry}
 use Rattle.layout.specs.Places.{IsGeometry}
-use Rattle.tree.specs.Sums.{put, one_if}
+use Rattle.lemmas.specs.Sums.{put, one_if}
 use Rattle.tree.specs.Tree.{File}
 use Rattle.tree.specs.Space.{numbers_in_zone, pages_of}
-use Rattle.tree.proofs.Maps.{is_put}
+use Rattle.lemmas.proofs.Maps.{is_put}
 use Rattle.volume.specs.declared.Inode.{Inode}
 use Rattle.volume.specs.Pieces.{Pieces}
 use Rattle.volume.specs.Nodes.{number, page_zone, file_of, is_marked, nodes_of}

@@ -5,9 +5,9 @@ use Rattle.std.specs.Prelude.{◌==◌, IsTrue}
 use Rattle.std.proofs.lemmas.Bool.{cases_eq}
 use Rattle.layout.specs.declared.Geometry.{Geometry}
 use Rattle.layout.specs.Places.{IsGeometry}
-use Rattle.tree.specs.Sums.{put, sum_below, count_below, one_if}
+use Rattle.lemmas.specs.Sums.{put, sum_below, count_below, one_if}
 use Rattle.tree.specs.Space.{data_zones, zones_of}
-use Rattle.tree.proofs.Maps.{put-same, put-other, same_sum, sum_put}
+use Rattle.lemmas.proofs.Maps.{put-same, put-other, same_sum, sum_put}
 use Rattle.volume.specs.Reading.{is_data_zone}
 use Rattle.volume.specs.Pieces.{Pieces}
 use Rattle.volume.specs.Nodes.{nodes_of}

@@ -2,7 +2,7 @@
 use Rattle.std.proofs.Common.{◌≡◌, ◌≤◌, ◌+◌, ◌*◌, ℕ, zero, suc, Bool, true, false, refl, sym, arith}
 use Rattle.std.specs.Prelude.{◌||◌}
 use Rattle.std.proofs.lemmas.Bool.{false≢true}
-use Rattle.tree.specs.Sums.{sum_below, some_below, count_below, one_if}
+use Rattle.lemmas.specs.Sums.{sum_below, some_below, count_below, one_if}
 use Rattle.tree.specs.ZonesNeeded.{zones_needed, page_limit}
 use Rattle.tree.specs.ZonesNeededByPlace.{last_needed, second_needed, third_needed}
 use Rattle.tree.proofs.Needs.{zones_needed_is_by_place}

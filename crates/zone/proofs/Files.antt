@@ -6,10 +6,10 @@ use Rattle.std.proofs.lemmas.Bool.{cases_eq, cases_lt, cond-true, cond-false, eq
 use Rattle.lemmas.proofs.Numbers.{not_zero}
 use Rattle.layout.specs.declared.Geometry.{Geometry}
 use Rattle.layout.specs.Places.{IsGeometry}
-use Rattle.tree.specs.Sums.{put, some_below}
+use Rattle.lemmas.specs.Sums.{put, some_below}
 use Rattle.tree.specs.Names.{dot, dot_dot}
 use Rattle.tree.specs.Tree.{File}
-use Rattle.tree.proofs.Maps.{put-same, put-other, is_put}
+use Rattle.lemmas.proofs.Maps.{put-same, put-other, is_put}
 use Rattle.volume.specs.Reading.{is_data_zone, is_inode}
 use Rattle.volume.specs.Pieces.{Pieces}
 use Rattle.volume.specs.Nodes.{page_zone, page_byte, file_byte, file_of, entry_inode, is_marked, nodes_of, is_directory_mode}

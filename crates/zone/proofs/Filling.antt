@@ -8,8 +8,8 @@ use Rattle.std.proofs.lemmas.Nat.{div_below}
 use Rattle.std.proofs.lemmas.List.{get_or-set_same, get_or-set_other}
 use Rattle.layout.specs.declared.Geometry.{Geometry}
 use Rattle.layout.specs.Places.{IsGeometry}
-use Rattle.tree.specs.Sums.{put, one_if}
-use Rattle.tree.proofs.Maps.{put-same, put-other}
+use Rattle.lemmas.specs.Sums.{put, one_if}
+use Rattle.lemmas.proofs.Maps.{put-same, put-other}
 use Rattle.tree.specs.Space.{numbers_in_zone, data_zones}
 use Rattle.volume.specs.declared.Inode.{Inode}
 use Rattle.volume.specs.Reading.{Disk, is_data_zone, is_inode, u32_in, inode_of_disk}

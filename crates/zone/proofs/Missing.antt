@@ -6,11 +6,11 @@ use Rattle.std.proofs.lemmas.Bool.{cases_eq, cases_lt, cases_Bool, cond-true, co
 use Rattle.std.proofs.lemmas.Nat.{div-add-mod', div_below, div-mul-add}
 use Rattle.layout.specs.declared.Geometry.{Geometry}
 use Rattle.layout.specs.Places.{IsGeometry}
-use Rattle.tree.specs.Sums.{put, one_if, sum_below, count_below, some_below}
+use Rattle.lemmas.specs.Sums.{put, one_if, sum_below, count_below, some_below}
 use Rattle.tree.specs.ZonesNeeded.{page_limit, zones_needed}
 use Rattle.tree.specs.ZonesNeededByPlace.{last_needed, second_needed, third_needed}
 use Rattle.tree.specs.Space.{numbers_in_zone}
-use Rattle.tree.proofs.Maps.{put-same, put-other, same_sum, sum_put}
+use Rattle.lemmas.proofs.Maps.{put-same, put-other, same_sum, sum_put}
 use Rattle.tree.proofs.Needs.{zones_needed_is_by_place}
 use Rattle.volume.specs.Pieces.{Pieces}
 use Rattle.volume.specs.Nodes.{number, is_marked}

@@ -3,11 +3,11 @@ use Rattle.std.proofs.Common.{◌≡◌, ◌<◌, ◌≤◌, ◌+◌, ℕ, true,
 use mathlib.Core.Logic.{inl, inr}
 use Rattle.std.proofs.lemmas.Bool.{cases_eq, cond-true, cond-false}
 use Rattle.std.specs.Prelude.{Some, None}
-use Rattle.tree.specs.Sums.{put, sum_below}
+use Rattle.lemmas.specs.Sums.{put, sum_below}
 use Rattle.tree.specs.Tree.{is_file}
 use Rattle.tree.specs.ZonesNeeded.{zones_needed}
 use Rattle.tree.specs.Space.{numbers_in_zone, zones_of, held_of}
-use Rattle.tree.proofs.Maps.{put-same, put-other, same_sum, sum_put}
+use Rattle.lemmas.proofs.Maps.{put-same, put-other, same_sum, sum_put}
 use Rattle.zone.proofs.Fewer.{need_less}
 use Rattle.volume.specs.Nodes.{file_of, node_of, nodes_of, is_marked}
 use Rattle.volume.proofs.Ranges.{marked_below}

@@ -6,7 +6,7 @@ use Rattle.std.proofs.lemmas.Bool.{cases_eq, cases_lt, cond-true, cond-false, eq
 use Rattle.layout.specs.declared.Geometry.{Geometry}
 use Rattle.layout.specs.Places.{IsGeometry}
 use Rattle.tree.specs.Space.{numbers_in_zone, pages_of}
-use Rattle.tree.proofs.Maps.{is_put}
+use Rattle.lemmas.proofs.Maps.{is_put}
 use Rattle.volume.specs.Reading.{is_inode, is_data_zone, u32_in}
 use Rattle.volume.specs.declared.Inode.{Inode}
 use Rattle.volume.specs.Pieces.{Pieces}

@@ -1,7 +1,7 @@
 -- The changes of a volume's pieces that zones need: a slot of an inode, a zone that is taken or given back.
 use Rattle.std.specs.Prelude.{ℕ, Bool, true, slice_set}
 use Rattle.layout.specs.declared.Geometry.{Geometry}
-use Rattle.tree.specs.Sums.{put}
+use Rattle.lemmas.specs.Sums.{put}
 use Rattle.volume.specs.Pieces.{Pieces}
 use Rattle.block_store.specs.Regions.{with_zone}
 use Rattle.zone.specs.ZoneSteps.{bit_of}

@@ -2,7 +2,7 @@
 use Rattle.std.specs.Prelude.{◌≡◌, ℕ, ◌+◌, ◌<◌, ◌≤◌, true, false, IsTrue, Option, Some}
 use Rattle.layout.specs.declared.Geometry.{Geometry}
 use Rattle.layout.specs.Places.{IsGeometry}
-use Rattle.tree.specs.Sums.{put, sum_below}
+use Rattle.lemmas.specs.Sums.{put, sum_below}
 use Rattle.tree.specs.Tree.{File, Node, is_file}
 use Rattle.tree.specs.ZonesNeeded.{page_limit}
 use Rattle.tree.specs.Space.{numbers_in_zone, data_zones, zones_of}

@@ -1,7 +1,7 @@
 //! How many zones a row of pages takes.
 
 ghost use Rattle.std.specs.Prelude.{◌≡◌, ◌==◌, ◌<◌, ◌≤◌, ◌+◌, ◌-◌, ◌*◌, ◌/◌, ◌%◌, IfOk, IfErr};
-ghost use Rattle.tree.specs.Sums.{one_if};
+ghost use Rattle.lemmas.specs.Sums.{one_if};
 ghost use Rattle.volume.specs.Pieces.{pieces};
 ghost use Rattle.block_store.specs.World.{Reads};
 ghost use Rattle.block_store.specs.Volume.{IsOn};

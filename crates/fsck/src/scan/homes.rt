@@ -1,7 +1,7 @@
 //! Where directories stand, and link counts.
 
 ghost use Rattle.std.specs.Prelude.{◌≡◌, ◌≤◌, ◌+◌, ◌-◌, ◌==◌, ℕ, true, false, length, not, slice_index, if◌then◌else◌};
-ghost use Rattle.tree.specs.Sums.{one_if};
+ghost use Rattle.lemmas.specs.Sums.{one_if};
 ghost use Rattle.volume.specs.Entries.{is_directory_inode};
 ghost use Rattle.fsck.specs.Findings.{has_bad_links, has_bad_size, is_misplaced, subdirectories_of};
 ghost use Rattle.volume.specs.Verdict.{place_limit};

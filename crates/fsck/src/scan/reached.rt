@@ -1,7 +1,7 @@
 //! The inodes that are reached from the root by names.
 
 ghost use Rattle.std.specs.Prelude.{◌≡◌, ◌≤◌, ◌+◌, ◌==◌, ℕ, OnOk, OnErr, false, length, slice_index_or, vec_capacity};
-ghost use Rattle.tree.specs.Sums.{one_if};
+ghost use Rattle.lemmas.specs.Sums.{one_if};
 ghost use Rattle.image.specs.Contents.{contents};
 ghost use Rattle.fsck.specs.Form.{form_of};
 ghost use Rattle.fsck.specs.Findings.{has_bad_size, names_in_of};

@@ -1,7 +1,7 @@
 //! Who names an inode, and how often.
 
 ghost use Rattle.std.specs.Prelude.{◌≡◌, ◌≤◌, ◌<◌, ◌+◌, ◌==◌, ℕ, false, length, min, slice_index};
-ghost use Rattle.tree.specs.Sums.{one_if};
+ghost use Rattle.lemmas.specs.Sums.{one_if};
 ghost use Rattle.fsck.specs.Findings.{has_bad_size, names_in_of};
 ghost use Rattle.image.specs.Contents.{contents};
 ghost use Rattle.fsck.specs.Form.{form_of};

@@ -1,7 +1,7 @@
 use Rattle.std.proofs.Common.{◌≡◌, ◌+◌, ◌*◌, ◌^◌, sym, ap, ◌∙◌, add-zero, arith}
 use Rattle.std.specs.Prelude.{if◌then◌else◌}
 use Rattle.std.proofs.lemmas.Bool.{cond-true, cond-false}
-use Rattle.tree.specs.Sums.{sum_below}
+use Rattle.lemmas.specs.Sums.{sum_below}
 use Rattle.new_volume.specs.Image.{is_set}
 use Rattle.new_volume.proofs.Bits.{sum_none, sum_next, power_fits}
 use Rattle.new_volume.proofs.map_byte.Goals as goal

@@ -30,7 +30,7 @@ use std::alloc::Global;
 use std::marker::Brand;
 use std::sync::{Arc, Wait};
 use std::thread::Threads;
-use volume_mount::{Prepared, StartRefusal, prepare};
+use service_start::volume_mount::{Prepared, StartRefusal, prepare};
 
 /// Mounts the volume over this link, plays scripts on the service of it, and stops the service. It is refused as a mount is,
 /// and then nothing is played.

@@ -1,8 +1,8 @@
 use Rattle.std.specs.Prelude.{[]}
 use Rattle.std.specs.List.{concat}
 use Rattle.records.specs.Opening.{contents_at}
-use Rattle.volume_mount.specs.Laws.{sizes_in}
-use Rattle.volume_mount.specs.Starting.{opening_of}
+use Rattle.service_start.specs.Laws.{sizes_in}
+use Rattle.service_start.specs.Starting.{opening_of}
 use Rattle.bench_service.proofs.bench_calls.run.Given as goal
 
 -- the board, the volume, its sizes and the policy, from what is handed over; nothing is asked of drivers

@@ -2,7 +2,7 @@ use Rattle.std.proofs.Common.{◌≡◌, ◌+◌, ◌-◌, ◌*◌, ◌/◌, ◌
 use Rattle.std.specs.Prelude.{◌&&◌, ◌==◌}
 use Rattle.std.proofs.lemmas.Bool.{le-leb, lt-leb}
 use mir.Val.{bool_byte}
-use Rattle.tree.specs.Sums.{one_if}
+use Rattle.lemmas.specs.Sums.{one_if}
 use Rattle.calls_rename.proofs.Pages.{page_more, is_last_first, is_second_first, is_third_first}
 use Rattle.calls_rename.proofs.last_page.zones_with.Goals as goal
 use Rattle.calls_rename.proofs.last_page.zones_with.Goals.{then-page-ge7, else-page-ge7, then-page-numbers, else-page-numbers}

@@ -1,5 +1,5 @@
 use Rattle.std.proofs.Common.{◌≡◌, false, get_or, None}
-use Rattle.tree.specs.Sums.{some_below}
+use Rattle.lemmas.specs.Sums.{some_below}
 use Rattle.tree.specs.Tree.{leads_to}
 use Rattle.descriptors.proofs.table.has_number.Given as goal
 

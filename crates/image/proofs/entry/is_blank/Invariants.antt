@@ -1,6 +1,6 @@
 use Rattle.std.proofs.Common.{◌≡◌, slice_index}
 use Rattle.std.specs.Prelude.{not, ◌==◌}
-use Rattle.tree.specs.Sums.{some_below}
+use Rattle.lemmas.specs.Sums.{some_below}
 use Rattle.image.proofs.entry.is_blank.Given as goal
 
 abbrev pub invariant-loop-k : goal.invariant-loop-k

@@ -1,6 +1,6 @@
 use Rattle.std.proofs.Common.{◌+◌, ℕ, length}
 use Rattle.std.specs.Prelude.{◌==◌}
-use Rattle.tree.specs.Sums.{sum_below, count_below}
+use Rattle.lemmas.specs.Sums.{sum_below, count_below}
 use Rattle.volume.specs.Nodes.{slot, word}
 use Rattle.image.specs.Contents.{contents}
 use Rattle.image.specs.Counts.{AreSmall, AreCountedTo, named_by_inode, named_by_entered}

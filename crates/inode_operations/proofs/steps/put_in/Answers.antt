@@ -1,5 +1,5 @@
 use Rattle.std.proofs.Common.{subst, sym}
-use Rattle.tree.specs.Sums.{one_if}
+use Rattle.lemmas.specs.Sums.{one_if}
 use Rattle.block_store.proofs.Turns.{turns_as, turns_then, ends_as}
 use Rattle.block_store.proofs.Ending.{ends_exit}
 use Rattle.inode_operations.specs.Leads.{Leads}

@@ -1,6 +1,6 @@
 use Rattle.std.proofs.Common.{◌≡◌, ◌+◌, ◌-◌, ℕ, Bool, sym, ap, ◌∙◌, arith}
 use Rattle.std.specs.Prelude.{not}
-use Rattle.tree.specs.Sums.{count_below, one_if}
+use Rattle.lemmas.specs.Sums.{count_below, one_if}
 use Rattle.image.specs.Contents.{contents}
 use Rattle.fsck.proofs.Counts.{sum_more, no_sum}
 use Rattle.migrate.proofs.convert.free_zones.Goals as goal

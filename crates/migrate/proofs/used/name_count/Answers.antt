@@ -1,6 +1,6 @@
 use Rattle.std.proofs.Common.{◌≡◌, ◌+◌, ◌-◌, ◌/◌, ℕ, Bool, true, false, sym, ap, ◌∙◌, arith}
 use Rattle.std.specs.Prelude.{not, ◌==◌, ◌&&◌, nat_le}
-use Rattle.tree.specs.Sums.{count_below, one_if}
+use Rattle.lemmas.specs.Sums.{count_below, one_if}
 use Rattle.volume.specs.Nodes.{file_byte}
 use Rattle.image.specs.Contents.{contents}
 use Rattle.fsck.proofs.Counts.{sum_more, no_sum}

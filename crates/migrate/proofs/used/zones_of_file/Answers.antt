@@ -1,5 +1,5 @@
 use Rattle.std.proofs.Common.{◌≡◌, ℕ, sym, ap, ◌∙◌, arith}
-use Rattle.tree.specs.Sums.{sum_below}
+use Rattle.lemmas.specs.Sums.{sum_below}
 use Rattle.volume.specs.Nodes.{slot}
 use Rattle.image.specs.Contents.{contents}
 use Rattle.image.specs.Entered.{level_of}

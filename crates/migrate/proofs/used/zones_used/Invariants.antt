@@ -1,5 +1,5 @@
 use Rattle.std.proofs.Common.{◌≡◌, ◌≤◌, ◌*◌}
-use Rattle.tree.specs.Sums.{sum_below}
+use Rattle.lemmas.specs.Sums.{sum_below}
 use Rattle.tree.specs.Space.{zones_of}
 use Rattle.image.specs.Contents.{contents}
 use Rattle.fsck.specs.Form.{version_2}

@@ -1,5 +1,5 @@
 use Rattle.std.proofs.Common.{sym, ap, ◌∙◌}
-use Rattle.file.specs.Reading.{read_count}
+use Rattle.directory.specs.Reading.{read_count}
 use Rattle.block_store.proofs.Turns.{reads_as, reads_then}
 use Rattle.path.proofs.Entering.{is_held}
 use Rattle.path.proofs.Ending.{answers_cut}

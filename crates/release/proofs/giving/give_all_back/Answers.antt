@@ -5,7 +5,7 @@ use Rattle.block_store.proofs.Turns.{on_after, turns_as, turns_none, turns_then}
 use Rattle.block_store.proofs.Ending.{ends_exit}
 use Rattle.volume.proofs.Sums.{count_most}
 use Rattle.tree.specs.Changes.{has_no_link}
-use Rattle.tree.specs.Sums.{one_if}
+use Rattle.lemmas.specs.Sums.{one_if}
 use Rattle.release.specs.Nameless.{unlinked_below}
 use Rattle.release.specs.Giving.{GivesBackBelow}
 use Rattle.release.proofs.Leaving.{counted_more, counted_none, may_next, next_given, none_given, one_most}

@@ -1,7 +1,7 @@
 use Rattle.std.proofs.Common.{sym, subst}
 use Rattle.layout.specs.declared.Geometry.{Geometry}
 use Rattle.records.specs.Mount.{OpenKeeps}
-use Rattle.vfs.specs.OverLink.{serving_over}
+use Rattle.volume_mount.specs.OverLink.{serving_over}
 use Rattle.shared_server.proofs.HeldLaws.{held_at_first}
 use Rattle.service_start.proofs.opened.over.Goals as goal
 

@@ -1,5 +1,5 @@
 use Rattle.std.proofs.Common.{inl, inr, refl}
-use Rattle.transcript.specs.ShownTranscript.{transcript_of}
+use Rattle.world.specs.ShownTranscript.{transcript_of}
 use Rattle.simulation.proofs.simulate.run.Goals as goal
 
 pub returns-in-Ok : goal.returns-in-Ok

@@ -1,4 +1,4 @@
-use Rattle.transcript.specs.ShownTranscript.{transcript_of}
+use Rattle.world.specs.ShownTranscript.{transcript_of}
 use Rattle.simulation.proofs.Runs.{run_is_shown, run_is_not_shown}
 use Rattle.simulation.proofs.simulate.show_run.Goals as goal
 

@@ -1,6 +1,6 @@
 use Rattle.std.proofs.Common.{◌≤◌, subst, sym}
 use Rattle.world.specs.Starts.{IsBeforeFirst, RunsAll}
-use Rattle.vfs.specs.OverLink.{line_of, serving_over}
+use Rattle.volume_mount.specs.OverLink.{line_of, serving_over}
 use Rattle.world.proofs.Opened.{few_here}
 use Rattle.world.proofs.server.run_over.Goals as goal
 

@@ -1,6 +1,6 @@
 use Rattle.std.proofs.Common.{ap, ◌∙◌}
 use Rattle.std.specs.Prelude.{is_some}
-use Rattle.tree.specs.Sums.{some_below}
+use Rattle.lemmas.specs.Sums.{some_below}
 use Rattle.tree.specs.Tree.{most_open_files}
 use Rattle.descriptors.specs.Table.{Table, files_of}
 use Rattle.descriptors.proofs.Calls.{any_is}

@@ -1,6 +1,6 @@
 use Rattle.std.proofs.Common.{◌+◌, ◌∙◌, ap, sym, arith}
 use Rattle.std.specs.Prelude.{◌==◌}
-use Rattle.tree.specs.Sums.{one_if}
+use Rattle.lemmas.specs.Sums.{one_if}
 use Rattle.volume.specs.Pieces.{pieces}
 use Rattle.block_store.proofs.Turns.{reads_none, reads_then, if_cut}
 use Rattle.file.proofs.Needed.{holes_none, holes_more}

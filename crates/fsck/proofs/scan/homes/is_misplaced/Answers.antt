@@ -1,6 +1,6 @@
 use Rattle.std.proofs.Common.{◌≡◌, sym, ap, ◌∙◌, cond, arith}
 use Rattle.std.specs.Prelude.{not, ◌==◌}
-use Rattle.tree.specs.Sums.{one_if}
+use Rattle.lemmas.specs.Sums.{one_if}
 use Rattle.volume.specs.Nodes.{file_byte}
 use Rattle.fsck.specs.Nodes.{entry_inode}
 use Rattle.fsck.specs.Findings.{all_names_of}

@@ -1,5 +1,5 @@
 use Rattle.std.proofs.Common.{◌≡◌, ◌≤◌, ◌+◌, ◌-◌, ◌/◌, sym, ap, ◌∙◌, arith}
-use Rattle.tree.specs.Sums.{count_below, one_if}
+use Rattle.lemmas.specs.Sums.{count_below, one_if}
 use Rattle.volume.specs.Nodes.{file_byte}
 use Rattle.fsck.specs.Nodes.{entry_count_of, entry_inode}
 use Rattle.volume.specs.Entries.{is_directory_inode}

@@ -1,5 +1,5 @@
 use Rattle.std.proofs.Common.{◌≡◌, ◌≤◌, ◌+◌, ◌-◌}
-use Rattle.tree.specs.Sums.{count_below}
+use Rattle.lemmas.specs.Sums.{count_below}
 use Rattle.volume.specs.Entries.{is_directory_inode}
 use Rattle.fsck.specs.Nodes.{entry_count_of}
 use Rattle.fsck.specs.Entries.{target_at}

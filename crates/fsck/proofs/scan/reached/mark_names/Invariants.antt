@@ -1,6 +1,6 @@
 use Rattle.std.proofs.Common.{◌≡◌, ◌≤◌, ◌+◌, ◌-◌, vec_capacity}
 use Rattle.std.specs.Prelude.{◌==◌}
-use Rattle.tree.specs.Sums.{count_below}
+use Rattle.lemmas.specs.Sums.{count_below}
 use Rattle.image.specs.Contents.{contents}
 use Rattle.fsck.specs.Form.{form_of}
 use Rattle.fsck.specs.Nodes.{entry_count_of}

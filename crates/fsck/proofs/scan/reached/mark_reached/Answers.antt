@@ -1,6 +1,6 @@
 use Rattle.std.proofs.Common.{◌≡◌, ℕ, List, length, subst, ap, arith}
 use Rattle.std.specs.Prelude.{◌==◌}
-use Rattle.tree.specs.Sums.{one_if}
+use Rattle.lemmas.specs.Sums.{one_if}
 use Rattle.fsck.specs.Form.{form_of}
 use Rattle.fsck.specs.Reached.{GoesOn}
 use Rattle.fsck.proofs.Walks.{walk_begins, walk_goes, walk_over, few_unseen}

@@ -2,7 +2,7 @@ use Rattle.std.proofs.Common.{◌≡◌, ◌<◌, ◌+◌, ℕ, sym, ap, subst, 
 use mathlib.Core.Logic.{inl, inr}
 use Rattle.std.proofs.lemmas.Bool.{cases_lt}
 use Rattle.std.specs.Prelude.{min}
-use Rattle.tree.specs.Sums.{sum_below}
+use Rattle.lemmas.specs.Sums.{sum_below}
 use Rattle.fsck.specs.Findings.{names_in_of}
 use Rattle.image.specs.Contents.{contents}
 use Rattle.fsck.proofs.Counts.{sum_more, no_sum}

@@ -1,6 +1,6 @@
 use Rattle.std.proofs.Common.{◌≡◌, ◌<◌, ◌≤◌, ◌+◌, ℕ, length, slice_index}
 use Rattle.std.specs.Prelude.{min}
-use Rattle.tree.specs.Sums.{sum_below}
+use Rattle.lemmas.specs.Sums.{sum_below}
 use Rattle.fsck.specs.Findings.{names_in_of}
 use Rattle.image.specs.Contents.{contents}
 use Rattle.fsck.proofs.scan.tables.count_names.Given as goal

@@ -1,6 +1,6 @@
 use Rattle.std.proofs.Common.{◌≡◌, ◌≤◌, ◌+◌, ◌-◌, ℕ, length, slice_index}
 use Rattle.std.specs.Prelude.{◌==◌}
-use Rattle.tree.specs.Sums.{count_below}
+use Rattle.lemmas.specs.Sums.{count_below}
 use Rattle.fsck.specs.Nodes.{entry_count_of}
 use Rattle.fsck.specs.Entries.{target_at}
 use Rattle.image.specs.Contents.{contents}

@@ -1,8 +1,8 @@
 use Rattle.std.specs.Prelude.{map}
 use Rattle.std.specs.List.{concat}
 use Rattle.records.specs.Opening.{contents_at}
-use Rattle.volume_mount.specs.Laws.{sizes_in}
-use Rattle.volume_mount.specs.Starting.{opening_of}
+use Rattle.service_start.specs.Laws.{sizes_in}
+use Rattle.service_start.specs.Starting.{opening_of}
 use Rattle.tools.proofs.scripts.starting.play_scripts.Given as goal
 
 -- the service's board, its volume and the sizes that its superblock gives, the policy and the drivers, from what is handed over
