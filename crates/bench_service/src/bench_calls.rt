@@ -28,12 +28,12 @@ use new_volume::mkfs;
 use reincarnate::policy::Setup;
 use serve::service::Service;
 use service_start::start::counted_drivers;
+use service_start::volume_mount::mounted::mount;
+use service_start::volume_mount::{Prepared, prepare};
 use std::io;
 use std::marker::Brand;
 use std::sync::{Arc, Wait};
 use std::thread::Threads;
-use service_start::volume_mount::mounted::mount;
-use service_start::volume_mount::{Prepared, prepare};
 
 /// Mounts the volume over this link, and measures calls on the service of it.
 fn mount_and_measure<

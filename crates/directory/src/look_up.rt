@@ -13,10 +13,10 @@ ghost use Rattle.volume.specs.Pieces.{pieces};
 use crate::entries::{Placed, entry_inode, last_named, leads_to};
 use block_store::words::read_bytes;
 use block_store::{Blocks, Cut, Halt};
-use layout::Geometry;
-use volume::Inode;
 use file::zone::numbers::is_data_zone;
 use file::zone::places::lookup;
+use layout::Geometry;
+use volume::Inode;
 
 /// The last entry of a page, from one entry on to another, that has a name. In a page without a data zone no entry has one.
 fn find_in_page<B: Blocks>(

@@ -9,10 +9,10 @@ ghost use Rattle.volume.specs.Pieces.{pieces};
 
 use crate::entries::is_named;
 use block_store::{Blocks, Cut};
-use layout::Geometry;
-use volume::Inode;
 use file::zone::numbers::is_data_zone;
 use file::zone::places::lookup;
+use layout::Geometry;
+use volume::Inode;
 
 /// The first of the entries of some bytes, from one on to another, that has a name.
 fn position_in(bytes: &[u8], from: usize, to: usize, name: &[u8]) -> Option<usize>

@@ -37,6 +37,7 @@ pub use files::Files;
 pub use refusal::ServeRefusal;
 pub use serve::stopping::NoImage;
 pub use served::Served;
+pub use service_start::volume_mount::StartRefusal;
 pub use shared_server::locked::LastSync;
 pub use shared_server::refusal::SessionRefusal;
 pub use start::serve;
@@ -44,7 +45,6 @@ pub use tasks::{Came, Task};
 pub use tree::{
     Attributes, Call, Entry, LinkTarget, OpenFlags, Outcome, Reply, Statfs, User, Whence, Who,
 };
-pub use service_start::volume_mount::StartRefusal;
 
 // runs of schedules
 pub use schedule::Event;

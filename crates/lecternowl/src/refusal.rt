@@ -4,9 +4,9 @@ ghost use Rattle.std.specs.Prelude.{◌≡◌, Some};
 ghost use Rattle.lecternowl.specs.Serving.{serve_refusal_text};
 
 use serve::stopping::NoImage;
+use service_start::volume_mount::StartRefusal;
 use shared_server::refusal::SessionRefusal;
 use std::{error, fmt};
-use service_start::volume_mount::StartRefusal;
 
 /// Why a service gives nothing. What the tasks wrote before is lost.
 #[derive(Clone, Copy, Debug, PartialEq, Eq)]

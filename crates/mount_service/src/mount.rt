@@ -12,6 +12,7 @@ use message_stream::answering::StreamRefusal;
 use output::{Told, tell};
 use reincarnate::policy::Setup;
 use serve::stopping::NoImage;
+use service_start::volume_mount::StartRefusal;
 use shared_server::locked::LastSync;
 use std::alloc::Global;
 use std::fmt;
@@ -20,7 +21,6 @@ use std::sync::{Arc, Wait};
 use std::thread::Threads;
 use std::time::Clock;
 use talks::answers::Answers;
-use service_start::volume_mount::StartRefusal;
 
 /// How a mount ended.
 #[derive(Clone, Copy, Debug, PartialEq, Eq)]

@@ -22,6 +22,7 @@ use serve::service::Service;
 use serve::stopping::NoImage;
 use service_start::opened::mounted_server;
 use service_start::start::started_link;
+use service_start::volume_mount::{Prepared, StartRefusal, prepare};
 use std::alloc::Global;
 use std::io::{BufRead, Write};
 use std::marker::Brand;
@@ -29,7 +30,6 @@ use std::sync::{Arc, Wait};
 use std::thread::Threads;
 use std::time::Clock;
 use talks::answers::Answers;
-use service_start::volume_mount::{Prepared, StartRefusal, prepare};
 
 /// Mounts the volume over this link, answers messages by its sessions, and stops the service. It is refused as a mount
 /// is, and then nothing is answered.

@@ -23,10 +23,9 @@ use serve::service::Service;
 use std::alloc::{AllocError, Global};
 use std::sync::{Arc, Wait};
 use std::thread::Threads;
-use volume_mount::Server;
 use volume_mount::mounted::mount;
 use volume_mount::opening::open;
-use volume_mount::{MountRefusal, StartRefusal};
+use volume_mount::{MountRefusal, Server, StartRefusal};
 
 /// A service of a server of all calls, with so many frames, for its volume in a range of the media, over a link that was told nothing yet,
 /// keeps an empty record on the service's board, and runs on the service's drivers under its policy. The link gives at most 2^58 messages.

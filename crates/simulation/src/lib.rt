@@ -6,5 +6,5 @@ pub mod show;
 pub mod simulate;
 
 // passed on, for tests of runs
-pub use world::transcript;
 pub use world;
+pub use world::transcript;

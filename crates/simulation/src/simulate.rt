@@ -12,8 +12,8 @@ use schedule::Event;
 use std::alloc::Global;
 use std::io::Write;
 use synchronous_driver::local::LocalDriver;
-use world::transcript::Transcript;
 use world::World;
+use world::transcript::Transcript;
 
 /// Runs the schedule in a file on the image in another, and writes the transcript on `out`: a line for each mark, the oldest first, and
 /// last `unanswered N`.

@@ -20,13 +20,13 @@ use gate::Gate;
 use output::{OutputRefusal, Told, tell, write_text};
 use reincarnate::policy::Setup;
 use reply_text::answers::{Played, write_sessions};
+use service_start::volume_mount::StartRefusal;
 use shared_server::locked::LastSync;
 use std::alloc::Global;
 use std::fmt;
 use std::io::Write;
 use std::sync::{Arc, Wait};
 use std::thread::Threads;
-use service_start::volume_mount::StartRefusal;
 
 /// The file of an image, and its bytes if it could be read.
 #[derive(Drop)]

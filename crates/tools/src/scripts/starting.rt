@@ -26,11 +26,11 @@ use serve::service::Service;
 use service_start::ending::cut_once_spent;
 use service_start::opened::mounted_server;
 use service_start::start::started_link;
+use service_start::volume_mount::{Prepared, StartRefusal, prepare};
 use std::alloc::Global;
 use std::marker::Brand;
 use std::sync::{Arc, Wait};
 use std::thread::Threads;
-use service_start::volume_mount::{Prepared, StartRefusal, prepare};
 
 /// Mounts the volume over this link, plays scripts on the service of it, and stops the service. It is refused as a mount is,
 /// and then nothing is played.
