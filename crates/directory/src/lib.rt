@@ -18,4 +18,4 @@ pub use positions::position;
 pub use removal::remove;
 
 // passed on, for paths
-pub use file;
+pub use file::file_pages;

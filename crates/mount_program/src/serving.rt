@@ -44,7 +44,7 @@ fn mortality(die_every: u32, kill_every: u32) -> Mortality {
 }
 
 /// Mounts the volume in an image, whose bytes are none where it couldn't be read, with what the mount begins with. The service has threads of
-/// its own, and a tick of it takes a tenth of a second. Its drivers are told by this thread; the lines of its end go to `err`.
+/// its own, and ticks as the words say. Its drivers are told by this thread; the lines of its end go to `err`.
 fn mount_image<
     R: Threads + Wait + Copy + Send + Sync + 'static,
     I: BufRead + Drop,
@@ -71,7 +71,7 @@ fn mount_image<
     let supply = killing.drivers(alloc, drivers)?;
     let mut setup = mortal_setup(words.minor, mortality);
     setup.frames = frames;
-    let gate = Arc::new(alloc, teller.gate(Paced::new(waits))?)?;
+    let gate = Arc::new(alloc, teller.gate(Paced::ticking(waits, words.tick))?)?;
     let Messages {
         input,
         output,

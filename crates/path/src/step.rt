@@ -16,7 +16,7 @@ use crate::first::{ROOT, first_node};
 use crate::stop::Stop;
 use crate::{NameCache, Parts, Path, Wish, is_dot, is_dot_dot, may};
 use block_store::{Blocks, Cut};
-use directory::file::file_pages::reading::read_at;
+use directory::file_pages::reading::read_at;
 use directory::{find, parent, stands_at};
 use errno::Errno;
 use inode::inode_table::load;

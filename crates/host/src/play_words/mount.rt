@@ -2,6 +2,7 @@
 
 use crate::play_words::{frames, image, minor, model, number, out};
 use crate::version;
+use clap::builder::ValueParser;
 use clap::{Arg, ArgMatches, Command, Error};
 use std::alloc::{AllocError, Global};
 
@@ -13,6 +14,11 @@ const MOST_SECONDS: u64 = 86_400;
 
 /// The most milliseconds between two kills: an hour (own).
 const MOST_MILLISECONDS: u64 = 3_600_000;
+
+/// The least and the most milliseconds of a tick (own): a driver that isn't scheduled for three ticks counts as hung.
+const LEAST_TICK: u64 = 10;
+
+const MOST_TICK: u64 = 1000;
 
 /// What the help of `mfs9p` says of mounting.
 const BY_NINEP: &str =
@@ -91,7 +97,8 @@ fn command<'a>(alloc: Global, program: MountProgram) -> Result<Command<'a>, Allo
         .arg(model(alloc))?
         .arg(die_every(alloc))?
         .arg(kill_every(alloc))?
-        .arg(sync_every(alloc))
+        .arg(sync_every(alloc))?
+        .arg(tick(alloc))
 }
 
 /// The word that says how many drivers stand by.
@@ -122,6 +129,18 @@ fn sync_every<'a>(alloc: Global) -> Arg<'a> {
         .help("How often changes are written to --out's file without an fsync; 0: never")
 }
 
+/// The word that says how long a tick is.
+fn tick<'a>(alloc: Global) -> Arg<'a> {
+    Arg::new(alloc, "tick")
+        .long("tick")
+        .value_name("MILLISECONDS")
+        .value_parser(ValueParser::Unsigned(LEAST_TICK, MOST_TICK))
+        .default_value("100")
+        .help(
+            "How long a tick of the restarts is, 10 to 1000: a driver that ended is seen at the next, one that is silent for three has failed",
+        )
+}
+
 /// What the words say.
 #[derive(Drop)]
 pub struct MountWords<'a> {
@@ -143,6 +162,8 @@ pub struct MountWords<'a> {
     pub kill_every: u32,
     /// After how many seconds changes are written without an fsync, 1 to 86,400; 0: never.
     pub sync_every: u32,
+    /// How many milliseconds a tick of the restart policy is, 10 to 1000.
+    pub tick: u16,
 }
 
 impl<'a> MountWords<'a> {
@@ -158,6 +179,7 @@ impl<'a> MountWords<'a> {
             die_every: matches.get_one::<u32>("die-every").unwrap_or(0),
             kill_every: matches.get_one::<u32>("kill-every").unwrap_or(0),
             sync_every: matches.get_one::<u32>("sync-every").unwrap_or(0),
+            tick: matches.get_one::<u16>("tick").unwrap_or(100),
         }
     }
 }
