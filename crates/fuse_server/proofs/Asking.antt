@@ -29,6 +29,8 @@ use Rattle.talks.specs.declared.sessions.EnterRefusal.{EnterRefusal}
 use Rattle.talks.specs.declared.refused.Refused.{Refused}
 use Rattle.fuse_server.specs.Asking.{Talked, TalkedTo, TalkedFor, TalkedLooking, LookedBefore, LookedAt, OpenedAt, ReadFrom, look_reply}
 use Rattle.fuse_server.specs.Losing.{AreQuiet, IsQuiet, WasLooked, takes_name}
+use Rattle.fuse_server.specs.Plans.{May, kind_of}
+use Rattle.fuse_server.specs.Plans.Kind.{Give}
 use Rattle.fuse_server.specs.Reach.{AsksFrom, CalledFrom, GivesTold, IsAt, IsNamed}
 use Rattle.fuse_server.specs.declared.work.Reach.{Reach}
 
@@ -89,11 +91,12 @@ on_err (Err e) p = p
 -- a call that starts at what a message may name
 pub from_named : {S : Type 0} (called : S → ℕ → ℕ → Call → Outcome → S → Type 0) (entered : S → ℕ → ℕ → Result ℕ EnterRefusal → S → Type 0)
     (left : S → Leaving → S → Type 0) (now : ℕ) (s t : S) (x : Reach) (session : ℕ) (asked : Call) (h : Heard)
-    → AsksFrom x asked ⊎ GivesTold x called s now asked → MayHear called entered left now s (ask.Call session asked) h t
+    → May x.plan (kind_of asked) → AsksFrom x asked ⊎ GivesTold x called s now asked
+    → MayHear called entered left now s (ask.Call session asked) h t
     → MayHear (CalledFrom x called) entered left now s (ask.Call session asked) h t
-from_named called entered left now s t x session asked (heard_of.Outcome o) named may = record { named = named; answer = may }
-from_named called entered left now s t x session asked (heard_of.Entered r) named may = absurd may
-from_named called entered left now s t x session asked heard_of.Left named may = absurd may
+from_named called entered left now s t x session asked (heard_of.Outcome o) planned named may = record { planned = planned; named = named; answer = may }
+from_named called entered left now s t x session asked (heard_of.Entered r) planned named may = absurd may
+from_named called entered left now s t x session asked heard_of.Left planned named may = absurd may
 
 -- users enter as they do
 pub enters : {S : Type 0} (called : S → ℕ → ℕ → Call → Outcome → S → Type 0) (entered : S → ℕ → ℕ → Result ℕ EnterRefusal → S → Type 0)
@@ -328,14 +331,14 @@ looked_before a b = record { session = b.session; before = b.before; looking = l
 -- what a look told is given an owner
 pub gives_told : {S : Type 0} (called : S → ℕ → ℕ → Call → Outcome → S → Type 0) (entered : S → ℕ → ℕ → Result ℕ EnterRefusal → S → Type 0)
     (left : S → Leaving → S → Type 0) (now : ℕ) (s t u : S) (x : Reach) (session : ℕ) (path own : PathFrom) (uid gid : ℕ) (h given : Heard)
-    (was : Attributes) → IsNamed x path → IsAt (Some was.inode) [] own → attributes_in h ≡ Ok was
+    (was : Attributes) → May x.plan Give → IsNamed x path → IsAt (Some was.inode) [] own → attributes_in h ≡ Ok was
     → MayHear (CalledFrom x called) entered left now s (ask.Call session (call.Lstat path)) h t
     → MayHear called entered left now t (ask.Call session (call.Chown own uid gid)) given u
     → Talked (CalledFrom x called) entered left now t u
-gives_told called entered left now s t u x session path own uid gid h given was named at told looked may =
+gives_told called entered left now s t u x session path own uid gid h given was planned named at told looked may =
     let P : Heard → Type 0 = λ y. MayHear (CalledFrom x called) entered left now s (ask.Call session (call.Lstat path)) y t in
     asks (CalledFrom x called) entered left now t (ask.Call session (call.Chown own uid gid)) given u (never_takes false _ refl)
-    (from_named called entered left now t u x session (call.Chown own uid gid) given (inr (record {
+    (from_named called entered left now t u x session (call.Chown own uid gid) given planned (inr (record {
       before = s;
       session = session;
       looked = path;

@@ -1,3 +1,4 @@
+pub mod Plans
 pub mod Asking
 pub mod Losing
 pub mod Telling

@@ -1,4 +1,5 @@
 pub mod Messages
+pub mod Plans
 pub mod Reach
 pub mod Losing
 pub mod Asking

@@ -16,6 +16,7 @@ use Rattle.fuse_nodes.specs.Known.{Facts, Known, inode_at}
 use Rattle.fuse_nodes.specs.Changes.{descriptor_of}
 use Rattle.talks.specs.declared.refused.Refused.{Refused}
 use Rattle.fuse_server.specs.declared.work.Reach.{Reach}
+use Rattle.fuse_server.specs.Plans.{May, kind_of, plan_of}
 
 -- the second node of a RENAME and of a LINK
 abbrev pub second_of : Request → Option ℕ
@@ -33,12 +34,13 @@ abbrev pub inode_in : (ℕ → Option Facts) → Option ℕ → Option ℕ
 inode_in nodes (Some id) = found_as (inode_at nodes id)
 inode_in nodes None = None
 
--- what a message may name, by what is known before it: the inodes of its nodes, and its node's descriptor
+-- what a message may name, by what is known before it: the inodes of its nodes, and its node's descriptor; and what it is for
 abbrev pub reach_of : Known → Message → Reach
 reach_of k m = record {
   own = inode_in k.nodes (Some m.node);
   other = inode_in k.nodes (second_of m.request);
   descriptor = descriptor_of (k.nodes m.node);
+  plan = plan_of m.request;
 }
 
 -- a path that starts at this inode, and has these bytes
@@ -88,8 +90,9 @@ abbrev pub GivesTold : {S : Type 0} → Reach → (S → ℕ → ℕ → Call �
 GivesTold x called s now (call.Chown path uid gid) = WasTold x called s now path
 GivesTold x called s now c = ⊥
 
--- What sessions may answer to such a call.
+-- What sessions may answer to such a call, where the message may ask it.
 pub record CalledFrom {S : Type 0} (x : Reach) (called : S → ℕ → ℕ → Call → Outcome → S → Type 0) (s : S) (session now : ℕ) (asked : Call)
     (answered : Outcome) (t : S) : Type 0 where
+  pub planned : May x.plan (kind_of asked)
   pub named : AsksFrom x asked ⊎ GivesTold x called s now asked
   pub answer : called s session now asked answered t

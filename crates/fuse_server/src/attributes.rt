@@ -1,5 +1,5 @@
 //! Attributes: what is told of a node, and what is changed.
-#![tactic(auto, using(crate::proofs::Asking::goes_on, crate::proofs::Asking::stays))]
+#![tactic(auto, using(crate::proofs::Asking::goes_on, crate::proofs::Asking::stays, crate::proofs::Plans::by_plan))]
 
 ghost use Rattle.std.specs.Prelude.{◌≡◌, Some, IfOk, OnErr, IsTrue};
 ghost use Rattle.tree.specs.declared.Call.TheVariants as call;
@@ -11,6 +11,9 @@ ghost use Rattle.fuse_server.specs.Reach.{CalledFrom, IsNamed};
 ghost use Rattle.fuse_server.specs.declared.said.FuseAnswer.TheVariants as answer;
 ghost use Rattle.fuse_server.specs.Telling.{ToldBehind, told_of};
 ghost use Rattle.fuse_server.specs.Telling.Telling.{Node, Target, Room};
+ghost use Rattle.fuse_server.specs.Plans.{May};
+ghost use Rattle.fuse_server.specs.Plans.Kind.{Fstat, Give, Lstat, Readlink, Set, Statfs};
+ghost use Rattle.fuse_server.specs.declared.work.Plan.TheVariants as plan;
 
 use crate::mount::Mount;
 use crate::said::FuseAnswer;
@@ -89,7 +92,9 @@ impl Seats {
         path: PathFrom<'_>,
         changes: Changes,
     ) -> Result<(), Refused>
-        requires { IsNamed work.reach path }
+        requires named { IsNamed work.reach path }
+        requires sets { May work.reach.plan Set }
+        requires gives { May work.reach.plan Give }
         ensures { Talked (CalledFrom work.reach S.called) S.entered S.left work.now sessions.old sessions.new }
     {
         let mut left = changes;
@@ -105,6 +110,7 @@ impl Seats {
 
     /// The room of the volume.
     fn space<S: Sessions>(&mut self, sessions: &mut S, work: Work) -> Result<Statfs, Refused>
+        requires rooms { May work.reach.plan Statfs }
         ensures asked { Talked (CalledFrom work.reach S.called) S.entered S.left work.now sessions.old sessions.new }
         ensures seen { IfOk result (λ room. TalkedFor (CalledFrom work.reach S.called) S.entered S.left work.now sessions.old call.Statfs
             (reply.Space room) sessions.new) }
@@ -120,7 +126,8 @@ impl Seats {
         work: Work,
         path: PathFrom<'_>,
     ) -> Result<LinkTarget, Refused>
-        requires { IsNamed work.reach path }
+        requires named { IsNamed work.reach path }
+        requires targets { May work.reach.plan Readlink }
         ensures asked { Talked (CalledFrom work.reach S.called) S.entered S.left work.now sessions.old sessions.new }
         ensures seen { IfOk result (λ target. TalkedFor (CalledFrom work.reach S.called) S.entered S.left work.now sessions.old
             (call.Readlink path.entry) (reply.Target target) sessions.new) }
@@ -136,6 +143,7 @@ fn attributes_open<S: Sessions>(
     work: Work,
     descriptor: Descriptor,
 ) -> Result<Attributes, Refused>
+    requires looks_open { May work.reach.plan Fstat }
     ensures asked { Talked (CalledFrom work.reach S.called) S.entered S.left work.now sessions.old sessions.new }
     ensures behind { (k : Known) → IfOk result (λ was. work.reach.descriptor ≡ Some descriptor
         → ToldBehind (CalledFrom work.reach S.called) S.entered S.left work.now work.reach Node k sessions.old (answer.Attributes (told_of
@@ -153,6 +161,8 @@ impl Seats {
         sessions: &mut S,
         work: Work,
     ) -> Result<Attributes, Refused>
+        requires looks { May work.reach.plan Lstat }
+        requires looks_open { May work.reach.plan Fstat }
         ensures asked { Talked (CalledFrom work.reach S.called) S.entered S.left work.now sessions.old sessions.new }
         ensures behind { (k : Known) → IfOk result (λ was. ToldBehind (CalledFrom work.reach S.called) S.entered S.left work.now work.reach
             Node k sessions.old (answer.Attributes (told_of was)) sessions.new) }
@@ -171,6 +181,10 @@ impl Seats {
         work: Work,
         changes: Changes,
     ) -> Result<Attributes, Refused>
+        requires sets { May work.reach.plan Set }
+        requires gives { May work.reach.plan Give }
+        requires looks { May work.reach.plan Lstat }
+        requires looks_open { May work.reach.plan Fstat }
         ensures asked { Talked (CalledFrom work.reach S.called) S.entered S.left work.now sessions.old sessions.new }
         ensures behind { (k : Known) → IfOk result (λ was. ToldBehind (CalledFrom work.reach S.called) S.entered S.left work.now work.reach
             Node k sessions.old (answer.Attributes (told_of was)) sessions.new) }
@@ -188,6 +202,7 @@ impl Mount {
         sessions: &mut S,
         work: Work,
     ) -> Result<FuseAnswer, Refused>
+        requires plan { work.reach.plan ≡ plan.Attributes }
         ensures asked { OnErr result (Talked (CalledFrom work.reach S.called) S.entered S.left work.now sessions.old sessions.new) }
         ensures told { IfOk result (λ a. IsTrue (is_attributes a)) }
         ensures behind { IfOk result (λ a. ToldBehind (CalledFrom work.reach S.called) S.entered S.left work.now work.reach Node
@@ -204,6 +219,7 @@ impl Mount {
         work: Work,
         wanted: &Wanted,
     ) -> Result<FuseAnswer, Refused>
+        requires plan { work.reach.plan ≡ plan.Change }
         ensures asked { OnErr result (Talked (CalledFrom work.reach S.called) S.entered S.left work.now sessions.old sessions.new) }
         ensures told { IfOk result (λ a. IsTrue (is_attributes a)) }
         ensures behind { IfOk result (λ a. ToldBehind (CalledFrom work.reach S.called) S.entered S.left work.now work.reach Node
@@ -222,6 +238,7 @@ impl Mount {
         sessions: &mut S,
         work: Work,
     ) -> Result<FuseAnswer, Refused>
+        requires plan { work.reach.plan ≡ plan.Target }
         ensures asked { OnErr result (Talked (CalledFrom work.reach S.called) S.entered S.left work.now sessions.old sessions.new) }
         ensures told { IfOk result (λ a. IsTrue (is_bytes a)) }
         ensures behind { IfOk result (λ a. ToldBehind (CalledFrom work.reach S.called) S.entered S.left work.now work.reach Target
@@ -239,6 +256,7 @@ impl Mount {
         sessions: &mut S,
         work: Work,
     ) -> Result<FuseAnswer, Refused>
+        requires plan { work.reach.plan ≡ plan.Room }
         ensures asked { OnErr result (Talked (CalledFrom work.reach S.called) S.entered S.left work.now sessions.old sessions.new) }
         ensures told { IfOk result (λ a. IsTrue (is_room a)) }
         ensures behind { IfOk result (λ a. ToldBehind (CalledFrom work.reach S.called) S.entered S.left work.now work.reach Room

@@ -6,6 +6,8 @@ ghost use Rattle.std.specs.Prelude.{IfOk};
 ghost use Rattle.fuse_server.specs.Asking.{OpenedAt, Talked};
 ghost use Rattle.fuse_server.specs.Telling.{HasOwn};
 ghost use Rattle.fuse_server.specs.Reach.{CalledFrom, IsNamed};
+ghost use Rattle.fuse_server.specs.Plans.{May, open_kind};
+ghost use Rattle.fuse_server.specs.Plans.Kind.{Open, Close};
 
 use crate::mount::Mount;
 use crate::talk::{Seats, calling};
@@ -39,6 +41,7 @@ pub(crate) struct Opening<'a> {
 
 /// Closes a descriptor.
 pub(crate) fn close<S: Sessions>(sessions: &mut S, work: Work, descriptor: Descriptor)
+    requires closes { May work.reach.plan Close }
     ensures { Talked (CalledFrom work.reach S.called) S.entered S.left work.now sessions.old sessions.new }
 {
     let call = Call::Close { fd: descriptor.fd };
@@ -52,7 +55,8 @@ fn open_by<S: Sessions>(
     session: u8,
     opening: Opening<'_>,
 ) -> Result<Descriptor, Refused>
-    requires { IsNamed work.reach opening.path }
+    requires named { IsNamed work.reach opening.path }
+    requires opens { May work.reach.plan (open_kind opening.flags) }
     ensures asked { Talked (CalledFrom work.reach S.called) S.entered S.left work.now sessions.old sessions.new }
     ensures opened { IfOk result (λ descriptor. OpenedAt (CalledFrom work.reach S.called) S.entered S.left work.now
         sessions.old opening.entry.path descriptor sessions.new) }
@@ -84,7 +88,8 @@ impl Seats {
         work: Work,
         opening: Opening<'_>,
     ) -> Result<Descriptor, Refused>
-        requires { IsNamed work.reach opening.path }
+        requires named { IsNamed work.reach opening.path }
+        requires opens { May work.reach.plan (open_kind opening.flags) }
         ensures asked { Talked (CalledFrom work.reach S.called) S.entered S.left work.now sessions.old sessions.new }
         ensures opened { IfOk result (λ descriptor. OpenedAt (CalledFrom work.reach S.called) S.entered S.left work.now
             sessions.old opening.entry.path descriptor sessions.new) }
@@ -108,6 +113,7 @@ impl Mount {
         work: Work,
         but: u64,
     ) -> Result<(), Refused>
+        requires closes { May work.reach.plan Close }
         ensures { Talked (CalledFrom work.reach S.called) S.entered S.left work.now sessions.old sessions.new }
     {
         let Some((node, descriptor)) = self.nodes.spare(but) else {
@@ -126,7 +132,9 @@ impl Mount {
         opening: Opening<'_>,
         but: u64,
     ) -> Result<Descriptor, Refused>
-        requires { IsNamed work.reach opening.path }
+        requires named { IsNamed work.reach opening.path }
+        requires opens { May work.reach.plan (open_kind opening.flags) }
+        requires closes { May work.reach.plan Close }
         ensures asked { Talked (CalledFrom work.reach S.called) S.entered S.left work.now sessions.old sessions.new }
         ensures opened { IfOk result (λ descriptor. OpenedAt (CalledFrom work.reach S.called) S.entered S.left work.now
             sessions.old opening.entry.path descriptor sessions.new) }
@@ -145,6 +153,8 @@ impl Mount {
         sessions: &mut S,
         work: Work,
     ) -> Result<Descriptor, Refused>
+        requires opens { May work.reach.plan Open }
+        requires closes { May work.reach.plan Close }
         ensures asked { Talked (CalledFrom work.reach S.called) S.entered S.left work.now sessions.old sessions.new }
         ensures own { IfOk result (λ descriptor. HasOwn (CalledFrom work.reach S.called) S.entered S.left work.now sessions.old work.reach
             descriptor sessions.new) }
@@ -166,7 +176,9 @@ impl Mount {
         path: PathFrom<'_>,
         node: u64,
     ) -> Result<Descriptor, Refused>
-        requires { IsNamed work.reach path }
+        requires named { IsNamed work.reach path }
+        requires opens { May work.reach.plan Open }
+        requires closes { May work.reach.plan Close }
         ensures asked { Talked (CalledFrom work.reach S.called) S.entered S.left work.now sessions.old sessions.new }
         ensures opened { IfOk result (λ descriptor. OpenedAt (CalledFrom work.reach S.called) S.entered S.left work.now
             sessions.old path.entry descriptor sessions.new) }
@@ -189,7 +201,9 @@ impl Mount {
         path: PathFrom<'_>,
         inode: u16,
     ) -> Result<(), Refused>
-        requires { IsNamed work.reach path }
+        requires named { IsNamed work.reach path }
+        requires opens { May work.reach.plan Open }
+        requires closes { May work.reach.plan Close }
         ensures { Talked (CalledFrom work.reach S.called) S.entered S.left work.now sessions.old sessions.new }
     {
         let Some(id) = self.nodes.of(inode) else {
@@ -204,6 +218,7 @@ impl Mount {
 
     /// A node has a handle less; behind the last one its descriptor is closed.
     pub(crate) fn let_go<S: Sessions>(&mut self, sessions: &mut S, work: Work, node: u64)
+        requires closes { May work.reach.plan Close }
         ensures { Talked (CalledFrom work.reach S.called) S.entered S.left work.now sessions.old sessions.new }
     {
         if let Some(descriptor) = self.nodes.closed(node) {

@@ -1,5 +1,5 @@
 //! Open files: what is read, what is written, and what reaches the disk.
-#![tactic(auto, using(crate::proofs::Asking::goes_on, crate::proofs::Asking::stays))]
+#![tactic(auto, using(crate::proofs::Asking::goes_on, crate::proofs::Asking::stays, crate::proofs::Plans::by_plan))]
 
 ghost use Rattle.std.specs.Prelude.{◌≡◌, ◌<◌, ◌≤◌, ℕ, [], pos, min, length, IfNone, IfOk, IfSome, IsTrue, OnErr, Some};
 ghost use Rattle.talks.specs.Talks.{MayHear};
@@ -15,6 +15,9 @@ ghost use Rattle.fuse_server.specs.Reach.{CalledFrom};
 ghost use Rattle.fuse_server.specs.Telling.{AskedFor, ToldBehind};
 ghost use Rattle.fuse_server.specs.Telling.Telling.{Other, ReadAt, WrittenAt};
 ghost use Rattle.fuse_server.specs.Kinds.{is_open, is_done, IsWithin, IsCount, IsOfSync};
+ghost use Rattle.fuse_server.specs.Plans.{May};
+ghost use Rattle.fuse_server.specs.Plans.Kind.{Seek, Read, Write};
+ghost use Rattle.fuse_server.specs.declared.work.Plan.TheVariants as plan;
 
 use crate::bounds::{most_of, within};
 use crate::mount::Mount;
@@ -66,6 +69,7 @@ fn seek<S: Sessions>(
     descriptor: Descriptor,
     offset: i64,
 ) -> Result<u32, Refused>
+    requires seeks { May work.reach.plan Seek }
     ensures asked { Talked (CalledFrom work.reach S.called) S.entered S.left work.now sessions.old sessions.new }
     ensures sought { IfOk result (λ position. MayHear (CalledFrom work.reach S.called) S.entered S.left work.now sessions.old
         (ask.Call descriptor.session (call.Seek descriptor.fd Set offset)) (heard_of.Outcome (outcome.Reply (reply.At position)))
@@ -87,6 +91,8 @@ fn read_at<S: Sessions>(
     offset: i64,
     count: u32,
 ) -> Result<Vec<u8>, Refused>
+    requires seeks { May work.reach.plan Seek }
+    requires reads { May work.reach.plan Read }
     ensures asked { Talked (CalledFrom work.reach S.called) S.entered S.left work.now sessions.old sessions.new }
     ensures read { IfOk result (λ bytes. ReadFrom (CalledFrom work.reach S.called) S.entered S.left work.now sessions.old descriptor offset
         count bytes.items sessions.new) }
@@ -107,6 +113,8 @@ fn write_at<S: Sessions>(
     offset: i64,
     bytes: &[u8],
 ) -> Result<u32, Refused>
+    requires seeks { May work.reach.plan Seek }
+    requires writes { May work.reach.plan Write }
     ensures asked { Talked (CalledFrom work.reach S.called) S.entered S.left work.now sessions.old sessions.new }
     ensures written { IfOk result (λ count. SoughtFor (CalledFrom work.reach S.called) S.entered S.left work.now sessions.old descriptor
         offset (call.Write descriptor.fd bytes.entry) (reply.Wrote count) sessions.new) }
@@ -126,6 +134,7 @@ impl Mount {
         sessions: &mut S,
         work: Work,
     ) -> Result<FuseAnswer, Refused>
+        requires plan { work.reach.plan ≡ plan.Open }
         ensures asked { Talked (CalledFrom work.reach S.called) S.entered S.left work.now sessions.old sessions.new }
         ensures told { IfOk result (λ a. IsTrue (is_open a)) }
     {
@@ -156,6 +165,7 @@ impl Mount {
         work: Work,
         span: Span,
     ) -> Result<FuseAnswer, Refused>
+        requires plan { work.reach.plan ≡ plan.Read }
         ensures asked { OnErr result (Talked (CalledFrom work.reach S.called) S.entered S.left work.now sessions.old sessions.new) }
         ensures told { IfOk result (IsWithin span.count) }
         ensures behind { IfOk result (λ a. ToldBehind (CalledFrom work.reach S.called) S.entered S.left work.now work.reach (ReadAt
@@ -181,6 +191,7 @@ impl Mount {
         offset: u64,
         bytes: &[u8],
     ) -> Result<FuseAnswer, Refused>
+        requires plan { work.reach.plan ≡ plan.Write }
         ensures asked { OnErr result (Talked (CalledFrom work.reach S.called) S.entered S.left work.now sessions.old sessions.new) }
         ensures told { IfOk result (IsCount (length bytes.now)) }
         ensures behind { IfOk result (λ a. ToldBehind (CalledFrom work.reach S.called) S.entered S.left work.now work.reach (WrittenAt
@@ -208,6 +219,7 @@ impl Mount {
         work: Work,
         handle: u64,
     ) -> Result<FuseAnswer, Refused>
+        requires plan { work.reach.plan ≡ plan.Close }
         ensures asked { Talked (CalledFrom work.reach S.called) S.entered S.left work.now sessions.old sessions.new }
         ensures told { IfOk result (λ a. IsTrue (is_done a)) }
     {
@@ -220,6 +232,7 @@ impl Mount {
 
     /// FSYNC and FSYNCDIR: all that was written reaches the disk.
     pub(crate) fn sync<S: Sessions>(&mut self, sessions: &mut S, work: Work) -> Said
+        requires plan { work.reach.plan ≡ plan.Sync }
         ensures asked { AskedFor (MayHear (CalledFrom work.reach S.called) S.entered S.left work.now) work.reach Other (known_of
             self.new.nodes) sessions.old result sessions.new }
         ensures sync { IsOfSync result }

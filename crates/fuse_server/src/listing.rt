@@ -1,10 +1,13 @@
 //! Directories: their entries, as they were when they were asked for from the start.
-#![tactic(auto, using(crate::proofs::Asking::goes_on, crate::proofs::Asking::stays))]
+#![tactic(auto, using(crate::proofs::Asking::goes_on, crate::proofs::Asking::stays, crate::proofs::Plans::by_plan))]
 
 ghost use Rattle.std.specs.Prelude.{◌≤◌, ◌<◌, ◌+◌, ◌^◌, IfOk, IfSome, IsTrue, length};
 ghost use Rattle.fuse_server.specs.Asking.{Talked};
 ghost use Rattle.fuse_server.specs.Kinds.{is_open, IsWithin};
 ghost use Rattle.fuse_server.specs.Reach.{CalledFrom, IsNamed};
+ghost use Rattle.fuse_server.specs.Plans.{May};
+ghost use Rattle.fuse_server.specs.Plans.Kind.{Close, Lstat, Open, Readdir};
+ghost use Rattle.fuse_server.specs.declared.work.Plan.TheVariants as plan;
 
 use crate::bounds::{most_of, within};
 use crate::descriptors::{Opening, READ, close};
@@ -106,7 +109,10 @@ impl Mount {
         work: Work,
         path: PathFrom<'_>,
     ) -> Result<Vec<Entry>, Refused>
-        requires { IsNamed work.reach path }
+        requires named { IsNamed work.reach path }
+        requires opens { May work.reach.plan Open }
+        requires closes { May work.reach.plan Close }
+        requires lists { May work.reach.plan Readdir }
         ensures { Talked (CalledFrom work.reach S.called) S.entered S.left work.now sessions.old sessions.new }
     {
         let opening = Opening {
@@ -123,6 +129,10 @@ impl Mount {
 
     /// The names of the message's node, and the inodes of itself and the directory above.
     fn names_of<S: Sessions>(&mut self, sessions: &mut S, work: Work) -> Result<Names, Refused>
+        requires looks { May work.reach.plan Lstat }
+        requires opens { May work.reach.plan Open }
+        requires closes { May work.reach.plan Close }
+        requires lists { May work.reach.plan Readdir }
         ensures { Talked (CalledFrom work.reach S.called) S.entered S.left work.now sessions.old sessions.new }
     {
         let path = work.reach.node()?;
@@ -158,6 +168,10 @@ impl Mount {
         work: Work,
         span: Span,
     ) -> Result<(), Refused>
+        requires looks { May work.reach.plan Lstat }
+        requires opens { May work.reach.plan Open }
+        requires closes { May work.reach.plan Close }
+        requires lists { May work.reach.plan Readdir }
         ensures { Talked (CalledFrom work.reach S.called) S.entered S.left work.now sessions.old sessions.new }
     {
         self.check_directory(work, span.handle)?;
@@ -186,6 +200,7 @@ impl Mount {
         work: Work,
         span: Span,
     ) -> Result<FuseAnswer, Refused>
+        requires plan { work.reach.plan ≡ plan.List }
         ensures asked { Talked (CalledFrom work.reach S.called) S.entered S.left work.now sessions.old sessions.new }
         ensures told { IfOk result (IsWithin span.count) }
     {

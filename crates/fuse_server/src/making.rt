@@ -1,5 +1,5 @@
 //! Files, directories and symbolic links that are made.
-#![tactic(auto, using(crate::proofs::Asking::goes_on, crate::proofs::Asking::stays))]
+#![tactic(auto, using(crate::proofs::Asking::goes_on, crate::proofs::Asking::stays, crate::proofs::Plans::by_plan))]
 
 ghost use Rattle.std.specs.Prelude.{◌≡◌, Some, IfOk, OnErr};
 ghost use Rattle.fuse_server.specs.Asking.{Talked, LookedAt};
@@ -9,6 +9,9 @@ ghost use Rattle.fuse_server.specs.Kinds.{IsEntry, IsCreate};
 ghost use Rattle.fuse_server.specs.Reach.{CalledFrom, IsNamed};
 ghost use Rattle.fuse_server.specs.Telling.{ShownAt, ToldBehind, told_of};
 ghost use Rattle.fuse_server.specs.Telling.Telling.{Name};
+ghost use Rattle.fuse_server.specs.Plans.{May};
+ghost use Rattle.fuse_server.specs.Plans.Kind.{Close, Give, Lstat, New};
+ghost use Rattle.fuse_server.specs.declared.work.Plan.TheVariants as plan;
 
 use crate::descriptors::{NEW, Opening, close};
 use crate::mount::Mount;
@@ -67,7 +70,9 @@ fn give_itself<S: Sessions>(
     path: PathFrom<'_>,
     owner: Owner,
 ) -> Result<(), Refused>
-    requires { IsNamed work.reach path }
+    requires named { IsNamed work.reach path }
+    requires looks { May work.reach.plan Lstat }
+    requires gives { May work.reach.plan Give }
     ensures { Talked (CalledFrom work.reach S.called) S.entered S.left work.now sessions.old sessions.new }
 {
     let looked = calling(sessions, work, session, &Call::Lstat { path });
@@ -90,7 +95,8 @@ impl Seats {
         path: PathFrom<'_>,
         owner: Owner,
     ) -> Result<(), Refused>
-        requires { IsNamed work.reach path }
+        requires named { IsNamed work.reach path }
+        requires gives { May work.reach.plan Give }
         ensures { Talked (CalledFrom work.reach S.called) S.entered S.left work.now sessions.old sessions.new }
     {
         let Owner { uid, gid } = owner;
@@ -105,7 +111,9 @@ impl Seats {
         path: PathFrom<'_>,
         owner: Owner,
     ) -> Result<(), Refused>
-        requires { IsNamed work.reach path }
+        requires named { IsNamed work.reach path }
+        requires looks { May work.reach.plan Lstat }
+        requires gives { May work.reach.plan Give }
         ensures { Talked (CalledFrom work.reach S.called) S.entered S.left work.now sessions.old sessions.new }
     {
         let session = self.session(sessions, work, 0)?;
@@ -120,7 +128,9 @@ impl Seats {
         path: PathFrom<'_>,
         owner: Owner,
     ) -> Result<Attributes, Refused>
-        requires { IsNamed work.reach path }
+        requires named { IsNamed work.reach path }
+        requires looks { May work.reach.plan Lstat }
+        requires gives { May work.reach.plan Give }
         ensures asked { Talked (CalledFrom work.reach S.called) S.entered S.left work.now sessions.old sessions.new }
         ensures seen { IfOk result (λ was. LookedAt (CalledFrom work.reach S.called) S.entered S.left work.now sessions.old path.entry
             (Some was) sessions.new) }
@@ -139,7 +149,9 @@ impl Mount {
         path: PathFrom<'_>,
         owner: Owner,
     ) -> Result<Entry, Refused>
-        requires { IsNamed work.reach path }
+        requires named { IsNamed work.reach path }
+        requires looks { May work.reach.plan Lstat }
+        requires gives { May work.reach.plan Give }
         ensures asked { Talked (CalledFrom work.reach S.called) S.entered S.left work.now sessions.old sessions.new }
         ensures told { IfOk result (IsKnown (known_of self.new.nodes)) }
         ensures shown { IfOk result (λ entry. ShownAt (CalledFrom work.reach S.called) S.entered S.left work.now sessions.old path.entry
@@ -157,7 +169,9 @@ impl Mount {
         path: PathFrom<'_>,
         mode: u16,
     ) -> Result<Descriptor, Refused>
-        requires { IsNamed work.reach path }
+        requires named { IsNamed work.reach path }
+        requires makes { May work.reach.plan New }
+        requires closes { May work.reach.plan Close }
         ensures { Talked (CalledFrom work.reach S.called) S.entered S.left work.now sessions.old sessions.new }
     {
         let opening = Opening {
@@ -177,6 +191,7 @@ impl Mount {
         name: &[u8],
         mode: u32,
     ) -> Result<FuseAnswer, Refused>
+        requires plan { work.reach.plan ≡ plan.MakeFile }
         ensures asked { OnErr result (Talked (CalledFrom work.reach S.called) S.entered S.left work.now sessions.old sessions.new) }
         ensures told { IfOk result (IsEntry (known_of self.new.nodes)) }
         ensures behind { IfOk result (λ a. ToldBehind (CalledFrom work.reach S.called) S.entered S.left work.now work.reach (Name name.now)
@@ -202,6 +217,7 @@ impl Mount {
         name: &[u8],
         mode: u32,
     ) -> Result<FuseAnswer, Refused>
+        requires plan { work.reach.plan ≡ plan.MakeDirectory }
         ensures asked { OnErr result (Talked (CalledFrom work.reach S.called) S.entered S.left work.now sessions.old sessions.new) }
         ensures told { IfOk result (IsEntry (known_of self.new.nodes)) }
         ensures behind { IfOk result (λ a. ToldBehind (CalledFrom work.reach S.called) S.entered S.left work.now work.reach (Name name.now)
@@ -224,7 +240,9 @@ impl Mount {
         path: PathFrom<'_>,
         owner: Owner,
     ) -> Result<Entry, Refused>
-        requires { IsNamed work.reach path }
+        requires named { IsNamed work.reach path }
+        requires looks { May work.reach.plan Lstat }
+        requires gives { May work.reach.plan Give }
         ensures asked { Talked (CalledFrom work.reach S.called) S.entered S.left work.now sessions.old sessions.new }
         ensures told { IfOk result (IsKnown (known_of self.new.nodes)) }
         ensures shown { IfOk result (λ entry. ShownAt (CalledFrom work.reach S.called) S.entered S.left work.now sessions.old path.entry
@@ -243,6 +261,7 @@ impl Mount {
         name: &[u8],
         target: &[u8],
     ) -> Result<FuseAnswer, Refused>
+        requires plan { work.reach.plan ≡ plan.MakeLink }
         ensures asked { OnErr result (Talked (CalledFrom work.reach S.called) S.entered S.left work.now sessions.old sessions.new) }
         ensures told { IfOk result (IsEntry (known_of self.new.nodes)) }
         ensures behind { IfOk result (λ a. ToldBehind (CalledFrom work.reach S.called) S.entered S.left work.now work.reach (Name name.now)
@@ -288,7 +307,9 @@ impl Mount {
         owner: Owner,
         descriptor: Descriptor,
     ) -> Result<(Entry, Opened), Refused>
-        requires { IsNamed work.reach path }
+        requires named { IsNamed work.reach path }
+        requires looks { May work.reach.plan Lstat }
+        requires gives { May work.reach.plan Give }
         ensures asked { Talked (CalledFrom work.reach S.called) S.entered S.left work.now sessions.old sessions.new }
         ensures told { IfOk result (λ x. IsKnown (known_of self.new.nodes) x.0) }
         ensures shown { IfOk result (λ x. ShownAt (CalledFrom work.reach S.called) S.entered S.left work.now sessions.old path.entry
@@ -307,6 +328,7 @@ impl Mount {
         name: &[u8],
         mode: u32,
     ) -> Result<FuseAnswer, Refused>
+        requires plan { work.reach.plan ≡ plan.MakeFile }
         ensures asked { OnErr result (Talked (CalledFrom work.reach S.called) S.entered S.left work.now sessions.old sessions.new) }
         ensures told { IfOk result (IsCreate (known_of self.new.nodes)) }
         ensures behind { IfOk result (λ a. ToldBehind (CalledFrom work.reach S.called) S.entered S.left work.now work.reach (Name name.now)

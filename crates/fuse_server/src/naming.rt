@@ -1,5 +1,5 @@
 //! Names: where they lead, further ones, changed ones, and ones that are taken away.
-#![tactic(auto, using(crate::proofs::Asking::goes_on, crate::proofs::Asking::stays))]
+#![tactic(auto, using(crate::proofs::Asking::goes_on, crate::proofs::Asking::stays, crate::proofs::Plans::by_plan))]
 
 ghost use Rattle.std.specs.Prelude.{◌≡◌, ◌⊎◌, ℕ, List, IfOk, OnErr, IfSome, IsTrue};
 ghost use Rattle.tree.specs.declared.Call.TheVariants as call;
@@ -14,6 +14,9 @@ ghost use Rattle.fuse_server.specs.Kinds.{is_done, IsEntry, IsOfLookup};
 ghost use Rattle.fuse_server.specs.Reach.{CalledFrom, IsAt, IsNamed};
 ghost use Rattle.fuse_server.specs.Telling.{AskedFor, FoundAt, ToldBehind, ShownAt, told_of};
 ghost use Rattle.fuse_server.specs.Telling.Telling.{Name, Unlinked, Removed, Renamed};
+ghost use Rattle.fuse_server.specs.Plans.{May};
+ghost use Rattle.fuse_server.specs.Plans.Kind.{Close, Lstat, Open, Rename};
+ghost use Rattle.fuse_server.specs.declared.work.Plan.TheVariants as plan;
 
 use crate::mount::Mount;
 use crate::said::{FuseAnswer, Said};
@@ -48,6 +51,8 @@ impl Seats {
     ) -> Result<Attributes, Refused>
         requires old { IsNamed work.reach old }
         requires new { IsNamed work.reach new }
+        requires looks { May work.reach.plan Lstat }
+        requires renames { May work.reach.plan Rename }
         ensures asked { OnErr result (Talked (CalledFrom work.reach S.called) S.entered S.left work.now sessions.old sessions.new) }
         ensures done { IfOk result (λ was. LookedBefore (CalledFrom work.reach S.called) S.entered S.left work.now sessions.old old.entry
             (reply.Inode was) (call.Rename old.entry new.entry) sessions.new) }
@@ -78,7 +83,8 @@ pub(crate) fn tell<S: Sessions>(
     work: Work,
     path: PathFrom<'_>,
 ) -> Result<Entry, Refused>
-    requires { IsNamed work.reach path }
+    requires named { IsNamed work.reach path }
+    requires looks { May work.reach.plan Lstat }
     ensures asked { Talked (CalledFrom work.reach S.called) S.entered S.left work.now sessions.old sessions.new }
     ensures told { IfOk result (IsKnown (known_of nodes.new)) }
     ensures shown { IfOk result (λ entry. ShownAt (CalledFrom work.reach S.called) S.entered S.left work.now sessions.old path.entry
@@ -97,7 +103,8 @@ impl Mount {
         work: Work,
         path: PathFrom<'_>,
     ) -> Result<Entry, Refused>
-        requires { IsNamed work.reach path }
+        requires named { IsNamed work.reach path }
+        requires looks { May work.reach.plan Lstat }
         ensures asked { Talked (CalledFrom work.reach S.called) S.entered S.left work.now sessions.old sessions.new }
         ensures told { IfOk result (IsKnown (known_of self.new.nodes)) }
         ensures shown { IfOk result (λ entry. ShownAt (CalledFrom work.reach S.called) S.entered S.left work.now sessions.old path.entry
@@ -113,7 +120,8 @@ impl Mount {
         work: Work,
         path: PathFrom<'_>,
     ) -> Result<Option<Entry>, Refused>
-        requires { IsNamed work.reach path }
+        requires named { IsNamed work.reach path }
+        requires looks { May work.reach.plan Lstat }
         ensures asked { Talked (CalledFrom work.reach S.called) S.entered S.left work.now sessions.old sessions.new }
         ensures told { IfOk result (λ found. IfSome found (IsKnown (known_of self.new.nodes))) }
         ensures shown { IfOk result (λ found. FoundAt (CalledFrom work.reach S.called) S.entered S.left work.now sessions.old path.entry
@@ -127,7 +135,8 @@ impl Mount {
 
     /// What a LOOKUP of a path is answered.
     fn lookup_at<S: Sessions>(&mut self, sessions: &mut S, work: Work, path: PathFrom<'_>) -> Said
-        requires { IsNamed work.reach path }
+        requires named { IsNamed work.reach path }
+        requires looks { May work.reach.plan Lstat }
         ensures asked { (name : List ℕ) → IsAt work.reach.own name path.entry
             → AskedFor (MayHear (CalledFrom work.reach S.called) S.entered S.left work.now) work.reach (Name name) (known_of self.new.nodes)
             sessions.old result
@@ -143,6 +152,7 @@ impl Mount {
 
     /// LOOKUP.
     pub(crate) fn lookup<S: Sessions>(&mut self, sessions: &mut S, work: Work, name: &[u8]) -> Said
+        requires plan { work.reach.plan ≡ plan.Look }
         ensures asked { AskedFor (MayHear (CalledFrom work.reach S.called) S.entered S.left work.now) work.reach (Name name.now)
             (known_of self.new.nodes) sessions.old result sessions.new }
         ensures told { IsOfLookup (known_of self.new.nodes) result }
@@ -160,6 +170,7 @@ impl Mount {
         work: Work,
         name: &[u8],
     ) -> Result<FuseAnswer, Refused>
+        requires plan { work.reach.plan ≡ plan.Link }
         ensures asked { OnErr result (Talked (CalledFrom work.reach S.called) S.entered S.left work.now sessions.old sessions.new) }
         ensures told { IfOk result (IsEntry (known_of self.new.nodes)) }
         ensures behind { IfOk result (λ a. ToldBehind (CalledFrom work.reach S.called) S.entered S.left work.now work.reach (Name name.now)
@@ -180,6 +191,7 @@ impl Mount {
         work: Work,
         name: &[u8],
     ) -> Result<FuseAnswer, Refused>
+        requires plan { work.reach.plan ≡ plan.Unlink }
         ensures asked { OnErr result (Talked (CalledFrom work.reach S.called) S.entered S.left work.now sessions.old sessions.new) }
         ensures told { IfOk result (λ a. IsTrue (is_done a)) }
         ensures behind { IfOk result (λ a. ToldBehind (CalledFrom work.reach S.called) S.entered S.left work.now work.reach (Unlinked
@@ -209,6 +221,7 @@ impl Mount {
         work: Work,
         name: &[u8],
     ) -> Result<FuseAnswer, Refused>
+        requires plan { work.reach.plan ≡ plan.Rmdir }
         ensures asked { OnErr result (Talked (CalledFrom work.reach S.called) S.entered S.left work.now sessions.old sessions.new) }
         ensures told { IfOk result (λ a. IsTrue (is_done a)) }
         ensures behind { IfOk result (λ a. ToldBehind (CalledFrom work.reach S.called) S.entered S.left work.now work.reach (Removed
@@ -229,7 +242,10 @@ impl Mount {
         path: PathFrom<'_>,
         flags: u32,
     ) -> Result<Option<Attributes>, Refused>
-        requires { IsNamed work.reach path }
+        requires named { IsNamed work.reach path }
+        requires looks { May work.reach.plan Lstat }
+        requires opens { May work.reach.plan Open }
+        requires closes { May work.reach.plan Close }
         ensures asked { Talked (CalledFrom work.reach S.called) S.entered S.left work.now sessions.old sessions.new }
         ensures seen { IfOk result (λ found. TalkedLooking (CalledFrom work.reach S.called) S.entered S.left work.now sessions.old
             path.entry (look_reply found) sessions.new) }
@@ -264,6 +280,7 @@ impl Mount {
         to: &[u8],
         flags: u32,
     ) -> Result<FuseAnswer, Refused>
+        requires plan { work.reach.plan ≡ plan.Rename }
         ensures asked { OnErr result (Talked (CalledFrom work.reach S.called) S.entered S.left work.now sessions.old sessions.new) }
         ensures told { IfOk result (λ a. IsTrue (is_done a)) }
         ensures behind { IfOk result (λ a. ToldBehind (CalledFrom work.reach S.called) S.entered S.left work.now work.reach (Renamed

@@ -1,5 +1,5 @@
 //! READDIRPLUS: the entries of a directory, each behind what its name leads to, so that the kernel needs no LOOKUP of it.
-#![tactic(auto, using(crate::proofs::Asking::goes_on, crate::proofs::Asking::stays))]
+#![tactic(auto, using(crate::proofs::Asking::goes_on, crate::proofs::Asking::stays, crate::proofs::Plans::by_plan))]
 
 ghost use Rattle.std.specs.Prelude.{◌≡◌, ◌≤◌, ◌+◌, IfOk, IsTrue, length, vec_capacity};
 ghost use Rattle.fuse_nodes.specs.Known.{known_of};
@@ -7,6 +7,9 @@ ghost use Rattle.fuse_server.specs.Asking.{Talked};
 ghost use Rattle.fuse_server.specs.Entries.{MaybeKnown, KeepsNumbers, IsListed};
 ghost use Rattle.fuse_server.specs.Kinds.{IsPlus};
 ghost use Rattle.fuse_server.specs.Reach.{CalledFrom};
+ghost use Rattle.fuse_server.specs.Plans.{May};
+ghost use Rattle.fuse_server.specs.Plans.Kind.{Lstat};
+ghost use Rattle.fuse_server.specs.declared.work.Plan.TheVariants as plan;
 
 use crate::bounds::most_of;
 use crate::listing::{entry_at, place_of};
@@ -46,6 +49,7 @@ fn found<S: Sessions>(
     work: Work,
     name: &[u8],
 ) -> Entry
+    requires looks { May work.reach.plan Lstat }
     ensures asked { Talked (CalledFrom work.reach S.called) S.entered S.left work.now sessions.old sessions.new }
     ensures told { MaybeKnown (known_of nodes.new) result }
     ensures kept { KeepsNumbers (known_of nodes.old) (known_of nodes.new) }
@@ -101,6 +105,7 @@ fn push_found<S: Sessions>(
 ) -> bool
     requires name { length entry.name.now ≤ 60 }
     requires room { length bytes.old.items ≤ listing.room }
+    requires looks { May work.reach.plan Lstat }
     ensures asked { Talked (CalledFrom work.reach S.called) S.entered S.left work.now sessions.old sessions.new }
     ensures room { length bytes.new.items ≤ listing.entry.room }
     ensures listed { IsListed (known_of nodes.old) bytes.old.items → IsListed (known_of nodes.new) bytes.new.items }
@@ -125,6 +130,7 @@ fn told_entries<S: Sessions>(
     alloc: Global,
     listing: Listing<'_>,
 ) -> Result<Vec<u8>, Refused>
+    requires looks { May work.reach.plan Lstat }
     ensures asked { Talked (CalledFrom work.reach S.called) S.entered S.left work.now sessions.old sessions.new }
     ensures room { IfOk result (λ bytes. length bytes.items ≤ listing.entry.room) }
     ensures listed { IfOk result (λ bytes. IsListed (known_of nodes.new) bytes.items) }
@@ -149,6 +155,7 @@ impl Mount {
         work: Work,
         span: Span,
     ) -> Result<FuseAnswer, Refused>
+        requires looks { May work.reach.plan Lstat }
         ensures asked { Talked (CalledFrom work.reach S.called) S.entered S.left work.now sessions.old sessions.new }
         ensures told { IfOk result (IsPlus (known_of self.new.nodes) span.count) }
     {
@@ -176,6 +183,7 @@ impl Mount {
         work: Work,
         span: Span,
     ) -> Result<FuseAnswer, Refused>
+        requires plan { work.reach.plan ≡ plan.List }
         ensures asked { Talked (CalledFrom work.reach S.called) S.entered S.left work.now sessions.old sessions.new }
         ensures told { IfOk result (IsPlus (known_of self.new.nodes) span.count) }
     {

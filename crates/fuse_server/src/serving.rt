@@ -9,6 +9,7 @@ ghost use Rattle.fuse_server.specs.Kinds.{is_sync, IsFor, IsInit, IsSaidTo};
 ghost use Rattle.fuse_server.specs.Reach.{CalledFrom, reach_of};
 ghost use Rattle.fuse_server.specs.Telling.{AskedFor, ToldBehind, telling, tells};
 ghost use Rattle.fuse_server.specs.Answering.{IsSaidToBytes, MayHearFrom};
+ghost use Rattle.fuse_server.specs.Plans.{plan_of};
 
 use crate::attributes::bits_of;
 use crate::bounds::most_of;
@@ -103,6 +104,7 @@ impl Mount {
         work: Work,
         message: &Message<'_>,
     ) -> Result<FuseAnswer, Refused>
+        requires plan { work.reach.plan ≡ plan_of message.now.request }
         ensures asked { OnErr result (Talked (CalledFrom work.reach S.called) S.entered S.left work.now sessions.old sessions.new) }
         ensures told { IfOk result (IsFor (known_of self.new.nodes) message.now.request) }
         ensures behind { IfOk result (λ a. ToldBehind (CalledFrom work.reach S.called) S.entered S.left work.now work.reach (telling
@@ -134,6 +136,7 @@ impl Mount {
         work: Work,
         message: &Message<'_>,
     ) -> Result<FuseAnswer, Refused>
+        requires plan { work.reach.plan ≡ plan_of message.now.request }
         ensures asked { OnErr result (Talked (CalledFrom work.reach S.called) S.entered S.left work.now sessions.old sessions.new) }
         ensures told { IfOk result (IsFor (known_of self.new.nodes) message.now.request) }
         ensures behind { IfOk result (λ a. ToldBehind (CalledFrom work.reach S.called) S.entered S.left work.now work.reach (telling
@@ -157,6 +160,7 @@ impl Mount {
         work: Work,
         message: &Message<'_>,
     ) -> Result<FuseAnswer, Refused>
+        requires plan { work.reach.plan ≡ plan_of message.now.request }
         ensures asked { OnErr result (Talked (CalledFrom work.reach S.called) S.entered S.left work.now sessions.old sessions.new) }
         ensures told { IfOk result (IsFor (known_of self.new.nodes) message.now.request) }
         ensures behind { IfOk result (λ a. ToldBehind (CalledFrom work.reach S.called) S.entered S.left work.now work.reach (telling
@@ -199,6 +203,7 @@ impl Mount {
         work: Work,
         message: &Message<'_>,
     ) -> Result<FuseAnswer, Refused>
+        requires plan { work.reach.plan ≡ plan_of message.now.request }
         ensures asked { OnErr result (Talked (CalledFrom work.reach S.called) S.entered S.left work.now sessions.old sessions.new) }
         ensures told { IfOk result (IsFor (known_of self.new.nodes) message.now.request) }
         ensures behind { IfOk result (λ a. ToldBehind (CalledFrom work.reach S.called) S.entered S.left work.now work.reach (telling
@@ -223,6 +228,7 @@ impl Mount {
         work: Work,
         message: &Message<'_>,
     ) -> Result<FuseAnswer, Refused>
+        requires plan { work.reach.plan ≡ plan_of message.now.request }
         ensures asked { Talked (CalledFrom work.reach S.called) S.entered S.left work.now sessions.old sessions.new }
         ensures told { IfOk result (IsFor (known_of self.new.nodes) message.now.request) }
     {
@@ -252,6 +258,7 @@ impl Mount {
         work: Work,
         message: &Message<'_>,
     ) -> FuseAnswer
+        requires plan { work.reach.plan ≡ plan_of message.now.request }
         ensures behind { ToldBehind (CalledFrom work.reach S.called) S.entered S.left work.now work.reach (telling message.now.request)
             (known_of self.new.nodes) sessions.old result sessions.new }
         ensures told { IsFor (known_of self.new.nodes) message.now.request result }
@@ -269,6 +276,7 @@ impl Mount {
         work: Work,
         message: &Message<'_>,
     ) -> Said
+        requires plan { work.reach.plan ≡ plan_of message.now.request }
         ensures asked { AskedFor (MayHear (CalledFrom work.reach S.called) S.entered S.left work.now) work.reach (telling
             message.now.request) (known_of self.new.nodes) sessions.old result sessions.new }
         ensures told { IsSaidTo (known_of self.new.nodes) message.now.request result }
@@ -287,6 +295,7 @@ impl Mount {
         work: Work,
         message: &Message<'_>,
     ) -> FuseAnswer
+        requires plan { work.reach.plan ≡ plan_of message.now.request }
         ensures asked { Talked (CalledFrom work.reach S.called) S.entered S.left work.now sessions.old sessions.new }
         ensures told { IsFor (known_of self.new.nodes) message.now.request result }
     {
@@ -298,6 +307,7 @@ impl Mount {
 
     /// What is said to a message that is no sync.
     fn said_of<S: Sessions>(&mut self, sessions: &mut S, work: Work, message: &Message<'_>) -> Said
+        requires plan { work.reach.plan ≡ plan_of message.now.request }
         ensures asked { AskedFor (MayHear (CalledFrom work.reach S.called) S.entered S.left work.now) work.reach (telling
             message.now.request) (known_of self.new.nodes) sessions.old result sessions.new }
         ensures told { IsSaidTo (known_of self.new.nodes) message.now.request result }
@@ -310,6 +320,7 @@ impl Mount {
 
     /// What is said to a message.
     fn said_by<S: Sessions>(&mut self, sessions: &mut S, work: Work, message: &Message<'_>) -> Said
+        requires plan { work.reach.plan ≡ plan_of message.now.request }
         ensures asked { AskedFor (MayHear (CalledFrom work.reach S.called) S.entered S.left work.now) work.reach (telling
             message.now.request) (known_of self.new.nodes) sessions.old result sessions.new }
         ensures told { IsSaidTo (known_of self.new.nodes) message.now.request result }

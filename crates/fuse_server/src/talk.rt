@@ -10,6 +10,8 @@ ghost use Rattle.talks.specs.declared.heard.Heard.TheVariants as heard_of;
 ghost use Rattle.fuse_server.specs.Losing.{takes_name};
 ghost use Rattle.fuse_server.specs.Asking.{Talked, TalkedTo, TalkedFor, LookedAt};
 ghost use Rattle.fuse_server.specs.Reach.{AsksFrom, CalledFrom, IsNamed};
+ghost use Rattle.fuse_server.specs.Plans.{May, kind_of};
+ghost use Rattle.fuse_server.specs.Plans.Kind.{Lstat};
 
 use crate::work::Work;
 use errno::Errno;
@@ -29,6 +31,7 @@ pub(crate) fn calling<S: Sessions>(
 ) -> Heard
     requires named { AsksFrom work.reach call.now }
     requires quiet { takes_name call.now ≡ false }
+    requires planned { May work.reach.plan (kind_of call.now) }
     ensures asked { Talked (CalledFrom work.reach S.called) S.entered S.left work.now sessions.old sessions.new }
     ensures heard { MayHear (CalledFrom work.reach S.called) S.entered S.left work.now sessions.old (ask.Call session call.now) result
         sessions.new }
@@ -50,7 +53,8 @@ fn taking<S: Sessions>(
     session: u8,
     call: &Call<'_>,
 ) -> Result<(), Refused>
-    requires { AsksFrom work.reach call.now }
+    requires named { AsksFrom work.reach call.now }
+    requires planned { May work.reach.plan (kind_of call.now) }
     ensures asked { OnErr result (Talked (CalledFrom work.reach S.called) S.entered S.left work.now sessions.old sessions.new) }
     ensures done { OnOk result (MayHear (CalledFrom work.reach S.called) S.entered S.left work.now sessions.old (ask.Call session
         call.now) (heard_of.Outcome (outcome.Reply reply.Done)) sessions.new) }
@@ -116,6 +120,7 @@ impl Seats {
     ) -> Result<Heard, Refused>
         requires named { AsksFrom work.reach call.now }
         requires quiet { takes_name call.now ≡ false }
+        requires planned { May work.reach.plan (kind_of call.now) }
         ensures asked { Talked (CalledFrom work.reach S.called) S.entered S.left work.now sessions.old sessions.new }
         ensures heard { IfOk result (λ h. TalkedTo (CalledFrom work.reach S.called) S.entered S.left work.now sessions.old call.now h
             sessions.new) }
@@ -133,6 +138,7 @@ impl Seats {
     ) -> Result<(), Refused>
         requires named { AsksFrom work.reach call.now }
         requires quiet { takes_name call.now ≡ false }
+        requires planned { May work.reach.plan (kind_of call.now) }
         ensures asked { Talked (CalledFrom work.reach S.called) S.entered S.left work.now sessions.old sessions.new }
         ensures done { OnOk result (TalkedFor (CalledFrom work.reach S.called) S.entered S.left work.now sessions.old call.now reply.Done
             sessions.new) }
@@ -148,7 +154,8 @@ impl Seats {
         work: Work,
         call: &Call<'_>,
     ) -> Result<(), Refused>
-        requires { AsksFrom work.reach call.now }
+        requires named { AsksFrom work.reach call.now }
+        requires planned { May work.reach.plan (kind_of call.now) }
         ensures asked { OnErr result (Talked (CalledFrom work.reach S.called) S.entered S.left work.now sessions.old sessions.new) }
         ensures done { OnOk result (TalkedFor (CalledFrom work.reach S.called) S.entered S.left work.now sessions.old call.now reply.Done
             sessions.new) }
@@ -164,7 +171,8 @@ impl Seats {
         work: Work,
         path: PathFrom<'_>,
     ) -> Result<Attributes, Refused>
-        requires { IsNamed work.reach path }
+        requires named { IsNamed work.reach path }
+        requires looks { May work.reach.plan Lstat }
         ensures asked { Talked (CalledFrom work.reach S.called) S.entered S.left work.now sessions.old sessions.new }
         ensures seen { IfOk result (λ was. LookedAt (CalledFrom work.reach S.called) S.entered S.left work.now sessions.old path.entry
             (Some was) sessions.new) }
@@ -180,7 +188,8 @@ impl Seats {
         work: Work,
         path: PathFrom<'_>,
     ) -> Result<Option<Attributes>, Refused>
-        requires { IsNamed work.reach path }
+        requires named { IsNamed work.reach path }
+        requires looks { May work.reach.plan Lstat }
         ensures asked { Talked (CalledFrom work.reach S.called) S.entered S.left work.now sessions.old sessions.new }
         ensures seen { IfOk result (λ found. LookedAt (CalledFrom work.reach S.called) S.entered S.left work.now sessions.old path.entry
             found sessions.new) }

@@ -3,6 +3,7 @@
 ghost use Rattle.std.specs.Prelude.{◌≡◌, ◌∷◌, [], IfOk};
 ghost use Rattle.fuse_nodes.specs.Known.{known_of};
 ghost use Rattle.fuse_nodes.specs.Changes.{descriptor_of};
+ghost use Rattle.fuse_server.specs.Plans.{plan_of};
 ghost use Rattle.fuse_server.specs.Reach.{IsAt, IsNamed, inode_in, reach_of, second_of};
 
 use fuse::request::{Message, Request};
@@ -12,13 +13,71 @@ use fuse_nodes::nodes::Nodes;
 use talks::refused::Refused;
 use tree::{PathFrom, Start};
 
+/// What a message is for. It says which calls the message may ask.
+#[derive(Clone, Copy)]
+pub(crate) enum Plan {
+    /// Messages that ask nothing.
+    Nothing,
+    Look,
+    Attributes,
+    /// SETATTR.
+    Change,
+    Target,
+    Room,
+    Sync,
+    Open,
+    Read,
+    Write,
+    /// RELEASE and RELEASEDIR.
+    Close,
+    /// READDIR and READDIRPLUS.
+    List,
+    /// MKNOD and CREATE.
+    MakeFile,
+    MakeDirectory,
+    /// SYMLINK.
+    MakeLink,
+    Link,
+    Unlink,
+    Rmdir,
+    Rename,
+}
+
+/// What a request is for.
+fn plan_of(request: &Request<'_>) -> Plan
+    ensures { result ≡ plan_of request.now }
+{
+    match request {
+        Request::Lookup { .. } => Plan::Look,
+        Request::Getattr { .. } => Plan::Attributes,
+        Request::Setattr { .. } => Plan::Change,
+        Request::Readlink => Plan::Target,
+        Request::Symlink { .. } => Plan::MakeLink,
+        Request::Mknod { .. } | Request::Create { .. } => Plan::MakeFile,
+        Request::Mkdir { .. } => Plan::MakeDirectory,
+        Request::Unlink { .. } => Plan::Unlink,
+        Request::Rmdir { .. } => Plan::Rmdir,
+        Request::Rename { .. } | Request::Rename2 { .. } => Plan::Rename,
+        Request::Link { .. } => Plan::Link,
+        Request::Open { .. } => Plan::Open,
+        Request::Read { .. } => Plan::Read,
+        Request::Write { .. } => Plan::Write,
+        Request::Statfs => Plan::Room,
+        Request::Release { .. } | Request::Releasedir { .. } => Plan::Close,
+        Request::Fsync { .. } | Request::Fsyncdir { .. } => Plan::Sync,
+        Request::Readdir { .. } | Request::Readdirplus { .. } => Plan::List,
+        _ => Plan::Nothing,
+    }
+}
+
 /// What a message may name: the inodes of its node and of the second one that a RENAME and a LINK have, where they can't be other files',
-/// and the node's descriptor, if it has one.
+/// and the node's descriptor, if it has one; and what it is for.
 #[derive(Clone, Copy)]
 pub(crate) struct Reach {
     pub own: Option<u16>,
     pub other: Option<u16>,
     pub descriptor: Option<Descriptor>,
+    pub plan: Plan,
 }
 
 /// What a message is answered by: the time, the number of its node, and what it may name.
@@ -70,6 +129,7 @@ pub(crate) fn reach_of(nodes: &Nodes, message: &Message<'_>) -> Reach
         own: inode_in(nodes, Some(message.node)),
         other: inode_in(nodes, second_of(&message.request)),
         descriptor: descriptor_of(nodes, message.node),
+        plan: plan_of(&message.request),
     }
 }
 

@@ -12,9 +12,9 @@ returns-clause-asked g c =
     (ask.Call c.args.session c.args.call.now) c.heard.result c.heard.new.sessions
     (never_takes (takes_name c.args.call.now) (IsDone c.heard.result) c.requires.quiet)
     (from_named g.S.Sessions.called g.S.Sessions.entered g.S.Sessions.left c.args.work.now c.args.sessions.now c.heard.new.sessions
-    c.args.work.reach c.args.session c.args.call.now c.heard.result (inl c.requires.named) c.heard.ensures)
+    c.args.work.reach c.args.session c.args.call.now c.heard.result c.requires.planned (inl c.requires.named) c.heard.ensures)
 
 pub returns-clause-heard : goal.returns-clause-heard
 returns-clause-heard g c =
     from_named g.S.Sessions.called g.S.Sessions.entered g.S.Sessions.left c.args.work.now c.args.sessions.now c.heard.new.sessions
-    c.args.work.reach c.args.session c.args.call.now c.heard.result (inl c.requires.named) c.heard.ensures
+    c.args.work.reach c.args.session c.args.call.now c.heard.result c.requires.planned (inl c.requires.named) c.heard.ensures
