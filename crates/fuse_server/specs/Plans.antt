@@ -35,13 +35,13 @@ plan_of (request.Create flags mode umask open_flags name) = plan.MakeFile
 plan_of r = plan.Nothing
 
 -- the kinds of calls
-data Kind : Type 0 where
+pub data Kind : Type 0 where
   Lstat : Kind
   Fstat : Kind
   Set : Kind
   Give : Kind
   Readlink : Kind
-  Statfs : Kind
+  Space : Kind
   Sync : Kind
   Open : Kind
   New : Kind
@@ -71,7 +71,7 @@ kind_of (call.Truncate path size) = Set
 kind_of (call.Utime path atime mtime) = Set
 kind_of (call.Chown path uid gid) = Give
 kind_of (call.Readlink path) = Readlink
-kind_of call.Statfs = Statfs
+kind_of call.Statfs = Space
 kind_of call.Sync = Sync
 kind_of (call.Open path flags mode) = open_kind flags.0
 kind_of (call.Close fd) = Close
@@ -98,7 +98,7 @@ asks plan.Change Fstat = true
 asks plan.Change Set = true
 asks plan.Change Give = true
 asks plan.Target Readlink = true
-asks plan.Room Statfs = true
+asks plan.Room Space = true
 asks plan.Sync Sync = true
 asks plan.Open Open = true
 asks plan.Open Close = true

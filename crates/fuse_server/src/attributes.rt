@@ -12,7 +12,7 @@ ghost use Rattle.fuse_server.specs.declared.said.FuseAnswer.TheVariants as answe
 ghost use Rattle.fuse_server.specs.Telling.{ToldBehind, told_of};
 ghost use Rattle.fuse_server.specs.Telling.Telling.{Node, Target, Room};
 ghost use Rattle.fuse_server.specs.Plans.{May};
-ghost use Rattle.fuse_server.specs.Plans.Kind.{Fstat, Give, Lstat, Readlink, Set, Statfs};
+ghost use Rattle.fuse_server.specs.Plans.Kind.{Fstat, Give, Lstat, Readlink, Set, Space};
 ghost use Rattle.fuse_server.specs.declared.work.Plan.TheVariants as plan;
 
 use crate::mount::Mount;
@@ -110,7 +110,7 @@ impl Seats {
 
     /// The room of the volume.
     fn space<S: Sessions>(&mut self, sessions: &mut S, work: Work) -> Result<Statfs, Refused>
-        requires rooms { May work.reach.plan Statfs }
+        requires rooms { May work.reach.plan Space }
         ensures asked { Talked (CalledFrom work.reach S.called) S.entered S.left work.now sessions.old sessions.new }
         ensures seen { IfOk result (λ room. TalkedFor (CalledFrom work.reach S.called) S.entered S.left work.now sessions.old call.Statfs
             (reply.Space room) sessions.new) }
