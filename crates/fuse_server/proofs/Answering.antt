@@ -10,6 +10,7 @@ use Rattle.fuse.specs.Requests.{view}
 use Rattle.fuse.specs.declared.reply.Reply.{Reply}
 use Rattle.fuse.specs.Replies.{answer}
 use Rattle.fuse_nodes.specs.Known.{Known}
+use Rattle.fuse_nodes.specs.Laws.{Steps}
 use Rattle.tree.specs.declared.Call.{Call}
 use Rattle.tree.specs.declared.Outcome.{Outcome}
 use Rattle.talks.specs.declared.ask.Leaving.{Leaving}
@@ -107,12 +108,12 @@ to_unread may k l bytes read fault s is gives =
 -- a message is answered into an empty buffer
 pub by_any : {S A E : Type 0} (called : S → ℕ → ℕ → Call → Outcome → S → Type 0) (entered : S → ℕ → ℕ → Result ℕ EnterRefusal → S → Type 0)
     (left : S → Leaving → S → Type 0) (now : ℕ) (k l : Known) (bytes : List ℕ) (capacity : ℕ) (s : S) (old : List ℕ) (t : S) (new : List ℕ)
-    (r : Result A E) → old ≡ [] → OnOk r (IsAnswered (MayHearFrom called entered left now) k l bytes capacity s old t new)
+    (r : Result A E) → old ≡ [] → Steps k l → OnOk r (IsAnswered (MayHearFrom called entered left now) k l bytes capacity s old t new)
     → OnOk r (IsAnsweredBy called entered left k l bytes new s t)
-by_any called entered left now k l bytes capacity s old t new (Ok a) empty it =
+by_any called entered left now k l bytes capacity s old t new (Ok a) empty steps it =
     let P : List ℕ → Type 0 = λ x. IsAnswered (MayHearFrom called entered left now) k l bytes capacity s x t new in
-    (now, capacity, subst P empty it)
-by_any called entered left now k l bytes capacity s old t new (Err e) empty it = tt
+    (steps, now, capacity, subst P empty it)
+by_any called entered left now k l bytes capacity s old t new (Err e) empty steps it = tt
 
 -- nothing was asked, and an empty buffer stays so
 pub stays_empty : {S M A E : Type 0} (s t : S) (m n : M) (old new : List ℕ) (r : Result A E) → old ≡ []

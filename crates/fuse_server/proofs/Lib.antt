@@ -1,4 +1,5 @@
 pub mod Plans
+pub mod Steps
 pub mod Asking
 pub mod Losing
 pub mod Telling

@@ -8,6 +8,7 @@ use Rattle.fuse.specs.Reading.{request_at}
 use Rattle.fuse.specs.Requests.{view}
 use Rattle.fuse.specs.Replies.{IsReply, answer}
 use Rattle.fuse_nodes.specs.Known.{Known}
+use Rattle.fuse_nodes.specs.Laws.{Steps}
 use Rattle.tree.specs.declared.Call.{Call}
 use Rattle.tree.specs.declared.Outcome.{Outcome}
 use Rattle.talks.specs.Talks.{MayHear}
@@ -69,8 +70,9 @@ abbrev pub MayHearFrom : {S : Type 0} → (S → ℕ → ℕ → Call → Outcom
     → (S → Leaving → S → Type 0) → ℕ → Reach → S → Ask → Heard → S → Type 0
 MayHearFrom called entered left now x = MayHear (CalledFrom x called) entered left now
 
--- how a mount answers a message at some time, into an empty buffer, by what sessions may answer
+-- How a mount answers a message at some time, into an empty buffer, by what sessions may answer. What is known goes on by steps alone, of
+-- which the laws of fuse_nodes speak.
 abbrev pub IsAnsweredBy : {S : Type 0} → (S → ℕ → ℕ → Call → Outcome → S → Type 0) → (S → ℕ → ℕ → Result ℕ EnterRefusal → S → Type 0)
     → (S → Leaving → S → Type 0) → Known → Known → List ℕ → List ℕ → S → S → Type 0
 IsAnsweredBy called entered left k l bytes told s t =
-    (now : ℕ) × (capacity : ℕ) × IsAnswered (MayHearFrom called entered left now) k l bytes capacity s [] t told
+    Steps k l × (now : ℕ) × (capacity : ℕ) × IsAnswered (MayHearFrom called entered left now) k l bytes capacity s [] t told

@@ -1,5 +1,5 @@
 //! Attributes: what is told of a node, and what is changed.
-#![tactic(auto, using(crate::proofs::Asking::goes_on, crate::proofs::Asking::stays, crate::proofs::Plans::by_plan))]
+#![tactic(auto, using(crate::proofs::Asking::goes_on, crate::proofs::Asking::stays, crate::proofs::Plans::by_plan, crate::proofs::Steps::no_step,))]
 
 ghost use Rattle.std.specs.Prelude.{◌≡◌, Some, IfOk, OnErr, IsTrue};
 ghost use Rattle.tree.specs.declared.Call.TheVariants as call;
@@ -14,6 +14,7 @@ ghost use Rattle.fuse_server.specs.Telling.Telling.{Node, Target, Room};
 ghost use Rattle.fuse_server.specs.Plans.{May};
 ghost use Rattle.fuse_server.specs.Plans.Kind.{Fstat, Give, Lstat, Readlink, Set, Space};
 ghost use Rattle.fuse_server.specs.declared.work.Plan.TheVariants as plan;
+ghost use Rattle.fuse_nodes.specs.Laws.{Steps};
 
 use crate::mount::Mount;
 use crate::said::FuseAnswer;
@@ -207,6 +208,7 @@ impl Mount {
         ensures told { IfOk result (λ a. IsTrue (is_attributes a)) }
         ensures behind { IfOk result (λ a. ToldBehind (CalledFrom work.reach S.called) S.entered S.left work.now work.reach Node
             (known_of self.new.nodes) sessions.old a sessions.new) }
+        ensures steps { Steps (known_of self.old.nodes) (known_of self.new.nodes) }
     {
         let attributes = self.seats.attributes(sessions, work)?;
         Ok(answer_of(&attributes))
@@ -224,6 +226,7 @@ impl Mount {
         ensures told { IfOk result (λ a. IsTrue (is_attributes a)) }
         ensures behind { IfOk result (λ a. ToldBehind (CalledFrom work.reach S.called) S.entered S.left work.now work.reach Node
             (known_of self.new.nodes) sessions.old a sessions.new) }
+        ensures steps { Steps (known_of self.old.nodes) (known_of self.new.nodes) }
     {
         let was = self.seats.attributes(sessions, work)?;
         check_link(wanted, &was)?;
@@ -243,6 +246,7 @@ impl Mount {
         ensures told { IfOk result (λ a. IsTrue (is_bytes a)) }
         ensures behind { IfOk result (λ a. ToldBehind (CalledFrom work.reach S.called) S.entered S.left work.now work.reach Target
             (known_of self.new.nodes) sessions.old a sessions.new) }
+        ensures steps { Steps (known_of self.old.nodes) (known_of self.new.nodes) }
     {
         let path = work.reach.node()?;
         let target = self.seats.target(sessions, work, path)?;
@@ -261,6 +265,7 @@ impl Mount {
         ensures told { IfOk result (λ a. IsTrue (is_room a)) }
         ensures behind { IfOk result (λ a. ToldBehind (CalledFrom work.reach S.called) S.entered S.left work.now work.reach Room
             (known_of self.new.nodes) sessions.old a sessions.new) }
+        ensures steps { Steps (known_of self.old.nodes) (known_of self.new.nodes) }
     {
         let room = self.seats.space(sessions, work)?;
         Ok(FuseAnswer::Statfs(room_of(&room)))

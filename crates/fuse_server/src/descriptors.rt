@@ -1,6 +1,6 @@
 //! Descriptors: one for a file, which all its handles share. Where the server has no more, one is closed whose file isn't gone: it is
 //! opened again when it is used.
-#![tactic(auto, using(crate::proofs::Asking::goes_on, crate::proofs::Asking::stays))]
+#![tactic(auto, using(crate::proofs::Asking::goes_on, crate::proofs::Asking::stays, crate::proofs::Steps::steps_on, crate::proofs::Steps::no_step, crate::proofs::Steps::step_given, crate::proofs::Steps::step_got, crate::proofs::Steps::step_closed,))]
 
 ghost use Rattle.std.specs.Prelude.{IfOk};
 ghost use Rattle.fuse_server.specs.Asking.{OpenedAt, Talked};
@@ -8,6 +8,8 @@ ghost use Rattle.fuse_server.specs.Telling.{HasOwn};
 ghost use Rattle.fuse_server.specs.Reach.{CalledFrom, IsNamed};
 ghost use Rattle.fuse_server.specs.Plans.{May, open_kind};
 ghost use Rattle.fuse_server.specs.Plans.Kind.{Open, Close};
+ghost use Rattle.fuse_nodes.specs.Laws.{Steps};
+ghost use Rattle.fuse_nodes.specs.Known.{known_of};
 
 use crate::mount::Mount;
 use crate::talk::{Seats, calling};
@@ -114,7 +116,8 @@ impl Mount {
         but: u64,
     ) -> Result<(), Refused>
         requires closes { May work.reach.plan Close }
-        ensures { Talked (CalledFrom work.reach S.called) S.entered S.left work.now sessions.old sessions.new }
+        ensures asked { Talked (CalledFrom work.reach S.called) S.entered S.left work.now sessions.old sessions.new }
+        ensures steps { Steps (known_of self.old.nodes) (known_of self.new.nodes) }
     {
         let Some((node, descriptor)) = self.nodes.spare(but) else {
             return Err(Refused::By(Errno::ENFILE));
@@ -138,6 +141,7 @@ impl Mount {
         ensures asked { Talked (CalledFrom work.reach S.called) S.entered S.left work.now sessions.old sessions.new }
         ensures opened { IfOk result (λ descriptor. OpenedAt (CalledFrom work.reach S.called) S.entered S.left work.now
             sessions.old opening.entry.path descriptor sessions.new) }
+        ensures steps { Steps (known_of self.old.nodes) (known_of self.new.nodes) }
     {
         let opened = self.seats.open_somewhere(sessions, work, opening);
         if !are_full(&opened) {
@@ -158,6 +162,7 @@ impl Mount {
         ensures asked { Talked (CalledFrom work.reach S.called) S.entered S.left work.now sessions.old sessions.new }
         ensures own { IfOk result (λ descriptor. HasOwn (CalledFrom work.reach S.called) S.entered S.left work.now sessions.old work.reach
             descriptor sessions.new) }
+        ensures steps { Steps (known_of self.old.nodes) (known_of self.new.nodes) }
     {
         match work.reach.descriptor {
             Some(descriptor) => Ok(descriptor),
@@ -182,6 +187,7 @@ impl Mount {
         ensures asked { Talked (CalledFrom work.reach S.called) S.entered S.left work.now sessions.old sessions.new }
         ensures opened { IfOk result (λ descriptor. OpenedAt (CalledFrom work.reach S.called) S.entered S.left work.now
             sessions.old path.entry descriptor sessions.new) }
+        ensures steps { Steps (known_of self.old.nodes) (known_of self.new.nodes) }
     {
         let opening = Opening {
             path,
@@ -204,7 +210,8 @@ impl Mount {
         requires named { IsNamed work.reach path }
         requires opens { May work.reach.plan Open }
         requires closes { May work.reach.plan Close }
-        ensures { Talked (CalledFrom work.reach S.called) S.entered S.left work.now sessions.old sessions.new }
+        ensures asked { Talked (CalledFrom work.reach S.called) S.entered S.left work.now sessions.old sessions.new }
+        ensures steps { Steps (known_of self.old.nodes) (known_of self.new.nodes) }
     {
         let Some(id) = self.nodes.of(inode) else {
             return Ok(());
@@ -219,7 +226,8 @@ impl Mount {
     /// A node has a handle less; behind the last one its descriptor is closed.
     pub(crate) fn let_go<S: Sessions>(&mut self, sessions: &mut S, work: Work, node: u64)
         requires closes { May work.reach.plan Close }
-        ensures { Talked (CalledFrom work.reach S.called) S.entered S.left work.now sessions.old sessions.new }
+        ensures asked { Talked (CalledFrom work.reach S.called) S.entered S.left work.now sessions.old sessions.new }
+        ensures steps { Steps (known_of self.old.nodes) (known_of self.new.nodes) }
     {
         if let Some(descriptor) = self.nodes.closed(node) {
             close(sessions, work, descriptor);

@@ -1,5 +1,5 @@
 //! Open files: what is read, what is written, and what reaches the disk.
-#![tactic(auto, using(crate::proofs::Asking::goes_on, crate::proofs::Asking::stays, crate::proofs::Plans::by_plan))]
+#![tactic(auto, using(crate::proofs::Asking::goes_on, crate::proofs::Asking::stays, crate::proofs::Plans::by_plan, crate::proofs::Steps::steps_on, crate::proofs::Steps::no_step, crate::proofs::Steps::step_opened,))]
 
 ghost use Rattle.std.specs.Prelude.{◌≡◌, ◌<◌, ◌≤◌, ℕ, [], pos, min, length, IfNone, IfOk, IfSome, IsTrue, OnErr, Some};
 ghost use Rattle.talks.specs.Talks.{MayHear};
@@ -18,6 +18,7 @@ ghost use Rattle.fuse_server.specs.Kinds.{is_open, is_done, IsWithin, IsCount, I
 ghost use Rattle.fuse_server.specs.Plans.{May};
 ghost use Rattle.fuse_server.specs.Plans.Kind.{Seek, Read, Write};
 ghost use Rattle.fuse_server.specs.declared.work.Plan.TheVariants as plan;
+ghost use Rattle.fuse_nodes.specs.Laws.{Steps};
 
 use crate::bounds::{most_of, within};
 use crate::mount::Mount;
@@ -137,6 +138,7 @@ impl Mount {
         requires plan { work.reach.plan ≡ plan.Open }
         ensures asked { Talked (CalledFrom work.reach S.called) S.entered S.left work.now sessions.old sessions.new }
         ensures told { IfOk result (λ a. IsTrue (is_open a)) }
+        ensures steps { Steps (known_of self.old.nodes) (known_of self.new.nodes) }
     {
         let node = work.node;
         self.descriptor(sessions, work)?;
@@ -170,6 +172,7 @@ impl Mount {
         ensures told { IfOk result (IsWithin span.count) }
         ensures behind { IfOk result (λ a. ToldBehind (CalledFrom work.reach S.called) S.entered S.left work.now work.reach (ReadAt
             span.offset span.count) (known_of self.new.nodes) sessions.old a sessions.new) }
+        ensures steps { Steps (known_of self.old.nodes) (known_of self.new.nodes) }
     {
         self.check_file(work, span.handle)?;
         let Some(offset) = position(span.offset) else {
@@ -196,6 +199,7 @@ impl Mount {
         ensures told { IfOk result (IsCount (length bytes.now)) }
         ensures behind { IfOk result (λ a. ToldBehind (CalledFrom work.reach S.called) S.entered S.left work.now work.reach (WrittenAt
             offset bytes.now) (known_of self.new.nodes) sessions.old a sessions.new) }
+        ensures steps { Steps (known_of self.old.nodes) (known_of self.new.nodes) }
     {
         self.check_file(work, handle)?;
         let Some(offset) = position(offset) else {
@@ -222,6 +226,7 @@ impl Mount {
         requires plan { work.reach.plan ≡ plan.Close }
         ensures asked { Talked (CalledFrom work.reach S.called) S.entered S.left work.now sessions.old sessions.new }
         ensures told { IfOk result (λ a. IsTrue (is_done a)) }
+        ensures steps { Steps (known_of self.old.nodes) (known_of self.new.nodes) }
     {
         let Handle::File { node } = self.handles.close(handle)? else {
             return Ok(FuseAnswer::Done);
@@ -236,6 +241,7 @@ impl Mount {
         ensures asked { AskedFor (MayHear (CalledFrom work.reach S.called) S.entered S.left work.now) work.reach Other (known_of
             self.new.nodes) sessions.old result sessions.new }
         ensures sync { IsOfSync result }
+        ensures steps { Steps (known_of self.old.nodes) (known_of self.new.nodes) }
     {
         let heard = match self.seats.ask(sessions, work, &Call::Sync) {
             Ok(heard) => heard,

@@ -1,5 +1,5 @@
 //! Directories: their entries, as they were when they were asked for from the start.
-#![tactic(auto, using(crate::proofs::Asking::goes_on, crate::proofs::Asking::stays, crate::proofs::Plans::by_plan))]
+#![tactic(auto, using(crate::proofs::Asking::goes_on, crate::proofs::Asking::stays, crate::proofs::Plans::by_plan, crate::proofs::Steps::steps_on, crate::proofs::Steps::no_step,))]
 
 ghost use Rattle.std.specs.Prelude.{◌≡◌, ◌≤◌, ◌<◌, ◌+◌, ◌^◌, IfOk, IfSome, IsTrue, length};
 ghost use Rattle.fuse_server.specs.Asking.{Talked};
@@ -8,6 +8,8 @@ ghost use Rattle.fuse_server.specs.Reach.{CalledFrom, IsNamed};
 ghost use Rattle.fuse_server.specs.Plans.{May};
 ghost use Rattle.fuse_server.specs.Plans.Kind.{Close, Lstat, Open, Readdir};
 ghost use Rattle.fuse_server.specs.declared.work.Plan.TheVariants as plan;
+ghost use Rattle.fuse_nodes.specs.Laws.{Steps};
+ghost use Rattle.fuse_nodes.specs.Known.{known_of};
 
 use crate::bounds::{most_of, within};
 use crate::descriptors::{Opening, READ, close};
@@ -93,7 +95,8 @@ fn entries_from(alloc: Global, names: &Names, from: usize, room: usize) -> Resul
 impl Mount {
     /// OPENDIR: a handle. Nothing is asked yet. ENOTDIR where the node is no directory.
     pub(crate) fn open_directory(&mut self, node: u64) -> Result<FuseAnswer, Refused>
-        ensures { IfOk result (λ a. IsTrue (is_open a)) }
+        ensures told { IfOk result (λ a. IsTrue (is_open a)) }
+        ensures steps { Steps (known_of self.old.nodes) (known_of self.new.nodes) }
     {
         if self.nodes.get(node)?.kind != NodeKind::Directory {
             return Err(Refused::By(Errno::ENOTDIR));
@@ -113,7 +116,8 @@ impl Mount {
         requires opens { May work.reach.plan Open }
         requires closes { May work.reach.plan Close }
         requires lists { May work.reach.plan Readdir }
-        ensures { Talked (CalledFrom work.reach S.called) S.entered S.left work.now sessions.old sessions.new }
+        ensures asked { Talked (CalledFrom work.reach S.called) S.entered S.left work.now sessions.old sessions.new }
+        ensures steps { Steps (known_of self.old.nodes) (known_of self.new.nodes) }
     {
         let opening = Opening {
             path,
@@ -133,7 +137,8 @@ impl Mount {
         requires opens { May work.reach.plan Open }
         requires closes { May work.reach.plan Close }
         requires lists { May work.reach.plan Readdir }
-        ensures { Talked (CalledFrom work.reach S.called) S.entered S.left work.now sessions.old sessions.new }
+        ensures asked { Talked (CalledFrom work.reach S.called) S.entered S.left work.now sessions.old sessions.new }
+        ensures steps { Steps (known_of self.old.nodes) (known_of self.new.nodes) }
     {
         let path = work.reach.node()?;
         let own = self.nodes.inode(work.node)?;
@@ -172,7 +177,8 @@ impl Mount {
         requires opens { May work.reach.plan Open }
         requires closes { May work.reach.plan Close }
         requires lists { May work.reach.plan Readdir }
-        ensures { Talked (CalledFrom work.reach S.called) S.entered S.left work.now sessions.old sessions.new }
+        ensures asked { Talked (CalledFrom work.reach S.called) S.entered S.left work.now sessions.old sessions.new }
+        ensures steps { Steps (known_of self.old.nodes) (known_of self.new.nodes) }
     {
         self.check_directory(work, span.handle)?;
         if !self.is_fresh(span) {
@@ -203,6 +209,7 @@ impl Mount {
         requires plan { work.reach.plan ≡ plan.List }
         ensures asked { Talked (CalledFrom work.reach S.called) S.entered S.left work.now sessions.old sessions.new }
         ensures told { IfOk result (IsWithin span.count) }
+        ensures steps { Steps (known_of self.old.nodes) (known_of self.new.nodes) }
     {
         self.keep_names(sessions, work, span)?;
         self.kept(span)

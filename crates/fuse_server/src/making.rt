@@ -1,5 +1,5 @@
 //! Files, directories and symbolic links that are made.
-#![tactic(auto, using(crate::proofs::Asking::goes_on, crate::proofs::Asking::stays, crate::proofs::Plans::by_plan))]
+#![tactic(auto, using(crate::proofs::Asking::goes_on, crate::proofs::Asking::stays, crate::proofs::Plans::by_plan, crate::proofs::Steps::steps_on, crate::proofs::Steps::no_step,))]
 
 ghost use Rattle.std.specs.Prelude.{◌≡◌, Some, IfOk, OnErr};
 ghost use Rattle.fuse_server.specs.Asking.{Talked, LookedAt};
@@ -12,6 +12,7 @@ ghost use Rattle.fuse_server.specs.Telling.Telling.{Name};
 ghost use Rattle.fuse_server.specs.Plans.{May};
 ghost use Rattle.fuse_server.specs.Plans.Kind.{Close, Give, Lstat, New};
 ghost use Rattle.fuse_server.specs.declared.work.Plan.TheVariants as plan;
+ghost use Rattle.fuse_nodes.specs.Laws.{Steps};
 
 use crate::descriptors::{NEW, Opening, close};
 use crate::mount::Mount;
@@ -156,6 +157,7 @@ impl Mount {
         ensures told { IfOk result (IsKnown (known_of self.new.nodes)) }
         ensures shown { IfOk result (λ entry. ShownAt (CalledFrom work.reach S.called) S.entered S.left work.now sessions.old path.entry
             entry.attributes sessions.new) }
+        ensures steps { Steps (known_of self.old.nodes) (known_of self.new.nodes) }
     {
         self.seats.give(sessions, work, path, owner)?;
         self.tell(sessions, work, path)
@@ -172,7 +174,8 @@ impl Mount {
         requires named { IsNamed work.reach path }
         requires makes { May work.reach.plan New }
         requires closes { May work.reach.plan Close }
-        ensures { Talked (CalledFrom work.reach S.called) S.entered S.left work.now sessions.old sessions.new }
+        ensures asked { Talked (CalledFrom work.reach S.called) S.entered S.left work.now sessions.old sessions.new }
+        ensures steps { Steps (known_of self.old.nodes) (known_of self.new.nodes) }
     {
         let opening = Opening {
             path,
@@ -196,6 +199,7 @@ impl Mount {
         ensures told { IfOk result (IsEntry (known_of self.new.nodes)) }
         ensures behind { IfOk result (λ a. ToldBehind (CalledFrom work.reach S.called) S.entered S.left work.now work.reach (Name name.now)
             (known_of self.new.nodes) sessions.old a sessions.new) }
+        ensures steps { Steps (known_of self.old.nodes) (known_of self.new.nodes) }
     {
         if !is_file(mode) {
             return Err(Refused::By(Errno::EPERM));
@@ -222,6 +226,7 @@ impl Mount {
         ensures told { IfOk result (IsEntry (known_of self.new.nodes)) }
         ensures behind { IfOk result (λ a. ToldBehind (CalledFrom work.reach S.called) S.entered S.left work.now work.reach (Name name.now)
             (known_of self.new.nodes) sessions.old a sessions.new) }
+        ensures steps { Steps (known_of self.old.nodes) (known_of self.new.nodes) }
     {
         let owner = owner_of(message)?;
         let path = work.reach.below(name)?;
@@ -247,6 +252,7 @@ impl Mount {
         ensures told { IfOk result (IsKnown (known_of self.new.nodes)) }
         ensures shown { IfOk result (λ entry. ShownAt (CalledFrom work.reach S.called) S.entered S.left work.now sessions.old path.entry
             entry.attributes sessions.new) }
+        ensures steps { Steps (known_of self.old.nodes) (known_of self.new.nodes) }
     {
         self.seats.give_link(sessions, work, path, owner)?;
         self.tell(sessions, work, path)
@@ -266,6 +272,7 @@ impl Mount {
         ensures told { IfOk result (IsEntry (known_of self.new.nodes)) }
         ensures behind { IfOk result (λ a. ToldBehind (CalledFrom work.reach S.called) S.entered S.left work.now work.reach (Name name.now)
             (known_of self.new.nodes) sessions.old a sessions.new) }
+        ensures steps { Steps (known_of self.old.nodes) (known_of self.new.nodes) }
     {
         let owner = owner_of(message)?;
         let path = work.reach.below(name)?;
@@ -283,6 +290,7 @@ impl Mount {
     ) -> Result<(Entry, Opened), Refused>
         ensures told { IfOk result (λ x. IsKnown (known_of self.new.nodes) x.0) }
         ensures attributes { IfOk result (λ x. x.0.attributes ≡ told_of attributes.now) }
+        ensures steps { Steps (known_of self.old.nodes) (known_of self.new.nodes) }
     {
         let kind = kind_of(attributes.mode);
         let node = self.nodes.told(attributes.inode, kind)?;
@@ -314,6 +322,7 @@ impl Mount {
         ensures told { IfOk result (λ x. IsKnown (known_of self.new.nodes) x.0) }
         ensures shown { IfOk result (λ x. ShownAt (CalledFrom work.reach S.called) S.entered S.left work.now sessions.old path.entry
             x.0.attributes sessions.new) }
+        ensures steps { Steps (known_of self.old.nodes) (known_of self.new.nodes) }
     {
         let attributes = self.seats.look_at_made(sessions, work, path, owner)?;
         self.tell_opened(&attributes, descriptor)
@@ -333,6 +342,7 @@ impl Mount {
         ensures told { IfOk result (IsCreate (known_of self.new.nodes)) }
         ensures behind { IfOk result (λ a. ToldBehind (CalledFrom work.reach S.called) S.entered S.left work.now work.reach (Name name.now)
             (known_of self.new.nodes) sessions.old a sessions.new) }
+        ensures steps { Steps (known_of self.old.nodes) (known_of self.new.nodes) }
     {
         let owner = owner_of(message)?;
         let path = work.reach.below(name)?;

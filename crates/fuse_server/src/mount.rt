@@ -4,6 +4,7 @@ ghost use Rattle.std.specs.Prelude.{◌≡◌, ◌<◌, ◌+◌, ◌↔◌, IsTr
 ghost use Rattle.fuse_nodes.specs.Known.{known_of, at_first};
 ghost use Rattle.fuse_server.specs.Messages.{opcode_in, is_silent};
 ghost use Rattle.fuse_server.specs.Answering.{IsAnswered, IsAnsweredBy, IsTold, MayHearFrom};
+ghost use Rattle.fuse_nodes.specs.Laws.{Steps};
 
 use crate::heads::{HEAD, Head, head_of, is_silent};
 use crate::send::{MAX_ANSWER, refuse, send};
@@ -54,6 +55,7 @@ impl Mount {
         ensures err { IfErr result (λ e. e ≡ End.OutOfMemory) }
         ensures full { OnErr result (vec_capacity out.old < vec_len out.old + 65552) }
         ensures none { OnErr result ((sessions.new ≡ sessions.old) × (self.new ≡ self.old) × (out.new.items ≡ out.old.items)) }
+        ensures steps { Steps (known_of self.old.nodes) (known_of self.new.nodes) }
     {
         match out.reserve(MAX_ANSWER as usize) {
             Ok(()) => {
@@ -83,6 +85,7 @@ impl Mount {
         ensures short { (result ≡ Err End.NoMessage) ↔ (length bytes.now < 40) }
         ensures full { result ≡ Err End.OutOfMemory → vec_capacity out.old < vec_len out.old + 65552 }
         ensures none { OnErr result ((sessions.new ≡ sessions.old) × (self.new ≡ self.old) × (out.new.items ≡ out.old.items)) }
+        ensures steps { Steps (known_of self.old.nodes) (known_of self.new.nodes) }
     {
         let head = head_of(bytes)?;
         if is_silent(head.opcode) {

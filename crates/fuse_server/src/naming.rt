@@ -1,11 +1,11 @@
 //! Names: where they lead, further ones, changed ones, and ones that are taken away.
-#![tactic(auto, using(crate::proofs::Asking::goes_on, crate::proofs::Asking::stays, crate::proofs::Plans::by_plan))]
+#![tactic(auto, using(crate::proofs::Asking::goes_on, crate::proofs::Asking::stays, crate::proofs::Plans::by_plan, crate::proofs::Steps::steps_on, crate::proofs::Steps::no_step, crate::proofs::Steps::step_lost,))]
 
 ghost use Rattle.std.specs.Prelude.{◌≡◌, ◌⊎◌, ℕ, List, IfOk, OnErr, IfSome, IsTrue};
 ghost use Rattle.tree.specs.declared.Call.TheVariants as call;
 ghost use Rattle.tree.specs.declared.Reply.TheVariants as reply;
 ghost use Rattle.talks.specs.Talks.{MayHear};
-ghost use Rattle.fuse_nodes.specs.Laws.{IsLost};
+ghost use Rattle.fuse_nodes.specs.Laws.{IsLost, Steps};
 ghost use Rattle.fuse_server.specs.Asking.{look_reply, LookedBefore, Talked, TalkedLooking};
 ghost use Rattle.fuse_server.specs.Losing.{is_last};
 ghost use Rattle.fuse_nodes.specs.Known.{known_of};
@@ -69,6 +69,7 @@ fn tell_node(nodes: &mut Nodes, attributes: &Attributes) -> Result<Entry, Refuse
     ensures told { IfOk result (IsKnown (known_of nodes.new)) }
     ensures attributes { IfOk result (λ entry. entry.attributes ≡ told_of attributes.now) }
     ensures kept { KeepsNumbers (known_of nodes.old) (known_of nodes.new) }
+    ensures steps { Steps (known_of nodes.old) (known_of nodes.new) }
 {
     let node = nodes.told(attributes.inode, kind_of(attributes.mode))?;
     Ok(entry_of(node, attributes))
@@ -90,6 +91,7 @@ pub(crate) fn tell<S: Sessions>(
     ensures shown { IfOk result (λ entry. ShownAt (CalledFrom work.reach S.called) S.entered S.left work.now sessions.old path.entry
         entry.attributes sessions.new) }
     ensures kept { KeepsNumbers (known_of nodes.old) (known_of nodes.new) }
+    ensures steps { Steps (known_of nodes.old) (known_of nodes.new) }
 {
     let attributes = seats.look(sessions, work, path)?;
     tell_node(nodes, &attributes)
@@ -109,6 +111,7 @@ impl Mount {
         ensures told { IfOk result (IsKnown (known_of self.new.nodes)) }
         ensures shown { IfOk result (λ entry. ShownAt (CalledFrom work.reach S.called) S.entered S.left work.now sessions.old path.entry
             entry.attributes sessions.new) }
+        ensures steps { Steps (known_of self.old.nodes) (known_of self.new.nodes) }
     {
         tell(&mut self.seats, &mut self.nodes, sessions, work, path)
     }
@@ -126,6 +129,7 @@ impl Mount {
         ensures told { IfOk result (λ found. IfSome found (IsKnown (known_of self.new.nodes))) }
         ensures shown { IfOk result (λ found. FoundAt (CalledFrom work.reach S.called) S.entered S.left work.now sessions.old path.entry
             found sessions.new) }
+        ensures steps { Steps (known_of self.old.nodes) (known_of self.new.nodes) }
     {
         match self.seats.look_for(sessions, work, path)? {
             Some(attributes) => Ok(Some(tell_node(&mut self.nodes, &attributes)?)),
@@ -142,6 +146,7 @@ impl Mount {
             sessions.old result
             sessions.new }
         ensures told { IsOfLookup (known_of self.new.nodes) result }
+        ensures steps { Steps (known_of self.old.nodes) (known_of self.new.nodes) }
     {
         match self.find(sessions, work, path) {
             Ok(Some(entry)) => Said::Plain(FuseAnswer::Entry(entry)),
@@ -156,6 +161,7 @@ impl Mount {
         ensures asked { AskedFor (MayHear (CalledFrom work.reach S.called) S.entered S.left work.now) work.reach (Name name.now)
             (known_of self.new.nodes) sessions.old result sessions.new }
         ensures told { IsOfLookup (known_of self.new.nodes) result }
+        ensures steps { Steps (known_of self.old.nodes) (known_of self.new.nodes) }
     {
         match work.reach.below(name) {
             Ok(path) => self.lookup_at(sessions, work, path),
@@ -175,6 +181,7 @@ impl Mount {
         ensures told { IfOk result (IsEntry (known_of self.new.nodes)) }
         ensures behind { IfOk result (λ a. ToldBehind (CalledFrom work.reach S.called) S.entered S.left work.now work.reach (Name name.now)
             (known_of self.new.nodes) sessions.old a sessions.new) }
+        ensures steps { Steps (known_of self.old.nodes) (known_of self.new.nodes) }
     {
         let old = work.reach.other()?;
         let new = work.reach.below(name)?;
@@ -196,6 +203,7 @@ impl Mount {
         ensures told { IfOk result (λ a. IsTrue (is_done a)) }
         ensures behind { IfOk result (λ a. ToldBehind (CalledFrom work.reach S.called) S.entered S.left work.now work.reach (Unlinked
             name.now) (known_of self.new.nodes) sessions.old a sessions.new) }
+        ensures steps { Steps (known_of self.old.nodes) (known_of self.new.nodes) }
     {
         let path = work.reach.below(name)?;
         let was = self.seats.look(sessions, work, path)?;
@@ -207,7 +215,8 @@ impl Mount {
 
     /// A name was taken from what has these attributes.
     fn lose(&mut self, was: &Attributes)
-        ensures { IsTrue (is_last was.now) → IsLost (known_of self.new.nodes) was.now.inode }
+        ensures lost { IsTrue (is_last was.now) → IsLost (known_of self.new.nodes) was.now.inode }
+        ensures steps { Steps (known_of self.old.nodes) (known_of self.new.nodes) }
     {
         if is_last(was) {
             self.nodes.lost(was.inode);
@@ -226,6 +235,7 @@ impl Mount {
         ensures told { IfOk result (λ a. IsTrue (is_done a)) }
         ensures behind { IfOk result (λ a. ToldBehind (CalledFrom work.reach S.called) S.entered S.left work.now work.reach (Removed
             name.now) (known_of self.new.nodes) sessions.old a sessions.new) }
+        ensures steps { Steps (known_of self.old.nodes) (known_of self.new.nodes) }
     {
         let path = work.reach.below(name)?;
         let was = self.seats.look(sessions, work, path)?;
@@ -249,6 +259,7 @@ impl Mount {
         ensures asked { Talked (CalledFrom work.reach S.called) S.entered S.left work.now sessions.old sessions.new }
         ensures seen { IfOk result (λ found. TalkedLooking (CalledFrom work.reach S.called) S.entered S.left work.now sessions.old
             path.entry (look_reply found) sessions.new) }
+        ensures steps { Steps (known_of self.old.nodes) (known_of self.new.nodes) }
     {
         let Some(attributes) = self.seats.look_for(sessions, work, path)? else {
             return Ok(None);
@@ -262,7 +273,8 @@ impl Mount {
 
     /// A name became another one of this inode. What it replaced lost it, unless both were names of one file: then nothing was changed.
     fn moved(&mut self, inode: u16, replaced: Option<Attributes>)
-        ensures { IfSome replaced (λ was. IsTrue (is_last was) → (was.inode ≡ inode) ⊎ IsLost (known_of self.new.nodes) was.inode) }
+        ensures lost { IfSome replaced (λ was. IsTrue (is_last was) → (was.inode ≡ inode) ⊎ IsLost (known_of self.new.nodes) was.inode) }
+        ensures steps { Steps (known_of self.old.nodes) (known_of self.new.nodes) }
     {
         if let Some(attributes) = replaced {
             if attributes.inode != inode {
@@ -285,6 +297,7 @@ impl Mount {
         ensures told { IfOk result (λ a. IsTrue (is_done a)) }
         ensures behind { IfOk result (λ a. ToldBehind (CalledFrom work.reach S.called) S.entered S.left work.now work.reach (Renamed
             from.now to.now) (known_of self.new.nodes) sessions.old a sessions.new) }
+        ensures steps { Steps (known_of self.old.nodes) (known_of self.new.nodes) }
     {
         if flags > NO_REPLACE {
             return Err(Refused::By(Errno::EINVAL));

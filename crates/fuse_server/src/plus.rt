@@ -1,5 +1,5 @@
 //! READDIRPLUS: the entries of a directory, each behind what its name leads to, so that the kernel needs no LOOKUP of it.
-#![tactic(auto, using(crate::proofs::Asking::goes_on, crate::proofs::Asking::stays, crate::proofs::Plans::by_plan))]
+#![tactic(auto, using(crate::proofs::Asking::goes_on, crate::proofs::Asking::stays, crate::proofs::Plans::by_plan, crate::proofs::Steps::steps_on, crate::proofs::Steps::no_step,))]
 
 ghost use Rattle.std.specs.Prelude.{◌≡◌, ◌≤◌, ◌+◌, IfOk, IsTrue, length, vec_capacity};
 ghost use Rattle.fuse_nodes.specs.Known.{known_of};
@@ -10,6 +10,7 @@ ghost use Rattle.fuse_server.specs.Reach.{CalledFrom};
 ghost use Rattle.fuse_server.specs.Plans.{May};
 ghost use Rattle.fuse_server.specs.Plans.Kind.{Lstat};
 ghost use Rattle.fuse_server.specs.declared.work.Plan.TheVariants as plan;
+ghost use Rattle.fuse_nodes.specs.Laws.{Steps};
 
 use crate::bounds::most_of;
 use crate::listing::{entry_at, place_of};
@@ -53,6 +54,7 @@ fn found<S: Sessions>(
     ensures asked { Talked (CalledFrom work.reach S.called) S.entered S.left work.now sessions.old sessions.new }
     ensures told { MaybeKnown (known_of nodes.new) result }
     ensures kept { KeepsNumbers (known_of nodes.old) (known_of nodes.new) }
+    ensures steps { Steps (known_of nodes.old) (known_of nodes.new) }
 {
     let Ok(path) = work.reach.below(name) else {
         return nothing();
@@ -109,6 +111,7 @@ fn push_found<S: Sessions>(
     ensures asked { Talked (CalledFrom work.reach S.called) S.entered S.left work.now sessions.old sessions.new }
     ensures room { length bytes.new.items ≤ listing.entry.room }
     ensures listed { IsListed (known_of nodes.old) bytes.old.items → IsListed (known_of nodes.new) bytes.new.items }
+    ensures steps { Steps (known_of nodes.old) (known_of nodes.new) }
 {
     if has_room(bytes, listing.room, entry.len()) {
         let told = found(seats, nodes, sessions, work, entry.name);
@@ -134,6 +137,7 @@ fn told_entries<S: Sessions>(
     ensures asked { Talked (CalledFrom work.reach S.called) S.entered S.left work.now sessions.old sessions.new }
     ensures room { IfOk result (λ bytes. length bytes.items ≤ listing.entry.room) }
     ensures listed { IfOk result (λ bytes. IsListed (known_of nodes.new) bytes.items) }
+    ensures steps { Steps (known_of nodes.old) (known_of nodes.new) }
 {
     let mut bytes = Vec::with_capacity(alloc, listing.room)?;
     'entries: for at in listing.from..listing.names.entries.len() + 2 {
@@ -158,6 +162,7 @@ impl Mount {
         requires looks { May work.reach.plan Lstat }
         ensures asked { Talked (CalledFrom work.reach S.called) S.entered S.left work.now sessions.old sessions.new }
         ensures told { IfOk result (IsPlus (known_of self.new.nodes) span.count) }
+        ensures steps { Steps (known_of self.old.nodes) (known_of self.new.nodes) }
     {
         let listing = Listing {
             names: self.handles.names(span.handle)?,
@@ -186,6 +191,7 @@ impl Mount {
         requires plan { work.reach.plan ≡ plan.List }
         ensures asked { Talked (CalledFrom work.reach S.called) S.entered S.left work.now sessions.old sessions.new }
         ensures told { IfOk result (IsPlus (known_of self.new.nodes) span.count) }
+        ensures steps { Steps (known_of self.old.nodes) (known_of self.new.nodes) }
     {
         self.keep_names(sessions, work, span)?;
         self.kept_plus(sessions, work, span)

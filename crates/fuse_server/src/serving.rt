@@ -1,5 +1,5 @@
 //! How each message is answered.
-#![tactic(auto, using(crate::proofs::Asking::goes_on, crate::proofs::Asking::stays))]
+#![tactic(auto, using(crate::proofs::Asking::goes_on, crate::proofs::Asking::stays, crate::proofs::Steps::steps_on, crate::proofs::Steps::no_step,))]
 
 ghost use Rattle.std.specs.Prelude.{◌≡◌, IfOk, OnErr};
 ghost use Rattle.fuse_nodes.specs.Known.{known_of};
@@ -10,6 +10,7 @@ ghost use Rattle.fuse_server.specs.Reach.{CalledFrom, reach_of};
 ghost use Rattle.fuse_server.specs.Telling.{AskedFor, ToldBehind, telling, tells};
 ghost use Rattle.fuse_server.specs.Answering.{IsSaidToBytes, MayHearFrom};
 ghost use Rattle.fuse_server.specs.Plans.{plan_of};
+ghost use Rattle.fuse_nodes.specs.Laws.{Steps};
 
 use crate::attributes::bits_of;
 use crate::bounds::most_of;
@@ -109,6 +110,7 @@ impl Mount {
         ensures told { IfOk result (IsFor (known_of self.new.nodes) message.now.request) }
         ensures behind { IfOk result (λ a. ToldBehind (CalledFrom work.reach S.called) S.entered S.left work.now work.reach (telling
             message.now.request) (known_of self.new.nodes) sessions.old a sessions.new) }
+        ensures steps { Steps (known_of self.old.nodes) (known_of self.new.nodes) }
     {
         match message.request {
             Request::Unlink { name } => self.unlink(sessions, work, name),
@@ -141,6 +143,7 @@ impl Mount {
         ensures told { IfOk result (IsFor (known_of self.new.nodes) message.now.request) }
         ensures behind { IfOk result (λ a. ToldBehind (CalledFrom work.reach S.called) S.entered S.left work.now work.reach (telling
             message.now.request) (known_of self.new.nodes) sessions.old a sessions.new) }
+        ensures steps { Steps (known_of self.old.nodes) (known_of self.new.nodes) }
     {
         match message.request {
             Request::Mknod { mode, name, .. } => self.mknod(sessions, work, message, name, mode),
@@ -165,6 +168,7 @@ impl Mount {
         ensures told { IfOk result (IsFor (known_of self.new.nodes) message.now.request) }
         ensures behind { IfOk result (λ a. ToldBehind (CalledFrom work.reach S.called) S.entered S.left work.now work.reach (telling
             message.now.request) (known_of self.new.nodes) sessions.old a sessions.new) }
+        ensures steps { Steps (known_of self.old.nodes) (known_of self.new.nodes) }
     {
         match message.request {
             Request::Getattr { .. } => self.getattr(sessions, work),
@@ -208,6 +212,7 @@ impl Mount {
         ensures told { IfOk result (IsFor (known_of self.new.nodes) message.now.request) }
         ensures behind { IfOk result (λ a. ToldBehind (CalledFrom work.reach S.called) S.entered S.left work.now work.reach (telling
             message.now.request) (known_of self.new.nodes) sessions.old a sessions.new) }
+        ensures steps { Steps (known_of self.old.nodes) (known_of self.new.nodes) }
     {
         match message.request {
             Request::Read { span } => self.read(sessions, work, span),
@@ -231,6 +236,7 @@ impl Mount {
         requires plan { work.reach.plan ≡ plan_of message.now.request }
         ensures asked { Talked (CalledFrom work.reach S.called) S.entered S.left work.now sessions.old sessions.new }
         ensures told { IfOk result (IsFor (known_of self.new.nodes) message.now.request) }
+        ensures steps { Steps (known_of self.old.nodes) (known_of self.new.nodes) }
     {
         match message.request {
             Request::Init {
@@ -262,6 +268,7 @@ impl Mount {
         ensures behind { ToldBehind (CalledFrom work.reach S.called) S.entered S.left work.now work.reach (telling message.now.request)
             (known_of self.new.nodes) sessions.old result sessions.new }
         ensures told { IsFor (known_of self.new.nodes) message.now.request result }
+        ensures steps { Steps (known_of self.old.nodes) (known_of self.new.nodes) }
     {
         match self.on_bytes(sessions, work, message) {
             Ok(answer) => answer,
@@ -280,6 +287,7 @@ impl Mount {
         ensures asked { AskedFor (MayHear (CalledFrom work.reach S.called) S.entered S.left work.now) work.reach (telling
             message.now.request) (known_of self.new.nodes) sessions.old result sessions.new }
         ensures told { IsSaidTo (known_of self.new.nodes) message.now.request result }
+        ensures steps { Steps (known_of self.old.nodes) (known_of self.new.nodes) }
     {
         match message.request {
             Request::Lookup { name } => self.lookup(sessions, work, name),
@@ -298,6 +306,7 @@ impl Mount {
         requires plan { work.reach.plan ≡ plan_of message.now.request }
         ensures asked { Talked (CalledFrom work.reach S.called) S.entered S.left work.now sessions.old sessions.new }
         ensures told { IsFor (known_of self.new.nodes) message.now.request result }
+        ensures steps { Steps (known_of self.old.nodes) (known_of self.new.nodes) }
     {
         match self.on_handles(sessions, work, message) {
             Ok(answer) => answer,
@@ -311,6 +320,7 @@ impl Mount {
         ensures asked { AskedFor (MayHear (CalledFrom work.reach S.called) S.entered S.left work.now) work.reach (telling
             message.now.request) (known_of self.new.nodes) sessions.old result sessions.new }
         ensures told { IsSaidTo (known_of self.new.nodes) message.now.request result }
+        ensures steps { Steps (known_of self.old.nodes) (known_of self.new.nodes) }
     {
         if tells(&message.request) {
             return self.said_telling(sessions, work, message);
@@ -324,6 +334,7 @@ impl Mount {
         ensures asked { AskedFor (MayHear (CalledFrom work.reach S.called) S.entered S.left work.now) work.reach (telling
             message.now.request) (known_of self.new.nodes) sessions.old result sessions.new }
         ensures told { IsSaidTo (known_of self.new.nodes) message.now.request result }
+        ensures steps { Steps (known_of self.old.nodes) (known_of self.new.nodes) }
     {
         if asks_sync(&message.request) {
             return self.sync(sessions, work);
@@ -333,8 +344,9 @@ impl Mount {
 
     /// What is said to the bytes of a message: EINVAL where they can't be read.
     pub(crate) fn said_to<S: Sessions>(&mut self, sessions: &mut S, now: u32, bytes: &[u8]) -> Said
-        ensures { IsSaidToBytes (MayHearFrom S.called S.entered S.left now) (known_of self.old.nodes) (known_of self.new.nodes) bytes.now
+        ensures said { IsSaidToBytes (MayHearFrom S.called S.entered S.left now) (known_of self.old.nodes) (known_of self.new.nodes) bytes.now
             sessions.old result sessions.new }
+        ensures steps { Steps (known_of self.old.nodes) (known_of self.new.nodes) }
     {
         match read(bytes) {
             Ok(message) => {
@@ -350,7 +362,9 @@ impl Mount {
     }
 
     /// Nodes that the kernel forgets.
-    fn forget_all(&mut self, nodes: Forgets<'_>) {
+    fn forget_all(&mut self, nodes: Forgets<'_>)
+        ensures { Steps (known_of self.old.nodes) (known_of self.new.nodes) }
+    {
         let mut rest = nodes;
         'nodes: for _node in 0..nodes.len() {
             let Some(((node, count), more)) = rest.split_first() else {
@@ -362,7 +376,9 @@ impl Mount {
     }
 
     /// What the bytes of a message say that has no answer. What can't be read says nothing.
-    pub(crate) fn hear(&mut self, bytes: &[u8]) {
+    pub(crate) fn hear(&mut self, bytes: &[u8])
+        ensures { Steps (known_of self.old.nodes) (known_of self.new.nodes) }
+    {
         let Ok(message) = read(bytes) else {
             return;
         };

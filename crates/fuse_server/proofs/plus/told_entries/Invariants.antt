@@ -1,5 +1,6 @@
 use Rattle.std.proofs.Common.{◌≤◌, length}
 use Rattle.fuse_nodes.specs.Known.{known_of}
+use Rattle.fuse_nodes.specs.Laws.{Steps}
 use Rattle.fuse_server.specs.Asking.{Talked}
 use Rattle.fuse_server.specs.Reach.{CalledFrom}
 use Rattle.fuse_server.specs.Entries.{IsListed}
@@ -11,4 +12,5 @@ invariant-entries g l = record {
       l.sessions;
   room : length l.bytes.items ≤ l.listing.room;
   listed : IsListed (known_of l.nodes) l.bytes.items;
+  steps : Steps (known_of l.initial.nodes) (known_of l.nodes);
 }

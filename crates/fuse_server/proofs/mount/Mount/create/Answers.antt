@@ -3,9 +3,9 @@ use Rattle.fuse_server.proofs.Telling.{shown_after, created_behind}
 use Rattle.fuse_server.proofs.mount.Mount.create.Goals as goal
 
 pub returns-in-Err-clause-asked : goal.returns-in-Err-clause-asked
-returns-in-Err-clause-asked g c = goes_on (goes_on c.make_file.ensures c.finish.ensures.asked) c.close.ensures
+returns-in-Err-clause-asked g c = goes_on (goes_on c.make_file.ensures.asked c.finish.ensures.asked) c.close.ensures
 
 pub returns-in-Ok-clause-behind : goal.returns-in-Ok-clause-behind
 returns-in-Ok-clause-behind g c = created_behind c.args.work.reach c.args.name.now c.in-Ok.entry c.in-Ok.opened c.in_ok-path.path
     c.in_ok-path.ensures.at
-    (shown_after c.make_file.ensures c.in-Ok.ensures.shown)
+    (shown_after c.make_file.ensures.asked c.in-Ok.ensures.shown)

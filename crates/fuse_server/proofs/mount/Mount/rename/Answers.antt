@@ -8,4 +8,4 @@ returns-in_err-moved-clause-asked g c = on_err _ (goes_on c.replaced.ensures.ask
 pub returns-clause-behind : goal.returns-clause-behind
 returns-clause-behind g c = renamed_behind c.args.work.reach c.args.from.now c.args.to.now c.in_ok-old.old c.in_ok-new.new
     c.in_ok-replaced.replaced c.in_ok-moved.moved c.in_ok-old.ensures.at c.in_ok-new.ensures.at c.in_ok-replaced.ensures.seen
-    c.in_ok-moved.ensures.done c.moved.ensures
+    c.in_ok-moved.ensures.done c.moved.ensures.lost

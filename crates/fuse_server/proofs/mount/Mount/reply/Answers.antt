@@ -3,6 +3,8 @@ use Rattle.std.specs.Prelude.{vec_capacity}
 use Rattle.fuse_server.specs.Answering.{MayHearFrom}
 use Rattle.fuse_nodes.specs.Known.{known_of}
 use Rattle.fuse_server.proofs.Answering.{told, no_room}
+use Rattle.std.proofs.Common.{refl}
+use Rattle.fuse_server.proofs.Steps.{no_step}
 use Rattle.fuse_server.proofs.mount.Mount.reply.Goals as goal
 
 pub returns-in-Ok-clause-told : goal.returns-in-Ok-clause-told
@@ -12,7 +14,7 @@ returns-in-Ok-clause-told g c =
     (vec_capacity c.args.out.now)
     c.args.sessions.now
     c.args.out.now.items c.reserve.new.self.items c.said_to-said.new.sessions
-    c.send.new.out.items c.said_to-said.result c.reserve.ensures.items c.said_to-said.ensures
+    c.send.new.out.items c.said_to-said.result c.reserve.ensures.items c.said_to-said.ensures.said
     c.send.ensures
 
 pub returns-in-Err-clause-told : goal.returns-in-Err-clause-told
@@ -22,3 +24,6 @@ returns-in-Err-clause-told g c =
     c.args.sessions.now
     c.args.out.now.items c.reserve.new.self.items c.refuse.new.out.items c.refuse.result
     c.reserve.ensures.items (omega (arith, c.in-Err.ensures.full, c.args.out.now.ok.0)) c.refuse.ensures.ok
+
+pub returns-in-Err-clause-steps : goal.returns-in-Err-clause-steps
+returns-in-Err-clause-steps g c = no_step refl

@@ -4,6 +4,7 @@ use Rattle.fuse_nodes.specs.Laws.{IsLost}
 use Rattle.fuse_nodes.proofs.Losing.{lost_is_lost}
 use Rattle.fuse_server.proofs.Asking.{goes_on, looking, looked_before, on_err}
 use Rattle.fuse_server.proofs.Telling.{removed_behind}
+use Rattle.fuse_server.proofs.Steps.{step_lost}
 use Rattle.fuse_server.proofs.mount.Mount.rmdir.Goals as goal
 
 pub returns-in_err-take-clause-asked : goal.returns-in_err-take-clause-asked
@@ -15,3 +16,6 @@ returns-clause-behind g c =
     removed_behind c.args.work.reach c.args.name.now c.in_ok-path.path c.in_ok-was.was' c.in_ok-path.ensures.at
     (looked_before (looking (Some c.in_ok-was.was') c.in_ok-was.ensures.seen) c.in_ok-take.ensures.done)
     (subst P (sym c.lost.ensures) (lost_is_lost (known_of c.args.self.now.nodes) c.in_ok-was.was'.inode))
+
+pub returns-clause-steps : goal.returns-clause-steps
+returns-clause-steps g c = step_lost _ c.lost.ensures
