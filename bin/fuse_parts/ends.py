@@ -132,6 +132,20 @@ def in_front(trial):
         volume.umount()
 
 
+@end("tick")
+def tick(trial):
+    """A tick of ten milliseconds: drivers die every fifty, others take their places, and all bytes are right."""
+    with Volume(trial, "tick") as volume:
+        volume.mount("--tick", "10", "--kill-every", "53")
+        wanted = os.urandom(1 << 20)
+        for _ in range(20):
+            (volume.folder / "file").write_bytes(wanted)
+            os.sync()
+            same("the file", (volume.folder / "file").read_bytes(), wanted)
+        holds("drivers died", volume.deaths()[0] > 0)
+        volume.umount()
+
+
 @end("small")
 def small(trial):
     """Drivers that have ended take no memory: forty deaths later the program has no forty threads' addresses more, of 8 MiB each (but those

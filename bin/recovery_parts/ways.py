@@ -14,11 +14,11 @@ class Mounted:
     """The file through a mount, past the page cache: each read takes what the program answers."""
 
     def __init__(self, trial, size):
-        self.volume = Volume(trial, "volume", size)
+        self.volume, self.words = Volume(trial, "volume", size), trial.words
         self.file = self.volume.folder / "file"
 
     def begin(self, *words):
-        self.volume.mount(*SPARES, *words)
+        self.volume.mount(*SPARES, *self.words, *words)
 
     def make(self, bytes_):
         self.file.write_bytes(bytes_)
@@ -69,7 +69,7 @@ class Asked:
     def begin(self, *words):
         image = self.volume.image
         self.client = Client(None)
-        line = [self.trial.program, image, "--out", image, *SPARES, *words]
+        line = [self.trial.program, image, "--out", image, *SPARES, *self.trial.words, *words]
         with open(self.said, "wb") as said:
             self.client.process = subprocess.Popen(line, stdin=subprocess.PIPE, stdout=subprocess.PIPE, stderr=said)
         self.client.begin()
