@@ -27,8 +27,8 @@ use Rattle.talks.specs.declared.refused.Refused.TheVariants.{By}
 use Rattle.talks.specs.declared.ask.Leaving.{Leaving}
 use Rattle.talks.specs.declared.sessions.EnterRefusal.{EnterRefusal}
 use Rattle.talks.specs.declared.refused.Refused.{Refused}
-use Rattle.fuse_server.specs.Asking.{Talked, TalkedTo, TalkedFor, TalkedLooking, LookedBefore, LookedAt, OpenedAt, ReadFrom, look_reply}
-use Rattle.fuse_server.specs.Losing.{AreQuiet, IsQuiet, WasLooked, takes_name}
+use Rattle.fuse_server.specs.Asking.{Talked, TalkedTo, TalkedFor, TalkedAsking, TalkedLooking, LookedBefore, LookedAt, OpenedAt, ReadFrom, look_reply}
+use Rattle.fuse_server.specs.Losing.{AreQuiet, IsQuiet, WasAsked, WasLooked, takes_name}
 use Rattle.fuse_server.specs.Plans.{May, kind_of}
 use Rattle.fuse_server.specs.Plans.Kind.{Give}
 use Rattle.fuse_server.specs.Reach.{AsksFrom, CalledFrom, GivesTold, IsAt, IsNamed}
@@ -149,11 +149,10 @@ descriptor_so heard_of.Left fd e = cc
 pub opened_by : {S : Type 0} (called : S → ℕ → ℕ → Call → Outcome → S → Type 0) (entered : S → ℕ → ℕ → Result ℕ EnterRefusal → S → Type 0)
     (left : S → Leaving → S → Type 0) (now : ℕ) (s t : S) (path : PathFrom) (flags : OpenFlags) (mode session fd : ℕ) (h : Heard)
     → descriptor_in h ≡ Ok fd → MayHear called entered left now s (ask.Call session (call.Open path flags mode)) h t
-    → OpenedAt called entered left now s path (record { session = session; fd = fd }) t
+    → OpenedAt called entered left now s path mode (record { session = session; fd = fd }) t
 opened_by called entered left now s t path flags mode session fd h told may =
     let P : Heard → Type 0 = λ x. MayHear called entered left now s (ask.Call session (call.Open path flags mode)) x t in record {
       flags = flags;
-      mode = mode;
       before = s;
       first = stays called entered left now s;
       last = subst P (descriptor_so h fd told) may;
@@ -161,12 +160,12 @@ opened_by called entered left now s t path flags mode session fd h told may =
 
 -- behind others
 pub opened_after : {S : Type 0} {called : S → ℕ → ℕ → Call → Outcome → S → Type 0} {entered : S → ℕ → ℕ → Result ℕ EnterRefusal → S → Type 0}
-    {left : S → Leaving → S → Type 0} {now : ℕ} {s t : S} (u : S) (path : PathFrom) (r : Result Descriptor Refused)
-    → Talked called entered left now s t → IfOk r (λ (d : Descriptor). OpenedAt called entered left now t path d u)
-    → IfOk r (λ (d : Descriptor). OpenedAt called entered left now s path d u)
-opened_after u path (Err e) first opened = tt
-opened_after u path (Ok d) first o =
-    record { flags = o.flags; mode = o.mode; before = o.before; first = goes_on first o.first; last = o.last }
+    {left : S → Leaving → S → Type 0} {now : ℕ} {s t : S} (u : S) (path : PathFrom) (mode : ℕ) (r : Result Descriptor Refused)
+    → Talked called entered left now s t → IfOk r (λ (d : Descriptor). OpenedAt called entered left now t path mode d u)
+    → IfOk r (λ (d : Descriptor). OpenedAt called entered left now s path mode d u)
+opened_after u path mode (Err e) first opened = tt
+opened_after u path mode (Ok d) first o =
+    record { flags = o.flags; before = o.before; first = goes_on first o.first; last = o.last }
 
 -- the reply that has these bytes
 record HasBytes (h : Heard) (bytes : List ℕ) : Type 0 where
@@ -282,6 +281,38 @@ pub looked_then : (path : PathFrom) (r : Reply) (first then : List Exchange) →
 looked_then path r first [] looked = absurd looked
 looked_then path r first (e ∷ es) (inl own) = inl own
 looked_then path r first (e ∷ es) (inr rest) = inr (looked_then path r first es rest)
+
+-- so does any call
+pub asked_first : (c : Call) (r : Reply) (first then : List Exchange) → WasAsked c r first → WasAsked c r (then ++ first)
+asked_first c r first [] was = was
+asked_first c r first (e ∷ es) was = inr (asked_first c r first es was)
+
+-- a call was asked
+pub asking : {S : Type 0} {called : S → ℕ → ℕ → Call → Outcome → S → Type 0} {entered : S → ℕ → ℕ → Result ℕ EnterRefusal → S → Type 0}
+    {left : S → Leaving → S → Type 0} {now : ℕ} {s t : S} {asked : Call} {r : Reply} → takes_name asked ≡ false
+    → TalkedFor called entered left now s asked r t → TalkedAsking called entered left now s asked r t
+asking {asked = asked} {r} quiet it = record {
+  talked = record {
+    log = record { ask = ask.Call it.session asked; heard = heard_of.Outcome (outcome.Reply r) } ∷ it.first.log;
+    leads = (it.before, it.first.leads, it.last);
+    quiet = (never_takes (takes_name asked) _ quiet, it.first.quiet);
+  };
+  was = inl (it.session, refl, refl);
+}
+
+pub asking_on : {S : Type 0} {called : S → ℕ → ℕ → Call → Outcome → S → Type 0} {entered : S → ℕ → ℕ → Result ℕ EnterRefusal → S → Type 0}
+    {left : S → Leaving → S → Type 0} {now : ℕ} {s t u : S} {asked : Call} {r : Reply} → TalkedAsking called entered left now s asked r t
+    → Talked called entered left now t u → TalkedAsking called entered left now s asked r u
+unfolding goes_on
+asking_on {asked = asked} {r} a b =
+    record { talked = goes_on a.talked b; was = asked_first asked r a.talked.log b.log a.was }
+
+-- so was an open
+pub opening : {S : Type 0} {called : S → ℕ → ℕ → Call → Outcome → S → Type 0} {entered : S → ℕ → ℕ → Result ℕ EnterRefusal → S → Type 0}
+    {left : S → Leaving → S → Type 0} {now : ℕ} {s t : S} {path : PathFrom} {mode : ℕ} {d : Descriptor}
+    (o : OpenedAt called entered left now s path mode d t)
+    → TalkedAsking called entered left now s (call.Open path o.flags mode) (reply.Descriptor d.fd) t
+opening {path = path} {mode} {d} o = asking refl (record { session = d.session; before = o.before; first = o.first; last = o.last })
 
 -- a path was looked at
 pub looking : {S : Type 0} {called : S → ℕ → ℕ → Call → Outcome → S → Type 0} {entered : S → ℕ → ℕ → Result ℕ EnterRefusal → S → Type 0}

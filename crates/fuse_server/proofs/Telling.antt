@@ -18,6 +18,7 @@ use Rattle.tree.specs.declared.Call.TheVariants as call
 use Rattle.tree.specs.declared.LinkTarget.{LinkTarget}
 use Rattle.tree.specs.declared.Outcome.{Outcome}
 use Rattle.tree.specs.declared.Outcome.TheVariants as outcome
+use Rattle.tree.specs.declared.OpenFlags.{OpenFlags}
 use Rattle.tree.specs.declared.PathFrom.{PathFrom}
 use Rattle.tree.specs.declared.Reply.{Reply}
 use Rattle.tree.specs.declared.Reply.TheVariants as reply
@@ -32,18 +33,19 @@ use Rattle.talks.specs.declared.heard.Heard.TheVariants as heard_of
 use Rattle.talks.specs.declared.refused.Refused.{Refused}
 use Rattle.talks.specs.declared.ask.Leaving.{Leaving}
 use Rattle.talks.specs.declared.sessions.EnterRefusal.{EnterRefusal}
-use Rattle.fuse_server.specs.Asking.{Talked, TalkedTo, TalkedFor, TalkedLooking, LookedBefore, LookedAt, EndsWith, OpenedAt, ReadFrom, SoughtFor, look_reply}
+use Rattle.fuse_server.specs.Asking.{Talked, TalkedTo, TalkedFor, TalkedAsking, TalkedLooking, LookedBefore, LookedAt, EndsWith, OpenedAt, ReadFrom, SoughtFor, look_reply}
 use Rattle.fuse_server.specs.Kinds.{is_sync}
-use Rattle.fuse_server.specs.Losing.{Loses, is_last, takes_name}
+use Rattle.fuse_server.specs.Losing.{Loses, WasAsked, is_last, takes_name}
 use Rattle.fuse_server.specs.Reach.{IsAt}
-use Rattle.fuse_server.specs.Telling.{Telling, telling, tells, told_of, room_of, HasOwn, IsToldAs, ToldBehind, ShownAt, AskedFor}
-use Rattle.fuse_server.specs.Telling.Telling.{Name, Node, Target, Unlinked, Removed, Renamed, Room, ReadAt, WrittenAt, Other}
+use Rattle.fuse_server.specs.Telling.{Making, Telling, telling, tells, IsMadeBy, told_of, room_of, HasOwn, IsToldAs, ToldBehind, ShownAt, AskedFor}
+use Rattle.fuse_server.specs.Telling.Making.{NewDirectory, NewFile}
+use Rattle.fuse_server.specs.Telling.Telling.{Name, Made, Node, Target, Unlinked, Removed, Renamed, Room, ReadAt, WrittenAt, Other}
 use Rattle.fuse_server.specs.declared.said.FuseAnswer.{FuseAnswer}
 use Rattle.fuse_server.specs.declared.said.FuseAnswer.TheVariants as answer_of
 use Rattle.fuse_server.specs.declared.said.Said.{Said}
 use Rattle.fuse_server.specs.declared.said.Said.TheVariants as said
 use Rattle.fuse_server.specs.declared.work.Reach.{Reach}
-use Rattle.fuse_server.proofs.Asking.{joined, after, attributes_so, looked_first, looked_then, never_takes, quiet_joined, stays}
+use Rattle.fuse_server.proofs.Asking.{joined, after, asked_first, attributes_so, looked_first, looked_then, never_takes, quiet_joined, stays}
 use Rattle.fuse_server.proofs.Losing.{loses_on, quiet_loses, replaced}
 
 -- the exchanges up to a call and its answer
@@ -140,18 +142,58 @@ entry_behind {k = k} x name entry path at it = record {
   loses = loses_of k it.looked refl;
 }
 
-pub created_behind : {S : Type 0} {called : S → ℕ → ℕ → Call → Outcome → S → Type 0}
-    {entered : S → ℕ → ℕ → Result ℕ EnterRefusal → S → Type 0} {left : S → Leaving → S → Type 0} {now : ℕ} {k : Known}
-    {s t : S} (x : Reach) (name : List ℕ) (entry : Entry) (opened : Opened) (path : PathFrom)
-    → IsAt x.own name path
-    → ShownAt called entered left now s path entry.attributes t
-    → ToldBehind called entered left now x (Name name) k s (answer_of.Create entry opened) t
-created_behind {k = k} x name entry opened path at it = record {
-  log = log_of it.looked;
-  leads = leads_of it.looked;
-  told = record { session = it.looked.session; path = path; was = it.was; at = at; ends = (refl, refl); is = it.is };
-  loses = loses_of k it.looked refl;
+-- something was made at a path, and then a look at it is told
+pub made_behind : {S : Type 0} {called : S → ℕ → ℕ → Call → Outcome → S → Type 0} {entered : S → ℕ → ℕ → Result ℕ EnterRefusal → S → Type 0}
+    {left : S → Leaving → S → Type 0} {now : ℕ} {k : Known} {s t u : S} {asked : Call} {r : Reply} (x : Reach) (name : List ℕ) (making : Making)
+    (entry : Entry) (path : PathFrom) → IsAt x.own name path → TalkedAsking called entered left now s asked r t
+    → ((log : List Exchange) → WasAsked asked r log → IsMadeBy x making path log)
+    → ShownAt called entered left now t path entry.attributes u
+    → ToldBehind called entered left now x (Made name making) k s (answer_of.Entry entry) u
+made_behind {called = called} {entered} {left} {now} {k} {s} {t} {asked = asked} {r} x name making entry path at first makes it = record {
+  log = record { ask = ask.Call it.looked.session (call.Lstat path); heard = heard_of.Outcome (outcome.Reply (reply.Inode it.was)) }
+      ∷ it.looked.first.log ++ first.talked.log;
+  leads = (
+    it.looked.before,
+    joined (MayHear called entered left now) s t it.looked.before first.talked.log it.looked.first.log first.talked.leads
+        it.looked.first.leads,
+    it.looked.last,
+  );
+  told = record {
+    session = it.looked.session;
+    path = path;
+    was = it.was;
+    at = at;
+    made = makes _ (inr (asked_first asked r first.talked.log it.looked.first.log first.was));
+    ends = (refl, refl);
+    is = it.is;
+  };
+  loses = quiet_loses k
+      (record { ask = ask.Call it.looked.session (call.Lstat path); heard = heard_of.Outcome (outcome.Reply (reply.Inode it.was)) }
+      ∷ it.looked.first.log ++ first.talked.log)
+      (never_takes false _ refl, quiet_joined first.talked.log it.looked.first.log first.talked.quiet it.looked.first.quiet);
 }
+
+-- a directory, and a file, with the permissions that are meant
+pub made_directory : (x : Reach) (path : PathFrom) (m n : ℕ) → m ≡ n → (log : List Exchange)
+    → WasAsked (call.Mkdir path m) reply.Done log → IsMadeBy x (NewDirectory n) path log
+made_directory x path m n same log was =
+    let P : ℕ → Type 0 = λ mode. WasAsked (call.Mkdir path mode) reply.Done log in subst P same was
+
+pub made_file : (x : Reach) (path : PathFrom) (flags : OpenFlags) (fd m n : ℕ) → m ≡ n → (log : List Exchange)
+    → WasAsked (call.Open path flags m) (reply.Descriptor fd) log → IsMadeBy x (NewFile n) path log
+made_file x path flags fd m n same log was =
+    let P : ℕ → Type 0 = λ mode. WasAsked (call.Open path flags mode) (reply.Descriptor fd) log in (flags, fd, subst P same was)
+
+-- it is open, too
+pub created_behind : {S : Type 0} {called : S → ℕ → ℕ → Call → Outcome → S → Type 0} {entered : S → ℕ → ℕ → Result ℕ EnterRefusal → S → Type 0}
+    {left : S → Leaving → S → Type 0} {now : ℕ} {k : Known} {s t u : S} {asked : Call} {r : Reply} (x : Reach) (name : List ℕ) (making : Making)
+    (entry : Entry) (opened : Opened) (path : PathFrom) → IsAt x.own name path → TalkedAsking called entered left now s asked r t
+    → ((log : List Exchange) → WasAsked asked r log → IsMadeBy x making path log)
+    → ShownAt called entered left now t path entry.attributes u
+    → ToldBehind called entered left now x (Made name making) k s (answer_of.Create entry opened) u
+created_behind x name making entry opened path at first makes it =
+    let told = made_behind x name making entry path at first makes it in
+    record { log = told.log; leads = told.leads; told = told.told; loses = told.loses }
 
 -- a node was looked at
 pub node_behind : {S : Type 0} {called : S → ℕ → ℕ → Call → Outcome → S → Type 0} {entered : S → ℕ → ℕ → Result ℕ EnterRefusal → S → Type 0}
@@ -289,20 +331,20 @@ pub own_known : {S : Type 0} (called : S → ℕ → ℕ → Call → Outcome �
 own_known called entered left now s x d is = record { talked = stays called entered left now s; own = inl is }
 
 pub own_opened : {S : Type 0} (called : S → ℕ → ℕ → Call → Outcome → S → Type 0) (entered : S → ℕ → ℕ → Result ℕ EnterRefusal → S → Type 0)
-    (left : S → Leaving → S → Type 0) (now : ℕ) (s t : S) (x : Reach) (path : PathFrom) (r : Result Descriptor Refused)
-    → x.descriptor ≡ None → IsAt x.own [] path → IfOk r (λ (d : Descriptor). OpenedAt called entered left now s path d t)
+    (left : S → Leaving → S → Type 0) (now : ℕ) (s t : S) (x : Reach) (path : PathFrom) (mode : ℕ) (r : Result Descriptor Refused)
+    → x.descriptor ≡ None → IsAt x.own [] path → IfOk r (λ (d : Descriptor). OpenedAt called entered left now s path mode d t)
     → IfOk r (λ (d : Descriptor). HasOwn called entered left now s x d t)
-own_opened called entered left now s t x path (Err e) none at o = tt
-own_opened called entered left now s t x path (Ok d) none at o = record {
+own_opened called entered left now s t x path mode (Err e) none at o = tt
+own_opened called entered left now s t x path mode (Ok d) none at o = record {
   talked = record {
     log = record {
-      ask = ask.Call d.session (call.Open path o.flags o.mode);
+      ask = ask.Call d.session (call.Open path o.flags mode);
       heard = heard_of.Outcome (outcome.Reply (reply.Descriptor d.fd));
     } ∷ o.first.log;
     leads = (o.before, o.first.leads, o.last);
     quiet = (never_takes false _ refl, o.first.quiet);
   };
-  own = inr (none, record { path = path; flags = o.flags; mode = o.mode; at = at; ends = (refl, refl) });
+  own = inr (none, record { path = path; flags = o.flags; mode = mode; at = at; ends = (refl, refl) });
 }
 
 -- bytes were read at a position
@@ -410,6 +452,7 @@ node_after {called = called} {entered} {left} {now} {k} {s} {t} {u} {x} {told} f
 -- a refusal may be answered behind anything
 refused_so : (x : Reach) (about : Telling) (e : Refused) (log : List Exchange) → IsToldAs x about (answer_of.Refused e) log
 refused_so x (Name name) e log = tt
+refused_so x (Made name making) e log = tt
 refused_so x about e log = tt
 
 pub refused_behind : {S : Type 0} {called : S → ℕ → ℕ → Call → Outcome → S → Type 0}
@@ -425,6 +468,7 @@ refused_behind {k = k} x about e talked = record {
 
 unknown_so : (x : Reach) (about : Telling) (log : List Exchange) → IsToldAs x about answer_of.Unknown log
 unknown_so x (Name name) log = tt
+unknown_so x (Made name making) log = tt
 unknown_so x about log = tt
 
 pub unknown_behind : {S : Type 0} {called : S → ℕ → ℕ → Call → Outcome → S → Type 0}

@@ -19,7 +19,7 @@ use Rattle.talks.specs.declared.heard.Heard.{Heard}
 use Rattle.talks.specs.declared.heard.Heard.TheVariants as heard
 use Rattle.talks.specs.declared.ask.Leaving.{Leaving}
 use Rattle.talks.specs.declared.sessions.EnterRefusal.{EnterRefusal}
-use Rattle.fuse_server.specs.Losing.{AreQuiet, WasLooked}
+use Rattle.fuse_server.specs.Losing.{AreQuiet, WasAsked, WasLooked}
 
 -- By exchanges at this time, and by nothing else, sessions come from one state to another, and no name is taken away. The first arguments
 -- say what they may answer: to calls, to users that enter, and to the end of all sessions.
@@ -50,6 +50,13 @@ pub record TalkedLooking {S : Type 0} (called : S → ℕ → ℕ → Call → O
   pub talked : Talked called entered left now s t
   pub looked : WasLooked path r talked.log
 
+-- So they do, and among the exchanges is this call, with this reply.
+pub record TalkedAsking {S : Type 0} (called : S → ℕ → ℕ → Call → Outcome → S → Type 0)
+    (entered : S → ℕ → ℕ → Result ℕ EnterRefusal → S → Type 0) (left : S → Leaving → S → Type 0) (now : ℕ)
+    (s : S) (asked : Call) (r : Reply) (t : S) : Type 0 where
+  pub talked : Talked called entered left now s t
+  pub was : WasAsked asked r talked.log
+
 -- So they do, and then comes this call, which was done.
 pub record LookedBefore {S : Type 0} (called : S → ℕ → ℕ → Call → Outcome → S → Type 0)
     (entered : S → ℕ → ℕ → Result ℕ EnterRefusal → S → Type 0) (left : S → Leaving → S → Type 0) (now : ℕ)
@@ -75,12 +82,11 @@ abbrev pub EndsWith : ℕ → Call → Reply → List Exchange → Type 0
 EndsWith session asked r [] = ⊥
 EndsWith session asked r (e ∷ es) = (e.ask ≡ ask.Call session asked) × Replies e.heard r
 
--- So they do, and then a descriptor is opened at this path.
+-- So they do, and then a descriptor is opened at this path; a file that is made has these permissions.
 pub record OpenedAt {S : Type 0} (called : S → ℕ → ℕ → Call → Outcome → S → Type 0)
     (entered : S → ℕ → ℕ → Result ℕ EnterRefusal → S → Type 0) (left : S → Leaving → S → Type 0) (now : ℕ)
-    (s : S) (path : PathFrom) (d : Descriptor) (t : S) : Type 0 where
+    (s : S) (path : PathFrom) (mode : ℕ) (d : Descriptor) (t : S) : Type 0 where
   pub flags : OpenFlags
-  pub mode : ℕ
   pub before : S
   pub first : Talked called entered left now s before
   pub last : MayHear called entered left now before (ask.Call d.session (call.Open path flags mode))

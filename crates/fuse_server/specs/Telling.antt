@@ -29,7 +29,7 @@ use Rattle.talks.specs.declared.heard.Heard.{Heard}
 use Rattle.talks.specs.declared.ask.Leaving.{Leaving}
 use Rattle.talks.specs.declared.sessions.EnterRefusal.{EnterRefusal}
 use Rattle.fuse_server.specs.Asking.{EndsWith, LookedAt, Talked}
-use Rattle.fuse_server.specs.Losing.{Loses}
+use Rattle.fuse_server.specs.Losing.{Loses, WasAsked}
 use Rattle.fuse_server.specs.Reach.{IsAt}
 use Rattle.fuse_server.specs.declared.said.FuseAnswer.{FuseAnswer}
 use Rattle.fuse_server.specs.declared.said.FuseAnswer.TheVariants as answer_of
@@ -68,11 +68,19 @@ room_of room = record {
   fragment_size = room.block_size;
 }
 
--- what an answer tells of: a name in the message's node, the node, its target, a name that was taken away from a file or a directory or
+-- what a message makes: a file with these permissions, a directory, a link with this target, or one more name for the second node's file
+pub data Making : Type 0 where
+  NewFile : ℕ → Making
+  NewDirectory : ℕ → Making
+  NewLink : List ℕ → Making
+  NewName : Making
+
+-- what an answer tells of: a name in the message's node, what it made at one, the node, its target, a name that was taken away from a file or a directory or
 -- became another one in the second node, the room, its bytes from an offset on, at most so many, or bytes that were put there, or nothing
 -- that is said here
 pub data Telling : Type 0 where
   Name : List ℕ → Telling
+  Made : List ℕ → Making → Telling
   Node : Telling
   Target : Telling
   Unlinked : List ℕ → Telling
@@ -88,15 +96,15 @@ telling (request.Lookup name) = Name name.now
 telling (request.Getattr flags handle) = Node
 telling (request.Setattr valid handle size lock_owner atime mtime ctime mode uid gid) = Node
 telling request.Readlink = Target
-telling (request.Symlink name target) = Name name.now
-telling (request.Mknod mode device umask name) = Name name.now
-telling (request.Mkdir mode umask name) = Name name.now
+telling (request.Symlink name target) = Made name.now (NewLink target.now)
+telling (request.Mknod mode device umask name) = Made name.now (NewFile (mode % 4096))
+telling (request.Mkdir mode umask name) = Made name.now (NewDirectory (mode % 4096))
 telling (request.Unlink name) = Unlinked name.now
 telling (request.Rmdir name) = Removed name.now
 telling (request.Rename new_directory old_name new_name) = Renamed old_name.now new_name.now
 telling (request.Rename2 new_directory flags old_name new_name) = Renamed old_name.now new_name.now
-telling (request.Link file name) = Name name.now
-telling (request.Create flags mode umask open_flags name) = Name name.now
+telling (request.Link file name) = Made name.now NewName
+telling (request.Create flags mode umask open_flags name) = Made name.now (NewFile (mode % 4096))
 telling request.Statfs = Room
 telling (request.Read span) = ReadAt span.offset span.count
 telling (request.Write handle offset write_flags lock_owner flags bytes) = WrittenAt offset bytes.now
@@ -128,6 +136,23 @@ pub record IsSeenAt (x : Reach) (name : List ℕ) (told : Told) (log : List Exch
   pub path : PathFrom
   pub was : Attributes
   pub at : IsAt x.own name path
+  pub ends : EndsWith session (call.Lstat path) (reply.Inode was) log
+  pub is : told ≡ told_of was
+
+-- Among them is the call that makes this at this path. (An open that a plan to make allows is one that makes.)
+abbrev pub IsMadeBy : Reach → Making → PathFrom → List Exchange → Type 0
+IsMadeBy x (NewFile mode) path log = (flags : OpenFlags) × (fd : ℕ) × WasAsked (call.Open path flags mode) (reply.Descriptor fd) log
+IsMadeBy x (NewDirectory mode) path log = WasAsked (call.Mkdir path mode) reply.Done log
+IsMadeBy x (NewLink target) path log = (given : Bor (List ℕ)) × (given.now ≡ target) × WasAsked (call.Symlink given path) reply.Done log
+IsMadeBy x NewName path log = (old : PathFrom) × IsAt x.other [] old × WasAsked (call.Link old path) reply.Done log
+
+-- Something is made at a name in the message's node, and then looked at: its attributes are told.
+pub record IsMadeAt (x : Reach) (name : List ℕ) (making : Making) (told : Told) (log : List Exchange) : Type 0 where
+  pub session : ℕ
+  pub path : PathFrom
+  pub was : Attributes
+  pub at : IsAt x.own name path
+  pub made : IsMadeBy x making path log
   pub ends : EndsWith session (call.Lstat path) (reply.Inode was) log
   pub is : told ≡ told_of was
 
@@ -241,7 +266,8 @@ FoundAt called entered left now s path None t = LookedAt called entered left now
 -- What the exchanges end in where this is answered.
 abbrev pub IsToldAs : Reach → Telling → FuseAnswer → List Exchange → Type 0
 IsToldAs x (Name name) (answer_of.Entry entry) log = IsSeenAt x name entry.attributes log
-IsToldAs x (Name name) (answer_of.Create entry opened) log = IsSeenAt x name entry.attributes log
+IsToldAs x (Made name making) (answer_of.Entry entry) log = IsMadeAt x name making entry.attributes log
+IsToldAs x (Made name making) (answer_of.Create entry opened) log = IsMadeAt x name making entry.attributes log
 IsToldAs x Node (answer_of.Attributes told) log = IsSeenAt x [] told log ⊎ IsSeenOpen x told log
 IsToldAs x Target (answer_of.Bytes bytes) log = IsTarget x bytes.items log
 IsToldAs x (Unlinked name) answer_of.Done log = IsDoneAt x name (λ path. call.Unlink path) log

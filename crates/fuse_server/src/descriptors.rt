@@ -61,7 +61,7 @@ fn open_by<S: Sessions>(
     requires opens { May work.reach.plan (open_kind opening.flags) }
     ensures asked { Talked (CalledFrom work.reach S.called) S.entered S.left work.now sessions.old sessions.new }
     ensures opened { IfOk result (λ descriptor. OpenedAt (CalledFrom work.reach S.called) S.entered S.left work.now
-        sessions.old opening.entry.path descriptor sessions.new) }
+        sessions.old opening.entry.path opening.entry.mode descriptor sessions.new) }
 {
     let call = Call::Open {
         path: opening.path,
@@ -94,7 +94,7 @@ impl Seats {
         requires opens { May work.reach.plan (open_kind opening.flags) }
         ensures asked { Talked (CalledFrom work.reach S.called) S.entered S.left work.now sessions.old sessions.new }
         ensures opened { IfOk result (λ descriptor. OpenedAt (CalledFrom work.reach S.called) S.entered S.left work.now
-            sessions.old opening.entry.path descriptor sessions.new) }
+            sessions.old opening.entry.path opening.entry.mode descriptor sessions.new) }
     {
         'seats: for at in 0..MOST_SEATS {
             let session = self.session(sessions, work, at)?;
@@ -140,7 +140,7 @@ impl Mount {
         requires closes { May work.reach.plan Close }
         ensures asked { Talked (CalledFrom work.reach S.called) S.entered S.left work.now sessions.old sessions.new }
         ensures opened { IfOk result (λ descriptor. OpenedAt (CalledFrom work.reach S.called) S.entered S.left work.now
-            sessions.old opening.entry.path descriptor sessions.new) }
+            sessions.old opening.entry.path opening.entry.mode descriptor sessions.new) }
         ensures steps { Steps (known_of self.old.nodes) (known_of self.new.nodes) }
     {
         let opened = self.seats.open_somewhere(sessions, work, opening);
@@ -186,7 +186,7 @@ impl Mount {
         requires closes { May work.reach.plan Close }
         ensures asked { Talked (CalledFrom work.reach S.called) S.entered S.left work.now sessions.old sessions.new }
         ensures opened { IfOk result (λ descriptor. OpenedAt (CalledFrom work.reach S.called) S.entered S.left work.now
-            sessions.old path.entry descriptor sessions.new) }
+            sessions.old path.entry 0 descriptor sessions.new) }
         ensures steps { Steps (known_of self.old.nodes) (known_of self.new.nodes) }
     {
         let opening = Opening {

@@ -1,14 +1,15 @@
 //! Files, directories and symbolic links that are made.
 #![tactic(auto, using(crate::proofs::Asking::goes_on, crate::proofs::Asking::stays, crate::proofs::Plans::by_plan, crate::proofs::Steps::steps_on, crate::proofs::Steps::no_step,))]
 
-ghost use Rattle.std.specs.Prelude.{◌≡◌, Some, IfOk, OnErr};
-ghost use Rattle.fuse_server.specs.Asking.{Talked, LookedAt};
+ghost use Rattle.std.specs.Prelude.{◌≡◌, ◌%◌, Some, IfOk, OnErr};
+ghost use Rattle.fuse_server.specs.Asking.{OpenedAt, Talked, LookedAt};
 ghost use Rattle.fuse_nodes.specs.Known.{known_of};
 ghost use Rattle.fuse_server.specs.Entries.{IsKnown};
 ghost use Rattle.fuse_server.specs.Kinds.{IsEntry, IsCreate};
 ghost use Rattle.fuse_server.specs.Reach.{CalledFrom, IsNamed};
 ghost use Rattle.fuse_server.specs.Telling.{ShownAt, ToldBehind, told_of};
-ghost use Rattle.fuse_server.specs.Telling.Telling.{Name};
+ghost use Rattle.fuse_server.specs.Telling.Telling.{Made};
+ghost use Rattle.fuse_server.specs.Telling.Making.{NewDirectory, NewFile, NewLink};
 ghost use Rattle.fuse_server.specs.Plans.{May};
 ghost use Rattle.fuse_server.specs.Plans.Kind.{Close, Give, Lstat, New};
 ghost use Rattle.fuse_server.specs.declared.work.Plan.TheVariants as plan;
@@ -175,6 +176,8 @@ impl Mount {
         requires makes { May work.reach.plan New }
         requires closes { May work.reach.plan Close }
         ensures asked { Talked (CalledFrom work.reach S.called) S.entered S.left work.now sessions.old sessions.new }
+        ensures made { IfOk result (λ made. OpenedAt (CalledFrom work.reach S.called) S.entered S.left work.now sessions.old path.entry
+            mode made sessions.new) }
         ensures steps { Steps (known_of self.old.nodes) (known_of self.new.nodes) }
     {
         let opening = Opening {
@@ -197,8 +200,8 @@ impl Mount {
         requires plan { work.reach.plan ≡ plan.MakeFile }
         ensures asked { OnErr result (Talked (CalledFrom work.reach S.called) S.entered S.left work.now sessions.old sessions.new) }
         ensures told { IfOk result (IsEntry (known_of self.new.nodes)) }
-        ensures behind { IfOk result (λ a. ToldBehind (CalledFrom work.reach S.called) S.entered S.left work.now work.reach (Name name.now)
-            (known_of self.new.nodes) sessions.old a sessions.new) }
+        ensures behind { IfOk result (λ a. ToldBehind (CalledFrom work.reach S.called) S.entered S.left work.now work.reach (Made name.now
+            (NewFile (mode % 4096))) (known_of self.new.nodes) sessions.old a sessions.new) }
         ensures steps { Steps (known_of self.old.nodes) (known_of self.new.nodes) }
     {
         if !is_file(mode) {
@@ -224,8 +227,8 @@ impl Mount {
         requires plan { work.reach.plan ≡ plan.MakeDirectory }
         ensures asked { OnErr result (Talked (CalledFrom work.reach S.called) S.entered S.left work.now sessions.old sessions.new) }
         ensures told { IfOk result (IsEntry (known_of self.new.nodes)) }
-        ensures behind { IfOk result (λ a. ToldBehind (CalledFrom work.reach S.called) S.entered S.left work.now work.reach (Name name.now)
-            (known_of self.new.nodes) sessions.old a sessions.new) }
+        ensures behind { IfOk result (λ a. ToldBehind (CalledFrom work.reach S.called) S.entered S.left work.now work.reach (Made name.now
+            (NewDirectory (mode % 4096))) (known_of self.new.nodes) sessions.old a sessions.new) }
         ensures steps { Steps (known_of self.old.nodes) (known_of self.new.nodes) }
     {
         let owner = owner_of(message)?;
@@ -270,8 +273,8 @@ impl Mount {
         requires plan { work.reach.plan ≡ plan.MakeLink }
         ensures asked { OnErr result (Talked (CalledFrom work.reach S.called) S.entered S.left work.now sessions.old sessions.new) }
         ensures told { IfOk result (IsEntry (known_of self.new.nodes)) }
-        ensures behind { IfOk result (λ a. ToldBehind (CalledFrom work.reach S.called) S.entered S.left work.now work.reach (Name name.now)
-            (known_of self.new.nodes) sessions.old a sessions.new) }
+        ensures behind { IfOk result (λ a. ToldBehind (CalledFrom work.reach S.called) S.entered S.left work.now work.reach (Made name.now
+            (NewLink target.now)) (known_of self.new.nodes) sessions.old a sessions.new) }
         ensures steps { Steps (known_of self.old.nodes) (known_of self.new.nodes) }
     {
         let owner = owner_of(message)?;
@@ -340,8 +343,8 @@ impl Mount {
         requires plan { work.reach.plan ≡ plan.MakeFile }
         ensures asked { OnErr result (Talked (CalledFrom work.reach S.called) S.entered S.left work.now sessions.old sessions.new) }
         ensures told { IfOk result (IsCreate (known_of self.new.nodes)) }
-        ensures behind { IfOk result (λ a. ToldBehind (CalledFrom work.reach S.called) S.entered S.left work.now work.reach (Name name.now)
-            (known_of self.new.nodes) sessions.old a sessions.new) }
+        ensures behind { IfOk result (λ a. ToldBehind (CalledFrom work.reach S.called) S.entered S.left work.now work.reach (Made name.now
+            (NewFile (mode % 4096))) (known_of self.new.nodes) sessions.old a sessions.new) }
         ensures steps { Steps (known_of self.old.nodes) (known_of self.new.nodes) }
     {
         let owner = owner_of(message)?;

@@ -13,7 +13,8 @@ ghost use Rattle.fuse_server.specs.Entries.{IsKnown, KeepsNumbers};
 ghost use Rattle.fuse_server.specs.Kinds.{is_done, IsEntry, IsOfLookup};
 ghost use Rattle.fuse_server.specs.Reach.{CalledFrom, IsAt, IsNamed};
 ghost use Rattle.fuse_server.specs.Telling.{AskedFor, FoundAt, ToldBehind, ShownAt, told_of};
-ghost use Rattle.fuse_server.specs.Telling.Telling.{Name, Unlinked, Removed, Renamed};
+ghost use Rattle.fuse_server.specs.Telling.Making.{NewName};
+ghost use Rattle.fuse_server.specs.Telling.Telling.{Made, Name, Unlinked, Removed, Renamed};
 ghost use Rattle.fuse_server.specs.Plans.{May};
 ghost use Rattle.fuse_server.specs.Plans.Kind.{Close, Lstat, Open, Rename};
 ghost use Rattle.fuse_server.specs.declared.work.Plan.TheVariants as plan;
@@ -179,8 +180,8 @@ impl Mount {
         requires plan { work.reach.plan ≡ plan.Link }
         ensures asked { OnErr result (Talked (CalledFrom work.reach S.called) S.entered S.left work.now sessions.old sessions.new) }
         ensures told { IfOk result (IsEntry (known_of self.new.nodes)) }
-        ensures behind { IfOk result (λ a. ToldBehind (CalledFrom work.reach S.called) S.entered S.left work.now work.reach (Name name.now)
-            (known_of self.new.nodes) sessions.old a sessions.new) }
+        ensures behind { IfOk result (λ a. ToldBehind (CalledFrom work.reach S.called) S.entered S.left work.now work.reach (Made name.now
+            NewName) (known_of self.new.nodes) sessions.old a sessions.new) }
         ensures steps { Steps (known_of self.old.nodes) (known_of self.new.nodes) }
     {
         let old = work.reach.other()?;

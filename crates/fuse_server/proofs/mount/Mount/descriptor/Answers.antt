@@ -10,5 +10,5 @@ returns-in-Some-clause-own g c =
 pub returns-in_ok-path-in-None-clause-own : goal.returns-in_ok-path-in-None-clause-own
 returns-in_ok-path-in-None-clause-own g c =
     own_opened (CalledFrom c.args.work.reach g.S.Sessions.called) g.S.Sessions.entered g.S.Sessions.left c.args.work.now c.args.sessions.now
-    c.open_node.new.sessions c.args.work.reach c.in_ok-path-in-None.path c.open_node.result c.in-None.is c.in_ok-path-in-None.ensures.at
+    c.open_node.new.sessions c.args.work.reach c.in_ok-path-in-None.path 0 c.open_node.result c.in-None.is c.in_ok-path-in-None.ensures.at
     c.open_node.ensures.opened

@@ -9,5 +9,5 @@ returns-clause-asked g c = goes_on (goes_on c.open_somewhere-opened.ensures.aske
 
 pub returns-clause-opened : goal.returns-clause-opened
 returns-clause-opened g c =
-    opened_after c.open_somewhere.new.sessions c.args.opening.path c.open_somewhere.result
+    opened_after c.open_somewhere.new.sessions c.args.opening.path c.args.opening.mode c.open_somewhere.result
     (goes_on c.open_somewhere-opened.ensures.asked c.make_room.ensures.asked) c.open_somewhere.ensures.opened

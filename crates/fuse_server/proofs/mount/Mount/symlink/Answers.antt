@@ -1,10 +1,13 @@
-use Rattle.fuse_server.proofs.Asking.{goes_on, on_err}
-use Rattle.fuse_server.proofs.Telling.{shown_after, entry_behind}
+use Rattle.fuse_server.proofs.Asking.{goes_on, on_err, asking}
+use Rattle.std.proofs.Common.{refl}
+use Rattle.fuse_server.specs.Telling.Making.{NewLink}
+use Rattle.fuse_server.proofs.Telling.{made_behind}
 use Rattle.fuse_server.proofs.mount.Mount.symlink.Goals as goal
 
 pub returns-in_err-entry-clause-asked : goal.returns-in_err-entry-clause-asked
 returns-in_err-entry-clause-asked g c = on_err _ (goes_on c.ask_done.ensures.asked c.tell_link.ensures.asked)
 
 pub returns-clause-behind : goal.returns-clause-behind
-returns-clause-behind g c = entry_behind c.args.work.reach c.args.name.now c.in_ok-entry.entry c.in_ok-path.path c.in_ok-path.ensures.at
-    (shown_after c.ask_done.ensures.asked c.in_ok-entry.ensures.shown)
+returns-clause-behind g c =
+    made_behind c.args.work.reach c.args.name.now (NewLink _) c.in_ok-entry.entry c.in_ok-path.path c.in_ok-path.ensures.at
+    (asking refl c.in_ok-ask_done.ensures.done) (λ log was. (c.args.target, refl, was)) c.in_ok-entry.ensures.shown

@@ -9,7 +9,7 @@ returns-then-not-is_full-clause-asked g c = goes_on (goes_on c.seats.invariant c
 
 pub returns-then-not-is_full-clause-opened : goal.returns-then-not-is_full-clause-opened
 returns-then-not-is_full-clause-opened g c =
-    opened_after c.open_by-opened.new.sessions c.args.opening.path c.open_by-opened.result
+    opened_after c.open_by-opened.new.sessions c.args.opening.path c.args.opening.mode c.open_by-opened.result
     (goes_on c.seats.invariant c.session.ensures) c.open_by-opened.ensures.opened
 
 pub seats-preserved : goal.seats-preserved
