@@ -68,7 +68,8 @@ room_of room = record {
   fragment_size = room.block_size;
 }
 
--- what a message makes: a file with these permissions, a directory, a link with this target, or one more name for the second node's file
+-- what a message makes: a file with these permissions, a directory, a link with this target, or one more name for the second node's
+-- file
 pub data Making : Type 0 where
   NewFile : ℕ → Making
   NewDirectory : ℕ → Making
