@@ -137,12 +137,12 @@ def tick(trial):
     """A tick of ten milliseconds: drivers die every fifty, others take their places, and all bytes are right."""
     with Volume(trial, "tick") as volume:
         volume.mount("--tick", "10", "--kill-every", "53")
-        wanted = os.urandom(1 << 20)
-        for _ in range(20):
+        wanted, until = os.urandom(65536), time.monotonic() + 60
+        while volume.deaths()[0] < 10 and time.monotonic() < until:
             (volume.folder / "file").write_bytes(wanted)
             os.sync()
             same("the file", (volume.folder / "file").read_bytes(), wanted)
-        holds("drivers died", volume.deaths()[0] > 0)
+        holds("ten drivers died", volume.deaths()[0] >= 10)
         volume.umount()
 
 
