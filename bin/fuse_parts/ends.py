@@ -1,7 +1,7 @@
 """How a mount begins and ends: refusals, a busy folder, an image that is being written, a full volume, kills, drivers that are used up."""
-import errno, os, random, signal, subprocess, time
+import contextlib, errno, os, random, signal, subprocess, time
 from .mounted import let_go, mount_at
-from .rows import Skip, Wrong, holds, row, run, said, same
+from .rows import Skip, Wrong, holds, need_root, ran, row, run, said, same
 from .volume import BIN, LARGE, SMALL, Volume, differ, tree_of
 from .users import refused
 
@@ -23,14 +23,18 @@ def refused_image(trial):
     """An image that isn't clean, is none, or isn't there: a line says why, and the folder is let go."""
     with Volume(trial, "refused") as volume:
         good = volume.image.read_bytes()
-        for bytes_, why in ((good[:1024] + bytes(1024) + good[2048:], b"Mount Layout"), (b"no image", b"M"),
-                            (good[:2048] + b"\xff" + good[2049:], b"finding")):
+        for bytes_, why in ((good[:1024] + bytes(1024) + good[2048:], b"no volume of MINIX"), (b"no image", b"multiple of 512"),
+                            (b"", b"ends before"), (good[:2048] + b"\xff" + good[2049:], b"is damaged")):
             volume.image.write_bytes(bytes_)
             refused(volume.try_mount(), why)
             nothing_mounted(volume.folder)
         volume.image.write_bytes(good)
         refused(volume.try_mount("--minor", "1"), b"Partition")
         refused(volume.try_mount(folder=volume.home / "none"), b"no such folder")
+        refused(volume.try_mount(folder=volume.image), b"is no folder")
+        volume.mount()
+        refused(volume.try_mount(), b"is mounted there")
+        volume.umount()
         volume.image.unlink()
         refused(volume.try_mount(), b"no such file")
         same("files that are left", sorted(os.listdir(volume.home)), ["log", "mnt"])
@@ -222,6 +226,109 @@ def killed(trial):
             for it in range(count + 1):
                 holds("each earlier one is there", (volume.folder / f"synced{it}").exists())
             volume.umount()
+
+
+def synced_and_killed(volume, name):
+    """Makes a file, and kills the program behind an fsync of it."""
+    with open(volume.folder / name, "wb") as file:
+        file.write(b"x" * 20_000)
+        file.flush()
+        os.fsync(file.fileno())
+    volume.kill()
+    volume.wait_for_end()
+
+
+@end("restored")
+def restored(trial):
+    """Where a copy takes the place of an image that a kill left with a log, nothing is mounted until the user says which of both counts."""
+    with Volume(trial, "restored") as volume:
+        log, copy = volume.home / "v.img.log", volume.image.read_bytes()
+        for keeps_log in True, False:
+            volume.mount("--sync-every", "0")
+            synced_and_killed(volume, f"kept {keeps_log}")
+            time.sleep(1.5)
+            with open(volume.image, "r+b") as image:
+                image.write(volume.image.read_bytes() if keeps_log else copy)
+            for how in (), ("-o", "ro"):
+                refused(volume.try_mount(*how), b"changed later than")
+            nothing_mounted(volume.folder)
+            os.utime(log) if keeps_log else log.unlink()
+            volume.mount()
+            same("the files", os.listdir(volume.folder), ["kept True"] if keeps_log else [])
+            volume.umount()
+
+
+@end("replaced")
+def replaced(trial):
+    """Who unmounts is told where another file took the image's place meanwhile, or none has its name."""
+    with Volume(trial, "replaced") as volume:
+        for is_there in True, False:
+            volume.mount()
+            copy, other = volume.image.read_bytes(), volume.home / "other"
+            volume.image.rename(other)
+            if is_there:
+                volume.image.write_bytes(copy)
+            (volume.folder / "file").write_text("x")
+            refused(volume.try_umount(), b"moved, replaced or removed")
+            other.replace(volume.image)
+        volume.mount()
+        same("the file", (volume.folder / "file").read_text(), "x")
+        volume.umount()
+
+
+@end("no-room")
+def no_room(trial):
+    """On a disk that gets full an fsync is refused, all that was synced stays, and the next start has it once there is room."""
+    need_root("mounts a tmpfs")
+    with Volume(trial, "no-room") as volume, small_disk(volume, "1200k"):
+        volume.mount("--sync-every", "0")
+        done, data = 0, random.Random(f"{trial.seed} no-room").randbytes(150_000)
+        try:
+            for done in range(10):
+                with open(volume.folder / f"f{done}", "wb") as file:
+                    file.write(data)
+                    file.flush()
+                    os.fsync(file.fileno())
+        except OSError as error:
+            same("the error", errno.errorcode[error.errno], "EIO")
+        refused(volume.try_umount(), b"no room is left there")
+        holds(f"some files were synced, {done}", 1 <= done < 6)
+        ran("mount", "-o", "remount,size=8m", volume.home)
+        volume.mount()
+        for it in range(done):
+            same(f"the bytes of file {it}", (volume.folder / f"f{it}").read_bytes() == data, True)
+        volume.umount()
+
+
+@contextlib.contextmanager
+def small_disk(volume, size):
+    """Moves a volume that isn't mounted to a file system of its own."""
+    image = volume.image.read_bytes()
+    ran("mount", "-t", "tmpfs", "-o", f"size={size}", "none", volume.home)
+    try:
+        with open(volume.image, "wb") as file:
+            for at in range(0, len(image), 4096):
+                file.seek(at)
+                if any(image[at:at + 4096]):
+                    file.write(image[at:at + 4096])
+            file.truncate(len(image))
+        volume.folder.mkdir()
+        yield
+    finally:
+        volume.__exit__()
+        run("umount", volume.home)
+
+
+@end("new-volume")
+def new_volume(trial):
+    """bin/new-volume replaces no file in which something is, but for --force."""
+    with Volume(trial, "new-volume") as volume:
+        make = lambda *words: run(BIN / "new-volume", "--program", trial.ours["mkmfs"], volume.image, "1", *words)
+        before = volume.image.read_bytes()
+        refused(make(), b"is there already")
+        holds("the image stays", volume.image.read_bytes() == before)
+        same("the status", make("--force").returncode, 0)
+        same("its size", volume.image.stat().st_size, 1 << 20)
 
 
 @end("killed-and-told")

@@ -47,6 +47,67 @@ def one_line(text):
     return "; ".join(it.strip() for it in text.splitlines() if it.strip())
 
 
+# ---- what the program's lines mean
+
+MEANINGS = (
+    ("Media NotWholeSectors", "its size is no multiple of 512 bytes"),
+    ("Media TooLarge", "it has more than 64 MiB"),
+    ("Mount Layout BadMagic", "it is no volume of MINIX version 3"),
+    ("Mount Eio", "it ends before its volume does"),
+    ("Mount Inconsistent", "the volume is damaged"),
+    ("log is of another image", "it is of a file in whose place this one came, or both are copies"),
+)
+
+
+def is_full(folder):
+    """Whether the disk below a folder has no room for an ordinary user."""
+    try:
+        return os.statvfs(folder).f_bavail < 256
+    except OSError:
+        return False
+
+
+def explained(line):
+    """A line of the program, with what it means where it doesn't say so itself."""
+    if line.startswith("cannot write ") and is_full(os.path.dirname(line[13:])):
+        return f"{line} (no room is left there; what was synced is in it and its log: make room and mount it again)"
+    return next((f"{line} ({meaning})" for start, meaning in MEANINGS if start in line), line)
+
+
+# ---- whether an image is the one that was meant
+
+HEAD = 4096  # bytes of a log's first gate, and of the head behind it: equal where the log asks for something
+
+
+def is_due(log):
+    """Whether a log asks for something, as a kill leaves it."""
+    try:
+        with open(log, "rb") as file:
+            gate, head = file.read(HEAD), file.read(HEAD)
+    except OSError:
+        return False
+    return len(head) == HEAD and gate == head and gate.startswith(b"MFSREDO1")
+
+
+def is_changed_behind(image):
+    """Whether an image was changed later than the log that a kill left beside it: as where a copy took its place. The program changes it so
+    only for a moment, when it writes to the image what the log asks for."""
+    log = f"{image}.log"
+    try:
+        return os.stat(image).st_ctime_ns > os.stat(log).st_ctime_ns + 1_000_000_000 and is_due(log)
+    except OSError:
+        return False
+
+
+def same_file(image):
+    """What tells a file from another that takes its name; None where there is none."""
+    try:
+        told = os.stat(image)
+    except OSError:
+        return None
+    return told.st_dev, told.st_ino
+
+
 # ---- what came of a mount: the one who serves it tells those who ask, by a socket that has no file and goes with its process
 
 

@@ -1,6 +1,6 @@
 """Several users: who may mount, and whose rights the kernel looks at."""
 import os, stat
-from .rows import Skip, Wrong, need_root, run, row, said, same
+from .rows import Skip, Wrong, holds, need_root, ran, run, row, said, same
 from .volume import Volume
 
 USER, OTHER, GROUP = 65534, 65533, 65000  # users and groups that need no entry anywhere
@@ -58,6 +58,24 @@ def not_his(trial):
         refused(volume.try_mount("-o", "allow_other"), b"user_allow_other")
         os.chown(volume.folder, 0, 0)
         refused(volume.try_mount(), b"no write access")
+        os.chown(volume.folder, USER, USER)
+        volume.mount()
+        volume.user = OTHER
+        refused(volume.try_umount(), f"user {USER} mounted it".encode())
+        volume.user = USER
+        volume.umount()
+
+
+@users("another's-root")
+def anothers_root(trial):
+    """Who mounts a volume in which only another user may make files is told."""
+    need_device()
+    with Volume(trial, "anothers", user=USER) as volume:
+        ran(trial.ours["mkmfs"], volume.image, "--blocks", "64", "--inodes", "32")
+        os.chown(volume.image, USER, USER)
+        done = volume.try_mount()
+        holds("it is mounted, and a line tells of user 0", done.returncode == 0 and b"of user 0" in done.stderr)
+        volume.umount()
 
 
 def refused(done, why):

@@ -43,7 +43,7 @@ def script(name):
     text = re.sub(r"^sys\.dont_write_bytecode = True\nfrom fuse_parts\.mounted import [\w, ]+\n", lambda _: part, text, flags=re.M)
     for packed, ours in SCRIPTS.items():
         text = re.sub(rf"\bbin/{ours}\b", packed, text)
-    return text.replace("#!/usr/bin/env python3\n", "#!/usr/bin/python3\n", 1).encode()
+    return re.sub(r"^#!/usr/bin/env (?:-S )?python3", "#!/usr/bin/python3", text).encode()
 
 
 def zipped(data):
