@@ -258,6 +258,37 @@ def restored(trial):
             volume.umount()
 
 
+@end("copied")
+def copied(trial):
+    """Copies of an image and of the log that a kill left aren't mounted; bin/settle makes an image of them, and nothing of other logs."""
+    with Volume(trial, "copied") as volume:
+        image, log = volume.image, volume.home / "v.img.log"
+        settle = lambda: run(BIN / "settle", "--program", trial.ours["mfsck"], volume.home / "c.img", image)
+        for count in range(3):
+            volume.mount("--sync-every", "0")
+            synced_and_killed(volume, f"f{count}")
+            for it in image, log:
+                (volume.home / it.name.replace("v", "c", 1)).write_bytes(it.read_bytes())
+            log.unlink()
+            image.write_bytes((volume.home / "c.img").read_bytes())
+            refused(settle(), b"File exists")
+            image.unlink()
+            (volume.home / "c.img").rename(image)
+            (volume.home / "c.img.log").rename(log)
+            refused(volume.try_mount(), b"both are copies")
+            image.rename(volume.home / "c.img")
+            log.rename(volume.home / "c.img.log")
+            same("the status", said(settle()), "status 0: ")
+        (volume.home / "c.img").write_bytes(bytes(1 << 20))
+        image.rename(volume.home / "good")
+        refused(settle(), b"no clean image")
+        holds("nothing is left", not image.exists())
+        (volume.home / "good").rename(image)
+        volume.mount()
+        same("the files", [(it.name, it.stat().st_size) for it in sorted(volume.folder.iterdir())], [(f"f{it}", 20_000) for it in range(3)])
+        volume.umount()
+
+
 @end("replaced")
 def replaced(trial):
     """Who unmounts is told where another file took the image's place meanwhile, or none has its name."""
@@ -280,7 +311,7 @@ def replaced(trial):
 def no_room(trial):
     """On a disk that gets full an fsync is refused, all that was synced stays, and the next start has it once there is room."""
     need_root("mounts a tmpfs")
-    with Volume(trial, "no-room") as volume, small_disk(volume, "1200k"):
+    with Volume(trial, "no-room") as volume, small_disk(volume, "700k"):
         volume.mount("--sync-every", "0")
         done, data = 0, random.Random(f"{trial.seed} no-room").randbytes(150_000)
         try:
