@@ -99,6 +99,14 @@ def is_changed_behind(image):
         return False
 
 
+def touch_log(image):
+    """Says of a log that it is newer than its image: a program that failed or was killed may have changed that last."""
+    try:
+        os.utime(f"{image}.log")
+    except OSError:
+        pass
+
+
 def same_file(image):
     """What tells a file from another that takes its name; None where there is none."""
     try:
