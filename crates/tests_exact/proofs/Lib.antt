@@ -23,3 +23,4 @@ mod WrongEnds
 mod WrongRuns
 mod LeftOpen
 mod HeldRows
+mod FirstEvents
