@@ -179,7 +179,7 @@ pub until_answer : Runs area (start default_policy events) answer_taken
 until_answer = until_sync ▸ step_14
 
 -- the row
-row : Runs area (start default_policy events) sync_done
+pub row : Runs area (start default_policy events) sync_done
 row = until_answer ▸ step_15
 
 -- the row from half of the first write on
@@ -199,7 +199,7 @@ transcript = record {
 }
 
 -- the run is the schedule's, exactly
-pub death_is_exact : IsExact sizes image (setup default_policy) supply events transcript
+unfoldable pub death_is_exact : IsExact sizes image (setup default_policy) supply events transcript
 death_is_exact = record {
   first = (start default_policy events).run;
   opened = opened default_policy events;

@@ -1,5 +1,5 @@
 -- The run of the first two events of the row of a death begins that row; and what no beginning of it is.
-use Rattle.std.specs.Prelude.{◌≡◌, ℕ, ◌+◌, ◌≤◌, List, [], ◌∷◌, ◌++◌, length, None, refl}
+use Rattle.std.specs.Prelude.{◌≡◌, ℕ, ◌+◌, ◌≤◌, List, [], ◌∷◌, ◌++◌, length, take, None, refl}
 use Rattle.std.specs.List.{concat}
 use Rattle.std.proofs.Common.{arith, ap, sym, ◌∙◌, subst, lit≤, inl, length-append}
 use Rattle.tree.specs.declared.Call.TheVariants.{Close, Sync}
@@ -18,7 +18,7 @@ use Rattle.world.specs.FirstEvents.{AsItStands, BeginsWith}
 use Rattle.tests_exact.proofs.Small.{sizes, sectors_with, new_0, old_1, image, setup, supply, write_both, sync, close}
 use Rattle.tests_exact.proofs.Drivers.{at_second}
 use Rattle.tests_exact.proofs.Beginning.{start, half_written, opened, writes_half}
-use Rattle.tests_exact.proofs.DeathRow.{events, half, answered, transcript, death_is_exact, from_half}
+use Rattle.tests_exact.proofs.DeathRow.{events, half, answered, sync_done, transcript, death_is_exact, from_half}
 
 -- the flush, and half of its write
 abbrev two : List Event
@@ -49,15 +49,16 @@ abbrev Beginning : ℕ → Type 0
 Beginning = BeginsWith sizes image (setup default_policy) supply events transcript death_is_exact
 
 half_begins : Beginning 2
+unfolding half_is_exact death_is_exact
 half_begins = record {
   start = half_transcript;
   exact = half_is_exact;
   moment = half;
   ends = AsItStands;
   goes_on = from_half;
-  later = _;
+  later = take 6 sync_done.run.scene.noted.groups;
   groups = refl;
-  marks = record { later = _; is = refl };
+  marks = record { later = take 5 transcript.marks; is = refl };
   later_sent = answered ∷ [];
   sent = refl;
   places = (lit≤ tt, tt);
@@ -91,7 +92,7 @@ another_call n b other = no (taken b.marks.later) (ap taken b.marks.is ∙ taken
           let h : 1 ≡ length (x ∷ later) + 1 = ap length same ∙ length-append (x ∷ later) (arrival_of close ∷ []) in omega (arith, h)
 
 -- how many marks the first event left
-first_marks : List Group → ℕ
+abbrev first_marks : List Group → ℕ
 first_marks [] = 0
 first_marks (g ∷ []) = length g.1
 first_marks (g ∷ h ∷ groups) = first_marks (h ∷ groups)
@@ -103,6 +104,7 @@ first_marks_in (x ∷ y ∷ later) g groups = first_marks_in (y ∷ later) g gro
 
 -- Its flush begins no write.
 write_left_out : (b : Beginning 2) → b.exact.last.run.scene.noted.groups ≡ (event.Step 1, []) ∷ (event.Flush, Flush ∷ []) ∷ [] → ⊥
+unfolding death_is_exact
 write_left_out b less =
     let h : 2 ≡ 1 = ap first_marks (b.groups ∙ ap (λ (l : List Group). b.later ++ l) less)
     ∙ first_marks_in b.later (event.Step 1, []) ((event.Flush, Flush ∷ []) ∷ []) in
