@@ -12,13 +12,14 @@ use Rattle.schedule.specs.declared.Sent.{Sent}
 use Rattle.schedule.specs.Calls.{Arrival, taken}
 use Rattle.schedule.specs.Groups.{Group, Each}
 use Rattle.schedule.specs.Headline.{Transcript}
+use Rattle.simulated_link.specs.StateView.{Stays}
 use Rattle.simulated_link.specs.Waiting.{arrival_of}
 use Rattle.world.specs.Exact.{IsExact}
-use Rattle.world.specs.FirstEvents.{AsItStands, BeginsWith}
+use Rattle.world.specs.FirstEvents.{AsItStands, Comes, BeginsWith}
 use Rattle.tests_exact.proofs.Small.{sizes, sectors_with, new_0, old_1, image, setup, supply, write_both, sync, close}
 use Rattle.tests_exact.proofs.Drivers.{at_second}
 use Rattle.tests_exact.proofs.Beginning.{start, half_written, opened, writes_half}
-use Rattle.tests_exact.proofs.DeathRow.{events, half, answered, sync_done, transcript, death_is_exact, from_half}
+use Rattle.tests_exact.proofs.DeathRow.{later, events, half, answered, sync_done, transcript, death_is_exact, from_half}
 
 -- the flush, and half of its write
 abbrev two : List Event
@@ -54,6 +55,7 @@ half_begins = record {
   start = half_transcript;
   exact = half_is_exact;
   moment = half;
+  comes = Comes half half.run (writes_half default_policy later) Stays;
   ends = AsItStands;
   goes_on = from_half;
   later = take 6 sync_done.run.scene.noted.groups;

@@ -41,7 +41,7 @@ use Rattle.conformance.proofs.Events.{event_done, record_of_groups}
 use Rattle.conformance.proofs.SaidLaws.{next_none, next_received, step_calm, step_begun, step_said}
 use Rattle.world.specs.Starts.{at_first}
 use Rattle.world.specs.Exact.{IsExact, IsOver, IsReadOff, media_with, unanswered_in}
-use Rattle.world.specs.FirstEvents.{with_first, EndsAt, AsItStands, OnceEnded, BeginsWith, RunsHaveBeginnings}
+use Rattle.world.specs.FirstEvents.{with_first, EndsAt, AsItStands, OnceEnded, ComesTo, Comes, BeginsWith, RunsHaveBeginnings}
 
 -- ---- the first n events of a schedule
 
@@ -115,23 +115,23 @@ parts : (n : ℕ) (b a : RunState) (result : Option Incoming) → Advances b res
 parts n b _ _ Stays low past = absurd (omega (arith, low, past))
 parts n b a _ (Goes m _ result before last) low past = elim (below_or_not n m.next) [
   | inl sooner ↦
-    let p : Parts n b None m = parts n b m None before low sooner in
-    record {
-      middle = p.middle;
-      before = p.before;
-      at = p.at;
-      paid = p.paid;
-      live = p.live;
-      after = Goes m a result p.after last;
-    }
+      let p : Parts n b None m = parts n b m None before low sooner in
+      record {
+        middle = p.middle;
+        before = p.before;
+        at = p.at;
+        paid = p.paid;
+        live = p.live;
+        after = Goes m a result p.after last;
+      }
   | inr here ↦ record {
-      middle = m;
-      before = before;
-      at = (let h : a.next ≡ m.next + 1 = last.next in omega (arith, h, here, past));
-      paid = last.paid;
-      live = last.live;
-      after = Goes m a result Stays last;
-    }
+    middle = m;
+    before = before;
+    at = (let h : a.next ≡ m.next + 1 = last.next in omega (arith, h, here, past));
+    paid = last.paid;
+    live = last.live;
+    after = Goes m a result Stays last;
+  }
 ]
 
 -- what is told to the link, and gives nothing, runs no event
@@ -287,7 +287,7 @@ came_grown n b a _ message (Goes m _ result before last) is there h =
     let r : RunsEvent m (Some message) a = subst (λ (x : Option Incoming). RunsEvent m x a) is last in
     elim (far_grown n b m None before refl there h) [
       | inl same ↦ first_grown n b a (Some message) (with_entry (entry.Received message) a.scene.noted) there h
-        (subst (λ (p : RunState). RunsEvent p (Some message) a) same r) refl refl
+          (subst (λ (p : RunState). RunsEvent p (Some message) a) same r) refl refl
       | inr grown ↦ next_received (Grown n b.scene.noted.groups b.scene.disks.sent) (since_kept n b) m a message r grown
     ]
 
@@ -304,8 +304,8 @@ past_grown n b a far at past h = elim (far_grown n b a None far refl (omega (ari
 -- on from the moment where it did.
 data Beside (area : Area) (n : ℕ) (b a : Moment) : Type 0 where
   SoFar : a.run.next ≤ n → Runs area (with_first n b) (with_first n a) → Beside area n b a
-  Passed : (moment last : Moment) → Runs area (with_first n b) last → IsOver last → EndsAt (with_first n moment) last
-      → Runs area moment a → GrownSince n moment.run a.run → Beside area n b a
+  Passed : (moment last : Moment) → ComesTo area b moment → Runs area (with_first n b) last → IsOver last
+      → EndsAt (with_first n moment) last → Runs area moment a → GrownSince n moment.run a.run → Beside area n b a
 
 -- each of the first n events was run, and nothing is owed
 spent_at : (n : ℕ) (p : RunState) → n ≤ p.next → p.owed ≡ false → IsSpent (first_of n p)
@@ -322,25 +322,26 @@ spent_of_first n p spent = record {
 
 module _ (area : Area) (n : ℕ) (b : Moment) (live : b.run.over ≡ false) where
   -- the next event isn't one of the first n, and the server rests
-  passed_between : (m a : Moment) → n ≤ m.run.next → Runs area (with_first n b) (with_first n m) → IsBetween m → m.run.queue ≡ []
-      → m.run.owed ≡ false → Step area m a → GrownSince n m.run a.run → Beside area n b a
-  passed_between m a there runs between none paid step grown =
-      Passed m (with_first n m) runs
+  passed_between : (m a : Moment) → n ≤ m.run.next → Runs area b m → Runs area (with_first n b) (with_first n m) → IsBetween m
+      → m.run.queue ≡ [] → m.run.owed ≡ false → Step area m a → GrownSince n m.run a.run → Beside area n b a
+  passed_between m a there came runs between none paid step grown =
+      Passed m (with_first n m) (Comes m m.run came Stays) runs
       (record { spent = spent_at n m.run there paid; calm = between.at_rest.complaint; ends = inl (between.rests, none) }) AsItStands
       (Then m a Starts step) grown
 
   -- nor is it, and the server needs a message
-  passed_within : (m : Moment) (call : Arrived) (middle : RunState) (a : Moment) → Runs area (with_first n b) (with_first n m)
+  passed_within : (m : Moment) (call : Arrived) (middle : RunState) (a : Moment) → Runs area b m
+      → Runs area (with_first n b) (with_first n m)
       → m.doing ≡ Answering call → MayTake (record_of m.run) m.outbox → Advances m.run None middle → middle.next ≡ n
       → middle.owed ≡ false → middle.over ≡ false → Step area (record m { run = middle }) a → GrownSince n middle a.run → Beside area n b a
-  passed_within m call middle a runs answers may far at paid unended step grown =
+  passed_within m call middle a came runs answers may far at paid unended step grown =
       let last : Moment = at_link (Received incoming.End) (ended (first_of n middle)) (with_first n m) in
       let spent : IsSpent (first_of n middle) = spent_at n middle (omega (arith, at)) paid in
       let to_last : Runs area (with_first n b) last =
       Then (with_first n m) last runs (Takes incoming.End call (ended (first_of n middle)) answers may
       (link.TakesEnd (first_of n middle) (sym (far_over m.run middle None far) ∙ unended)
       (IsRunOut (first_of n middle) (far_of_first n m.run middle None far (omega (arith, at))) spent))) in
-      Passed (record m { run = middle }) last to_last (record {
+      Passed (record m { run = middle }) last (Comes m middle came far) to_last (record {
         spent = record { events = spent.events; paid = paid };
         calm = may.at_rest.complaint;
         ends = inr (refl, runs_end_needing area (with_first n b) last to_last live refl);
@@ -356,103 +357,108 @@ module _ (area : Area) (n : ℕ) (b : Moment) (live : b.run.over ≡ false) wher
       → MayTake (record_of middle) m.outbox
   may_in_middle m middle far may = subst (λ (l : List Mark). MayTake l m.outbox) (sym (far_record m.run middle None far)) may
 
-  ends_beside : (m : Moment) (call : Arrived) (a : RunState) → m.run.next ≤ n → IsSaid Anything m.run
+  ends_beside : (m : Moment) (call : Arrived) (a : RunState) → m.run.next ≤ n → IsSaid Anything m.run → Runs area b m
       → Runs area (with_first n b) (with_first n m)
       → m.doing ≡ Answering call → MayTake (record_of m.run) m.outbox → m.run.over ≡ false → ComesToEnd m.run a
       → Beside area n b (at_link (Received incoming.End) (ended a) m)
-  ends_beside m call a low first runs answers may unended (IsRunOut _ far spent) = elim (below_or_not n a.next) [
+  ends_beside m call a low first came runs answers may unended (IsRunOut _ far spent) = elim (below_or_not n a.next) [
     | inl past ↦
-      let p : Parts n m.run None a = parts n m.run a None far low past in
-      let grown : GrownSince n p.middle a = past_grown n p.middle a p.after p.at past (far_first m.run p.middle None p.before refl first) in
-      passed_within m call p.middle (at_link (Received incoming.End) (ended a) m) runs answers may p.before p.at p.paid p.live
-      (Takes incoming.End call (ended a) answers (may_in_middle m p.middle p.before may)
-      (link.TakesEnd a p.live (IsRunOut a p.after spent)))
-      (record { first = grown.first; said = grown.said })
+        let p : Parts n m.run None a = parts n m.run a None far low past in
+        let grown : GrownSince n p.middle a =
+        past_grown n p.middle a p.after p.at past (far_first m.run p.middle None p.before refl first) in
+        passed_within m call p.middle (at_link (Received incoming.End) (ended a) m) came runs answers may p.before p.at p.paid p.live
+        (Takes incoming.End call (ended a) answers (may_in_middle m p.middle p.before may)
+        (link.TakesEnd a p.live (IsRunOut a p.after spent)))
+        (record { first = grown.first; said = grown.said })
     | inr in_time ↦ SoFar in_time (Then (with_first n m) _ runs
-      (Takes incoming.End call (ended (first_of n a)) answers may (link.TakesEnd (first_of n a) unended
-      (IsRunOut (first_of n a) (far_of_first n m.run a None far in_time) (spent_of_first n a spent)))))
+        (Takes incoming.End call (ended (first_of n a)) answers may (link.TakesEnd (first_of n a) unended
+        (IsRunOut (first_of n a) (far_of_first n m.run a None far in_time) (spent_of_first n a spent)))))
   ]
-  ends_beside m call _ low first runs answers may unended (IsStarved a far) = elim (below_or_not n a.next) [
+  ends_beside m call _ low first came runs answers may unended (IsStarved a far) = elim (below_or_not n a.next) [
     | inl past ↦
-      let p : Parts n m.run None a = parts n m.run a None far low past in
-      let grown : GrownSince n p.middle a = past_grown n p.middle a p.after p.at past (far_first m.run p.middle None p.before refl first) in
-      passed_within m call p.middle (at_link (Received incoming.End) (ended (starving a)) m) runs answers may p.before p.at p.paid p.live
-      (Takes incoming.End call (ended (starving a)) answers (may_in_middle m p.middle p.before may)
-      (link.TakesEnd (starving a) p.live (IsStarved a p.after)))
-      (record { first = grown.first; said = grown.said })
+        let p : Parts n m.run None a = parts n m.run a None far low past in
+        let grown : GrownSince n p.middle a =
+        past_grown n p.middle a p.after p.at past (far_first m.run p.middle None p.before refl first) in
+        passed_within m call p.middle (at_link (Received incoming.End) (ended (starving a)) m) came runs answers may p.before p.at p.paid
+        p.live
+        (Takes incoming.End call (ended (starving a)) answers (may_in_middle m p.middle p.before may)
+        (link.TakesEnd (starving a) p.live (IsStarved a p.after)))
+        (record { first = grown.first; said = grown.said })
     | inr in_time ↦ SoFar in_time (Then (with_first n m) _ runs
-      (Takes incoming.End call (ended (starving (first_of n a))) answers may (link.TakesEnd (starving (first_of n a)) unended
-      (IsStarved (first_of n a) (far_of_first n m.run a None far in_time)))))
+        (Takes incoming.End call (ended (starving (first_of n a))) answers may (link.TakesEnd (starving (first_of n a)) unended
+        (IsStarved (first_of n a) (far_of_first n m.run a None far in_time)))))
   ]
 
   takes_beside : (m : Moment) (message : Incoming) (call : Arrived) (a : RunState) → m.run.next ≤ n → IsSaid Anything m.run
-      → Runs area (with_first n b) (with_first n m) → m.doing ≡ Answering call → MayTake (record_of m.run) m.outbox
+      → Runs area b m → Runs area (with_first n b) (with_first n m) → m.doing ≡ Answering call → MayTake (record_of m.run) m.outbox
       → Turn m.run (Received message) a → Beside area n b (at_link (Received message) a m)
-  takes_beside m message call _ low first runs answers may (link.Takes _ a far) = elim (below_or_not n a.next) [
+  takes_beside m message call _ low first came runs answers may (link.Takes _ a far) = elim (below_or_not n a.next) [
     | inl past ↦
-      let p : Parts n m.run (Some message) a = parts n m.run a (Some message) far low past in
-      let from : Moment = record m { run = p.middle } in
-      let after : RunState = noting (entry.Received message) a in
-      passed_within m call p.middle (at_link (Received message) after m) runs answers may p.before p.at p.paid p.live
-      (subst (λ (x : Moment). Step area from x) (from_middle m (Received message) p.middle after p.before)
-      (Takes message call after answers (may_in_middle m p.middle p.before may) (link.Takes message a p.after)))
-      (came_grown n p.middle a (Some message) message p.after refl (omega (arith, p.at))
-      (far_first m.run p.middle None p.before refl first))
+        let p : Parts n m.run (Some message) a = parts n m.run a (Some message) far low past in
+        let from : Moment = record m { run = p.middle } in
+        let after : RunState = noting (entry.Received message) a in
+        passed_within m call p.middle (at_link (Received message) after m) came runs answers may p.before p.at p.paid p.live
+        (subst (λ (x : Moment). Step area from x) (from_middle m (Received message) p.middle after p.before)
+        (Takes message call after answers (may_in_middle m p.middle p.before may) (link.Takes message a p.after)))
+        (came_grown n p.middle a (Some message) message p.after refl (omega (arith, p.at))
+        (far_first m.run p.middle None p.before refl first))
     | inr in_time ↦
-      let after : RunState = noting (entry.Received message) a in
-      SoFar in_time (Then (with_first n m) _ runs (Takes message call (first_of n after) answers may
-      (link.Takes message (first_of n a) (far_of_first n m.run a (Some message) far in_time))))
+        let after : RunState = noting (entry.Received message) a in
+        SoFar in_time (Then (with_first n m) _ runs (Takes message call (first_of n after) answers may
+        (link.Takes message (first_of n a) (far_of_first n m.run a (Some message) far in_time))))
   ]
-  takes_beside m _ call _ low first runs answers may (link.TakesOwed unended owed untold) =
+  takes_beside m _ call _ low first came runs answers may (link.TakesOwed unended owed untold) =
       let after : RunState = noting (entry.Received incoming.GaveUp) (paid m.run) in
       SoFar low (Then (with_first n m) _ runs
       (Takes incoming.GaveUp call (first_of n after) answers may (link.TakesOwed unended owed untold)))
-  takes_beside m _ call _ low first runs answers may (link.TakesEnd a unended ends) =
-      ends_beside m call a low first runs answers may unended ends
+  takes_beside m _ call _ low first came runs answers may (link.TakesEnd a unended ends) =
+      ends_beside m call a low first came runs answers may unended ends
 
-  step_beside : (m a : Moment) → m.run.next ≤ n → IsSaid Anything m.run → Runs area (with_first n b) (with_first n m) → Step area m a
-      → Beside area n b a
-  step_beside m _ low first runs (Begins r busy may) = SoFar low (Then (with_first n m) _ runs (Begins r busy may))
-  step_beside m _ low first runs (Tells told a busy nothing may turn) =
+  step_beside : (m a : Moment) → m.run.next ≤ n → IsSaid Anything m.run → Runs area b m → Runs area (with_first n b) (with_first n m)
+      → Step area m a → Beside area n b a
+  step_beside m _ low first came runs (Begins r busy may) = SoFar low (Then (with_first n m) _ runs (Begins r busy may))
+  step_beside m _ low first came runs (Tells told a busy nothing may turn) =
       SoFar (let h : a.next ≡ m.run.next = tells_none_next m.run a told turn nothing in omega (arith, h, low))
       (Then (with_first n m) _ runs (Tells told (first_of n a) busy nothing may (tells_of_first n m.run a told turn nothing)))
-  step_beside m _ low first runs (Takes message call a answers may turn) = takes_beside m message call a low first runs answers may turn
-  step_beside m _ low first runs (Settles message hears calm) = SoFar low (Then (with_first n m) _ runs (Settles message hears calm))
-  step_beside m _ low first runs (Brings message a between none next) = elim (below_or_not m.run.next n) [
+  step_beside m _ low first came runs (Takes message call a answers may turn) =
+      takes_beside m message call a low first came runs answers may turn
+  step_beside m _ low first came runs (Settles message hears calm) = SoFar low (Then (with_first n m) _ runs (Settles message hears calm))
+  step_beside m _ low first came runs (Brings message a between none next) = elim (below_or_not m.run.next n) [
     | inl here ↦
-      SoFar (let h : a.next ≡ m.run.next + 1 = next.next in omega (arith, h, here)) (Then (with_first n m) _ runs
-      (Brings message (first_of n a) (between_first n m between) none (event_of_first n m.run a (Some message) here next)))
+        SoFar (let h : a.next ≡ m.run.next + 1 = next.next in omega (arith, h, here)) (Then (with_first n m) _ runs
+        (Brings message (first_of n a) (between_first n m between) none (event_of_first n m.run a (Some message) here next)))
     | inr there ↦
-      passed_between m (hearing message a m) there runs between none next.paid (Brings message a between none next)
-      (first_grown n m.run a (Some message) (with_entry (entry.Handed message) a.scene.noted) there first next refl refl)
+        passed_between m (hearing message a m) there came runs between none next.paid (Brings message a between none next)
+        (first_grown n m.run a (Some message) (with_entry (entry.Handed message) a.scene.noted) there first next refl refl)
   ]
-  step_beside m _ low first runs (BringsNone a between none next) = elim (below_or_not m.run.next n) [
+  step_beside m _ low first came runs (BringsNone a between none next) = elim (below_or_not m.run.next n) [
     | inl here ↦
-      SoFar (let h : a.next ≡ m.run.next + 1 = next.next in omega (arith, h, here)) (Then (with_first n m) _ runs
-      (BringsNone (first_of n a) (between_first n m between) none (event_of_first n m.run a None here next)))
+        SoFar (let h : a.next ≡ m.run.next + 1 = next.next in omega (arith, h, here)) (Then (with_first n m) _ runs
+        (BringsNone (first_of n a) (between_first n m between) none (event_of_first n m.run a None here next)))
     | inr there ↦
-      passed_between m (record m { run = a }) there runs between none next.paid (BringsNone a between none next)
-      (first_grown n m.run a None a.scene.noted there first next refl refl)
+        passed_between m (record m { run = a }) there came runs between none next.paid (BringsNone a between none next)
+        (first_grown n m.run a None a.scene.noted there first next refl refl)
   ]
-  step_beside m _ low first runs (Pays between owed untold) =
+  step_beside m _ low first came runs (Pays between owed untold) =
       SoFar low (Then (with_first n m) _ runs (Pays (between_first n m between) owed untold))
-  step_beside m _ low first runs (HandsCall call a between settled hands) =
+  step_beside m _ low first came runs (HandsCall call a between settled hands) =
       SoFar (let h : a.next ≡ m.run.next = ap (λ (p : RunState). p.next) hands.after in omega (arith, h, low))
       (Then (with_first n m) _ runs (HandsCall call (first_of n a) (between_first n m between) settled
       (record { first = hands.first; after = ap (λ (p : RunState). first_of n p) hands.after })))
-  step_beside m _ low first runs (Replies call reply answers unended calm) =
+  step_beside m _ low first came runs (Replies call reply answers unended calm) =
       SoFar low (Then (with_first n m) _ runs (Replies call reply answers unended calm))
 
-  more_beside : (m a : Moment) → Stood m → Beside area n b m → Step area m a → Beside area n b a
-  more_beside m a stood (SoFar low runs) step = step_beside m a low stood.first runs step
-  more_beside m a stood (Passed moment last runs over ends on grown) step = Passed moment last runs over ends (Then m a on step)
+  more_beside : (m a : Moment) → Stood m → Runs area b m → Beside area n b m → Step area m a → Beside area n b a
+  more_beside m a stood came (SoFar low runs) step = step_beside m a low stood.first came runs step
+  more_beside m a stood came (Passed moment last comes runs over ends on grown) step =
+      Passed moment last comes runs over ends (Then m a on step)
       (step_said (Grown n moment.run.scene.noted.groups moment.run.scene.disks.sent) (since_kept n moment.run) area m a step stood.calm
       stood.begun grown)
 
   run_beside : (a : Moment) → b.run.next ≤ n → Stood b → Runs area b a → Beside area n b a
   run_beside _ low stood Starts = SoFar low Starts
   run_beside a low stood (Then m _ before last) =
-      more_beside m a (stood_on area b m before stood) (run_beside m low stood before) last
+      more_beside m a (stood_on area b m before stood) before (run_beside m low stood before) last
 
 -- ---- what is read off
 
@@ -519,12 +525,15 @@ over_of_first n m over = record {
   calm = over.calm;
   ends = elim over.ends [
     | inl rests ↦ inl rests
-    | inr need ↦ inr (need.0, record {
+    | inr need ↦ inr (
+      need.0,
+      record {
         call = need.1.call;
         answers = need.1.answers;
         needed = need.1.needed;
         not_given_up = need.1.not_given_up;
-      })
+      },
+    )
   ];
 }
 
@@ -559,6 +568,7 @@ module _ (g : Geometry) (image : List ℕ) (setup : Setup) (supply : List Driver
     start = read_off (with_first n whole.last) t;
     exact = exact (with_first n whole.last) runs (over_of_first n whole.last whole.over);
     moment = whole.last;
+    comes = Comes whole.last whole.last.run whole.steps Stays;
     ends = AsItStands;
     goes_on = Starts;
     later = [];
@@ -569,9 +579,10 @@ module _ (g : Geometry) (image : List ℕ) (setup : Setup) (supply : List Driver
     places = tt;
   }
 
-  passed : (moment last : Moment) → Runs area (with_first n from) last → IsOver last → EndsAt (with_first n moment) last
+  passed : (moment last : Moment) → ComesTo area from moment → Runs area (with_first n from) last → IsOver last
+      → EndsAt (with_first n moment) last
       → Runs area moment whole.last → GrownSince n moment.run whole.last.run → BeginsWith g image setup supply events t whole n
-  passed moment last runs over ends on grown =
+  passed moment last comes runs over ends on grown =
       let then : List Group = grown.said.last ∷ grown.said.more in
       let was : List Group = last.run.scene.noted.groups in
       let groups_are : whole.last.run.scene.noted.groups ≡ then ++ was =
@@ -580,6 +591,7 @@ module _ (g : Geometry) (image : List ℕ) (setup : Setup) (supply : List Driver
         start = read_off last t;
         exact = exact last runs over;
         moment = moment;
+        comes = comes;
         ends = ends;
         goes_on = on;
         later = then;
@@ -600,7 +612,7 @@ module _ (g : Geometry) (image : List ℕ) (setup : Setup) (supply : List Driver
 
   by_place : Beside area n from whole.last → BeginsWith g image setup supply events t whole n
   by_place (SoFar low runs) = not_passed runs
-  by_place (Passed moment last runs over ends on grown) = passed moment last runs over ends on grown
+  by_place (Passed moment last comes runs over ends on grown) = passed moment last comes runs over ends on grown
 
 pub runs_have_beginnings : RunsHaveBeginnings
 runs_have_beginnings g image setup supply events t whole n =
