@@ -24,3 +24,4 @@ mod WrongRuns
 mod LeftOpen
 mod HeldRows
 mod FirstEvents
+mod WithinRow
