@@ -27,7 +27,7 @@ use Rattle.simulated_link.specs.Scene.{Scene}
 use Rattle.simulated_link.specs.StateView.{RunState, noting, posted, first_noted, Stays, Goes}
 use Rattle.simulated_link.specs.StateView as link
 use Rattle.simulated_link.specs.Moments.{Moment, Resting, Answering, hearing, at_link, Step, Takes, Settles, Brings, BringsNone, HandsCall}
-use Rattle.simulated_link.specs.Moments.{Replies, Runs}
+use Rattle.simulated_link.specs.Moments.{Replies, Runs, Starts}
 use Rattle.world.specs.Exact.{IsExact}
 use Rattle.tests_exact.proofs.Small.{area, sizes, sectors_with, torn, new_0, new_1, image, disk, setup, idle, supply, write_both, write_fits, client, sync}
 use Rattle.tests_exact.proofs.Drivers.{slot, at_second, done, answer, reply_of, begins_write, ends_write}
@@ -179,8 +179,12 @@ pub until_answer : Runs area (start default_policy events) answer_taken
 until_answer = until_sync ▸ step_14
 
 -- the row
-row : Runs area (start default_policy events) sync_done
+pub row : Runs area (start default_policy events) sync_done
 row = until_answer ▸ step_15
+
+-- the row from half of the first write on
+pub from_half : Runs area half sync_done
+from_half = Starts ▸ step_6 ▸ step_7 ▸ step_8 ▸ step_9 ▸ step_10 ▸ step_11 ▸ step_12 ▸ step_13 ▸ step_14 ▸ step_15
 
 -- what is read off its last moment: the record, the reply that was sent, both drivers, no call left, and both sectors as they were written
 abbrev pub transcript : Transcript
@@ -195,7 +199,7 @@ transcript = record {
 }
 
 -- the run is the schedule's, exactly
-pub death_is_exact : IsExact sizes image (setup default_policy) supply events transcript
+unfoldable pub death_is_exact : IsExact sizes image (setup default_policy) supply events transcript
 death_is_exact = record {
   first = (start default_policy events).run;
   opened = opened default_policy events;

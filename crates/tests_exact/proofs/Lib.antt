@@ -23,3 +23,5 @@ mod WrongEnds
 mod WrongRuns
 mod LeftOpen
 mod HeldRows
+mod FirstEvents
+mod WithinRow

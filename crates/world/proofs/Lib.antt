@@ -8,3 +8,4 @@ pub mod Turning
 pub mod Ending
 pub mod Starting
 pub mod Throughout
+pub mod FirstEvents

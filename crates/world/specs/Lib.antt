@@ -1,4 +1,5 @@
 pub mod Exact
+pub mod FirstEvents
 pub mod Throughout
 pub mod Occurs
 pub mod Shows

@@ -2,6 +2,7 @@
 //! is begun.
 #![tactic(auto)]
 
+pub mod beginnings;
 pub mod link;
 pub mod preparing;
 pub mod run_loop;
