@@ -29,8 +29,8 @@ use std::marker::Brand;
 use std::sync::{Arc, Wait};
 use std::thread::Threads;
 
-/// Does tasks in sessions of a service of the volume, which was checked, over this link, and stops the service. Where no memory or no thread
-/// was found no task is done, and all threads are ended.
+/// Does tasks in sessions of a service of the volume, which was checked, over this link, and stops the service. Where no memory or no
+/// thread was found no task is done, and all threads are ended.
 fn open_and_do<
     N: ServiceParameters + Send + Sync + 'static,
     R: Threads + Wait + Copy + Send + Sync + 'static,

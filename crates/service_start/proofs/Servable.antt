@@ -37,7 +37,8 @@ module _ (image : List ℕ) (setup : Setup) (supply : List DriverState) where
   unfit range mount.BadFrames prepared h = absurd h
 
   -- what was done on a service of the volume, which is clean
-  pub has_served : {O E : Type 0} (range : ℕ × ℕ) (v : Opening) (g h : Geometry) (gives : Geometry → Opening → O → Type 0) (result : Result O E)
+  pub has_served : {O E : Type 0} (range : ℕ × ℕ) (v : Opening) (g h : Geometry) (gives : Geometry → Opening → O → Type 0)
+      (result : Result O E)
       → v ≡ opening_of image setup.minor range → IsPrepared image setup supply range → h ≡ g → HoldsTree (bytes_at v) h
       → IfOk result (λ o. gives g v o) → IfOk result (λ o. HasServed image setup supply (λ k opening. gives k opening o))
   has_served range v g h gives (Err e) same prepared sizes holds given = tt
@@ -52,5 +53,6 @@ module _ (image : List ℕ) (setup : Setup) (supply : List DriverState) where
   )
 
 -- a server that was opened for these sizes was opened for the service's, and its volume holds a tree of these
-pub opened_as : {N : Type 0} (room : RoomWords N) (g : Geometry) → (c : IsClean room g) → IsAtFirst room.geometry (contents_at room.opening) c.holds.tree
+pub opened_as : {N : Type 0} (room : RoomWords N) (g : Geometry) → (c : IsClean room g)
+    → IsAtFirst room.geometry (contents_at room.opening) c.holds.tree
 opened_as room g c = subst (λ (k : Geometry). IsAtFirst k (contents_at room.opening) c.holds.tree) c.sizes c.holds.at_first

@@ -15,7 +15,8 @@ use Rattle.volume_mount.specs.Starting.{bytes_of, opening_of, IsPrepared, IsRefu
 -- memory wherever the image makes media
 abbrev pub IsNotServable : List ℕ → Setup → List DriverState → StartRefusal → Type 0
 IsNotServable image setup supply (Mount mount.OutOfMemory) = ⊥
-IsNotServable image setup supply (Mount refusal) = (range : ℕ × ℕ) × IsPrepared image setup supply range × IsUnfit (bytes_of image range) refusal
+IsNotServable image setup supply (Mount refusal) =
+    (range : ℕ × ℕ) × IsPrepared image setup supply range × IsUnfit (bytes_of image range) refusal
 IsNotServable image setup supply refusal = IsRefused image setup supply refusal
 
 -- a service starts on the image: all stands ready, and in this range lies a volume of these sizes, which holds a tree

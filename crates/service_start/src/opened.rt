@@ -69,8 +69,8 @@ pub fn over<
     }
 }
 
-/// A server of all calls, with so many frames, for the service's volume, which was checked, as this minor, over a link that was told nothing
-/// yet. A service may hold it. Nothing is done at the link. Where no memory was found, the link is let go.
+/// A server of all calls, with so many frames, for the service's volume, which was checked, as this minor, over a link that was told
+/// nothing yet. A service may hold it. Nothing is done at the link. Where no memory was found, the link is let go.
 pub fn opened_server<N: ServiceParameters + Send + Sync + 'static, L: Recorder<N> + Send + 'static>(
     alloc: Global,
     link: L,

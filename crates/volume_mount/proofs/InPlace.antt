@@ -31,7 +31,8 @@ cut_out sectors seen all range flat same =
     ∙ same_bytes (concat sectors) range
 
 -- bytes that hold a tree without an open file are a volume that holds it at first
-pub at_first : (bytes : List ℕ) (g : Geometry) (tree : Tree) → geometry_of bytes ≡ Ok g → HoldsClosed bytes tree → IsAtFirst g (slice_index bytes) tree
+pub at_first : (bytes : List ℕ) (g : Geometry) (tree : Tree) → geometry_of bytes ≡ Ok g → HoldsClosed bytes tree
+    → IsAtFirst g (slice_index bytes) tree
 at_first bytes g tree parsed held =
     let same : held.geometry ≡ g = ok_same {E = LayoutRefusal} (sym held.parsed ∙ parsed) in
     let fits : IsGeometry g = (geometry_fits bytes g parsed).0 in

@@ -105,7 +105,8 @@ fn start_and_play<
 /// its own, and stops the service.
 ///
 /// It is refused as `prepare_checked` of `service_start` refuses the image, and then nothing is played; or for want of memory, also where a
-/// thread is refused, but that of a later driver. Of a service that started no image may come. A call is told as cut, or the last sync, only once the link to the drivers had ended (`play_on`); here no link is named any more.
+/// thread is refused, but that of a later driver. Of a service that started no image may come.
+/// A call is told as cut, or the last sync, only once the link to the drivers had ended (`play_on`); here no link is named any more.
 pub fn play_scripts<
     R: Threads + Wait + Copy + Send + Sync + 'static,
     D: BlockDriver + 'static,
