@@ -1,10 +1,16 @@
 use Rattle.std.proofs.Common.{sym, subst}
 use Rattle.layout.specs.declared.Geometry.{Geometry}
+use Rattle.layout.proofs.Parsed.{geometry_fits}
 use Rattle.records.specs.Mount.{OpenKeeps}
+use Rattle.volume_mount.specs.Checked.{bytes_at}
 use Rattle.volume_mount.specs.OverLink.{serving_over}
 use Rattle.shared_server.proofs.HeldLaws.{held_at_first}
 use Rattle.service_start.proofs.Servable.{opened_as}
 use Rattle.service_start.proofs.opened.opened_server.Goals as goal
+
+pub open-requires-clause-sizes : goal.open-requires-clause-sizes
+open-requires-clause-sizes g c =
+    (geometry_fits (bytes_at g.N.ServiceParameters.opening) c.args.clean.geometry c.requires.clean.holds.parsed).0
 
 pub returns-in-Ok-clause-held : goal.returns-in-Ok-clause-held
 returns-in-Ok-clause-held g c =
