@@ -40,9 +40,7 @@ fn embed<R: Threads + Wait + Copy + Send + Sync + 'static>(
     let image = mkfs(alloc, 256, 1024, 64, 50).ok()?;
     let table = table_in(image.as_slice());
     let mut drivers = Vec::new(alloc);
-    drivers
-        .push(DiesAfter::new(RamDriver::new(table), 100))
-        .ok()?;
+    drivers.push(DiesAfter::new(RamDriver::new(table), 5)).ok()?;
     drivers
         .push(DiesAfter::new(RamDriver::new(table), u64::MAX))
         .ok()?;

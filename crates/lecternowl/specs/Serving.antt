@@ -20,7 +20,7 @@ use Rattle.shared_server.specs.declared.refusal.SessionRefusal.TheVariants.{Stop
 use Rattle.shared_media.specs.Confined.{IsImageOutside}
 use Rattle.serve.specs.Stopping.{no_image_name}
 use Rattle.service_start.specs.StartupRefusals.{start_refusal_text}
-use Rattle.service_start.specs.Ran.{IsNotStarted}
+use Rattle.service_start.specs.Servable.{IsNotServable}
 use Rattle.lecternowl.specs.declared.tasks.Came.{Came}
 use Rattle.lecternowl.specs.declared.refusal.ServeRefusal.{ServeRefusal}
 use Rattle.lecternowl.specs.declared.refusal.ServeRefusal.TheVariants.{Start, NoSession, NoImage}
@@ -59,7 +59,7 @@ IsNotDone Ended other = Unit {0}
 
 -- or the service didn't start
 abbrev pub IsNotServed : (List Mark → Type 0) → List ℕ → Setup → List DriverState → ServeRefusal → Type 0
-IsNotServed Ended image setup supply (Start refusal) = IsNotStarted image setup supply refusal
+IsNotServed Ended image setup supply (Start refusal) = IsNotServable image setup supply refusal
 IsNotServed Ended image setup supply other = IsNotDone Ended other
 
 -- the text of a refusal

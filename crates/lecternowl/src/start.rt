@@ -1,12 +1,11 @@
 //! Starting a service on the volume of an image, for tasks.
 
-ghost use Rattle.std.specs.Prelude.{IfErr, IfOk, OnOk, map};
+ghost use Rattle.std.specs.Prelude.{◌≡◌, IfErr, IfOk, map};
 ghost use Rattle.std.specs.Arc.{arc_value};
 ghost use Rattle.shared_server.specs.Held.{HasEnded};
-ghost use Rattle.service_start.specs.Ran.{HasRun, IsNotStarted};
+ghost use Rattle.service_start.specs.Servable.{HasServed, IsClean, IsNotServable};
 ghost use Rattle.service_start.specs.Spent.{IsSpent};
 ghost use Rattle.service_start.specs.Started.{IsAtHand, IsStarted};
-ghost use Rattle.service_start.specs.Stopped.{IsMountedTruly, IsStopped};
 ghost use Rattle.lecternowl.specs.Serving.{AreDone, IsNotDone, IsNotServed};
 
 use crate::refusal::ServeRefusal;
@@ -20,18 +19,19 @@ use gate::Gate;
 use gate::paced_gate::Paced;
 use reincarnate::policy::Setup;
 use serve::service::Service;
+use service_start::checked::{CheckedImage, prepare_checked};
 use service_start::ending::cut_once_spent;
-use service_start::opened::mounted_server;
+use service_start::opened::opened_server;
 use service_start::start::started_link;
-use service_start::volume_mount::{Prepared, StartRefusal, prepare};
-use std::alloc::Global;
+use service_start::volume_mount::{Clean, StartRefusal};
+use std::alloc::{AllocError, Global};
 use std::marker::Brand;
 use std::sync::{Arc, Wait};
 use std::thread::Threads;
 
-/// Mounts the volume over this link, does tasks in sessions of the service of it, and stops the service. It is refused as a mount is, and
-/// then no task is done.
-fn mount_and_do<
+/// Does tasks in sessions of a service of the volume, which was checked, over this link, and stops the service. Where no memory or no
+/// thread was found no task is done, and all threads are ended.
+fn open_and_do<
     N: ServiceParameters + Send + Sync + 'static,
     R: Threads + Wait + Copy + Send + Sync + 'static,
     L: Recorder<N> + Send + 'static,
@@ -42,26 +42,25 @@ fn mount_and_do<
     rt: R,
     board: Arc<Board>,
     link: L,
-    minor: u8,
-    frames: u32,
+    clean: Clean,
+    setup: &Setup,
     running: Running<N>,
     gate: Arc<G>,
     tasks: Vec<T>,
-) -> Result<Result<Came<T::Output>, ServeRefusal>, StartRefusal>
-    requires { IsStarted N.ServiceParameters L.Link L.runs_on L.marks (arc_value board) link minor frames }
+) -> Result<Result<Came<T::Output>, ServeRefusal>, AllocError>
+    requires started { IsStarted N.ServiceParameters L.Link L.runs_on L.marks (arc_value board) link setup.now.minor setup.now.frames }
+    requires clean { IsClean N.ServiceParameters clean.geometry }
     ensures done { IfOk result (λ o. IfOk o (AreDone (HasEnded L.Link N.opening) N.geometry N.opening tasks.items)) }
     ensures undone { IfOk result (λ o. IfErr o (IsNotDone (HasEnded L.Link N.opening))) }
-    ensures holds { OnOk result (IsMountedTruly L.truth N.geometry N.opening) }
-    ensures refused { IfErr result (IsStopped N.opening frames) }
 {
-    match mounted_server::<N, L>(alloc, link, minor, frames) {
+    match opened_server::<N, L>(alloc, link, setup.minor, clean, setup.frames as u32) {
         Ok(server) => {
             let service = Service::over(alloc, rt, board, server, running, gate)?;
             Ok(do_all(alloc, &rt, service, tasks))
         }
-        Err(refusal) => {
+        Err(error) => {
             let _ = running.stop(&rt);
-            Err(refusal)
+            Err(error)
         }
     }
 }
@@ -77,36 +76,26 @@ fn start_and_do<
     rt: R,
     board: Board,
     seat: Seat,
-    prepared: Prepared,
+    checked: CheckedImage,
     setup: &Setup,
     supply: Vec<D>,
     tasks: Vec<T>,
-) -> Result<Result<Came<T::Output>, ServeRefusal>, StartRefusal>
-    requires { IsAtHand N.ServiceParameters board seat setup.now (map D.state supply.items) prepared.media prepared.range }
-    ensures done { IfOk result (λ o. HasRun N.opening.media setup.now (map D.state supply.items) (λ g v. IfOk o (AreDone IsSpent g v
+) -> Result<Result<Came<T::Output>, ServeRefusal>, AllocError>
+    requires at_hand { IsAtHand N.ServiceParameters board seat setup.now (map D.state supply.items) checked.prepared.media
+        checked.prepared.range }
+    requires clean { IsClean N.ServiceParameters checked.clean.geometry }
+    ensures done { IfOk result (λ o. HasServed N.opening.media setup.now (map D.state supply.items) (λ g v. IfOk o (AreDone IsSpent g v
         tasks.items))) }
     ensures undone { IfOk result (λ o. IfErr o (IsNotDone IsSpent)) }
-    ensures refused { IfErr result (IsStopped N.opening setup.now.frames) }
 {
-    let Ok(gate) = Arc::new(alloc, Paced::new(rt)) else {
-        return Err(StartRefusal::OutOfMemory);
-    };
+    let CheckedImage { prepared, clean } = checked;
+    let gate = Arc::new(alloc, Paced::new(rt))?;
     let asked = Arc::try_clone(&gate)?;
     let (board, link, running) = started_link::<N, R, D, Paced<R>>(
         alloc, rt, board, seat, prepared, setup, supply, asked,
     )?;
     cut_once_spent::<N, R>();
-    mount_and_do(
-        alloc,
-        rt,
-        board,
-        link,
-        setup.minor,
-        setup.frames as u32,
-        running,
-        gate,
-        tasks,
-    )
+    open_and_do(alloc, rt, board, link, clean, setup, running, gate, tasks)
 }
 
 /// Starts a service on the volume in an image, does these tasks at one time, each in a session and a thread of its own, and stops the
@@ -126,7 +115,7 @@ pub fn serve<R: Threads + Wait + Copy + Send + Sync + 'static, D: BlockDriver + 
     tasks: Vec<T>,
 ) -> Result<Came<T::Output>, ServeRefusal>
     ensures done { IfOk result (λ came.
-        HasRun image.items setup.now (map D.state supply.items) (λ g v. AreDone IsSpent g v tasks.items came)) }
+        HasServed image.items setup.now (map D.state supply.items) (λ g v. AreDone IsSpent g v tasks.items came)) }
     ensures refused { IfErr result (IsNotServed IsSpent image.items setup.now (map D.state supply.items)) }
 {
     match start(alloc, rt, image, setup, supply, tasks) {
@@ -144,12 +133,12 @@ fn start<R: Threads + Wait + Copy + Send + Sync + 'static, D: BlockDriver + 'sta
     supply: Vec<D>,
     tasks: Vec<T>,
 ) -> Result<Result<Came<T::Output>, ServeRefusal>, StartRefusal>
-    ensures done { IfOk result (λ o. HasRun image.items setup.now (map D.state supply.items) (λ g v. IfOk o (AreDone IsSpent g v
+    ensures done { IfOk result (λ o. HasServed image.items setup.now (map D.state supply.items) (λ g v. IfOk o (AreDone IsSpent g v
         tasks.items))) }
     ensures undone { IfOk result (λ o. IfErr o (IsNotDone IsSpent)) }
-    ensures refused { IfErr result (IsNotStarted image.items setup.now (map D.state supply.items)) }
+    ensures refused { IfErr result (IsNotServable image.items setup.now (map D.state supply.items)) }
 {
-    let prepared = prepare(image, setup, &supply)?;
+    let checked = prepare_checked(alloc, image, setup, &supply)?;
     let (board, seat) = Board::new(alloc)?;
-    start_and_do::<Brand, R, D, T>(alloc, rt, board, seat, prepared, setup, supply, tasks)
+    Ok(start_and_do::<Brand, R, D, T>(alloc, rt, board, seat, checked, setup, supply, tasks)?)
 }

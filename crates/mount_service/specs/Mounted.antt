@@ -6,7 +6,7 @@ use Rattle.bdev.specs.DriverState.{DriverState}
 use Rattle.reincarnate.specs.declared.policy.Setup.{Setup}
 use Rattle.shared_server.specs.declared.locked.LastSync.{LastSync}
 use Rattle.shared_server.specs.declared.locked.LastSync.TheVariants as sync
-use Rattle.service_start.specs.Ran.{HasRun, IsNotStarted}
+use Rattle.service_start.specs.Servable.{HasServed, IsNotServable}
 use Rattle.message_stream.specs.declared.answering.StreamRefusal.{StreamRefusal}
 use Rattle.mount_service.specs.Left.{IsLeftBy}
 use Rattle.mount_service.specs.Spoken.{Puts, Speaks}
@@ -15,20 +15,20 @@ use Rattle.mount_service.specs.declared.mount.MountStatus.TheVariants.{Done, Ref
 use Rattle.mount_service.specs.declared.mount.MountRefusal.{MountRefusal}
 use Rattle.mount_service.specs.declared.mount.MountRefusal.TheVariants as no
 
--- A service started on the volume in the image, answered the messages of a stream, all of it where it says so, and left an image.
+-- A service started on the volume in the image, which holds a tree, answered the messages of a stream, all of it where it says so, and left an image.
 pub record IsMounted {A W : Type 0} (puts : Puts A) (fewest : ℕ) (speaks : Speaks W) (first : W) (image : Option (Vec ℕ))
     (setup : Setup) (supply : List DriverState) (stream old new : Option (List ℕ)) (before after : Option A) (answered : Result (Unit {0}) StreamRefusal) (left : List ℕ) : Type 0 where
   pub bytes : Vec ℕ
   pub read : image ≡ Some bytes
-  pub ran : HasRun bytes.items setup supply (λ g v. IsLeftBy puts fewest speaks first g v stream old new before after answered left)
+  pub ran : HasServed bytes.items setup supply (λ g v. IsLeftBy puts fewest speaks first g v stream old new before after answered left)
 
 -- why no service answered, or none left an image, in the order in which faults are looked for
 abbrev pub IsUnmounted : Option (Vec ℕ) → Bor (List ℕ) → Setup → List DriverState → MountRefusal → Type 0
 IsUnmounted image name setup supply (no.CannotRead it) = (image ≡ None) × (it ≡ name)
 IsUnmounted image name setup supply (no.Start refusal) =
-    (bytes : Vec ℕ) × (image ≡ Some bytes) × IsNotStarted bytes.items setup supply refusal
+    (bytes : Vec ℕ) × (image ≡ Some bytes) × IsNotServable bytes.items setup supply refusal
 IsUnmounted image name setup supply (no.NoImage refusal) =
-    (bytes : Vec ℕ) × (image ≡ Some bytes) × HasRun bytes.items setup supply (λ g v. ⊤)
+    (bytes : Vec ℕ) × (image ≡ Some bytes) × HasServed bytes.items setup supply (λ g v. ⊤)
 IsUnmounted image name setup supply (no.Stream refusal) = ⊥
 IsUnmounted image name setup supply no.GivenUp = ⊥
 IsUnmounted image name setup supply no.Cut = ⊥

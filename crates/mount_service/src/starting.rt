@@ -2,11 +2,10 @@
 //!
 //! It isn't a `Program` of `launch`: what is known of the types that a program's `run` takes is known in one thread alone.
 
-ghost use Rattle.std.specs.Prelude.{IfErr, IfOk, OnOk, map};
+ghost use Rattle.std.specs.Prelude.{◌≡◌, IfErr, IfOk, map};
 ghost use Rattle.std.specs.Arc.{arc_value};
 ghost use Rattle.service_start.specs.Started.{IsAtHand, IsStarted};
-ghost use Rattle.service_start.specs.Stopped.{IsMountedTruly, IsStopped};
-ghost use Rattle.service_start.specs.Ran.{HasRun, IsNotStarted};
+ghost use Rattle.service_start.specs.Servable.{HasServed, IsClean, IsNotServable};
 ghost use Rattle.mount_service.specs.Left.{IsLeftBy};
 
 use crate::archive::Archive;
@@ -20,10 +19,11 @@ use gate::Gate;
 use reincarnate::policy::Setup;
 use serve::service::Service;
 use serve::stopping::NoImage;
-use service_start::opened::mounted_server;
+use service_start::checked::{CheckedImage, prepare_checked};
+use service_start::opened::opened_server;
 use service_start::start::started_link;
-use service_start::volume_mount::{Prepared, StartRefusal, prepare};
-use std::alloc::Global;
+use service_start::volume_mount::{Clean, StartRefusal};
+use std::alloc::{AllocError, Global};
 use std::io::{BufRead, Write};
 use std::marker::Brand;
 use std::sync::{Arc, Wait};
@@ -31,9 +31,9 @@ use std::thread::Threads;
 use std::time::Clock;
 use talks::answers::Answers;
 
-/// Mounts the volume over this link, answers messages by its sessions, and stops the service. It is refused as a mount
-/// is, and then nothing is answered.
-fn mount_and_answer<
+/// Answers messages by the sessions of a service of the volume, which was checked, over this link, and stops the service. Where no memory
+/// or no thread was found nothing is answered, and all threads are ended.
+fn open_and_answer<
     N: ServiceParameters + Send + Sync + 'static,
     R: Threads + Wait + Copy + Send + Sync + 'static,
     L: Recorder<N> + Send + 'static,
@@ -48,27 +48,26 @@ fn mount_and_answer<
     rt: R,
     board: Arc<Board>,
     link: L,
-    minor: u8,
-    frames: u32,
+    clean: Clean,
+    setup: &Setup,
     running: Running<N>,
     gate: Arc<G>,
     streams: Streams<I, O, C, A, W>,
-) -> Result<Result<Came<I, O, C, A, W>, NoImage>, StartRefusal>
-    requires { IsStarted N.ServiceParameters L.Link L.runs_on L.marks (arc_value board) link minor frames }
+) -> Result<Result<Came<I, O, C, A, W>, NoImage>, AllocError>
+    requires started { IsStarted N.ServiceParameters L.Link L.runs_on L.marks (arc_value board) link setup.now.minor setup.now.frames }
+    requires clean { IsClean N.ServiceParameters clean.geometry }
     ensures played { IfOk result (λ o. IfOk o (λ came.
         IsLeftBy A.puts W.fewest W.answers streams.answerer N.geometry N.opening (I.Read.remaining streams.input) (O.contents streams.output)
         (O.contents came.streams.output) streams.archive came.streams.archive came.answered came.image.items)) }
-    ensures holds { OnOk result (IsMountedTruly L.truth N.geometry N.opening) }
-    ensures refused { IfErr result (IsStopped N.opening frames) }
 {
-    match mounted_server::<N, L>(alloc, link, minor, frames) {
+    match opened_server::<N, L>(alloc, link, setup.minor, clean, setup.frames as u32) {
         Ok(server) => {
             let service = Service::over(alloc, rt, board, server, running, gate)?;
-            Ok(answer_on(alloc, rt, service, streams)?)
+            answer_on(alloc, rt, service, streams)
         }
-        Err(refusal) => {
+        Err(error) => {
             let _ = running.stop(&rt);
-            Err(refusal)
+            Err(error)
         }
     }
 }
@@ -89,40 +88,32 @@ fn start_and_answer<
     rt: R,
     board: Board,
     seat: Seat,
-    prepared: Prepared,
+    checked: CheckedImage,
     setup: &Setup,
     supply: Vec<D>,
     gate: Arc<G>,
     streams: Streams<I, O, C, A, W>,
-) -> Result<Result<Came<I, O, C, A, W>, NoImage>, StartRefusal>
-    requires { IsAtHand N.ServiceParameters board seat setup.now (map D.state supply.items) prepared.media prepared.range }
-    ensures played { IfOk result (λ o. HasRun N.opening.media setup.now (map D.state supply.items) (λ g v. IfOk o (λ came.
+) -> Result<Result<Came<I, O, C, A, W>, NoImage>, AllocError>
+    requires at_hand { IsAtHand N.ServiceParameters board seat setup.now (map D.state supply.items) checked.prepared.media
+        checked.prepared.range }
+    requires clean { IsClean N.ServiceParameters checked.clean.geometry }
+    ensures played { IfOk result (λ o. HasServed N.opening.media setup.now (map D.state supply.items) (λ g v. IfOk o (λ came.
         IsLeftBy A.puts W.fewest W.answers streams.answerer g v (I.Read.remaining streams.input) (O.contents streams.output)
         (O.contents came.streams.output) streams.archive came.streams.archive came.answered came.image.items))) }
-    ensures refused { IfErr result (IsStopped N.opening setup.now.frames) }
 {
+    let CheckedImage { prepared, clean } = checked;
     let asked = Arc::try_clone(&gate)?;
     let (board, link, running) = started_link::<N, R, D, G>(
         alloc, rt, board, seat, prepared, setup, supply, asked,
     )?;
-    mount_and_answer(
-        alloc,
-        rt,
-        board,
-        link,
-        setup.minor,
-        setup.frames as u32,
-        running,
-        gate,
-        streams,
-    )
+    open_and_answer(alloc, rt, board, link, clean, setup, running, gate, streams)
 }
 
 /// Starts a service on the volume in an image, whose threads ask this gate, answers messages by its sessions until their
 /// stream ends, and stops the service.
 ///
-/// The service is refused as `service_start::start::serve` refuses it, and then nothing is answered; of a service that started no
-/// image may come.
+/// It is refused as `prepare_checked` of `service_start` refuses the image, and then nothing is answered; or for want of memory, also where
+/// a thread is refused, but that of a later driver. Of a service that started no image may come.
 pub fn answer_messages<
     R: Threads + Wait + Copy + Send + Sync + 'static,
     D: BlockDriver + 'static,
@@ -141,14 +132,14 @@ pub fn answer_messages<
     gate: Arc<G>,
     streams: Streams<I, O, C, A, W>,
 ) -> Result<Result<Came<I, O, C, A, W>, NoImage>, StartRefusal>
-    ensures refusal { IfErr result (IsNotStarted image.items setup.now (map D.state supply.items)) }
-    ensures played { IfOk result (λ o. HasRun image.items setup.now (map D.state supply.items) (λ g v. IfOk o (λ came.
+    ensures refusal { IfErr result (IsNotServable image.items setup.now (map D.state supply.items)) }
+    ensures played { IfOk result (λ o. HasServed image.items setup.now (map D.state supply.items) (λ g v. IfOk o (λ came.
         IsLeftBy A.puts W.fewest W.answers streams.answerer g v (I.Read.remaining streams.input) (O.contents streams.output)
         (O.contents came.streams.output) streams.archive came.streams.archive came.answered came.image.items))) }
 {
-    let prepared = prepare(image, setup, &supply)?;
+    let checked = prepare_checked(alloc, image, setup, &supply)?;
     let (board, seat) = Board::new(alloc)?;
-    start_and_answer::<Brand, R, D, G, I, O, C, A, W>(
-        alloc, rt, board, seat, prepared, setup, supply, gate, streams,
-    )
+    Ok(start_and_answer::<Brand, R, D, G, I, O, C, A, W>(
+        alloc, rt, board, seat, checked, setup, supply, gate, streams,
+    )?)
 }

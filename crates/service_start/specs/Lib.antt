@@ -2,6 +2,8 @@ pub mod Started
 pub mod Stopped
 pub mod Spent
 pub mod Ran
+pub mod Servable
+pub use Rattle.volume_mount.specs.Checked
 pub use Rattle.volume_mount.specs.Starting
 pub use Rattle.volume_mount.specs.Laws
 pub use Rattle.volume_mount.specs.StartupRefusals

@@ -9,6 +9,7 @@ ghost use Rattle.records.specs.Legal.{IsAtFirst};
 ghost use Rattle.records.specs.Mount.{is_frame_count};
 ghost use Rattle.shared_server.specs.Held.{IsHeld};
 ghost use Rattle.volume_mount.specs.OverLink.{IsReadyOver, line_of, serving_over};
+ghost use Rattle.service_start.specs.Servable.{IsClean};
 ghost use Rattle.service_start.specs.Started.{IsFreshLink, IsStarted};
 ghost use Rattle.service_start.specs.Stopped.{IsMountedTruly, IsStopped, refusal_of as start_refusal_of};
 
@@ -23,9 +24,9 @@ use serve::service::Service;
 use std::alloc::{AllocError, Global};
 use std::sync::{Arc, Wait};
 use std::thread::Threads;
-use volume_mount::mounted::mount;
+use volume_mount::mounted::{mount, open as open_checked};
 use volume_mount::opening::open;
-use volume_mount::{MountRefusal, Server, StartRefusal};
+use volume_mount::{Clean, MountRefusal, Server, StartRefusal};
 
 /// A service of a server of all calls, with so many frames, for its volume in a range of the media, over a link that was told nothing yet,
 /// keeps an empty record on the service's board, and runs on the service's drivers under its policy. The link gives at most 2^58 messages.
@@ -65,6 +66,27 @@ pub fn over<
             let _ = running.stop(&rt);
             Err(AllocError)
         }
+    }
+}
+
+/// A server of all calls, with so many frames, for the service's volume, which was checked, as this minor, over a link that was told
+/// nothing yet. A service may hold it. Nothing is done at the link. Where no memory was found, the link is let go.
+pub fn opened_server<N: ServiceParameters + Send + Sync + 'static, L: Recorder<N> + Send + 'static>(
+    alloc: Global,
+    link: L,
+    minor: u8,
+    clean: Clean,
+    frames: u32,
+) -> Result<Server<Stored<L>>, AllocError>
+    requires fresh { IsFreshLink N.ServiceParameters L.Link L.runs_on L.marks link minor frames }
+    requires clean { IsClean N.ServiceParameters clean.geometry }
+    ensures held { IfOk result (IsHeld N.ServiceParameters L.Link (serving_over L.Link) line_of (IsReadyOver L.Link) (λ call. Unit {0})
+        L.runs_on L.marks) }
+    ensures none_absorbed { IfOk result (λ s. s.absorbed ≡ 0) }
+{
+    match open_checked(alloc, link, minor, clean, frames) {
+        Ok(server) => Ok(server),
+        Err(_) => Err(AllocError),
     }
 }
 

@@ -20,8 +20,6 @@ inode 1 mode 0040755 links 2 uid 0 gid 0 size 128 times 50 50 50
 
 const GIVEN_UP: Told = (3, "session 0\nEIO\nEIO\n", "");
 
-const NOT_MOUNTED: Told = (1, "", "Mount Eio\n");
-
 const DIES: Option<(u32, FaultKind)> = Some((0, FaultKind::Die));
 
 const DIES_LATER: Option<(u32, FaultKind)> = Some((1, FaultKind::Die));
@@ -35,29 +33,22 @@ const ERRS: Option<(u32, FaultKind)> = Some((0, FaultKind::Error(Errno::EIO)));
 /// An error that is an answer to calls too.
 const IS_FULL: Option<(u32, FaultKind)> = Some((0, FaultKind::Error(Errno::ENOSPC)));
 
-/// Requests 1 to 17 are the mount's; request 18 is the first call's read. All drivers are those that were handed in, in their order.
-static ROWS: [OverDrivers; 20] = [
+/// Request 1 is the first call's read: the start asks nothing of a driver. All drivers are those that were handed in, in their order.
+static ROWS: [OverDrivers; 13] = [
     (None, 1, &[DIES_LATER, None], TWICE, SERVED),
-    (None, 18, &[DIES_LATER, None], TWICE, SERVED),
     (None, 1, &[DIES, DIES, None], TWICE, SERVED),
-    (None, 18, &[DIES, DIES, None], TWICE, SERVED),
-    // Where none of them serves, the volume isn't mounted, or the call is answered EIO.
-    (None, 1, &[DIES_LATER], TWICE, NOT_MOUNTED),
-    (None, 18, &[DIES_LATER], TWICE, GIVEN_UP),
+    // Where none of them serves, each call is answered EIO.
+    (None, 1, &[DIES_LATER], TWICE, GIVEN_UP),
     // The rest is issued under a new id, without a complaint: the one driver goes on.
     (None, 1, &[GIVES_HALF], TWICE, SERVED),
-    (None, 18, &[GIVES_HALF], TWICE, SERVED),
     (None, 1, &[ERRS, STOPS_SHORT, None], TWICE, SERVED),
-    (None, 18, &[ERRS, STOPS_SHORT, None], TWICE, SERVED),
-    (None, 1, &[ERRS], TWICE, NOT_MOUNTED),
-    (None, 18, &[ERRS], TWICE, GIVEN_UP),
+    (None, 1, &[ERRS], TWICE, GIVEN_UP),
     // No call is answered with a driver's error.
-    (None, 18, &[IS_FULL, IS_FULL, None], TWICE, SERVED),
-    (None, 18, &[IS_FULL], TWICE, GIVEN_UP),
-    (None, 1, &[STOPS_SHORT], TWICE, NOT_MOUNTED),
-    (None, 18, &[STOPS_SHORT], TWICE, GIVEN_UP),
-    // A block that has a frame isn't asked for again: both calls are served by one that would die in its second request after the mount.
-    (None, 19, &[DIES], TWICE, SERVED),
+    (None, 1, &[IS_FULL, IS_FULL, None], TWICE, SERVED),
+    (None, 1, &[IS_FULL], TWICE, GIVEN_UP),
+    (None, 1, &[STOPS_SHORT], TWICE, GIVEN_UP),
+    // A block that has a frame isn't asked for again: both calls are served by one that would die in its second request.
+    (None, 2, &[DIES], TWICE, SERVED),
     // What is only read stays byte by byte.
     (
         None,
@@ -77,16 +68,16 @@ names 0
     // Where the device is given up the image is there as the media stand.
     (
         None,
-        18,
+        1,
         &[DIES],
         b"user 0 0\n100 stat /\n",
         (3, "session 0\nEIO\n", ""),
     ),
-    // So it is, and the status says so, where that happened in the last sync alone: request 18 reads the root's inode, the next one writes
+    // So it is, and the status says so, where that happened in the last sync alone: request 1 reads the root's inode, the next one writes
     // it.
     (
         None,
-        19,
+        2,
         &[DIES],
         b"user 0 0\n100 chmod / 700\n",
         (3, "session 0\nok\n", ""),
@@ -94,10 +85,9 @@ names 0
 ];
 
 /// Each number of a policy is the one that was handed in.
-static POLICIES: [OverDrivers; 7] = [
+static POLICIES: [OverDrivers; 6] = [
     // With no fault allowed, the first one's death is the last.
-    (Some((0, 32, 64)), 1, &[DIES, None], TWICE, NOT_MOUNTED),
-    (Some((0, 32, 64)), 18, &[DIES, None], TWICE, GIVEN_UP),
+    (Some((0, 32, 64)), 1, &[DIES, None], TWICE, GIVEN_UP),
     (Some((0, 32, 64)), 1, &[None, DIES], TWICE, SERVED),
     // Each driver but the last dies at the tick of its start; starts come 1, 2 and 4 ticks after the first, second and third fault in a
     // row, or after the cap. Faults 1 to 5 are allowed: the sixth driver serves.
@@ -113,7 +103,7 @@ static POLICIES: [OverDrivers; 7] = [
         1,
         &[DIES, DIES, DIES, DIES, DIES, None],
         TWICE,
-        NOT_MOUNTED,
+        GIVEN_UP,
     ),
     (
         Some((6, 32, 64)),
@@ -127,7 +117,7 @@ static POLICIES: [OverDrivers; 7] = [
         1,
         &[DIES, DIES, DIES, DIES, DIES, DIES, None],
         TWICE,
-        NOT_MOUNTED,
+        GIVEN_UP,
     ),
 ];
 
@@ -135,7 +125,7 @@ static POLICIES: [OverDrivers; 7] = [
 static CALMS: [OverDrivers; 4] = [
     // Faults at ticks 0 and 1: after one tick of calm the second counts as a first one.
     (Some((1, 32, 1)), 1, &[DIES, DIES, None], TWICE, SERVED),
-    (Some((1, 32, 2)), 1, &[DIES, DIES, None], TWICE, NOT_MOUNTED),
+    (Some((1, 32, 2)), 1, &[DIES, DIES, None], TWICE, GIVEN_UP),
     // Faults at ticks 0, 1 and 3, or 0, 1 and 2: the third comes two ticks after the second, or one.
     (
         Some((2, 32, 2)),
@@ -149,7 +139,7 @@ static CALMS: [OverDrivers; 4] = [
         1,
         &[DIES, DIES, DIES, None],
         TWICE,
-        NOT_MOUNTED,
+        GIVEN_UP,
     ),
 ];
 
@@ -178,13 +168,13 @@ const WRITES: &[u8] =
 
 const WRITTEN: &str = "session 0\nfd 0\nwrote 1\nok\nat 0\nbytes 68\n";
 
-/// The mount reads 128 sectors, one a step. The first driver hangs before its first step, in the mount's last read, in the first read of
-/// the call, and in the second sector of it.
+/// A block is read as two sectors, one a step. The first driver hangs before its first step, in the first read of the call, after it, and
+/// in the second one.
 static HANGS: [AtHang; 4] = [
     (0, WRITES, WRITTEN),
-    (127, WRITES, WRITTEN),
-    (128, WRITES, WRITTEN),
-    (129, WRITES, WRITTEN),
+    (1, WRITES, WRITTEN),
+    (2, WRITES, WRITTEN),
+    (3, WRITES, WRITTEN),
 ];
 
 /// A play whose driver hangs goes on after three ticks.

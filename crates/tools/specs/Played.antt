@@ -8,7 +8,7 @@ use Rattle.bdev.specs.DriverState.{DriverState}
 use Rattle.reincarnate.specs.declared.policy.Setup.{Setup}
 use Rattle.service_start.specs.StartupRefusals.{start_refusal_text}
 use Rattle.service_start.specs.Starting.{opening_of}
-use Rattle.service_start.specs.Ran.{IsNotStarted, IsStartable}
+use Rattle.service_start.specs.Servable.{IsNotServable, IsServable}
 use Rattle.service_start.specs.Spent.{IsSpent}
 use Rattle.call_text.specs.declared.scripts.timed.TimedCall.{TimedCall}
 use Rattle.call_text.specs.declared.scripts.script_files.File.{File}
@@ -25,11 +25,11 @@ use Rattle.tools.specs.declared.play.ImageFile.{ImageFile}
 use Rattle.tools.specs.declared.play.PlayRefusal.{PlayRefusal}
 use Rattle.tools.specs.declared.play.PlayRefusal.TheVariants.{Files, Start, Service, OutOfMemory, NotWritten}
 
--- a service starts on the volume of these sizes, which lies in this range of the image
+-- a service starts on the volume of these sizes, which lies in this range of the image and holds a tree
 pub record IsStarted (image : ImageFile) (setup : Setup) (supply : List DriverState) (bytes : Vec ℕ) (g : Geometry)
     (range : ℕ × ℕ) : Type 0 where
   pub read : image.bytes ≡ Some bytes
-  pub startable : IsStartable bytes.items setup supply g range
+  pub servable : IsServable bytes.items setup supply g range
 
 -- a service starts on some volume in the image
 abbrev pub IsStartedFor : ImageFile → Setup → List DriverState → Type 0
@@ -64,7 +64,7 @@ AreUnread (Some bytes) name scripts refusal = files.IsRefused scripts refusal
 abbrev pub IsUnplayed : ImageFile → List File → Setup → List DriverState → PlayRefusal → Type 0
 IsUnplayed image scripts setup supply (Files refusal) = AreUnread image.bytes image.name scripts refusal
 IsUnplayed image scripts setup supply (Start refusal) =
-    ((bytes : Vec ℕ) × (image.bytes ≡ Some bytes) × IsNotStarted bytes.items setup supply refusal)
+    ((bytes : Vec ℕ) × (image.bytes ≡ Some bytes) × IsNotServable bytes.items setup supply refusal)
     × ((calls : List (ℕ × ℕ × List TimedCall)) × files.AreScripts scripts calls)
 IsUnplayed image scripts setup supply (Service refusal) =
     IsStartedFor image setup supply × ((calls : List (ℕ × ℕ × List TimedCall)) × files.AreScripts scripts calls)

@@ -92,13 +92,13 @@ passed true x rest g h = absurd (none h) where
 passed false x rest g h = h
 
 -- a geometry that was read is the superblock's
-parsed_is : (image : List ℕ) (g : Geometry) → geometry_of image ≡ Ok g → g ≡ superblock_geometry image
+pub parsed_is : (image : List ℕ) (g : Geometry) → geometry_of image ≡ Ok g → g ≡ superblock_geometry image
 parsed_is image g h =
     sym (one_geometry (passed _ DoesNotFit _ g (passed _ BadCounts _ g (passed _ BadVersion _ g (passed _ BadBlockSize _ g
     (passed _ BadMagic _ g (passed _ Truncated _ g h)))))))
 
 -- the superblock's bytes tell them
-same_superblock : (xs ys : List ℕ) → ((p : ℕ) → p < 1055 → slice_index xs p ≡ slice_index ys p) → superblock_geometry xs ≡ superblock_geometry ys
+pub same_superblock : (xs ys : List ℕ) → ((p : ℕ) → p < 1055 → slice_index xs p ≡ slice_index ys p) → superblock_geometry xs ≡ superblock_geometry ys
 same_superblock xs ys same =
     let two = λ (p : ℕ) (lt : p + 1 < 1055). two_same p (same p (omega (arith, lt))) (same (p + 1) lt) in
     let four = λ (p : ℕ) (lt : p + 2 + 1 < 1055). four_same p (two p (omega (arith, lt))) (two (p + 2) lt) in

@@ -7,6 +7,7 @@ pub mod Heads
 pub mod Volumes
 pub mod Ending
 pub mod Checked
+pub mod InPlace
 pub mod ReadAlone
 pub mod OfImage
 pub mod Opened

@@ -24,7 +24,7 @@ unfolding first_bytes
 first_length c zero = refl
 first_length c (suc n) = let l = length-append (first_bytes c n) (c n ∷ []) in let h = first_length c n in omega (arith, l, h)
 
-first_at : (c : Contents) (n k : ℕ) → k < n → slice_index (first_bytes c n) k ≡ c k
+pub first_at : (c : Contents) (n k : ℕ) → k < n → slice_index (first_bytes c n) k ≡ c k
 unfolding first_bytes
 first_at c zero k lt = absurd (omega (arith, lt))
 first_at c (suc n) k lt = elim (cases_lt k n) [

@@ -7,6 +7,7 @@ pub mod Reading
 pub mod Whole
 pub mod Refusals
 pub mod Mounts
+pub mod Checked
 pub mod Laws
 pub mod Opening
 pub mod Mounted

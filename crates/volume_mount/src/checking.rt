@@ -14,8 +14,8 @@ use layout::Geometry;
 use reissue::{Link, Transfers};
 use std::alloc::Global;
 
-/// Checks the bytes of a volume that was read.
-fn checked(alloc: Global, bytes: &[u8]) -> Result<Clean, MountRefusal>
+/// Checks the bytes of a volume.
+pub(crate) fn checked(alloc: Global, bytes: &[u8]) -> Result<Clean, MountRefusal>
     ensures { IsChecked bytes.now result }
 {
     match check(alloc, bytes) {

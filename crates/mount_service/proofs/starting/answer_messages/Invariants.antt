@@ -9,8 +9,8 @@ use Rattle.mount_service.proofs.starting.answer_messages.Given as goal
 abbrev pub ghosts-start_and_answer : goal.ghosts-start_and_answer
 ghosts-start_and_answer g a = record {
   table = a.board;
-  opening = opening_of (concat a.prepared.media.sectors) a.setup.now.minor a.prepared.range;
-  geometry = sizes_in (contents_at (opening_of (concat a.prepared.media.sectors) a.setup.now.minor a.prepared.range));
+  opening = opening_of (concat a.checked.prepared.media.sectors) a.setup.now.minor a.checked.prepared.range;
+  geometry = sizes_in (contents_at (opening_of (concat a.checked.prepared.media.sectors) a.setup.now.minor a.checked.prepared.range));
   policy = a.setup.now.policy;
   supply = map g.D.BlockDriver.state a.supply.items;
 }

@@ -8,7 +8,7 @@ returns-in-Ok-Ok-clause-played g c =
       bytes = c.in-Ok.read.0;
       sizes = ran.0;
       range = ran.1;
-      started = record { read = c.in-Ok.ensures.ok.0; startable = ran.2 };
+      started = record { read = c.in-Ok.ensures.ok.0; servable = ran.2 };
       calls = _;
       scripted = c.in-Ok.ensures.ok.1;
       last = c.in-Ok-Ok.came.last_sync;
@@ -19,7 +19,7 @@ returns-in-Ok-Ok-clause-played g c =
 pub returns-in-Ok-Err-clause-unplayed : goal.returns-in-Ok-Err-clause-unplayed
 returns-in-Ok-Err-clause-unplayed g c =
     let ran = c.in-Ok-Err.ensures.played in (
-      (c.in-Ok.read.0, ran.0, ran.1, record { read = c.in-Ok.ensures.ok.0; startable = ran.2 }),
+      (c.in-Ok.read.0, ran.0, ran.1, record { read = c.in-Ok.ensures.ok.0; servable = ran.2 }),
       (_, c.in-Ok.ensures.ok.1),
       rw c.in-Ok-Err.field-0-is at c.in-Ok-Err.ensures.unserved,
     )
