@@ -25,13 +25,35 @@ struct Contents<'a> {
     length: u64,
 }
 
-/// The bytes of a file. Room is made first for all of them and one more, so that they stay where they are while they are read.
+/// The bytes of a file. Room for as many as it tells is made first, and read into at once; more may stand behind those, as where a pipe
+/// tells none.
 pub fn read<R: Files + Alloc>(rt: &R, name: &str) -> io::Result<Vec<u8, R::A>> {
     let mut file = File::open(rt, name)?;
     let size = file.metadata()?.len() as usize;
-    let mut bytes = Vec::with_capacity(rt.alloc(), size.saturating_add(1))?;
-    file.read_to_end(&mut bytes)?;
+    let mut bytes = vec![in rt.alloc(); 0; size]?;
+    let filled = read_into(&mut file, &mut bytes)?;
+    if filled < size {
+        bytes.truncate(filled);
+        return Ok(bytes);
+    }
+    let mut behind = Vec::new(rt.alloc());
+    file.read_to_end(&mut behind)?;
+    bytes.append(&mut behind)?;
     Ok(bytes)
+}
+
+/// Reads until the room is full or the file ends: how many bytes were read.
+fn read_into<F: Read>(file: &mut F, room: &mut [u8]) -> io::Result<usize> {
+    let mut filled = 0;
+    for _ in 0..u64::MAX {
+        match file.read(&mut room[filled..]) {
+            Ok(0) => break,
+            Ok(count) => filled += count,
+            Err(error) if error.kind() == ErrorKind::Interrupted => {}
+            Err(error) => return Err(error),
+        }
+    }
+    Ok(filled)
 }
 
 /// Puts bytes in the place of a file, or makes it. They go to a new file beside it, of the same permissions, which takes its name
