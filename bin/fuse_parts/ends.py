@@ -321,7 +321,7 @@ def no_room(trial):
                     file.flush()
                     os.fsync(file.fileno())
         except OSError as error:
-            same("the error", errno.errorcode[error.errno], "EIO")
+            same("the error", errno.errorcode[error.errno], "ENOSPC")
         refused(volume.try_umount(), b"no room is left there")
         holds(f"some files were synced, {done}", 1 <= done < 6)
         ran("mount", "-o", "remount,size=8m", volume.home)
