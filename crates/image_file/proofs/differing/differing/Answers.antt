@@ -46,6 +46,6 @@ loop-n-preserved g c =
                 let equal : bytes_eq bytes unit ≡ true = sym c.has_bytes.ensures ∙ w.if-not-has_bytes.false in
                 let same = (bytes_eq-Decides bytes unit).0 equal in
                 rw (w.numbers-is, w.units-is)
-                    (makes_same (zip numbers units) n c.args.image.now unit bytes d (invariant.makes d shows) refl held same);
+                (makes_same (zip numbers units) n c.args.image.now unit bytes d (invariant.makes d shows) refl held same);
           }
     ]
