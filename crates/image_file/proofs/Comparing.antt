@@ -1,7 +1,7 @@
 -- The units in which an image file differs from an image, while they are looked for.
-use Rattle.std.proofs.Common.{◌≡◌, inl, inr, ℕ, ◌+◌, ◌<◌, ◌≤◌, List, [], ◌∷◌, ◌++◌, length, refl, sym, ◌∙◌, ap, arith, Option, Some, None}
+use Rattle.std.proofs.Common.{◌≡◌, inl, inr, ℕ, ◌+◌, ◌<◌, ◌≤◌, List, [], ◌∷◌, ◌++◌, length, take, drop, min, replicate, ◌*◌, ◌-◌, refl, sym, ◌∙◌, ap, arith, Option, Some, None}
 use Rattle.std.specs.List.{zip}
-use Rattle.std.proofs.lemmas.List.{length_push}
+use Rattle.std.proofs.lemmas.List.{append-nil, length_push, length-drop, length-take, take_all}
 use Rattle.std.proofs.lemmas.Bool.{cases_eq, cases_order}
 use Rattle.std.proofs.lemmas.Bool.Decides.{nat_tests}
 use Rattle.stable.specs.declared.Which.TheVariants.{Image}
@@ -10,6 +10,20 @@ use Rattle.stable.specs.Runs.{Known, Knows, Reads}
 use Rattle.redo.proofs.Units.{set_same, set_other, put-append}
 use Rattle.changes.specs.Units.{unit_of}
 use Rattle.image_file.specs.Images.{ShowsImage, with_units}
+
+-- a unit that doesn't end behind an image has the image's bytes alone
+pub whole_unit : (image rest unit : List ℕ) (n first : ℕ) → first ≡ min (n * 4096) (length image)
+    → rest ≡ take (length image - first) (drop first image) → 4096 ≤ length rest → unit ≡ take 4096 rest → unit ≡ unit_of image n
+whole_unit image rest unit n first begins lies there is =
+    let few : length (drop first image) ≤ length image - first = omega (arith, length-drop first image) in
+    let last : rest ≡ drop first image = lies ∙ take_all (length image - first) (drop first image) few in
+    let size : length rest ≡ length (drop first image) = ap length last in
+    let at : first ≡ 4096 * n = omega (arith, length-drop first image) in
+    let bytes : List ℕ = take 4096 (drop (4096 * n) image) in
+    let all : unit ≡ bytes = is ∙ ap (take 4096) last ∙ ap (λ (k : ℕ). take 4096 (drop k image)) at in
+    let long : length bytes ≡ 4096 = ap length (sym all) ∙ ap length is ∙ omega (arith, length-take 4096 rest) in
+    let none : 4096 - length bytes ≡ 0 = omega arith in
+    all ∙ sym (ap (λ (k : ℕ). bytes ++ replicate k 0) none ∙ append-nil bytes)
 
 pub reads_image : (c : Contents) (a : Option Known) (n : ℕ) (bytes : List ℕ) → Knows (ShowsImage c) a → Reads a Image n bytes → bytes ≡ c n
 reads_image c None n bytes k r = absurd k

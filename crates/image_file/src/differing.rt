@@ -4,7 +4,7 @@ ghost use Rattle.std.specs.Prelude.{◌≡◌, ℕ, List, [], IfOk};
 ghost use Rattle.std.specs.Str.{bytes_eq};
 ghost use Rattle.stable.specs.Disk.{put};
 ghost use Rattle.stable.specs.Runs.{Happens, Knows};
-ghost use Rattle.changes.specs.Units.{puts_of, units_in};
+ghost use Rattle.changes.specs.Units.{puts_of, unit_of, units_in};
 ghost use Rattle.image_file.specs.Images.{ShowsImage, with_image};
 
 use changes::{Changes, unit_at};
@@ -29,6 +29,17 @@ fn is_same(a: &[u8; UNIT], b: &[u8; UNIT]) -> bool
     *a == *b
 }
 
+/// Whether a unit of an image has these bytes. It is copied only where the image ends in it.
+fn has_bytes(image: &[u8], n: u32, held: &[u8; UNIT]) -> bool
+    ensures { result ≡ bytes_eq held.now (unit_of image.now n) }
+{
+    let first = (n as usize * UNIT).min(image.len());
+    match image[first..].first_chunk::<UNIT>() {
+        Some(unit) => is_same(held, unit),
+        None => is_same(held, &unit_at(image, n)),
+    }
+}
+
 /// The units of an image that the image file doesn't show, with the image's bytes. It takes memory for these alone.
 pub(crate) fn differing<S: Storage>(
     alloc: Global,
@@ -42,11 +53,10 @@ pub(crate) fn differing<S: Storage>(
     let mut numbers = Vec::new(alloc);
     let mut units = Vec::new(alloc);
     for n in 0..count_units(image)? {
-        let unit = unit_at(image, n);
         let held = storage.read(Which::Image, n as u64)?;
-        if !is_same(&held, &unit) {
+        if !has_bytes(image, n, &held) {
             numbers.push(n)?;
-            units.push(unit)?;
+            units.push(unit_at(image, n))?;
         }
     }
     Ok(Changes { numbers, units })

@@ -140,7 +140,7 @@ impl Killing {
     ) -> Result<Vec<KilledDriver<D>>, AllocError>
         ensures { IfOk result (λ killed. map (killed_state D.state) killed.items ≡ map D.state drivers.items) }
     {
-        let mut killed = Vec::new(alloc);
+        let mut killed = Vec::with_capacity(alloc, drivers.len())?;
         for driver in drivers {
             killed.push(KilledDriver {
                 driver,

@@ -34,7 +34,7 @@ pub fn mortal_drivers(
     ensures count { IfOk result (λ drivers. length drivers.items ≡ spares + 1) }
     ensures each { IfOk result (λ drivers. All (IsMortal model mortality table) drivers.items) }
 {
-    let mut drivers = Vec::new(alloc);
+    let mut drivers = Vec::with_capacity(alloc, usize::from(spares) + 1)?;
     for spare in 0..u32::from(spares) + 1 {
         drivers.push(mortal_driver(alloc, model, mortality, table)?)?;
     }
