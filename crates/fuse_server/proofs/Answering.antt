@@ -42,7 +42,8 @@ told may now k l bytes unique capacity s old mid t new it same fits written =
     let P : List ℕ → Type 0 = λ x. IsSent unique it x new in (it, subst P same written, inl fits)
 
 -- there was no room for the longest answer
-pub no_room : {S A E : Type 0} (may : Reach → S → Ask → Heard → S → Type 0) (now : ℕ) (k l : Known) (bytes : List ℕ) (unique capacity : ℕ) (s : S)
+pub no_room : {S A E : Type 0} (may : Reach → S → Ask → Heard → S → Type 0) (now : ℕ)
+    (k l : Known) (bytes : List ℕ) (unique capacity : ℕ) (s : S)
     (old mid new : List ℕ) (r : Result A E) → mid ≡ old → capacity < length old + 65552 → OnOk r (IsSent unique no_memory mid new)
     → OnOk r (IsTold may now k l bytes unique capacity s old s new)
 no_room may now k l bytes unique capacity s old mid new (Ok a) same less written =
@@ -51,7 +52,8 @@ no_room may now k l bytes unique capacity s old mid new (Ok a) same less written
 no_room may now k l bytes unique capacity s old mid new (Err e) same less written = tt
 
 -- a message that has an answer was answered
-pub loud : {S A E : Type 0} (may : Reach → S → Ask → Heard → S → Type 0) (now : ℕ) (k l : Known) (bytes : List ℕ) (opcode unique capacity : ℕ) (s : S)
+pub loud : {S A E : Type 0} (may : Reach → S → Ask → Heard → S → Type 0) (now : ℕ)
+    (k l : Known) (bytes : List ℕ) (opcode unique capacity : ℕ) (s : S)
     (old : List ℕ) (t : S) (new : List ℕ) (r : Result A E) → opcode ≡ opcode_in bytes → unique ≡ unique_in bytes → is_silent opcode ≡ false
     → OnOk r (IsTold may now k l bytes unique capacity s old t new) → OnOk r (IsAnswered may now k l bytes capacity s old t new)
 loud may now k l bytes opcode unique capacity s old t new (Ok a) same_opcode same_unique answers it =

@@ -430,7 +430,8 @@ gives_told called entered left now s t u x session path own uid gid h answer was
 
 -- behind what is no call
 pub given_after : {S : Type 0} {called : S → ℕ → ℕ → Call → Outcome → S → Type 0} {entered : S → ℕ → ℕ → Result ℕ EnterRefusal → S → Type 0}
-    {left : S → Leaving → S → Type 0} {now : ℕ} {s t : S} (u : S) (path : PathFrom) (owner : Owner) → TalkedBy called entered left now s [] t
+    {left : S → Leaving → S → Type 0} {now : ℕ} {s t : S} (u : S) (path : PathFrom) (owner : Owner)
+    → TalkedBy called entered left now s [] t
     → (r : Result ⊤ Refused) → OnOk r (LinkGiven called entered left now t path owner u)
     → OnOk r (LinkGiven called entered left now s path owner u)
 given_after u path owner first (Err e) it = tt

@@ -36,7 +36,7 @@ use Rattle.talks.specs.declared.heard.Heard.TheVariants as heard_of
 use Rattle.talks.specs.declared.refused.Refused.{Refused}
 use Rattle.talks.specs.declared.ask.Leaving.{Leaving}
 use Rattle.talks.specs.declared.sessions.EnterRefusal.{EnterRefusal}
-use Rattle.fuse_server.specs.Asking.{Talked, TalkedBy, TalkedTo, TalkedFor, TalkedLooking, LookedBefore, LookedAt, EndsWith, OpenedAt, ReadFrom, SoughtFor, look_reply}
+use Rattle.fuse_server.specs.Asking.{Talked, TalkedBy, TalkedTo, TalkedFor, TalkedLooking, LookedBefore, LookedAt, OpenedAt, ReadFrom, SoughtFor, look_reply}
 use Rattle.fuse_server.specs.Kinds.{is_sync}
 use Rattle.fuse_server.specs.Losing.{Loses, is_last, takes_name}
 use Rattle.fuse_server.specs.Calls.{calls_in, replied}
@@ -131,10 +131,12 @@ pub told_by : {S : Type 0} {called : S → ℕ → ℕ → Call → Outcome → 
 told_by u path asked quiet first (Err refused) it = tt
 told_by u path asked quiet first (Ok e) it = shown_by quiet first it
 
-pub opened_shown : {S : Type 0} {called : S → ℕ → ℕ → Call → Outcome → S → Type 0} {entered : S → ℕ → ℕ → Result ℕ EnterRefusal → S → Type 0}
+pub opened_shown : {S : Type 0} {called : S → ℕ → ℕ → Call → Outcome → S → Type 0}
+    {entered : S → ℕ → ℕ → Result ℕ EnterRefusal → S → Type 0}
     {left : S → Leaving → S → Type 0} {now : ℕ}
     {s t : S} (calls : List (Call × Heard)) (path : PathFrom) (was : Attributes) (r : Result (Entry × Opened) Refused)
-    → TalkedBy called entered left now s (calls ++ (seen_at path was ∷ [])) t → IfOk r (λ (e : Entry × Opened). e.0.attributes ≡ told_of was)
+    → TalkedBy called entered left now s (calls ++ (seen_at path was ∷ [])) t
+    → IfOk r (λ (e : Entry × Opened). e.0.attributes ≡ told_of was)
     → IfOk r (λ (e : Entry × Opened). ShownBy called entered left now s calls path e.0.attributes t)
 opened_shown calls path was (Err refused) talked is = tt
 opened_shown calls path was (Ok e) talked is = record { was = was; talked = talked; is = is }
@@ -502,7 +504,8 @@ set_behind u x k changes path at made (Err refused) seen = tt
 set_behind {t = t} u x k changes path at made (Ok was) seen = record { path = path; between = t; at = at; made = made; seen = seen }
 
 -- behind a look that told what they are of
-pub changed_behind : {S : Type 0} {called : S → ℕ → ℕ → Call → Outcome → S → Type 0} {entered : S → ℕ → ℕ → Result ℕ EnterRefusal → S → Type 0}
+pub changed_behind : {S : Type 0} {called : S → ℕ → ℕ → Call → Outcome → S → Type 0}
+    {entered : S → ℕ → ℕ → Result ℕ EnterRefusal → S → Type 0}
     {left : S → Leaving → S → Type 0} {now : ℕ}
     {k : Known} {s t u : S} {x : Reach} (wanted : Wanted) (was : Attributes) (changes : Changes) (told : Told)
     → changes_wanted wanted was ≡ Ok changes
@@ -630,8 +633,9 @@ as_other may x k s it t about is asked =
     let P : Telling → Type 0 = λ a. AskedFor may x a k s it t in subst P (sym is) asked
 
 -- a LOOKUP's name
-pub as_lookup : {S : Type 0} (may : S → Ask → Heard → S → Type 0) (x : Reach) (k : Known) (s : S) (it : Said) (t : S) (at : ℕ) (owner : Owner) (r : Request)
-    (name : Bor (List ℕ)) → r ≡ request.Lookup name → AskedFor may x (Name name.now) k s it t → AskedFor may x (telling_of at owner r) k s it t
+pub as_lookup : {S : Type 0} (may : S → Ask → Heard → S → Type 0) (x : Reach) (k : Known) (s : S) (it : Said) (t : S) (at : ℕ)
+    (owner : Owner) (r : Request) (name : Bor (List ℕ)) → r ≡ request.Lookup name → AskedFor may x (Name name.now) k s it t
+    → AskedFor may x (telling_of at owner r) k s it t
 as_lookup may x k s it t at owner r name is asked =
     let P : Request → Type 0 = λ q. AskedFor may x (telling_of at owner q) k s it t in subst P (sym is) asked
 

@@ -179,8 +179,8 @@ IsAlone log = length (calls_in log) ≡ 1
 abbrev pub IsLooked : Reach → Told → List Exchange → Type 0
 IsLooked x told log = (IsSeenAt x [] told log ⊎ IsSeenOpen x told log) × IsAlone log
 
--- The message's node is looked at; the changes that are wanted of what is so are made at its path, one by one, each of them done; then it is
--- looked at again, and that is told. Nothing else is called.
+-- The message's node is looked at; the changes that are wanted of what is so are made at its path, one by one, each of them done; then it
+-- is looked at again, and that is told. Nothing else is called.
 pub record IsChanged (x : Reach) (wanted : Wanted) (told : Told) (log : List Exchange) : Type 0 where
   pub was : Attributes
   pub changes : Changes

@@ -344,8 +344,8 @@ impl Mount {
 
     /// What is said to the bytes of a message: EINVAL where they can't be read.
     pub(crate) fn said_to<S: Sessions>(&mut self, sessions: &mut S, now: u32, bytes: &[u8]) -> Said
-        ensures said { IsSaidToBytes (MayHearFrom S.called S.entered S.left now) now (known_of self.old.nodes) (known_of self.new.nodes) bytes.now
-            sessions.old result sessions.new }
+        ensures said { IsSaidToBytes (MayHearFrom S.called S.entered S.left now) now (known_of self.old.nodes)
+            (known_of self.new.nodes) bytes.now sessions.old result sessions.new }
         ensures steps { Steps (known_of self.old.nodes) (known_of self.new.nodes) }
     {
         match read(bytes) {

@@ -17,7 +17,8 @@ returns-clause-asked g c = goes_on c.calling-looked.ensures.asked
     (sym c.attributes.ensures ∙ c.in_ok-attributes.was) c.calling-looked.ensures.heard c.heard.ensures))
 
 pub returns-clause-given : goal.returns-clause-given
-returns-clause-given g c = link_given (CalledFrom c.args.work.reach g.S.Sessions.called) g.S.Sessions.entered g.S.Sessions.left c.args.work.now
+returns-clause-given g c =
+    link_given (CalledFrom c.args.work.reach g.S.Sessions.called) g.S.Sessions.entered g.S.Sessions.left c.args.work.now
     c.args.sessions.now c.calling-looked.new.sessions c.heard.new.sessions c.args.session c.args.path _ c.args.owner
     c.calling-looked.result c.heard.result c.in_ok-attributes.attributes c.done.result
     (sym c.attributes.ensures ∙ c.in_ok-attributes.was) c.done.ensures.done refl c.calling-looked.ensures.heard

@@ -5,7 +5,8 @@ use Rattle.fuse_server.proofs.Telling.{by_open, made_behind, file_made}
 use Rattle.fuse_server.proofs.mount.Mount.mknod.Goals as goal
 
 pub returns-in_err-entry-clause-asked : goal.returns-in_err-entry-clause-asked
-returns-in_err-entry-clause-asked g c = on_err _ (goes_on (goes_on c.make_file.ensures.asked c.close.ensures.asked) c.tell_made.ensures.asked)
+returns-in_err-entry-clause-asked g c =
+    on_err _ (goes_on (goes_on c.make_file.ensures.asked c.close.ensures.asked) c.tell_made.ensures.asked)
 
 pub returns-clause-behind : goal.returns-clause-behind
 returns-clause-behind g c =

@@ -12,5 +12,6 @@ returns-in-Ok-clause-said g c =
 
 pub returns-in-Err-clause-said : goal.returns-in-Err-clause-said
 returns-in-Err-clause-said g c =
-    to_unread (MayHearFrom g.S.Sessions.called g.S.Sessions.entered g.S.Sessions.left c.args.now) c.args.now (known_of c.args.self.now.nodes)
+    to_unread (MayHearFrom g.S.Sessions.called g.S.Sessions.entered g.S.Sessions.left c.args.now) c.args.now
+    (known_of c.args.self.now.nodes)
     (known_of c.args.self.now.nodes) c.args.bytes.now c.read.result _ c.args.sessions.now c.in-Err.is c.read.ensures.exact
