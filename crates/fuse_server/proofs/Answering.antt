@@ -35,39 +35,41 @@ pub sent : (unique : ℕ) (it : Said) (r : Reply) (old new : List ℕ) → ((u :
 sent unique it r old new same is = (said_is_reply it, is ∙ ap (λ (x : List ℕ). old ++ x) (same unique))
 
 -- what is said to bytes was written
-pub told : {S : Type 0} (may : Reach → S → Ask → Heard → S → Type 0) (k l : Known) (bytes : List ℕ) (unique capacity : ℕ) (s : S)
-    (old mid : List ℕ) (t : S) (new : List ℕ) (it : Said) → mid ≡ old → IsSaidToBytes may k l bytes s it t
-    → IsSent unique it mid new → IsTold may k l bytes unique capacity s old t new
-told may k l bytes unique capacity s old mid t new it same fits written =
+pub told : {S : Type 0} (may : Reach → S → Ask → Heard → S → Type 0) (now : ℕ) (k l : Known) (bytes : List ℕ) (unique capacity : ℕ) (s : S)
+    (old mid : List ℕ) (t : S) (new : List ℕ) (it : Said) → mid ≡ old → IsSaidToBytes may now k l bytes s it t
+    → IsSent unique it mid new → IsTold may now k l bytes unique capacity s old t new
+told may now k l bytes unique capacity s old mid t new it same fits written =
     let P : List ℕ → Type 0 = λ x. IsSent unique it x new in (it, subst P same written, inl fits)
 
 -- there was no room for the longest answer
-pub no_room : {S A E : Type 0} (may : Reach → S → Ask → Heard → S → Type 0) (k l : Known) (bytes : List ℕ) (unique capacity : ℕ) (s : S)
+pub no_room : {S A E : Type 0} (may : Reach → S → Ask → Heard → S → Type 0) (now : ℕ)
+    (k l : Known) (bytes : List ℕ) (unique capacity : ℕ) (s : S)
     (old mid new : List ℕ) (r : Result A E) → mid ≡ old → capacity < length old + 65552 → OnOk r (IsSent unique no_memory mid new)
-    → OnOk r (IsTold may k l bytes unique capacity s old s new)
-no_room may k l bytes unique capacity s old mid new (Ok a) same less written =
+    → OnOk r (IsTold may now k l bytes unique capacity s old s new)
+no_room may now k l bytes unique capacity s old mid new (Ok a) same less written =
     let P : List ℕ → Type 0 = λ x. IsSent unique no_memory x new in
     (no_memory, subst P same written, inr (refl, refl, less))
-no_room may k l bytes unique capacity s old mid new (Err e) same less written = tt
+no_room may now k l bytes unique capacity s old mid new (Err e) same less written = tt
 
 -- a message that has an answer was answered
-pub loud : {S A E : Type 0} (may : Reach → S → Ask → Heard → S → Type 0) (k l : Known) (bytes : List ℕ) (opcode unique capacity : ℕ) (s : S)
+pub loud : {S A E : Type 0} (may : Reach → S → Ask → Heard → S → Type 0) (now : ℕ)
+    (k l : Known) (bytes : List ℕ) (opcode unique capacity : ℕ) (s : S)
     (old : List ℕ) (t : S) (new : List ℕ) (r : Result A E) → opcode ≡ opcode_in bytes → unique ≡ unique_in bytes → is_silent opcode ≡ false
-    → OnOk r (IsTold may k l bytes unique capacity s old t new) → OnOk r (IsAnswered may k l bytes capacity s old t new)
-loud may k l bytes opcode unique capacity s old t new (Ok a) same_opcode same_unique answers it =
-    let U : ℕ → Type 0 = λ u. IsTold may k l bytes u capacity s old t new in
+    → OnOk r (IsTold may now k l bytes unique capacity s old t new) → OnOk r (IsAnswered may now k l bytes capacity s old t new)
+loud may now k l bytes opcode unique capacity s old t new (Ok a) same_opcode same_unique answers it =
+    let U : ℕ → Type 0 = λ u. IsTold may now k l bytes u capacity s old t new in
     let L : ℕ → Type 0 = λ o. is_silent o ≡ false in
-    let P : Bool → Type 0 = λ b. IsAnsweredAs may k l b bytes capacity s old t new in
+    let P : Bool → Type 0 = λ b. IsAnsweredAs may now k l b bytes capacity s old t new in
     subst P (sym (subst L same_opcode answers)) (subst U same_unique it)
-loud may k l bytes opcode unique capacity s old t new (Err e) same_opcode same_unique answers it = tt
+loud may now k l bytes opcode unique capacity s old t new (Err e) same_opcode same_unique answers it = tt
 
 -- one that has none was not
 pub silently : {S : Type 0}
-    (may : Reach → S → Ask → Heard → S → Type 0) (k l : Known) (bytes : List ℕ) (opcode capacity : ℕ) (s : S) (old : List ℕ)
-    → opcode ≡ opcode_in bytes → is_silent opcode ≡ true → IsAnswered may k l bytes capacity s old s old
-silently may k l bytes opcode capacity s old same_opcode silent =
+    (may : Reach → S → Ask → Heard → S → Type 0) (now : ℕ) (k l : Known) (bytes : List ℕ) (opcode capacity : ℕ) (s : S) (old : List ℕ)
+    → opcode ≡ opcode_in bytes → is_silent opcode ≡ true → IsAnswered may now k l bytes capacity s old s old
+silently may now k l bytes opcode capacity s old same_opcode silent =
     let L : ℕ → Type 0 = λ o. is_silent o ≡ true in
-    let P : Bool → Type 0 = λ b. IsAnsweredAs may k l b bytes capacity s old s old in
+    let P : Bool → Type 0 = λ b. IsAnsweredAs may now k l b bytes capacity s old s old in
     subst P (sym (subst L same_opcode silent)) (refl, refl)
 
 never : (b : Bool) → b ≡ false → IsTrue b → ⊥
@@ -76,42 +78,42 @@ never false e h = cc
 
 -- an answer has bytes
 pub loud_has_bytes : {S A E : Type 0}
-    (may : Reach → S → Ask → Heard → S → Type 0) (k l : Known) (bytes : List ℕ) (opcode unique capacity : ℕ) (s : S)
+    (may : Reach → S → Ask → Heard → S → Type 0) (now : ℕ) (k l : Known) (bytes : List ℕ) (opcode unique capacity : ℕ) (s : S)
     (old : List ℕ) (t : S) (new : List ℕ) (r : Result A E) → opcode ≡ opcode_in bytes → is_silent opcode ≡ false
-    → OnOk r (IsTold may k l bytes unique capacity s old t new) → OnOk r ((new ≡ old) ↔ IsTrue (is_silent (opcode_in bytes)))
-loud_has_bytes may k l bytes opcode unique capacity s old t new (Ok a) same_opcode answers (it, written, fits) =
+    → OnOk r (IsTold may now k l bytes unique capacity s old t new) → OnOk r ((new ≡ old) ↔ IsTrue (is_silent (opcode_in bytes)))
+loud_has_bytes may now k l bytes opcode unique capacity s old t new (Ok a) same_opcode answers (it, written, fits) =
     let L : ℕ → Type 0 = λ o. is_silent o ≡ false in (
       λ same. absurd (has_bytes unique (reply_to it) old new written.1 same),
       λ silent. absurd (never (is_silent (opcode_in bytes)) (subst L same_opcode answers) silent),
     )
-loud_has_bytes may k l bytes opcode unique capacity s old t new (Err e) same_opcode answers it = tt
+loud_has_bytes may now k l bytes opcode unique capacity s old t new (Err e) same_opcode answers it = tt
 
 -- what was read is answered
-pub to_read : {S : Type 0} (may : Reach → S → Ask → Heard → S → Type 0) (k l : Known) (bytes : List ℕ)
+pub to_read : {S : Type 0} (may : Reach → S → Ask → Heard → S → Type 0) (now : ℕ) (k l : Known) (bytes : List ℕ)
     (read : Result Message MalformedMessage) (m : Message) (s : S) (it : Said) (t : S) (x : Reach) → read ≡ Ok m
     → Gives (λ (y : Message). view y) read (request_at bytes) → x ≡ reach_of k m → IsSaidTo l m.request it
-    → AskedFor (may x) x (telling m.request) l s it t → IsSaidToBytes may k l bytes s it t
-to_read may k l bytes read m s it t x is gives reach fits asked =
-    let P : Result Message MalformedMessage → Type 0 = λ r. IsSaidToRead may k l r s it t in
-    let Q : Reach → Type 0 = λ y. AskedFor (may y) y (telling m.request) l s it t in
+    → AskedFor (may x) x (telling now m) l s it t → IsSaidToBytes may now k l bytes s it t
+to_read may now k l bytes read m s it t x is gives reach fits asked =
+    let P : Result Message MalformedMessage → Type 0 = λ r. IsSaidToRead may now k l r s it t in
+    let Q : Reach → Type 0 = λ y. AskedFor (may y) y (telling now m) l s it t in
     (read, gives, subst P (sym is) (fits, subst Q reach asked))
 
 -- what can't be read is refused
-pub to_unread : {S : Type 0} (may : Reach → S → Ask → Heard → S → Type 0) (k l : Known) (bytes : List ℕ)
+pub to_unread : {S : Type 0} (may : Reach → S → Ask → Heard → S → Type 0) (now : ℕ) (k l : Known) (bytes : List ℕ)
     (read : Result Message MalformedMessage) (fault : MalformedMessage) (s : S) → read ≡ Err fault
     → Gives (λ (y : Message). view y) read (request_at bytes)
-    → IsSaidToBytes may k l bytes s (said.Plain (answer_of.Refused (By EINVAL))) s
-to_unread may k l bytes read fault s is gives =
-    let P : Result Message MalformedMessage → Type 0 = λ r. IsSaidToRead may k l r s (said.Plain (answer_of.Refused (By EINVAL))) s in
+    → IsSaidToBytes may now k l bytes s (said.Plain (answer_of.Refused (By EINVAL))) s
+to_unread may now k l bytes read fault s is gives =
+    let P : Result Message MalformedMessage → Type 0 = λ r. IsSaidToRead may now k l r s (said.Plain (answer_of.Refused (By EINVAL))) s in
     (read, gives, subst P (sym is) (refl, refl))
 
 -- a message is answered into an empty buffer
 pub by_any : {S A E : Type 0} (called : S → ℕ → ℕ → Call → Outcome → S → Type 0) (entered : S → ℕ → ℕ → Result ℕ EnterRefusal → S → Type 0)
     (left : S → Leaving → S → Type 0) (now : ℕ) (k l : Known) (bytes : List ℕ) (capacity : ℕ) (s : S) (old : List ℕ) (t : S) (new : List ℕ)
-    (r : Result A E) → old ≡ [] → Steps k l → OnOk r (IsAnswered (MayHearFrom called entered left now) k l bytes capacity s old t new)
+    (r : Result A E) → old ≡ [] → Steps k l → OnOk r (IsAnswered (MayHearFrom called entered left now) now k l bytes capacity s old t new)
     → OnOk r (IsAnsweredBy called entered left k l bytes new s t)
 by_any called entered left now k l bytes capacity s old t new (Ok a) empty steps it =
-    let P : List ℕ → Type 0 = λ x. IsAnswered (MayHearFrom called entered left now) k l bytes capacity s x t new in
+    let P : List ℕ → Type 0 = λ x. IsAnswered (MayHearFrom called entered left now) now k l bytes capacity s x t new in
     (steps, now, capacity, subst P empty it)
 by_any called entered left now k l bytes capacity s old t new (Err e) empty steps it = tt
 

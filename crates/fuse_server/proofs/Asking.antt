@@ -1,5 +1,5 @@
 -- What sessions are asked, one thing after another.
-use Rattle.std.proofs.Common.{◌≡◌, ◌⊎◌, ◌∙◌, ℕ, ℤ, Bool, true, false, IsTrue, List, [], ◌∷◌, ◌++◌, Option, Some, None, Result, Ok, Err, IfOk, OnOk, OnErr, IsOk, refl, sym, ap, subst, inl, inr}
+use Rattle.std.proofs.Common.{◌≡◌, ◌⊎◌, ◌∙◌, ℕ, ℤ, Bool, true, false, IsTrue, List, [], ◌∷◌, ◌++◌, append-nil, append_assoc, Option, Some, None, Result, Ok, Err, IfOk, OnOk, OnErr, IsOk, refl, sym, ap, subst, inl, inr}
 use Rattle.std.specs.Prelude.{⊤, MatchResult}
 use Rattle.std.specs.Global.{Vec}
 use Rattle.std.specs.Result.{result_map_both}
@@ -18,6 +18,7 @@ use Rattle.tree.specs.declared.Statfs.{Statfs}
 use Rattle.tree.specs.declared.Whence.TheVariants.{Set}
 use Rattle.fuse_nodes.specs.declared.node.Descriptor.{Descriptor}
 use Rattle.talks.specs.Hearing.{attributes_in, bytes_in, descriptor_in, done_in, room_in, target_in}
+use Rattle.talks.specs.Plain.{plain_call, plain_path}
 use Rattle.talks.specs.Talks.{Exchange, MayHear, Leads, IsDone}
 use Rattle.talks.specs.declared.ask.Ask.{Ask}
 use Rattle.talks.specs.declared.ask.Ask.TheVariants as ask
@@ -27,11 +28,15 @@ use Rattle.talks.specs.declared.refused.Refused.TheVariants.{By}
 use Rattle.talks.specs.declared.ask.Leaving.{Leaving}
 use Rattle.talks.specs.declared.sessions.EnterRefusal.{EnterRefusal}
 use Rattle.talks.specs.declared.refused.Refused.{Refused}
-use Rattle.fuse_server.specs.Asking.{Talked, TalkedTo, TalkedFor, TalkedAsking, TalkedLooking, LookedBefore, LookedAt, OpenedAt, ReadFrom, look_reply}
-use Rattle.fuse_server.specs.Losing.{AreQuiet, IsQuiet, WasAsked, WasLooked, takes_name}
+use Rattle.fuse_server.specs.Asking.{Talked, TalkedBy, TalkedTo, TalkedFor, TalkedLooking, LookedBefore, LookedAt, OpenedAt, ReadFrom, look_reply}
+use Rattle.fuse_server.specs.Calls.{call_in, calls_in}
+use Rattle.fuse_server.specs.Losing.{AreQuiet, IsQuiet, WasLooked, takes_name}
+use Rattle.fuse_server.specs.Making.{given_to, itself, seen_at}
 use Rattle.fuse_server.specs.Plans.{May, kind_of}
 use Rattle.fuse_server.specs.Plans.Kind.{Give}
 use Rattle.fuse_server.specs.Reach.{AsksFrom, CalledFrom, GivesTold, IsAt, IsNamed}
+use Rattle.fuse_server.specs.Telling.{LinkGiven}
+use Rattle.fuse_server.specs.declared.making.Owner.{Owner}
 use Rattle.fuse_server.specs.declared.work.Reach.{Reach}
 
 -- exchanges behind others
@@ -98,6 +103,20 @@ from_named called entered left now s t x session asked (heard_of.Outcome o) plan
 from_named called entered left now s t x session asked (heard_of.Entered r) planned named may = absurd may
 from_named called entered left now s t x session asked heard_of.Left planned named may = absurd may
 
+-- a user enters: that is no call
+pub by_entering : {S : Type 0} (called : S → ℕ → ℕ → Call → Outcome → S → Type 0) (entered : S → ℕ → ℕ → Result ℕ EnterRefusal → S → Type 0)
+    (left : S → Leaving → S → Type 0) (now : ℕ)
+    (s t : S) (uid gid : ℕ) (h : Heard) → MayHear called entered left now s (ask.Enter uid gid) h t
+    → TalkedBy called entered left now s [] t
+by_entering called entered left now s t uid gid h may = record {
+  talked = record {
+    log = record { ask = ask.Enter uid gid; heard = h } ∷ [];
+    leads = (s, refl, may);
+    quiet = (never_takes false _ refl, tt);
+  };
+  exact = refl;
+}
+
 -- users enter as they do
 pub enters : {S : Type 0} (called : S → ℕ → ℕ → Call → Outcome → S → Type 0) (entered : S → ℕ → ℕ → Result ℕ EnterRefusal → S → Type 0)
     (left : S → Leaving → S → Type 0) (now : ℕ) (s t : S) (x : Reach) (uid gid : ℕ) (h : Heard)
@@ -106,11 +125,73 @@ enters called entered left now s t x uid gid (heard_of.Outcome o) may = absurd m
 enters called entered left now s t x uid gid (heard_of.Entered r) may = may
 enters called entered left now s t x uid gid heard_of.Left may = absurd may
 
--- a call and its answer behind others
-pub after : {S : Type 0} {called : S → ℕ → ℕ → Call → Outcome → S → Type 0} {entered : S → ℕ → ℕ → Result ℕ EnterRefusal → S → Type 0}
-    {left : S → Leaving → S → Type 0} {now : ℕ} {s t u : S} {asked : Call} {h : Heard} → Talked called entered left now s t
-    → TalkedTo called entered left now t asked h u → TalkedTo called entered left now s asked h u
-after a b = record { session = b.session; before = b.before; first = goes_on a b.first; last = b.last }
+-- ---- the calls on the way
+
+calls_joined : (first then : List Exchange) → calls_in (then ++ first) ≡ calls_in first ++ calls_in then
+calls_joined first [] = sym (append-nil (calls_in first))
+calls_joined first (e ∷ es) = ap (λ (cs : List (Call × Heard)). cs ++ call_in e.ask e.heard) (calls_joined first es)
+    ∙ append_assoc (calls_in first) (calls_in es) (call_in e.ask e.heard)
+
+-- some calls, and then others
+pub by_both : {S : Type 0} {called : S → ℕ → ℕ → Call → Outcome → S → Type 0} {entered : S → ℕ → ℕ → Result ℕ EnterRefusal → S → Type 0}
+    {left : S → Leaving → S → Type 0} {now : ℕ}
+    {s t u : S} {xs ys : List (Call × Heard)} → TalkedBy called entered left now s xs t → TalkedBy called entered left now t ys u
+    → TalkedBy called entered left now s (xs ++ ys) u
+by_both {called = called} {entered} {left} {now} {s} {t} {u} {xs} {ys} a b = record {
+  talked = record {
+    log = b.talked.log ++ a.talked.log;
+    leads = joined (MayHear called entered left now) s t u a.talked.log b.talked.log a.talked.leads b.talked.leads;
+    quiet = quiet_joined a.talked.log b.talked.log a.talked.quiet b.talked.quiet;
+  };
+  exact = calls_joined a.talked.log b.talked.log ∙ (ap (λ (cs : List (Call × Heard)). cs ++ calls_in b.talked.log) a.exact
+      ∙ ap (λ (cs : List (Call × Heard)). xs ++ cs) b.exact);
+}
+
+pub by_same : {S : Type 0} {called : S → ℕ → ℕ → Call → Outcome → S → Type 0} {entered : S → ℕ → ℕ → Result ℕ EnterRefusal → S → Type 0}
+    {left : S → Leaving → S → Type 0} {now : ℕ}
+    {s t : S} {xs ys : List (Call × Heard)} → xs ≡ ys → TalkedBy called entered left now s xs t → TalkedBy called entered left now s ys t
+by_same same b = record { talked = b.talked; exact = b.exact ∙ same }
+
+-- no call
+pub by_none : {S : Type 0} (called : S → ℕ → ℕ → Call → Outcome → S → Type 0) (entered : S → ℕ → ℕ → Result ℕ EnterRefusal → S → Type 0)
+    (left : S → Leaving → S → Type 0) (now : ℕ)
+    (s : S) → TalkedBy called entered left now s [] s
+by_none called entered left now s = record { talked = record { log = []; leads = refl; quiet = tt }; exact = refl }
+
+pub none_asked : {S : Type 0} {called : S → ℕ → ℕ → Call → Outcome → S → Type 0} {entered : S → ℕ → ℕ → Result ℕ EnterRefusal → S → Type 0}
+    {left : S → Leaving → S → Type 0} {now : ℕ}
+    {s t : S} → TalkedBy called entered left now s [] t → Talked called entered left now s t
+none_asked b = b.talked
+
+-- one call
+pub by_call : {S : Type 0} (called : S → ℕ → ℕ → Call → Outcome → S → Type 0) (entered : S → ℕ → ℕ → Result ℕ EnterRefusal → S → Type 0)
+    (left : S → Leaving → S → Type 0) (now : ℕ)
+    (s t : S) (session : ℕ) (asked : Call) (h : Heard) → takes_name asked ≡ false
+    → MayHear called entered left now s (ask.Call session asked) h t
+    → TalkedBy called entered left now s ((plain_call asked, h) ∷ []) t
+by_call called entered left now s t session asked h quiet may = record {
+  talked = record {
+    log = record { ask = ask.Call session asked; heard = h } ∷ [];
+    leads = (s, refl, may);
+    quiet = (never_takes (takes_name asked) _ quiet, tt);
+  };
+  exact = refl;
+}
+
+pub by_one : {S : Type 0} {called : S → ℕ → ℕ → Call → Outcome → S → Type 0} {entered : S → ℕ → ℕ → Result ℕ EnterRefusal → S → Type 0}
+    {left : S → Leaving → S → Type 0} {now : ℕ}
+    {s t : S} {asked : Call} {h : Heard} → takes_name asked ≡ false → TalkedTo called entered left now s asked h t
+    → TalkedBy called entered left now s ((plain_call asked, h) ∷ []) t
+by_one {called = called} {entered} {left} {now} {s} {t} {asked = asked} {h} quiet b =
+    by_both b.first (by_call called entered left now b.before t b.session asked h quiet b.last)
+
+-- it comes by one session
+pub by_session : {S : Type 0} (called : S → ℕ → ℕ → Call → Outcome → S → Type 0) (entered : S → ℕ → ℕ → Result ℕ EnterRefusal → S → Type 0)
+    (left : S → Leaving → S → Type 0) (now : ℕ)
+    (s t : S) (session : ℕ) (asked : Call) (h : Heard) → MayHear called entered left now s (ask.Call session asked) h t
+    → TalkedTo called entered left now s asked h t
+by_session called entered left now s t session asked h may =
+    record { session = session; before = s; first = by_none called entered left now s; last = may }
 
 -- what replies tell is what they are
 pub attributes_so : (h : Heard) (a : Attributes) → attributes_in h ≡ Ok a → h ≡ heard_of.Outcome (outcome.Reply (reply.Inode a))
@@ -259,7 +340,7 @@ taken called entered left now s t session asked h (Ok u) done may =
 -- behind others
 pub taken_after : {S : Type 0} {called : S → ℕ → ℕ → Call → Outcome → S → Type 0} {entered : S → ℕ → ℕ → Result ℕ EnterRefusal → S → Type 0}
     {left : S → Leaving → S → Type 0} {now : ℕ} {s t : S} (u : S) (asked : Call) (session : ℕ) (r : Result ⊤ Refused)
-    → Talked called entered left now s t
+    → TalkedBy called entered left now s [] t
     → OnOk r (MayHear called entered left now t (ask.Call session asked) (heard_of.Outcome (outcome.Reply reply.Done)) u)
     → OnOk r (TalkedFor called entered left now s asked reply.Done u)
 taken_after u asked session (Err e) first last = tt
@@ -282,38 +363,6 @@ looked_then path r first [] looked = absurd looked
 looked_then path r first (e ∷ es) (inl own) = inl own
 looked_then path r first (e ∷ es) (inr rest) = inr (looked_then path r first es rest)
 
--- so does any call
-pub asked_first : (c : Call) (r : Reply) (first then : List Exchange) → WasAsked c r first → WasAsked c r (then ++ first)
-asked_first c r first [] was = was
-asked_first c r first (e ∷ es) was = inr (asked_first c r first es was)
-
--- a call was asked
-pub asking : {S : Type 0} {called : S → ℕ → ℕ → Call → Outcome → S → Type 0} {entered : S → ℕ → ℕ → Result ℕ EnterRefusal → S → Type 0}
-    {left : S → Leaving → S → Type 0} {now : ℕ} {s t : S} {asked : Call} {r : Reply} → takes_name asked ≡ false
-    → TalkedFor called entered left now s asked r t → TalkedAsking called entered left now s asked r t
-asking {asked = asked} {r} quiet it = record {
-  talked = record {
-    log = record { ask = ask.Call it.session asked; heard = heard_of.Outcome (outcome.Reply r) } ∷ it.first.log;
-    leads = (it.before, it.first.leads, it.last);
-    quiet = (never_takes (takes_name asked) _ quiet, it.first.quiet);
-  };
-  was = inl (it.session, refl, refl);
-}
-
-pub asking_on : {S : Type 0} {called : S → ℕ → ℕ → Call → Outcome → S → Type 0} {entered : S → ℕ → ℕ → Result ℕ EnterRefusal → S → Type 0}
-    {left : S → Leaving → S → Type 0} {now : ℕ} {s t u : S} {asked : Call} {r : Reply} → TalkedAsking called entered left now s asked r t
-    → Talked called entered left now t u → TalkedAsking called entered left now s asked r u
-unfolding goes_on
-asking_on {asked = asked} {r} a b =
-    record { talked = goes_on a.talked b; was = asked_first asked r a.talked.log b.log a.was }
-
--- so was an open
-pub opening : {S : Type 0} {called : S → ℕ → ℕ → Call → Outcome → S → Type 0} {entered : S → ℕ → ℕ → Result ℕ EnterRefusal → S → Type 0}
-    {left : S → Leaving → S → Type 0} {now : ℕ} {s t : S} {path : PathFrom} {mode : ℕ} {d : Descriptor}
-    (o : OpenedAt called entered left now s path mode d t)
-    → TalkedAsking called entered left now s (call.Open path o.flags mode) (reply.Descriptor d.fd) t
-opening {path = path} {mode} {d} o = asking refl (record { session = d.session; before = o.before; first = o.first; last = o.last })
-
 -- a path was looked at
 pub looking : {S : Type 0} {called : S → ℕ → ℕ → Call → Outcome → S → Type 0} {entered : S → ℕ → ℕ → Result ℕ EnterRefusal → S → Type 0}
     {left : S → Leaving → S → Type 0} {now : ℕ} {s t : S} {path : PathFrom} (found : Option Attributes)
@@ -322,18 +371,18 @@ pub looking : {S : Type 0} {called : S → ℕ → ℕ → Call → Outcome → 
 looking {path = path} (Some was) looked = record {
   talked = record {
     log = record { ask = ask.Call looked.session (call.Lstat path); heard = heard_of.Outcome (outcome.Reply (reply.Inode was)) }
-        ∷ looked.first.log;
-    leads = (looked.before, looked.first.leads, looked.last);
-    quiet = (never_takes false _ refl, looked.first.quiet);
+        ∷ looked.first.talked.log;
+    leads = (looked.before, looked.first.talked.leads, looked.last);
+    quiet = (never_takes false _ refl, looked.first.talked.quiet);
   };
   looked = inl (looked.session, refl, refl);
 }
 looking {path = path} None looked = record {
   talked = record {
     log = record { ask = ask.Call looked.session (call.Lstat path); heard = heard_of.Outcome (outcome.Reply (reply.Refused ENOENT)) }
-        ∷ looked.first.log;
-    leads = (looked.before, looked.first.leads, looked.last);
-    quiet = (never_takes false _ refl, looked.first.quiet);
+        ∷ looked.first.talked.log;
+    leads = (looked.before, looked.first.talked.leads, looked.last);
+    quiet = (never_takes false _ refl, looked.first.talked.quiet);
   };
   looked = inl (looked.session, refl, refl);
 }
@@ -357,24 +406,53 @@ pub looked_before : {S : Type 0} {called : S → ℕ → ℕ → Call → Outcom
     {left : S → Leaving → S → Type 0} {now : ℕ} {s t u : S} {path : PathFrom} {r : Reply} {asked : Call}
     → TalkedLooking called entered left now s path r t
     → TalkedFor called entered left now t asked reply.Done u → LookedBefore called entered left now s path r asked u
-looked_before a b = record { session = b.session; before = b.before; looking = looking_on a b.first; last = b.last }
+looked_before a b = record { session = b.session; before = b.before; looking = looking_on a b.first.talked; last = b.last }
 
 -- what a look told is given an owner
 pub gives_told : {S : Type 0} (called : S → ℕ → ℕ → Call → Outcome → S → Type 0) (entered : S → ℕ → ℕ → Result ℕ EnterRefusal → S → Type 0)
-    (left : S → Leaving → S → Type 0) (now : ℕ) (s t u : S) (x : Reach) (session : ℕ) (path own : PathFrom) (uid gid : ℕ) (h given : Heard)
+    (left : S → Leaving → S → Type 0) (now : ℕ)
+    (s t u : S) (x : Reach) (session : ℕ) (path own : PathFrom) (uid gid : ℕ) (h answer : Heard)
     (was : Attributes) → May x.plan Give → IsNamed x path → IsAt (Some was.inode) [] own → attributes_in h ≡ Ok was
     → MayHear (CalledFrom x called) entered left now s (ask.Call session (call.Lstat path)) h t
-    → MayHear called entered left now t (ask.Call session (call.Chown own uid gid)) given u
-    → Talked (CalledFrom x called) entered left now t u
-gives_told called entered left now s t u x session path own uid gid h given was planned named at told looked may =
+    → MayHear called entered left now t (ask.Call session (call.Chown own uid gid)) answer u
+    → MayHear (CalledFrom x called) entered left now t (ask.Call session (call.Chown own uid gid)) answer u
+gives_told called entered left now s t u x session path own uid gid h answer was planned named at told look may =
     let P : Heard → Type 0 = λ y. MayHear (CalledFrom x called) entered left now s (ask.Call session (call.Lstat path)) y t in
-    asks (CalledFrom x called) entered left now t (ask.Call session (call.Chown own uid gid)) given u (never_takes false _ refl)
-    (from_named called entered left now t u x session (call.Chown own uid gid) given planned (inr (record {
+    from_named called entered left now t u x session (call.Chown own uid gid) answer planned (inr (record {
       before = s;
       session = session;
       looked = path;
       was = was;
       named = named;
-      answer = (subst P (attributes_so h was told) looked).answer;
+      answer = (subst P (attributes_so h was told) look).answer;
       at = at;
-    })) may)
+    })) may
+
+-- behind what is no call
+pub given_after : {S : Type 0} {called : S → ℕ → ℕ → Call → Outcome → S → Type 0} {entered : S → ℕ → ℕ → Result ℕ EnterRefusal → S → Type 0}
+    {left : S → Leaving → S → Type 0} {now : ℕ} {s t : S} (u : S) (path : PathFrom) (owner : Owner)
+    → TalkedBy called entered left now s [] t
+    → (r : Result ⊤ Refused) → OnOk r (LinkGiven called entered left now t path owner u)
+    → OnOk r (LinkGiven called entered left now s path owner u)
+given_after u path owner first (Err e) it = tt
+given_after u path owner first (Ok x) it = (it.0, by_both first it.1)
+
+-- so a link is given
+pub link_given : {S : Type 0} (called : S → ℕ → ℕ → Call → Outcome → S → Type 0) (entered : S → ℕ → ℕ → Result ℕ EnterRefusal → S → Type 0)
+    (left : S → Leaving → S → Type 0) (now : ℕ)
+    (s t u : S) (session : ℕ) (path own : PathFrom) (owner : Owner) (h answer : Heard) (was : Attributes) (r : Result ⊤ Refused)
+    → attributes_in h ≡ Ok was → (IsOk r → IsDone answer) → plain_path own ≡ itself was.inode
+    → MayHear called entered left now s (ask.Call session (call.Lstat path)) h t
+    → MayHear called entered left now t (ask.Call session (call.Chown own owner.uid owner.gid)) answer u
+    → OnOk r (LinkGiven called entered left now s path owner u)
+link_given called entered left now s t u session path own owner h answer was (Err e) told done same look may = tt
+link_given called entered left now s t u session path own owner h answer was (Ok x) told done same look may =
+    let P : Heard → Type 0 = λ y. MayHear called entered left now s (ask.Call session (call.Lstat path)) y t in
+    let Q : Heard → Type 0 = λ y. MayHear called entered left now t (ask.Call session (call.Chown own owner.uid owner.gid)) y u in
+    let G : PathFrom → List (Call × Heard) = λ p. (call.Chown p owner.uid owner.gid, heard_of.Outcome (outcome.Reply reply.Done)) ∷ [] in (
+      was,
+      by_both {xs = seen_at path was ∷ []} {ys = given_to (itself was.inode) owner ∷ []}
+          (by_call called entered left now s t session (call.Lstat path) _ refl (subst P (attributes_so h was told) look))
+          (by_same (ap G same)
+          (by_call called entered left now t u session (call.Chown own owner.uid owner.gid) _ refl (subst Q (done refl) may))),
+    )

@@ -2,6 +2,7 @@ pub mod Plans
 pub mod Steps
 pub mod Asking
 pub mod Losing
+pub mod Changing
 pub mod Telling
 pub mod Replies
 pub mod KindLaws

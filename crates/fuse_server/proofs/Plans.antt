@@ -1,5 +1,5 @@
 -- What a message may ask, by what it is for.
-use Rattle.std.proofs.Common.{◌≡◌, ap, subst, sym}
+use Rattle.std.proofs.Common.{◌≡◌, subst, sym}
 use Rattle.fuse_server.specs.declared.work.Plan.{Plan}
 use Rattle.fuse_server.specs.Plans.{Kind, May}
 

@@ -1,5 +1,5 @@
 -- What is answered behind what sessions were asked.
-use Rattle.std.proofs.Common.{◌≡◌, ◌<◌, ◌∙◌, ℕ, ℤ, List, [], ◌∷◌, ◌++◌, Some, None, Option, Result, Ok, Err, IfOk, IfSome, IsTrue, true, false, ◌⊎◌, ap, length, min, take, refl, inl, inr, subst, sym}
+use Rattle.std.proofs.Common.{◌≡◌, ◌<◌, ◌∙◌, ℕ, ℤ, List, [], ◌∷◌, ◌++◌, append_assoc, Some, None, Option, Result, Ok, Err, IfOk, IfSome, IsTrue, true, false, ◌⊎◌, ap, length, min, take, refl, inl, inr, subst, sym}
 use Rattle.std.specs.Prelude.{pos}
 use Rattle.std.specs.Borrow.{Bor}
 use Rattle.fuse.specs.declared.reply.Attributes.{Attributes as Told}
@@ -24,40 +24,47 @@ use Rattle.tree.specs.declared.Reply.{Reply}
 use Rattle.tree.specs.declared.Reply.TheVariants as reply
 use Rattle.tree.specs.declared.Statfs.{Statfs}
 use Rattle.tree.specs.declared.Whence.TheVariants.{Set}
+use Rattle.talks.specs.Changes.{changes_wanted, in_order}
 use Rattle.talks.specs.Hearing.{attributes_in, target_of}
 use Rattle.talks.specs.Talks.{Exchange, MayHear, Leads, IsDone}
 use Rattle.talks.specs.declared.ask.Ask.{Ask}
 use Rattle.talks.specs.declared.ask.Ask.TheVariants as ask
+use Rattle.talks.specs.declared.changes.Changes.{Changes}
+use Rattle.talks.specs.declared.changes.Wanted.{Wanted}
 use Rattle.talks.specs.declared.heard.Heard.{Heard}
 use Rattle.talks.specs.declared.heard.Heard.TheVariants as heard_of
 use Rattle.talks.specs.declared.refused.Refused.{Refused}
 use Rattle.talks.specs.declared.ask.Leaving.{Leaving}
 use Rattle.talks.specs.declared.sessions.EnterRefusal.{EnterRefusal}
-use Rattle.fuse_server.specs.Asking.{Talked, TalkedTo, TalkedFor, TalkedAsking, TalkedLooking, LookedBefore, LookedAt, EndsWith, OpenedAt, ReadFrom, SoughtFor, look_reply}
+use Rattle.fuse_server.specs.Asking.{Talked, TalkedBy, TalkedTo, TalkedFor, TalkedLooking, LookedBefore, LookedAt, OpenedAt, ReadFrom, SoughtFor, look_reply}
 use Rattle.fuse_server.specs.Kinds.{is_sync}
-use Rattle.fuse_server.specs.Losing.{Loses, WasAsked, is_last, takes_name}
+use Rattle.fuse_server.specs.Losing.{Loses, is_last, takes_name}
+use Rattle.fuse_server.specs.Calls.{calls_in, replied}
+use Rattle.fuse_server.specs.Changing.{changes_done}
+use Rattle.fuse_server.specs.Making.{Making, AreMaking, MaybeClosed, given_to, itself, seen_at}
+use Rattle.fuse_server.specs.Making.Making.{NewDirectory, NewFile, NewLink}
 use Rattle.fuse_server.specs.Reach.{IsAt}
-use Rattle.fuse_server.specs.Telling.{Making, Telling, telling, tells, IsMadeBy, told_of, room_of, HasOwn, IsToldAs, ToldBehind, ShownAt, AskedFor}
-use Rattle.fuse_server.specs.Telling.Making.{NewDirectory, NewFile}
-use Rattle.fuse_server.specs.Telling.Telling.{Name, Made, Node, Target, Unlinked, Removed, Renamed, Room, ReadAt, WrittenAt, Other}
+use Rattle.fuse_server.specs.Telling.{Telling, telling_of, tells, told_of, room_of, HasOwn, IsToldAs, ToldBehind, SetBehind, ShownAt, ShownBy, LinkGiven, LinkShown, AskedFor}
+use Rattle.fuse_server.specs.Telling.Telling.{Name, Made, Node, Changed, Target, Unlinked, Removed, Renamed, Room, ReadAt, WrittenAt, Other}
+use Rattle.fuse_server.specs.declared.making.Owner.{Owner}
 use Rattle.fuse_server.specs.declared.said.FuseAnswer.{FuseAnswer}
 use Rattle.fuse_server.specs.declared.said.FuseAnswer.TheVariants as answer_of
 use Rattle.fuse_server.specs.declared.said.Said.{Said}
 use Rattle.fuse_server.specs.declared.said.Said.TheVariants as said
 use Rattle.fuse_server.specs.declared.work.Reach.{Reach}
-use Rattle.fuse_server.proofs.Asking.{joined, after, asked_first, attributes_so, looked_first, looked_then, never_takes, quiet_joined, stays}
+use Rattle.fuse_server.proofs.Asking.{joined, attributes_so, by_both, by_call, by_one, looked_first, looked_then, never_takes, quiet_joined, stays}
 use Rattle.fuse_server.proofs.Losing.{loses_on, quiet_loses, replaced}
 
 -- the exchanges up to a call and its answer
 abbrev log_of : {S : Type 0} {called : S → ℕ → ℕ → Call → Outcome → S → Type 0} {entered : S → ℕ → ℕ → Result ℕ EnterRefusal → S → Type 0}
     {left : S → Leaving → S → Type 0} {now : ℕ} {s t : S} {asked : Call} {h : Heard} → TalkedTo called entered left now s asked h t
     → List Exchange
-log_of {asked = asked} {h} talked = record { ask = ask.Call talked.session asked; heard = h } ∷ talked.first.log
+log_of {asked = asked} {h} talked = record { ask = ask.Call talked.session asked; heard = h } ∷ talked.first.talked.log
 
 abbrev leads_of : {S : Type 0} {called : S → ℕ → ℕ → Call → Outcome → S → Type 0} {entered : S → ℕ → ℕ → Result ℕ EnterRefusal → S → Type 0}
     {left : S → Leaving → S → Type 0} {now : ℕ} {s t : S} {asked : Call} {h : Heard} (talked : TalkedTo called entered left now s asked h t)
     → Leads (MayHear called entered left now) s (log_of talked) t
-leads_of talked = (talked.before, talked.first.leads, talked.last)
+leads_of talked = (talked.before, talked.first.talked.leads, talked.last)
 
 -- the exchanges up to a seek and a call behind it
 abbrev both_of : {S : Type 0} {called : S → ℕ → ℕ → Call → Outcome → S → Type 0} {entered : S → ℕ → ℕ → Result ℕ EnterRefusal → S → Type 0}
@@ -75,7 +82,7 @@ loses_of : {S : Type 0} {called : S → ℕ → ℕ → Call → Outcome → S �
     {s t : S} {asked : Call} {h : Heard} (k : Known) (talked : TalkedTo called entered left now s asked h t)
     → takes_name asked ≡ false → Loses k (log_of talked)
 loses_of {asked = asked} {h} k talked quiet =
-    quiet_loses k (log_of talked) (never_takes (takes_name asked) (IsDone h) quiet, talked.first.quiet)
+    quiet_loses k (log_of talked) (never_takes (takes_name asked) (IsDone h) quiet, talked.first.talked.quiet)
 
 -- the exchanges up to a call that was done behind a look
 abbrev taking_log : {S : Type 0} {called : S → ℕ → ℕ → Call → Outcome → S → Type 0}
@@ -85,11 +92,9 @@ abbrev taking_log : {S : Type 0} {called : S → ℕ → ℕ → Call → Outcom
 taking_log {asked = asked} b =
     record { ask = ask.Call b.session asked; heard = heard_of.Outcome (outcome.Reply reply.Done) } ∷ b.looking.talked.log
 
--- a look behind others
-pub shown_after : {S : Type 0} {called : S → ℕ → ℕ → Call → Outcome → S → Type 0} {entered : S → ℕ → ℕ → Result ℕ EnterRefusal → S → Type 0}
-    {left : S → Leaving → S → Type 0} {now : ℕ} {s t u : S} {path : PathFrom} {told : Told} → Talked called entered left now s t
-    → ShownAt called entered left now t path told u → ShownAt called entered left now s path told u
-shown_after a b = record { was = b.was; looked = after a b.looked; is = b.is }
+-- one call alone
+alone : (one : Call × Heard) {calls : List (Call × Heard)} → calls ≡ [] → length (calls ++ (one ∷ [])) ≡ 1
+alone one none = ap (λ (cs : List (Call × Heard)). length (cs ++ (one ∷ []))) none
 
 -- what stood at a path is told
 pub shown : {S : Type 0} {called : S → ℕ → ℕ → Call → Outcome → S → Type 0} {entered : S → ℕ → ℕ → Result ℕ EnterRefusal → S → Type 0}
@@ -105,30 +110,69 @@ pub told_shown : {S : Type 0} {called : S → ℕ → ℕ → Call → Outcome �
 told_shown was (Err refused) looked is = tt
 told_shown was (Ok e) looked is = shown was looked is
 
-pub opened_shown : {S : Type 0} {called : S → ℕ → ℕ → Call → Outcome → S → Type 0}
-    {entered : S → ℕ → ℕ → Result ℕ EnterRefusal → S → Type 0} {left : S → Leaving → S → Type 0} {now : ℕ}
-    {s t : S} {path : PathFrom} (was : Attributes) (r : Result (Entry × Opened) Refused)
-    → LookedAt called entered left now s path (Some was) t → IfOk r (λ (e : Entry × Opened). e.0.attributes ≡ told_of was)
-    → IfOk r (λ (e : Entry × Opened). ShownAt called entered left now s path e.0.attributes t)
-opened_shown was (Err refused) looked is = tt
-opened_shown was (Ok e) looked is = shown was looked is
+-- a look behind a call that was done
+pub shown_by : {S : Type 0} {called : S → ℕ → ℕ → Call → Outcome → S → Type 0} {entered : S → ℕ → ℕ → Result ℕ EnterRefusal → S → Type 0}
+    {left : S → Leaving → S → Type 0} {now : ℕ}
+    {s t u : S} {path : PathFrom} {told : Told} {asked : Call} → takes_name asked ≡ false
+    → TalkedFor called entered left now s asked reply.Done t → ShownAt called entered left now t path told u
+    → ShownBy called entered left now s (replied asked reply.Done ∷ []) path told u
+shown_by {path = path} {asked = asked} quiet a b = record {
+  was = b.was;
+  talked = by_both {xs = replied asked reply.Done ∷ []} {ys = seen_at path b.was ∷ []} (by_one quiet a) (by_one refl b.looked);
+  is = b.is;
+}
 
-pub looked_after : {S : Type 0} {called : S → ℕ → ℕ → Call → Outcome → S → Type 0}
-    {entered : S → ℕ → ℕ → Result ℕ EnterRefusal → S → Type 0} {left : S → Leaving → S → Type 0} {now : ℕ}
-    {s t : S} (u : S) (path : PathFrom) → Talked called entered left now s t
-    → (r : Result Attributes Refused)
-    → IfOk r (λ (was : Attributes). LookedAt called entered left now t path (Some was) u)
-    → IfOk r (λ (was : Attributes). LookedAt called entered left now s path (Some was) u)
-looked_after u path first (Err refused) looked = tt
-looked_after u path first (Ok was) looked = after first looked
-
-pub told_after : {S : Type 0} {called : S → ℕ → ℕ → Call → Outcome → S → Type 0} {entered : S → ℕ → ℕ → Result ℕ EnterRefusal → S → Type 0}
-    {left : S → Leaving → S → Type 0} {now : ℕ} {s t : S} (u : S) (path : PathFrom) → Talked called entered left now s t
-    → (r : Result Entry Refused)
+pub told_by : {S : Type 0} {called : S → ℕ → ℕ → Call → Outcome → S → Type 0} {entered : S → ℕ → ℕ → Result ℕ EnterRefusal → S → Type 0}
+    {left : S → Leaving → S → Type 0} {now : ℕ}
+    {s t : S} (u : S) (path : PathFrom) (asked : Call) → takes_name asked ≡ false
+    → TalkedFor called entered left now s asked reply.Done t → (r : Result Entry Refused)
     → IfOk r (λ (e : Entry). ShownAt called entered left now t path e.attributes u)
-    → IfOk r (λ (e : Entry). ShownAt called entered left now s path e.attributes u)
-told_after u path first (Err refused) looked = tt
-told_after u path first (Ok e) looked = shown_after first looked
+    → IfOk r (λ (e : Entry). ShownBy called entered left now s (replied asked reply.Done ∷ []) path e.attributes u)
+told_by u path asked quiet first (Err refused) it = tt
+told_by u path asked quiet first (Ok e) it = shown_by quiet first it
+
+pub opened_shown : {S : Type 0} {called : S → ℕ → ℕ → Call → Outcome → S → Type 0}
+    {entered : S → ℕ → ℕ → Result ℕ EnterRefusal → S → Type 0}
+    {left : S → Leaving → S → Type 0} {now : ℕ}
+    {s t : S} (calls : List (Call × Heard)) (path : PathFrom) (was : Attributes) (r : Result (Entry × Opened) Refused)
+    → TalkedBy called entered left now s (calls ++ (seen_at path was ∷ [])) t
+    → IfOk r (λ (e : Entry × Opened). e.0.attributes ≡ told_of was)
+    → IfOk r (λ (e : Entry × Opened). ShownBy called entered left now s calls path e.0.attributes t)
+opened_shown calls path was (Err refused) talked is = tt
+opened_shown calls path was (Ok e) talked is = record { was = was; talked = talked; is = is }
+
+pub looked_by : {S : Type 0} {called : S → ℕ → ℕ → Call → Outcome → S → Type 0} {entered : S → ℕ → ℕ → Result ℕ EnterRefusal → S → Type 0}
+    {left : S → Leaving → S → Type 0} {now : ℕ}
+    {s t : S} (u : S) (path : PathFrom) (asked : Call) → takes_name asked ≡ false
+    → TalkedFor called entered left now s asked reply.Done t → (r : Result Attributes Refused)
+    → IfOk r (λ (was : Attributes). LookedAt called entered left now t path (Some was) u)
+    → IfOk r (λ (was : Attributes). TalkedBy called entered left now s (replied asked reply.Done ∷ seen_at path was ∷ []) u)
+looked_by u path asked quiet first (Err refused) look = tt
+looked_by u path asked quiet first (Ok was) look =
+    by_both {xs = replied asked reply.Done ∷ []} {ys = seen_at path was ∷ []} (by_one quiet first) (by_one refl look)
+
+-- a look alone
+pub shown_alone : {S : Type 0} {called : S → ℕ → ℕ → Call → Outcome → S → Type 0} {entered : S → ℕ → ℕ → Result ℕ EnterRefusal → S → Type 0}
+    {left : S → Leaving → S → Type 0} {now : ℕ} {s t : S} {path : PathFrom} {told : Told} → ShownAt called entered left now s path told t
+    → ShownBy called entered left now s [] path told t
+shown_alone b = record { was = b.was; talked = by_one refl b.looked; is = b.is }
+
+-- a link that was given is looked at
+pub link_told : {S : Type 0} {called : S → ℕ → ℕ → Call → Outcome → S → Type 0} {entered : S → ℕ → ℕ → Result ℕ EnterRefusal → S → Type 0}
+    {left : S → Leaving → S → Type 0} {now : ℕ}
+    {s t : S} (u : S) (path : PathFrom) (owner : Owner) → LinkGiven called entered left now s path owner t → (r : Result Entry Refused)
+    → IfOk r (λ (e : Entry). ShownAt called entered left now t path e.attributes u)
+    → IfOk r (λ (e : Entry). LinkShown called entered left now s path owner e.attributes u)
+link_told u path owner (link, first) (Err refused) it = tt
+link_told u path owner (link, first) (Ok e) it = (
+  link,
+  record {
+    was = it.was;
+    talked = by_both {xs = seen_at path link ∷ given_to (itself link.inode) owner ∷ []} {ys = seen_at path it.was ∷ []} first
+        (by_one refl it.looked);
+    is = it.is;
+  },
+)
 
 pub entry_behind : {S : Type 0} {called : S → ℕ → ℕ → Call → Outcome → S → Type 0}
     {entered : S → ℕ → ℕ → Result ℕ EnterRefusal → S → Type 0} {left : S → Leaving → S → Type 0} {now : ℕ} {k : Known}
@@ -138,62 +182,91 @@ pub entry_behind : {S : Type 0} {called : S → ℕ → ℕ → Call → Outcome
 entry_behind {k = k} x name entry path at it = record {
   log = log_of it.looked;
   leads = leads_of it.looked;
-  told = record { session = it.looked.session; path = path; was = it.was; at = at; ends = (refl, refl); is = it.is };
+  told = (
+    record { session = it.looked.session; path = path; was = it.was; at = at; ends = (refl, refl); is = it.is },
+    alone _ it.looked.first.exact,
+  );
   loses = loses_of k it.looked refl;
 }
 
--- something was made at a path, and then a look at it is told
+-- something was made at a path by calls, of which the last one is a look: that is told
 pub made_behind : {S : Type 0} {called : S → ℕ → ℕ → Call → Outcome → S → Type 0} {entered : S → ℕ → ℕ → Result ℕ EnterRefusal → S → Type 0}
-    {left : S → Leaving → S → Type 0} {now : ℕ} {k : Known} {s t u : S} {asked : Call} {r : Reply} (x : Reach) (name : List ℕ) (making : Making)
-    (entry : Entry) (path : PathFrom) → IsAt x.own name path → TalkedAsking called entered left now s asked r t
-    → ((log : List Exchange) → WasAsked asked r log → IsMadeBy x making path log)
-    → ShownAt called entered left now t path entry.attributes u
+    {left : S → Leaving → S → Type 0} {now : ℕ}
+    {k : Known} {s t u : S} {xs ys : List (Call × Heard)} (x : Reach) (name : List ℕ) (making : Making)
+    (entry : Entry) (path : PathFrom) → IsAt x.own name path → TalkedBy called entered left now s xs t
+    → ShownBy called entered left now t ys path entry.attributes u
+    → ((was : Attributes) → AreMaking x making path was (xs ++ (ys ++ (seen_at path was ∷ []))))
     → ToldBehind called entered left now x (Made name making) k s (answer_of.Entry entry) u
-made_behind {called = called} {entered} {left} {now} {k} {s} {t} {asked = asked} {r} x name making entry path at first makes it = record {
-  log = record { ask = ask.Call it.looked.session (call.Lstat path); heard = heard_of.Outcome (outcome.Reply (reply.Inode it.was)) }
-      ∷ it.looked.first.log ++ first.talked.log;
-  leads = (
-    it.looked.before,
-    joined (MayHear called entered left now) s t it.looked.before first.talked.log it.looked.first.log first.talked.leads
-        it.looked.first.leads,
-    it.looked.last,
-  );
-  told = record {
-    session = it.looked.session;
-    path = path;
-    was = it.was;
-    at = at;
-    made = makes _ (inr (asked_first asked r first.talked.log it.looked.first.log first.was));
-    ends = (refl, refl);
-    is = it.is;
-  };
-  loses = quiet_loses k
-      (record { ask = ask.Call it.looked.session (call.Lstat path); heard = heard_of.Outcome (outcome.Reply (reply.Inode it.was)) }
-      ∷ it.looked.first.log ++ first.talked.log)
-      (never_takes false _ refl, quiet_joined first.talked.log it.looked.first.log first.talked.quiet it.looked.first.quiet);
-}
-
--- a directory, and a file, with the permissions that are meant
-pub made_directory : (x : Reach) (path : PathFrom) (m n : ℕ) → m ≡ n → (log : List Exchange)
-    → WasAsked (call.Mkdir path m) reply.Done log → IsMadeBy x (NewDirectory n) path log
-made_directory x path m n same log was =
-    let P : ℕ → Type 0 = λ mode. WasAsked (call.Mkdir path mode) reply.Done log in subst P same was
-
-pub made_file : (x : Reach) (path : PathFrom) (flags : OpenFlags) (fd m n : ℕ) → m ≡ n → (log : List Exchange)
-    → WasAsked (call.Open path flags m) (reply.Descriptor fd) log → IsMadeBy x (NewFile n) path log
-made_file x path flags fd m n same log was =
-    let P : ℕ → Type 0 = λ mode. WasAsked (call.Open path flags mode) (reply.Descriptor fd) log in (flags, fd, subst P same was)
+made_behind {k = k} {xs = xs} {ys} x name making entry path at first it makes =
+    let both = by_both {xs = xs} {ys = ys ++ (seen_at path it.was ∷ [])} first it.talked in
+    let P : List (Call × Heard) → Type 0 = λ calls. AreMaking x making path it.was calls in record {
+      log = both.talked.log;
+      leads = both.talked.leads;
+      told = record { path = path; was = it.was; at = at; made = subst P (sym both.exact) (makes it.was); is = it.is };
+      loses = quiet_loses k both.talked.log both.talked.quiet;
+    }
 
 -- it is open, too
 pub created_behind : {S : Type 0} {called : S → ℕ → ℕ → Call → Outcome → S → Type 0} {entered : S → ℕ → ℕ → Result ℕ EnterRefusal → S → Type 0}
-    {left : S → Leaving → S → Type 0} {now : ℕ} {k : Known} {s t u : S} {asked : Call} {r : Reply} (x : Reach) (name : List ℕ) (making : Making)
-    (entry : Entry) (opened : Opened) (path : PathFrom) → IsAt x.own name path → TalkedAsking called entered left now s asked r t
-    → ((log : List Exchange) → WasAsked asked r log → IsMadeBy x making path log)
-    → ShownAt called entered left now t path entry.attributes u
+    {left : S → Leaving → S → Type 0} {now : ℕ}
+    {k : Known} {s t u : S} {xs ys : List (Call × Heard)} (x : Reach) (name : List ℕ) (making : Making)
+    (entry : Entry) (opened : Opened) (path : PathFrom) → IsAt x.own name path → TalkedBy called entered left now s xs t
+    → ShownBy called entered left now t ys path entry.attributes u
+    → ((was : Attributes) → AreMaking x making path was (xs ++ (ys ++ (seen_at path was ∷ []))))
     → ToldBehind called entered left now x (Made name making) k s (answer_of.Create entry opened) u
-created_behind x name making entry opened path at first makes it =
-    let told = made_behind x name making entry path at first makes it in
+created_behind {k = k} x name making entry opened path at first it makes =
+    let told = made_behind {k = k} x name making entry path at first it makes in
     record { log = told.log; leads = told.leads; told = told.told; loses = told.loses }
+
+-- the calls that open a path, the last one
+pub by_open : {S : Type 0} {called : S → ℕ → ℕ → Call → Outcome → S → Type 0} {entered : S → ℕ → ℕ → Result ℕ EnterRefusal → S → Type 0}
+    {left : S → Leaving → S → Type 0} {now : ℕ}
+    {s t : S} {path : PathFrom} {mode : ℕ} {d : Descriptor} (o : OpenedAt called entered left now s path mode d t)
+    → TalkedBy called entered left now s
+    (calls_in o.first.log ++ (replied (call.Open path o.flags mode) (reply.Descriptor d.fd) ∷ [])) t
+by_open {called = called} {entered} {left} {now} {s} {t} {path} {mode} {d} o =
+    by_both {xs = calls_in o.first.log} {ys = replied (call.Open path o.flags mode) (reply.Descriptor d.fd) ∷ []}
+    (record { talked = o.first; exact = refl })
+    (by_call called entered left now o.before t d.session (call.Open path o.flags mode) _ refl o.last)
+
+-- a directory is made, with the permissions and for the owner that are meant
+pub directory_made : (x : Reach) (path : PathFrom) (m n : ℕ) (owner meant : Owner) → m ≡ n → owner ≡ meant → (was : Attributes)
+    → AreMaking x (NewDirectory n meant) path was
+    (replied (call.Mkdir path m) reply.Done ∷ ((given_to path owner ∷ []) ++ (seen_at path was ∷ [])))
+directory_made x path m n owner meant same alike was =
+    let calls : List (Call × Heard) = replied (call.Mkdir path m) reply.Done ∷ ((given_to path owner ∷ []) ++ (seen_at path was ∷ [])) in
+    let M : ℕ → Type 0 = λ mode. AreMaking x (NewDirectory mode owner) path was calls in
+    let O : Owner → Type 0 = λ to. AreMaking x (NewDirectory n to) path was calls in
+    subst O alike (subst M same refl)
+
+pub link_made : (x : Reach) (path : PathFrom) (target : Bor (List ℕ)) (owner meant : Owner) (link : Attributes) → owner ≡ meant
+    → (was : Attributes) → AreMaking x (NewLink target.now meant) path was (replied (call.Symlink target path) reply.Done
+    ∷ ((seen_at path link ∷ given_to (itself link.inode) owner ∷ []) ++ (seen_at path was ∷ [])))
+link_made x path target owner meant link alike was =
+    let calls : List (Call × Heard) = replied (call.Symlink target path) reply.Done
+    ∷ ((seen_at path link ∷ given_to (itself link.inode) owner ∷ []) ++ (seen_at path was ∷ [])) in
+    let O : Owner → Type 0 = λ to. AreMaking x (NewLink target.now to) path was calls in
+    subst O alike (link, refl)
+
+-- a file is made by an open, behind which its descriptor may be closed
+pub file_made : (x : Reach) (path : PathFrom) (tried closed : List (Call × Heard)) (flags : OpenFlags) (fd m n : ℕ) (owner meant : Owner)
+    → MaybeClosed fd closed → m ≡ n → owner ≡ meant → (was : Attributes)
+    → AreMaking x (NewFile n meant) path was (((tried ++ (replied (call.Open path flags m) (reply.Descriptor fd) ∷ []))
+    ++ closed) ++ ((given_to path owner ∷ []) ++ (seen_at path was ∷ [])))
+file_made x path tried closed flags fd m n owner meant maybe same alike was =
+    let opened : ℕ → Call × Heard = λ mode. replied (call.Open path flags mode) (reply.Descriptor fd) in
+    let rest : List (Call × Heard) = given_to path owner ∷ seen_at path was ∷ [] in
+    let calls : List (Call × Heard) = ((tried ++ (opened m ∷ [])) ++ closed) ++ rest in
+    let M : ℕ → Type 0 = λ mode. AreMaking x (NewFile mode owner) path was calls in
+    let O : Owner → Type 0 = λ to. AreMaking x (NewFile n to) path was calls in
+    subst O alike (subst M same (
+      tried,
+      flags,
+      fd,
+      closed,
+      maybe,
+      append_assoc (tried ++ (opened m ∷ [])) closed rest ∙ append_assoc tried (opened m ∷ []) (closed ++ rest),
+    ))
 
 -- a node was looked at
 pub node_behind : {S : Type 0} {called : S → ℕ → ℕ → Call → Outcome → S → Type 0} {entered : S → ℕ → ℕ → Result ℕ EnterRefusal → S → Type 0}
@@ -203,7 +276,10 @@ pub node_behind : {S : Type 0} {called : S → ℕ → ℕ → Call → Outcome 
 node_behind {k = k} x was path at looked = record {
   log = log_of looked;
   leads = leads_of looked;
-  told = inl (record { session = looked.session; path = path; was = was; at = at; ends = (refl, refl); is = refl });
+  told = (
+    inl (record { session = looked.session; path = path; was = was; at = at; ends = (refl, refl); is = refl }),
+    alone _ looked.first.exact,
+  );
   loses = loses_of k looked refl;
 }
 
@@ -218,7 +294,7 @@ open_behind {s = s} x was descriptor has last = record {
   log = record { ask = ask.Call descriptor.session (call.Fstat descriptor.fd); heard = heard_of.Outcome (outcome.Reply (reply.Inode was)) }
       ∷ [];
   leads = (s, refl, last);
-  told = inr (record { descriptor = descriptor; was = was; has = has; ends = (refl, refl); is = refl });
+  told = (inr (record { descriptor = descriptor; was = was; has = has; ends = (refl, refl); is = refl }), refl);
   loses = (λ done. tt, tt);
 }
 
@@ -251,7 +327,10 @@ pub target_behind : {S : Type 0} {called : S → ℕ → ℕ → Call → Outcom
 target_behind {k = k} x bytes target path at talked is = record {
   log = log_of talked;
   leads = leads_of talked;
-  told = record { session = talked.session; path = path; target = target; at = at; ends = (refl, refl); is = is };
+  told = (
+    record { session = talked.session; path = path; target = target; at = at; ends = (refl, refl); is = is },
+    alone _ talked.first.exact,
+  );
   loses = loses_of k talked refl;
 }
 
@@ -320,7 +399,7 @@ pub room_behind : {S : Type 0} {called : S → ℕ → ℕ → Call → Outcome 
 room_behind {k = k} x told room talked is = record {
   log = log_of talked;
   leads = leads_of talked;
-  told = record { session = talked.session; room = room; ends = (refl, refl); is = is };
+  told = (record { session = talked.session; room = room; ends = (refl, refl); is = is }, alone _ talked.first.exact);
   loses = loses_of k talked refl;
 }
 
@@ -414,40 +493,47 @@ written_behind {called = called} {entered} {left} {now} {t = t} {u} x d offset z
     let At : ℤ → Type 0 = λ y. SoughtFor called entered left now t d y (call.Write d.fd given) (reply.Wrote wrote) u in
     written_exactly x d offset bytes given wrote told own (subst At at sought) taken is
 
--- the last exchange stays the last one behind others
-ends_on : (session : ℕ) (asked : Call) (r : Reply) (log first : List Exchange) → EndsWith session asked r log
-    → EndsWith session asked r (log ++ first)
-ends_on session asked r [] first ends = absurd ends
-ends_on session asked r (e ∷ es) first ends = ends
+-- changes were made of a node, and then it was looked at
+pub set_behind : {S : Type 0} {called : S → ℕ → ℕ → Call → Outcome → S → Type 0} {entered : S → ℕ → ℕ → Result ℕ EnterRefusal → S → Type 0}
+    {left : S → Leaving → S → Type 0} {now : ℕ}
+    {s t : S} (u : S) (x : Reach) (k : Known) (changes : Changes) (path : PathFrom) → IsAt x.own [] path
+    → TalkedBy called entered left now s (changes_done path (in_order changes)) t → (r : Result Attributes Refused)
+    → IfOk r (λ (was : Attributes). ToldBehind called entered left now x Node k t (answer_of.Attributes (told_of was)) u)
+    → IfOk r (λ (was : Attributes). SetBehind called entered left now x changes k s (told_of was) u)
+set_behind u x k changes path at made (Err refused) seen = tt
+set_behind {t = t} u x k changes path at made (Ok was) seen = record { path = path; between = t; at = at; made = made; seen = seen }
 
-node_on : (x : Reach) (told : Told) (log first : List Exchange) → IsToldAs x Node (answer_of.Attributes told) log
-    → IsToldAs x Node (answer_of.Attributes told) (log ++ first)
-node_on x told log first (inl seen) = inl (record {
-  session = seen.session;
-  path = seen.path;
-  was = seen.was;
-  at = seen.at;
-  ends = ends_on seen.session (call.Lstat seen.path) (reply.Inode seen.was) log first seen.ends;
-  is = seen.is;
-})
-node_on x told log first (inr seen) = inr (record {
-  descriptor = seen.descriptor;
-  was = seen.was;
-  has = seen.has;
-  ends = ends_on seen.descriptor.session (call.Fstat seen.descriptor.fd) (reply.Inode seen.was) log first seen.ends;
-  is = seen.is;
-})
-
-pub node_after : {S : Type 0} {called : S → ℕ → ℕ → Call → Outcome → S → Type 0} {entered : S → ℕ → ℕ → Result ℕ EnterRefusal → S → Type 0}
-    {left : S → Leaving → S → Type 0} {now : ℕ} {k : Known} {s t u : S} {x : Reach} {told : Told} → Talked called entered left now s t
-    → ToldBehind called entered left now x Node k t (answer_of.Attributes told) u
-    → ToldBehind called entered left now x Node k s (answer_of.Attributes told) u
-node_after {called = called} {entered} {left} {now} {k} {s} {t} {u} {x} {told} first b = record {
-  log = b.log ++ first.log;
-  leads = joined (MayHear called entered left now) s t u first.log b.log first.leads b.leads;
-  told = node_on x told b.log first.log b.told;
-  loses = loses_on k first.log b.log (quiet_loses k first.log first.quiet) b.loses;
-}
+-- behind a look that told what they are of
+pub changed_behind : {S : Type 0} {called : S → ℕ → ℕ → Call → Outcome → S → Type 0}
+    {entered : S → ℕ → ℕ → Result ℕ EnterRefusal → S → Type 0}
+    {left : S → Leaving → S → Type 0} {now : ℕ}
+    {k : Known} {s t u : S} {x : Reach} (wanted : Wanted) (was : Attributes) (changes : Changes) (told : Told)
+    → changes_wanted wanted was ≡ Ok changes
+    → ToldBehind called entered left now x Node k s (answer_of.Attributes (told_of was)) t
+    → SetBehind called entered left now x changes k t told u
+    → ToldBehind called entered left now x (Changed wanted) k s (answer_of.Attributes told) u
+changed_behind {called = called} {entered} {left} {now} {k} {s} {t} {u} {x} wanted was changes told wants first set =
+    let made = set.made.talked in record {
+      log = set.seen.log ++ (made.log ++ first.log);
+      leads = joined (MayHear called entered left now) s set.between u (made.log ++ first.log) set.seen.log
+          (joined (MayHear called entered left now) s t set.between first.log made.log first.leads made.leads) set.seen.leads;
+      told = record {
+        was = was;
+        changes = changes;
+        path = set.path;
+        first = first.log;
+        made = made.log;
+        last = set.seen.log;
+        all = refl;
+        looked = first.told;
+        wants = wants;
+        at = set.at;
+        done = set.made.exact;
+        seen = set.seen.told;
+      };
+      loses = loses_on k (made.log ++ first.log) set.seen.log
+          (loses_on k first.log made.log first.loses (quiet_loses k made.log made.quiet)) set.seen.loses;
+    }
 
 -- a refusal may be answered behind anything
 refused_so : (x : Reach) (about : Telling) (e : Refused) (log : List Exchange) → IsToldAs x about (answer_of.Refused e) log
@@ -501,19 +587,11 @@ never e = cc
 
 -- what is told of a node
 pub told_same : {S : Type 0} {called : S → ℕ → ℕ → Call → Outcome → S → Type 0} {entered : S → ℕ → ℕ → Result ℕ EnterRefusal → S → Type 0}
-    {left : S → Leaving → S → Type 0} {now : ℕ} {k : Known} {s t : S} {x : Reach} {told : Told} (a : FuseAnswer)
+    {left : S → Leaving → S → Type 0} {now : ℕ} {k : Known} {s t : S} {x : Reach} {about : Telling} {told : Told} (a : FuseAnswer)
     → a ≡ answer_of.Attributes told
-    → ToldBehind called entered left now x Node k s (answer_of.Attributes told) t → ToldBehind called entered left now x Node k s a t
-told_same {called = called} {entered} {left} {now} {k} {s} {t} {x} a is b =
-    let P : FuseAnswer → Type 0 = λ y. ToldBehind called entered left now x Node k s y t in subst P (sym is) b
-
-pub node_after_ok : {S : Type 0} {called : S → ℕ → ℕ → Call → Outcome → S → Type 0}
-    {entered : S → ℕ → ℕ → Result ℕ EnterRefusal → S → Type 0} {left : S → Leaving → S → Type 0} {now : ℕ}
-    {s t : S} (u : S) (x : Reach) (k : Known) → Talked called entered left now s t → (r : Result Attributes Refused)
-    → IfOk r (λ (was : Attributes). ToldBehind called entered left now x Node k t (answer_of.Attributes (told_of was)) u)
-    → IfOk r (λ (was : Attributes). ToldBehind called entered left now x Node k s (answer_of.Attributes (told_of was)) u)
-node_after_ok u x k first (Err refused) b = tt
-node_after_ok u x k first (Ok was) b = node_after first b
+    → ToldBehind called entered left now x about k s (answer_of.Attributes told) t → ToldBehind called entered left now x about k s a t
+told_same {called = called} {entered} {left} {now} {k} {s} {t} {x} {about} a is b =
+    let P : FuseAnswer → Type 0 = λ y. ToldBehind called entered left now x about k s y t in subst P (sym is) b
 
 pub given_open : {S : Type 0} (called : S → ℕ → ℕ → Call → Outcome → S → Type 0) (entered : S → ℕ → ℕ → Result ℕ EnterRefusal → S → Type 0)
     (left : S → Leaving → S → Type 0) (now : ℕ) (s t : S) (x : Reach) (k : Known) (descriptor : Descriptor) → x.descriptor ≡ Some descriptor
@@ -525,29 +603,29 @@ given_open called entered left now s t x k descriptor has (Err refused) b = tt
 given_open called entered left now s t x k descriptor has (Ok was) b = b has
 
 -- a request that tells nothing of it
-pub tells_nothing : (r : Request) → tells r ≡ false → telling r ≡ Other
-tells_nothing (request.Lookup name) none = absurd (never none)
-tells_nothing (request.Getattr flags handle) none = absurd (never none)
-tells_nothing (request.Setattr valid handle size lock_owner atime mtime ctime mode uid gid) none = absurd (never none)
-tells_nothing request.Readlink none = absurd (never none)
-tells_nothing (request.Symlink name target) none = absurd (never none)
-tells_nothing (request.Mknod mode device umask name) none = absurd (never none)
-tells_nothing (request.Mkdir mode umask name) none = absurd (never none)
-tells_nothing (request.Unlink name) none = absurd (never none)
-tells_nothing (request.Rmdir name) none = absurd (never none)
-tells_nothing (request.Rename new_directory old_name new_name) none = absurd (never none)
-tells_nothing (request.Rename2 new_directory flags old_name new_name) none = absurd (never none)
-tells_nothing (request.Link file name) none = absurd (never none)
-tells_nothing (request.Create flags mode umask open_flags name) none = absurd (never none)
-tells_nothing request.Statfs none = absurd (never none)
-tells_nothing (request.Read span) none = absurd (never none)
-tells_nothing (request.Write handle offset write_flags lock_owner flags bytes) none = absurd (never none)
-tells_nothing r none = refl
+pub tells_nothing : (now : ℕ) (owner : Owner) (r : Request) → tells r ≡ false → telling_of now owner r ≡ Other
+tells_nothing now owner (request.Lookup name) none = absurd (never none)
+tells_nothing now owner (request.Getattr flags handle) none = absurd (never none)
+tells_nothing now owner (request.Setattr valid handle size lock_owner atime mtime ctime mode uid gid) none = absurd (never none)
+tells_nothing now owner request.Readlink none = absurd (never none)
+tells_nothing now owner (request.Symlink name target) none = absurd (never none)
+tells_nothing now owner (request.Mknod mode device umask name) none = absurd (never none)
+tells_nothing now owner (request.Mkdir mode umask name) none = absurd (never none)
+tells_nothing now owner (request.Unlink name) none = absurd (never none)
+tells_nothing now owner (request.Rmdir name) none = absurd (never none)
+tells_nothing now owner (request.Rename new_directory old_name new_name) none = absurd (never none)
+tells_nothing now owner (request.Rename2 new_directory flags old_name new_name) none = absurd (never none)
+tells_nothing now owner (request.Link file name) none = absurd (never none)
+tells_nothing now owner (request.Create flags mode umask open_flags name) none = absurd (never none)
+tells_nothing now owner request.Statfs none = absurd (never none)
+tells_nothing now owner (request.Read span) none = absurd (never none)
+tells_nothing now owner (request.Write handle offset write_flags lock_owner flags bytes) none = absurd (never none)
+tells_nothing now owner r none = refl
 
-pub sync_tells_nothing : (r : Request) → is_sync r ≡ true → telling r ≡ Other
-sync_tells_nothing (request.Fsync handle flags) sync = refl
-sync_tells_nothing (request.Fsyncdir handle flags) sync = refl
-sync_tells_nothing r sync = absurd (never (sym sync))
+pub sync_tells_nothing : (now : ℕ) (owner : Owner) (r : Request) → is_sync r ≡ true → telling_of now owner r ≡ Other
+sync_tells_nothing now owner (request.Fsync handle flags) sync = refl
+sync_tells_nothing now owner (request.Fsyncdir handle flags) sync = refl
+sync_tells_nothing now owner r sync = absurd (never (sym sync))
 
 pub as_other : {S : Type 0} (may : S → Ask → Heard → S → Type 0) (x : Reach) (k : Known) (s : S) (it : Said) (t : S) (about : Telling) → about ≡ Other
     → AskedFor may x Other k s it t → AskedFor may x about k s it t
@@ -555,10 +633,11 @@ as_other may x k s it t about is asked =
     let P : Telling → Type 0 = λ a. AskedFor may x a k s it t in subst P (sym is) asked
 
 -- a LOOKUP's name
-pub as_lookup : {S : Type 0} (may : S → Ask → Heard → S → Type 0) (x : Reach) (k : Known) (s : S) (it : Said) (t : S) (r : Request)
-    (name : Bor (List ℕ)) → r ≡ request.Lookup name → AskedFor may x (Name name.now) k s it t → AskedFor may x (telling r) k s it t
-as_lookup may x k s it t r name is asked =
-    let P : Request → Type 0 = λ q. AskedFor may x (telling q) k s it t in subst P (sym is) asked
+pub as_lookup : {S : Type 0} (may : S → Ask → Heard → S → Type 0) (x : Reach) (k : Known) (s : S) (it : Said) (t : S) (at : ℕ)
+    (owner : Owner) (r : Request) (name : Bor (List ℕ)) → r ≡ request.Lookup name → AskedFor may x (Name name.now) k s it t
+    → AskedFor may x (telling_of at owner r) k s it t
+as_lookup may x k s it t at owner r name is asked =
+    let P : Request → Type 0 = λ q. AskedFor may x (telling_of at owner q) k s it t in subst P (sym is) asked
 
 -- a name was looked for, and leads to nothing
 pub nothing_there : {S : Type 0} {called : S → ℕ → ℕ → Call → Outcome → S → Type 0}
@@ -568,7 +647,7 @@ pub nothing_there : {S : Type 0} {called : S → ℕ → ℕ → Call → Outcom
 nothing_there {k = k} x name path at looked = (
   log_of looked,
   leads_of looked,
-  record { session = looked.session; path = path; at = at; ends = (refl, refl) },
+  (record { session = looked.session; path = path; at = at; ends = (refl, refl) }, alone _ looked.first.exact),
   loses_of k looked refl,
 )
 
@@ -578,4 +657,4 @@ pub synced : {S : Type 0} {called : S → ℕ → ℕ → Call → Outcome → S
     → TalkedTo called entered left now s call.Sync h t → IsDone h
     → AskedFor (MayHear called entered left now) x Other k s said.Synced t
 synced {k = k} x h talked done =
-    (log_of talked, leads_of talked, (talked.session, refl, done), loses_of k talked refl)
+    (log_of talked, leads_of talked, ((talked.session, refl, done), alone _ talked.first.exact), loses_of k talked refl)

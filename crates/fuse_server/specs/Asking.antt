@@ -19,7 +19,8 @@ use Rattle.talks.specs.declared.heard.Heard.{Heard}
 use Rattle.talks.specs.declared.heard.Heard.TheVariants as heard
 use Rattle.talks.specs.declared.ask.Leaving.{Leaving}
 use Rattle.talks.specs.declared.sessions.EnterRefusal.{EnterRefusal}
-use Rattle.fuse_server.specs.Losing.{AreQuiet, WasAsked, WasLooked}
+use Rattle.fuse_server.specs.Calls.{calls_in}
+use Rattle.fuse_server.specs.Losing.{AreQuiet, WasLooked}
 
 -- By exchanges at this time, and by nothing else, sessions come from one state to another, and no name is taken away. The first arguments
 -- say what they may answer: to calls, to users that enter, and to the end of all sessions.
@@ -29,13 +30,20 @@ pub record Talked {S : Type 0} (called : S → ℕ → ℕ → Call → Outcome 
   pub leads : Leads (MayHear called entered left now) s log t
   pub quiet : AreQuiet log
 
--- So they do, and then comes this call and its answer.
+-- So they do, and these are the calls on the way, each with what was heard.
+pub record TalkedBy {S : Type 0} (called : S → ℕ → ℕ → Call → Outcome → S → Type 0)
+    (entered : S → ℕ → ℕ → Result ℕ EnterRefusal → S → Type 0) (left : S → Leaving → S → Type 0) (now : ℕ)
+    (s : S) (calls : List (Call × Heard)) (t : S) : Type 0 where
+  pub talked : Talked called entered left now s t
+  pub exact : calls_in talked.log ≡ calls
+
+-- So they do by one call alone, which comes last, with what is heard.
 pub record TalkedTo {S : Type 0} (called : S → ℕ → ℕ → Call → Outcome → S → Type 0)
     (entered : S → ℕ → ℕ → Result ℕ EnterRefusal → S → Type 0) (left : S → Leaving → S → Type 0) (now : ℕ)
     (s : S) (asked : Call) (heard : Heard) (t : S) : Type 0 where
   pub session : ℕ
   pub before : S
-  pub first : Talked called entered left now s before
+  pub first : TalkedBy called entered left now s [] before
   pub last : MayHear called entered left now before (ask.Call session asked) heard t
 
 -- the answer is this reply
@@ -43,19 +51,17 @@ abbrev pub TalkedFor : {S : Type 0} → (S → ℕ → ℕ → Call → Outcome 
     → (S → Leaving → S → Type 0) → ℕ → S → Call → Reply → S → Type 0
 TalkedFor called entered left now s asked r t = TalkedTo called entered left now s asked (heard.Outcome (outcome.Reply r)) t
 
+-- So they do by a close alone, whatever is heard of it.
+abbrev pub IsClosed : {S : Type 0} → (S → ℕ → ℕ → Call → Outcome → S → Type 0) → (S → ℕ → ℕ → Result ℕ EnterRefusal → S → Type 0)
+    → (S → Leaving → S → Type 0) → ℕ → S → ℕ → S → Type 0
+IsClosed called entered left now s fd t = (h : Heard) × TalkedTo called entered left now s (call.Close fd) h t
+
 -- So they do, and among the exchanges is a look at this path, with this reply.
 pub record TalkedLooking {S : Type 0} (called : S → ℕ → ℕ → Call → Outcome → S → Type 0)
     (entered : S → ℕ → ℕ → Result ℕ EnterRefusal → S → Type 0) (left : S → Leaving → S → Type 0) (now : ℕ)
     (s : S) (path : PathFrom) (r : Reply) (t : S) : Type 0 where
   pub talked : Talked called entered left now s t
   pub looked : WasLooked path r talked.log
-
--- So they do, and among the exchanges is this call, with this reply.
-pub record TalkedAsking {S : Type 0} (called : S → ℕ → ℕ → Call → Outcome → S → Type 0)
-    (entered : S → ℕ → ℕ → Result ℕ EnterRefusal → S → Type 0) (left : S → Leaving → S → Type 0) (now : ℕ)
-    (s : S) (asked : Call) (r : Reply) (t : S) : Type 0 where
-  pub talked : Talked called entered left now s t
-  pub was : WasAsked asked r talked.log
 
 -- So they do, and then comes this call, which was done.
 pub record LookedBefore {S : Type 0} (called : S → ℕ → ℕ → Call → Outcome → S → Type 0)

@@ -2,6 +2,9 @@ pub mod Messages
 pub mod Plans
 pub mod Reach
 pub mod Losing
+pub mod Calls
+pub mod Changing
+pub mod Making
 pub mod Asking
 pub mod Entries
 pub mod Kinds

@@ -38,11 +38,6 @@ abbrev pub WasLooked : PathFrom → Reply → List Exchange → Type 0
 WasLooked path r [] = ⊥
 WasLooked path r (e ∷ es) = ((session : ℕ) × (e.ask ≡ ask.Call session (call.Lstat path)) × Replies e.heard r) ⊎ WasLooked path r es
 
--- Among them is this call, and this was its reply.
-abbrev pub WasAsked : Call → Reply → List Exchange → Type 0
-WasAsked c r [] = ⊥
-WasAsked c r (e ∷ es) = ((session : ℕ) × (e.ask ≡ ask.Call session c) × Replies e.heard r) ⊎ WasAsked c r es
-
 -- what has these attributes has no other name: it has one link at most, or is a directory
 abbrev pub is_last : Attributes → Bool
 is_last was = nat_lt was.links 2 || (was.mode / 4096 == 4)

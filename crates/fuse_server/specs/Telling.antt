@@ -1,11 +1,12 @@
 -- What the last exchange before an answer has to do with it.
-use Rattle.std.specs.Prelude.{⊤, ◌≡◌, ◌<◌, ◌⊎◌, ◌+◌, ◌/◌, ◌%◌, min, ℕ, pos, Bool, true, false, List, [], ◌∷◌, length, take, Option, Some, None, Result}
+use Rattle.std.specs.Prelude.{⊤, ◌≡◌, ◌<◌, ◌⊎◌, ◌+◌, ◌/◌, ◌%◌, min, ℕ, pos, Bool, true, false, List, [], ◌∷◌, ◌++◌, length, take, Option, Some, None, Result, Ok}
 use Rattle.std.specs.Borrow.{Bor}
 use Rattle.std.specs.Global.{Vec}
 use Rattle.errno.specs.declared.Errno.TheVariants.{ENOENT}
 use Rattle.fuse.specs.declared.reply.Attributes.{Attributes as Told}
 use Rattle.fuse.specs.declared.reply.Entry.{Entry}
 use Rattle.fuse.specs.declared.reply.StatfsReply.{StatfsReply}
+use Rattle.fuse.specs.declared.request.Message.{Message}
 use Rattle.fuse.specs.declared.request.Request.{Request}
 use Rattle.fuse.specs.declared.request.Request.TheVariants as request
 use Rattle.fuse_nodes.specs.Known.{Known}
@@ -21,16 +22,24 @@ use Rattle.tree.specs.declared.Reply.{Reply}
 use Rattle.tree.specs.declared.Reply.TheVariants as reply
 use Rattle.tree.specs.declared.Statfs.{Statfs}
 use Rattle.tree.specs.declared.Whence.TheVariants.{Set}
+use Rattle.talks.specs.Changes.{changes_wanted, in_order}
 use Rattle.talks.specs.Hearing.{target_of}
 use Rattle.talks.specs.Talks.{Exchange, Leads, EndsInSync, MayHear, Replies}
 use Rattle.talks.specs.declared.ask.Ask.{Ask}
 use Rattle.talks.specs.declared.ask.Ask.TheVariants as ask
+use Rattle.talks.specs.declared.changes.Changes.{Changes}
+use Rattle.talks.specs.declared.changes.Wanted.{Wanted}
 use Rattle.talks.specs.declared.heard.Heard.{Heard}
 use Rattle.talks.specs.declared.ask.Leaving.{Leaving}
 use Rattle.talks.specs.declared.sessions.EnterRefusal.{EnterRefusal}
-use Rattle.fuse_server.specs.Asking.{EndsWith, LookedAt, Talked}
-use Rattle.fuse_server.specs.Losing.{Loses, WasAsked}
+use Rattle.fuse_server.specs.Asking.{EndsWith, LookedAt, Talked, TalkedBy}
+use Rattle.fuse_server.specs.Calls.{calls_in}
+use Rattle.fuse_server.specs.Changing.{bits_of, changes_done}
+use Rattle.fuse_server.specs.Losing.{Loses}
+use Rattle.fuse_server.specs.Making.{Making, AreMaking, asker, given_to, itself, seen_at}
+use Rattle.fuse_server.specs.Making.Making.{NewDirectory, NewFile, NewLink, NewName}
 use Rattle.fuse_server.specs.Reach.{IsAt}
+use Rattle.fuse_server.specs.declared.making.Owner.{Owner}
 use Rattle.fuse_server.specs.declared.said.FuseAnswer.{FuseAnswer}
 use Rattle.fuse_server.specs.declared.said.FuseAnswer.TheVariants as answer_of
 use Rattle.fuse_server.specs.declared.said.Said.{Said}
@@ -68,21 +77,14 @@ room_of room = record {
   fragment_size = room.block_size;
 }
 
--- what a message makes: a file with these permissions, a directory, a link with this target, or one more name for the second node's
--- file
-pub data Making : Type 0 where
-  NewFile : ℕ → Making
-  NewDirectory : ℕ → Making
-  NewLink : List ℕ → Making
-  NewName : Making
-
--- what an answer tells of: a name in the message's node, what it made at one, the node, its target, a name that was taken away from a file or a directory or
--- became another one in the second node, the room, its bytes from an offset on, at most so many, or bytes that were put there, or nothing
--- that is said here
+-- what an answer tells of: a name in the message's node, what it made at one, the node, what it changed of it, its target, a name that was
+-- taken away from a file or a directory or became another one in the second node, the room, its bytes from an offset on, at most so many,
+-- or bytes that were put there, or nothing that is said here
 pub data Telling : Type 0 where
   Name : List ℕ → Telling
   Made : List ℕ → Making → Telling
   Node : Telling
+  Changed : Wanted → Telling
   Target : Telling
   Unlinked : List ℕ → Telling
   Removed : List ℕ → Telling
@@ -92,24 +94,37 @@ pub data Telling : Type 0 where
   WrittenAt : ℕ → List ℕ → Telling
   Other : Telling
 
-abbrev pub telling : Request → Telling
-telling (request.Lookup name) = Name name.now
-telling (request.Getattr flags handle) = Node
-telling (request.Setattr valid handle size lock_owner atime mtime ctime mode uid gid) = Node
-telling request.Readlink = Target
-telling (request.Symlink name target) = Made name.now (NewLink target.now)
-telling (request.Mknod mode device umask name) = Made name.now (NewFile (mode % 4096))
-telling (request.Mkdir mode umask name) = Made name.now (NewDirectory (mode % 4096))
-telling (request.Unlink name) = Unlinked name.now
-telling (request.Rmdir name) = Removed name.now
-telling (request.Rename new_directory old_name new_name) = Renamed old_name.now new_name.now
-telling (request.Rename2 new_directory flags old_name new_name) = Renamed old_name.now new_name.now
-telling (request.Link file name) = Made name.now NewName
-telling (request.Create flags mode umask open_flags name) = Made name.now (NewFile (mode % 4096))
-telling request.Statfs = Room
-telling (request.Read span) = ReadAt span.offset span.count
-telling (request.Write handle offset write_flags lock_owner flags bytes) = WrittenAt offset bytes.now
-telling r = Other
+-- of a message at a time, by who asks
+abbrev pub telling_of : ℕ → Owner → Request → Telling
+telling_of now owner (request.Lookup name) = Name name.now
+telling_of now owner (request.Getattr flags handle) = Node
+telling_of now owner (request.Setattr valid handle size lock_owner atime mtime ctime mode uid gid) = Changed (record {
+  valid = bits_of valid;
+  mode = mode;
+  uid = uid;
+  gid = gid;
+  size = size;
+  atime = atime.0;
+  mtime = mtime.0;
+  now = now;
+})
+telling_of now owner request.Readlink = Target
+telling_of now owner (request.Symlink name target) = Made name.now (NewLink target.now owner)
+telling_of now owner (request.Mknod mode device umask name) = Made name.now (NewFile (mode % 4096) owner)
+telling_of now owner (request.Mkdir mode umask name) = Made name.now (NewDirectory (mode % 4096) owner)
+telling_of now owner (request.Unlink name) = Unlinked name.now
+telling_of now owner (request.Rmdir name) = Removed name.now
+telling_of now owner (request.Rename new_directory old_name new_name) = Renamed old_name.now new_name.now
+telling_of now owner (request.Rename2 new_directory flags old_name new_name) = Renamed old_name.now new_name.now
+telling_of now owner (request.Link file name) = Made name.now NewName
+telling_of now owner (request.Create flags mode umask open_flags name) = Made name.now (NewFile (mode % 4096) owner)
+telling_of now owner request.Statfs = Room
+telling_of now owner (request.Read span) = ReadAt span.offset span.count
+telling_of now owner (request.Write handle offset write_flags lock_owner flags bytes) = WrittenAt offset bytes.now
+telling_of now owner r = Other
+
+abbrev pub telling : ℕ → Message → Telling
+telling now m = telling_of now (asker m) m.request
 
 -- something
 abbrev pub tells : Request → Bool
@@ -140,21 +155,12 @@ pub record IsSeenAt (x : Reach) (name : List ℕ) (told : Told) (log : List Exch
   pub ends : EndsWith session (call.Lstat path) (reply.Inode was) log
   pub is : told ≡ told_of was
 
--- Among them is the call that makes this at this path. (An open that a plan to make allows is one that makes.)
-abbrev pub IsMadeBy : Reach → Making → PathFrom → List Exchange → Type 0
-IsMadeBy x (NewFile mode) path log = (flags : OpenFlags) × (fd : ℕ) × WasAsked (call.Open path flags mode) (reply.Descriptor fd) log
-IsMadeBy x (NewDirectory mode) path log = WasAsked (call.Mkdir path mode) reply.Done log
-IsMadeBy x (NewLink target) path log = (given : Bor (List ℕ)) × (given.now ≡ target) × WasAsked (call.Symlink given path) reply.Done log
-IsMadeBy x NewName path log = (old : PathFrom) × IsAt x.other [] old × WasAsked (call.Link old path) reply.Done log
-
--- Something is made at a name in the message's node, and then looked at: its attributes are told.
+-- The calls make something at a name in the message's node, and then look at it: its attributes are told.
 pub record IsMadeAt (x : Reach) (name : List ℕ) (making : Making) (told : Told) (log : List Exchange) : Type 0 where
-  pub session : ℕ
   pub path : PathFrom
   pub was : Attributes
   pub at : IsAt x.own name path
-  pub made : IsMadeBy x making path log
-  pub ends : EndsWith session (call.Lstat path) (reply.Inode was) log
+  pub made : AreMaking x making path was (calls_in log)
   pub is : told ≡ told_of was
 
 -- or in a look at what its node's descriptor has open
@@ -164,6 +170,30 @@ pub record IsSeenOpen (x : Reach) (told : Told) (log : List Exchange) : Type 0 w
   pub has : x.descriptor ≡ Some descriptor
   pub ends : EndsWith descriptor.session (call.Fstat descriptor.fd) (reply.Inode was) log
   pub is : told ≡ told_of was
+
+-- There is one call alone.
+abbrev pub IsAlone : List Exchange → Type 0
+IsAlone log = length (calls_in log) ≡ 1
+
+-- It is a look at the message's node.
+abbrev pub IsLooked : Reach → Told → List Exchange → Type 0
+IsLooked x told log = (IsSeenAt x [] told log ⊎ IsSeenOpen x told log) × IsAlone log
+
+-- The message's node is looked at; the changes that are wanted of what is so are made at its path, one by one, each of them done; then it
+-- is looked at again, and that is told. Nothing else is called.
+pub record IsChanged (x : Reach) (wanted : Wanted) (told : Told) (log : List Exchange) : Type 0 where
+  pub was : Attributes
+  pub changes : Changes
+  pub path : PathFrom
+  pub first : List Exchange
+  pub made : List Exchange
+  pub last : List Exchange
+  pub all : log ≡ last ++ (made ++ first)
+  pub looked : IsLooked x (told_of was) first
+  pub wants : changes_wanted wanted was ≡ Ok changes
+  pub at : IsAt x.own [] path
+  pub done : calls_in made ≡ changes_done path (in_order changes)
+  pub seen : IsLooked x told last
 
 -- in a look at the target of the message's node
 pub record IsTarget (x : Reach) (bytes : List ℕ) (log : List Exchange) : Type 0 where
@@ -266,28 +296,29 @@ FoundAt called entered left now s path None t = LookedAt called entered left now
 
 -- What the exchanges end in where this is answered.
 abbrev pub IsToldAs : Reach → Telling → FuseAnswer → List Exchange → Type 0
-IsToldAs x (Name name) (answer_of.Entry entry) log = IsSeenAt x name entry.attributes log
+IsToldAs x (Name name) (answer_of.Entry entry) log = IsSeenAt x name entry.attributes log × IsAlone log
 IsToldAs x (Made name making) (answer_of.Entry entry) log = IsMadeAt x name making entry.attributes log
 IsToldAs x (Made name making) (answer_of.Create entry opened) log = IsMadeAt x name making entry.attributes log
-IsToldAs x Node (answer_of.Attributes told) log = IsSeenAt x [] told log ⊎ IsSeenOpen x told log
-IsToldAs x Target (answer_of.Bytes bytes) log = IsTarget x bytes.items log
+IsToldAs x Node (answer_of.Attributes told) log = IsLooked x told log
+IsToldAs x (Changed wanted) (answer_of.Attributes told) log = IsChanged x wanted told log
+IsToldAs x Target (answer_of.Bytes bytes) log = IsTarget x bytes.items log × IsAlone log
 IsToldAs x (Unlinked name) answer_of.Done log = IsDoneAt x name (λ path. call.Unlink path) log
 IsToldAs x (Removed name) answer_of.Done log = IsDoneAt x name (λ path. call.Rmdir path) log
 IsToldAs x (Renamed old new) answer_of.Done log = IsRenamed x old new log
-IsToldAs x Room (answer_of.Statfs room) log = IsRoom room log
+IsToldAs x Room (answer_of.Statfs room) log = IsRoom room log × IsAlone log
 IsToldAs x (ReadAt offset count) (answer_of.Bytes bytes) log = IsReadOrPast x offset count bytes.items log
 IsToldAs x (WrittenAt offset bytes) (answer_of.Write count) log = IsWritten x offset bytes count log
 IsToldAs x about a log = ⊤
 
 abbrev pub IsMissingAs : Reach → Telling → List Exchange → Type 0
-IsMissingAs x (Name name) log = IsMissing x name log
+IsMissingAs x (Name name) log = IsMissing x name log × IsAlone log
 IsMissingAs x about log = ⊥
 
 -- Where it is said that a sync was done, they end in such a sync, and where it is said that a name leads to nothing, in a look that found
 -- nothing.
 abbrev pub IsBehind : Reach → Telling → Said → List Exchange → Type 0
 IsBehind x about (said.Plain a) log = IsToldAs x about a log
-IsBehind x about said.Synced log = EndsInSync log
+IsBehind x about said.Synced log = EndsInSync log × IsAlone log
 IsBehind x about said.Missing log = IsMissingAs x about log
 
 -- By exchanges and nothing else sessions come from one state to another, and this is answered behind them, by what is known then.
@@ -298,6 +329,36 @@ pub record ToldBehind {S : Type 0} (called : S → ℕ → ℕ → Call → Outc
   pub leads : Leads (MayHear called entered left now) s log t
   pub told : IsToldAs x about a log
   pub loses : Loses k log
+
+-- Changes were made of the message's node, and then it was looked at.
+pub record SetBehind {S : Type 0} (called : S → ℕ → ℕ → Call → Outcome → S → Type 0)
+    (entered : S → ℕ → ℕ → Result ℕ EnterRefusal → S → Type 0) (left : S → Leaving → S → Type 0) (now : ℕ)
+    (x : Reach) (changes : Changes) (k : Known) (s : S) (told : Told) (t : S) : Type 0 where
+  pub path : PathFrom
+  pub between : S
+  pub at : IsAt x.own [] path
+  pub made : TalkedBy called entered left now s (changes_done path (in_order changes)) between
+  pub seen : ToldBehind called entered left now x Node k between (answer_of.Attributes told) t
+
+-- By these calls, and then a look at a path, sessions come from one state to another: its attributes are told.
+pub record ShownBy {S : Type 0} (called : S → ℕ → ℕ → Call → Outcome → S → Type 0)
+    (entered : S → ℕ → ℕ → Result ℕ EnterRefusal → S → Type 0) (left : S → Leaving → S → Type 0) (now : ℕ)
+    (s : S) (calls : List (Call × Heard)) (path : PathFrom) (told : Told) (t : S) : Type 0 where
+  pub was : Attributes
+  pub talked : TalkedBy called entered left now s (calls ++ (seen_at path was ∷ [])) t
+  pub is : told ≡ told_of was
+
+-- A link was looked at, and given to an owner.
+abbrev pub LinkGiven : {S : Type 0} → (S → ℕ → ℕ → Call → Outcome → S → Type 0) → (S → ℕ → ℕ → Result ℕ EnterRefusal → S → Type 0)
+    → (S → Leaving → S → Type 0) → ℕ → S → PathFrom → Owner → S → Type 0
+LinkGiven called entered left now s path owner t = (link : Attributes)
+    × TalkedBy called entered left now s (seen_at path link ∷ given_to (itself link.inode) owner ∷ []) t
+
+-- and then looked at again
+abbrev pub LinkShown : {S : Type 0} → (S → ℕ → ℕ → Call → Outcome → S → Type 0) → (S → ℕ → ℕ → Result ℕ EnterRefusal → S → Type 0)
+    → (S → Leaving → S → Type 0) → ℕ → S → PathFrom → Owner → Told → S → Type 0
+LinkShown called entered left now s path owner told t = (link : Attributes)
+    × ShownBy called entered left now s (seen_at path link ∷ given_to (itself link.inode) owner ∷ []) path told t
 
 abbrev pub AskedFor : {S : Type 0} → (S → Ask → Heard → S → Type 0) → Reach → Telling → Known → S → Said → S → Type 0
 AskedFor may x about k s it t = (log : List Exchange) × Leads may s log t × IsBehind x about it log × Loses k log

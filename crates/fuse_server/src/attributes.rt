@@ -1,16 +1,18 @@
 //! Attributes: what is told of a node, and what is changed.
 #![tactic(auto, using(crate::proofs::Asking::goes_on, crate::proofs::Asking::stays, crate::proofs::Plans::by_plan, crate::proofs::Steps::no_step,))]
 
-ghost use Rattle.std.specs.Prelude.{◌≡◌, Some, IfOk, OnErr, IsTrue};
+ghost use Rattle.std.specs.Prelude.{◌≡◌, Some, IfOk, OnOk, OnErr, IsTrue};
 ghost use Rattle.tree.specs.declared.Call.TheVariants as call;
 ghost use Rattle.tree.specs.declared.Reply.TheVariants as reply;
+ghost use Rattle.talks.specs.Changes.{in_order};
 ghost use Rattle.fuse_nodes.specs.Known.{Known, known_of};
-ghost use Rattle.fuse_server.specs.Asking.{Talked, TalkedFor};
+ghost use Rattle.fuse_server.specs.Asking.{Talked, TalkedBy, TalkedFor};
+ghost use Rattle.fuse_server.specs.Changing.{bits_of, changes_done, given_bit};
 ghost use Rattle.fuse_server.specs.Kinds.{is_attributes, is_bytes, is_room};
 ghost use Rattle.fuse_server.specs.Reach.{CalledFrom, IsNamed};
 ghost use Rattle.fuse_server.specs.declared.said.FuseAnswer.TheVariants as answer;
-ghost use Rattle.fuse_server.specs.Telling.{ToldBehind, told_of};
-ghost use Rattle.fuse_server.specs.Telling.Telling.{Node, Target, Room};
+ghost use Rattle.fuse_server.specs.Telling.{SetBehind, ToldBehind, told_of};
+ghost use Rattle.fuse_server.specs.Telling.Telling.{Changed, Node, Target, Room};
 ghost use Rattle.fuse_server.specs.Plans.{May};
 ghost use Rattle.fuse_server.specs.Plans.Kind.{Fstat, Give, Lstat, Readlink, Set, Space};
 ghost use Rattle.fuse_server.specs.declared.work.Plan.TheVariants as plan;
@@ -50,7 +52,9 @@ const MTIME_NOW: u32 = 0x100;
 const MOST_CHANGES: usize = 4;
 
 /// A bit, where a time is changed and isn't now.
-fn given(valid: u32, time: u32, now: u32) -> u32 {
+fn given(valid: u32, time: u32, now: u32) -> u32
+    ensures { result ≡ given_bit valid time now }
+{
     if has(valid, time) && !has(valid, now) {
         now
     } else {
@@ -59,7 +63,9 @@ fn given(valid: u32, time: u32, now: u32) -> u32 {
 }
 
 /// The bits of a change, as [`Wanted`] has them.
-pub(crate) fn bits_of(valid: u32) -> u32 {
+pub(crate) fn bits_of(valid: u32) -> u32
+    ensures { result ≡ bits_of valid }
+{
     (valid & CHANGES) | given(valid, ATIME, ATIME_NOW) | given(valid, MTIME, MTIME_NOW)
 }
 
@@ -96,7 +102,9 @@ impl Seats {
         requires named { IsNamed work.reach path }
         requires sets { May work.reach.plan Set }
         requires gives { May work.reach.plan Give }
-        ensures { Talked (CalledFrom work.reach S.called) S.entered S.left work.now sessions.old sessions.new }
+        ensures asked { Talked (CalledFrom work.reach S.called) S.entered S.left work.now sessions.old sessions.new }
+        ensures made { OnOk result (TalkedBy (CalledFrom work.reach S.called) S.entered S.left work.now sessions.old
+            (changes_done path.entry (in_order changes)) sessions.new) }
     {
         let mut left = changes;
         'changes: for _made in 0..MOST_CHANGES {
@@ -187,8 +195,8 @@ impl Seats {
         requires looks { May work.reach.plan Lstat }
         requires looks_open { May work.reach.plan Fstat }
         ensures asked { Talked (CalledFrom work.reach S.called) S.entered S.left work.now sessions.old sessions.new }
-        ensures behind { (k : Known) → IfOk result (λ was. ToldBehind (CalledFrom work.reach S.called) S.entered S.left work.now work.reach
-            Node k sessions.old (answer.Attributes (told_of was)) sessions.new) }
+        ensures behind { (k : Known) → IfOk result (λ was. SetBehind (CalledFrom work.reach S.called) S.entered S.left work.now work.reach
+            changes k sessions.old (told_of was) sessions.new) }
     {
         let path = work.reach.node()?;
         self.change(sessions, work, path, changes)?;
@@ -224,8 +232,8 @@ impl Mount {
         requires plan { work.reach.plan ≡ plan.Change }
         ensures asked { OnErr result (Talked (CalledFrom work.reach S.called) S.entered S.left work.now sessions.old sessions.new) }
         ensures told { IfOk result (λ a. IsTrue (is_attributes a)) }
-        ensures behind { IfOk result (λ a. ToldBehind (CalledFrom work.reach S.called) S.entered S.left work.now work.reach Node
-            (known_of self.new.nodes) sessions.old a sessions.new) }
+        ensures behind { IfOk result (λ a. ToldBehind (CalledFrom work.reach S.called) S.entered S.left work.now work.reach
+            (Changed wanted.entry.now) (known_of self.new.nodes) sessions.old a sessions.new) }
         ensures steps { Steps (known_of self.old.nodes) (known_of self.new.nodes) }
     {
         let was = self.seats.attributes(sessions, work)?;

@@ -3,7 +3,7 @@
 #![tactic(auto, using(crate::proofs::Asking::goes_on, crate::proofs::Asking::stays, crate::proofs::Steps::steps_on, crate::proofs::Steps::no_step, crate::proofs::Steps::step_given, crate::proofs::Steps::step_got, crate::proofs::Steps::step_closed,))]
 
 ghost use Rattle.std.specs.Prelude.{IfOk};
-ghost use Rattle.fuse_server.specs.Asking.{OpenedAt, Talked};
+ghost use Rattle.fuse_server.specs.Asking.{IsClosed, OpenedAt, Talked};
 ghost use Rattle.fuse_server.specs.Telling.{HasOwn};
 ghost use Rattle.fuse_server.specs.Reach.{CalledFrom, IsNamed};
 ghost use Rattle.fuse_server.specs.Plans.{May, open_kind};
@@ -44,7 +44,8 @@ pub(crate) struct Opening<'a> {
 /// Closes a descriptor.
 pub(crate) fn close<S: Sessions>(sessions: &mut S, work: Work, descriptor: Descriptor)
     requires closes { May work.reach.plan Close }
-    ensures { Talked (CalledFrom work.reach S.called) S.entered S.left work.now sessions.old sessions.new }
+    ensures asked { Talked (CalledFrom work.reach S.called) S.entered S.left work.now sessions.old sessions.new }
+    ensures closed { IsClosed (CalledFrom work.reach S.called) S.entered S.left work.now sessions.old descriptor.fd sessions.new }
 {
     let call = Call::Close { fd: descriptor.fd };
     let _ = calling(sessions, work, descriptor.session, &call);

@@ -1,15 +1,18 @@
 //! Files, directories and symbolic links that are made.
 #![tactic(auto, using(crate::proofs::Asking::goes_on, crate::proofs::Asking::stays, crate::proofs::Plans::by_plan, crate::proofs::Steps::steps_on, crate::proofs::Steps::no_step,))]
 
-ghost use Rattle.std.specs.Prelude.{◌≡◌, ◌%◌, Some, IfOk, OnErr};
-ghost use Rattle.fuse_server.specs.Asking.{OpenedAt, Talked, LookedAt};
+ghost use Rattle.std.specs.Prelude.{◌≡◌, ◌%◌, [], ◌∷◌, IfOk, OnOk, OnErr};
+ghost use Rattle.tree.specs.declared.Call.TheVariants as call;
+ghost use Rattle.tree.specs.declared.Reply.TheVariants as reply;
+ghost use Rattle.fuse_server.specs.Asking.{OpenedAt, Talked, TalkedBy, TalkedFor};
 ghost use Rattle.fuse_nodes.specs.Known.{known_of};
 ghost use Rattle.fuse_server.specs.Entries.{IsKnown};
 ghost use Rattle.fuse_server.specs.Kinds.{IsEntry, IsCreate};
 ghost use Rattle.fuse_server.specs.Reach.{CalledFrom, IsNamed};
-ghost use Rattle.fuse_server.specs.Telling.{ShownAt, ToldBehind, told_of};
+ghost use Rattle.fuse_server.specs.Making.{asker, given_to, seen_at};
+ghost use Rattle.fuse_server.specs.Telling.{LinkGiven, LinkShown, ShownBy, ToldBehind, told_of};
 ghost use Rattle.fuse_server.specs.Telling.Telling.{Made};
-ghost use Rattle.fuse_server.specs.Telling.Making.{NewDirectory, NewFile, NewLink};
+ghost use Rattle.fuse_server.specs.Making.Making.{NewDirectory, NewFile, NewLink};
 ghost use Rattle.fuse_server.specs.Plans.{May};
 ghost use Rattle.fuse_server.specs.Plans.Kind.{Close, Give, Lstat, New};
 ghost use Rattle.fuse_server.specs.declared.work.Plan.TheVariants as plan;
@@ -42,7 +45,9 @@ pub(crate) struct Owner {
 }
 
 /// A number of a user or a group; EINVAL where it doesn't fit the volume.
-fn small(number: u32) -> Result<u16, Refused> {
+fn small(number: u32) -> Result<u16, Refused>
+    ensures { IfOk result (λ same. same ≡ number) }
+{
     match u16::try_from(number) {
         Ok(number) => Ok(number),
         Err(_) => Err(Refused::By(Errno::EINVAL)),
@@ -50,7 +55,9 @@ fn small(number: u32) -> Result<u16, Refused> {
 }
 
 /// Who asks; EINVAL where a number doesn't fit the volume.
-fn owner_of(message: &Message<'_>) -> Result<Owner, Refused> {
+fn owner_of(message: &Message<'_>) -> Result<Owner, Refused>
+    ensures { IfOk result (λ owner. owner ≡ asker message.now) }
+{
     Ok(Owner {
         uid: small(message.uid)?,
         gid: small(message.gid)?,
@@ -75,7 +82,9 @@ fn give_itself<S: Sessions>(
     requires named { IsNamed work.reach path }
     requires looks { May work.reach.plan Lstat }
     requires gives { May work.reach.plan Give }
-    ensures { Talked (CalledFrom work.reach S.called) S.entered S.left work.now sessions.old sessions.new }
+    ensures asked { Talked (CalledFrom work.reach S.called) S.entered S.left work.now sessions.old sessions.new }
+    ensures given { OnOk result (LinkGiven (CalledFrom work.reach S.called) S.entered S.left work.now sessions.old path.entry owner
+        sessions.new) }
 {
     let looked = calling(sessions, work, session, &Call::Lstat { path });
     let attributes = looked.attributes()?;
@@ -99,7 +108,9 @@ impl Seats {
     ) -> Result<(), Refused>
         requires named { IsNamed work.reach path }
         requires gives { May work.reach.plan Give }
-        ensures { Talked (CalledFrom work.reach S.called) S.entered S.left work.now sessions.old sessions.new }
+        ensures asked { Talked (CalledFrom work.reach S.called) S.entered S.left work.now sessions.old sessions.new }
+        ensures given { OnOk result (TalkedFor (CalledFrom work.reach S.called) S.entered S.left work.now sessions.old
+            (call.Chown path.entry owner.uid owner.gid) reply.Done sessions.new) }
     {
         let Owner { uid, gid } = owner;
         self.ask_done(sessions, work, &Call::Chown { path, uid, gid })
@@ -116,7 +127,9 @@ impl Seats {
         requires named { IsNamed work.reach path }
         requires looks { May work.reach.plan Lstat }
         requires gives { May work.reach.plan Give }
-        ensures { Talked (CalledFrom work.reach S.called) S.entered S.left work.now sessions.old sessions.new }
+        ensures asked { Talked (CalledFrom work.reach S.called) S.entered S.left work.now sessions.old sessions.new }
+        ensures given { OnOk result (LinkGiven (CalledFrom work.reach S.called) S.entered S.left work.now sessions.old path.entry owner
+            sessions.new) }
     {
         let session = self.session(sessions, work, 0)?;
         give_itself(sessions, work, session, path, owner)
@@ -134,8 +147,8 @@ impl Seats {
         requires looks { May work.reach.plan Lstat }
         requires gives { May work.reach.plan Give }
         ensures asked { Talked (CalledFrom work.reach S.called) S.entered S.left work.now sessions.old sessions.new }
-        ensures seen { IfOk result (λ was. LookedAt (CalledFrom work.reach S.called) S.entered S.left work.now sessions.old path.entry
-            (Some was) sessions.new) }
+        ensures seen { IfOk result (λ was. TalkedBy (CalledFrom work.reach S.called) S.entered S.left work.now sessions.old
+            (given_to path.entry owner ∷ seen_at path.entry was ∷ []) sessions.new) }
     {
         self.give(sessions, work, path, owner)?;
         self.look(sessions, work, path)
@@ -156,8 +169,8 @@ impl Mount {
         requires gives { May work.reach.plan Give }
         ensures asked { Talked (CalledFrom work.reach S.called) S.entered S.left work.now sessions.old sessions.new }
         ensures told { IfOk result (IsKnown (known_of self.new.nodes)) }
-        ensures shown { IfOk result (λ entry. ShownAt (CalledFrom work.reach S.called) S.entered S.left work.now sessions.old path.entry
-            entry.attributes sessions.new) }
+        ensures shown { IfOk result (λ entry. ShownBy (CalledFrom work.reach S.called) S.entered S.left work.now sessions.old
+            (given_to path.entry owner ∷ []) path.entry entry.attributes sessions.new) }
         ensures steps { Steps (known_of self.old.nodes) (known_of self.new.nodes) }
     {
         self.seats.give(sessions, work, path, owner)?;
@@ -201,7 +214,7 @@ impl Mount {
         ensures asked { OnErr result (Talked (CalledFrom work.reach S.called) S.entered S.left work.now sessions.old sessions.new) }
         ensures told { IfOk result (IsEntry (known_of self.new.nodes)) }
         ensures behind { IfOk result (λ a. ToldBehind (CalledFrom work.reach S.called) S.entered S.left work.now work.reach (Made name.now
-            (NewFile (mode % 4096))) (known_of self.new.nodes) sessions.old a sessions.new) }
+            (NewFile (mode % 4096) (asker message.now))) (known_of self.new.nodes) sessions.old a sessions.new) }
         ensures steps { Steps (known_of self.old.nodes) (known_of self.new.nodes) }
     {
         if !is_file(mode) {
@@ -228,7 +241,7 @@ impl Mount {
         ensures asked { OnErr result (Talked (CalledFrom work.reach S.called) S.entered S.left work.now sessions.old sessions.new) }
         ensures told { IfOk result (IsEntry (known_of self.new.nodes)) }
         ensures behind { IfOk result (λ a. ToldBehind (CalledFrom work.reach S.called) S.entered S.left work.now work.reach (Made name.now
-            (NewDirectory (mode % 4096))) (known_of self.new.nodes) sessions.old a sessions.new) }
+            (NewDirectory (mode % 4096) (asker message.now))) (known_of self.new.nodes) sessions.old a sessions.new) }
         ensures steps { Steps (known_of self.old.nodes) (known_of self.new.nodes) }
     {
         let owner = owner_of(message)?;
@@ -253,8 +266,8 @@ impl Mount {
         requires gives { May work.reach.plan Give }
         ensures asked { Talked (CalledFrom work.reach S.called) S.entered S.left work.now sessions.old sessions.new }
         ensures told { IfOk result (IsKnown (known_of self.new.nodes)) }
-        ensures shown { IfOk result (λ entry. ShownAt (CalledFrom work.reach S.called) S.entered S.left work.now sessions.old path.entry
-            entry.attributes sessions.new) }
+        ensures shown { IfOk result (λ entry. LinkShown (CalledFrom work.reach S.called) S.entered S.left work.now sessions.old path.entry
+            owner entry.attributes sessions.new) }
         ensures steps { Steps (known_of self.old.nodes) (known_of self.new.nodes) }
     {
         self.seats.give_link(sessions, work, path, owner)?;
@@ -274,7 +287,7 @@ impl Mount {
         ensures asked { OnErr result (Talked (CalledFrom work.reach S.called) S.entered S.left work.now sessions.old sessions.new) }
         ensures told { IfOk result (IsEntry (known_of self.new.nodes)) }
         ensures behind { IfOk result (λ a. ToldBehind (CalledFrom work.reach S.called) S.entered S.left work.now work.reach (Made name.now
-            (NewLink target.now)) (known_of self.new.nodes) sessions.old a sessions.new) }
+            (NewLink target.now (asker message.now))) (known_of self.new.nodes) sessions.old a sessions.new) }
         ensures steps { Steps (known_of self.old.nodes) (known_of self.new.nodes) }
     {
         let owner = owner_of(message)?;
@@ -323,8 +336,8 @@ impl Mount {
         requires gives { May work.reach.plan Give }
         ensures asked { Talked (CalledFrom work.reach S.called) S.entered S.left work.now sessions.old sessions.new }
         ensures told { IfOk result (λ x. IsKnown (known_of self.new.nodes) x.0) }
-        ensures shown { IfOk result (λ x. ShownAt (CalledFrom work.reach S.called) S.entered S.left work.now sessions.old path.entry
-            x.0.attributes sessions.new) }
+        ensures shown { IfOk result (λ x. ShownBy (CalledFrom work.reach S.called) S.entered S.left work.now sessions.old
+            (given_to path.entry owner ∷ []) path.entry x.0.attributes sessions.new) }
         ensures steps { Steps (known_of self.old.nodes) (known_of self.new.nodes) }
     {
         let attributes = self.seats.look_at_made(sessions, work, path, owner)?;
@@ -344,7 +357,7 @@ impl Mount {
         ensures asked { OnErr result (Talked (CalledFrom work.reach S.called) S.entered S.left work.now sessions.old sessions.new) }
         ensures told { IfOk result (IsCreate (known_of self.new.nodes)) }
         ensures behind { IfOk result (λ a. ToldBehind (CalledFrom work.reach S.called) S.entered S.left work.now work.reach (Made name.now
-            (NewFile (mode % 4096))) (known_of self.new.nodes) sessions.old a sessions.new) }
+            (NewFile (mode % 4096) (asker message.now))) (known_of self.new.nodes) sessions.old a sessions.new) }
         ensures steps { Steps (known_of self.old.nodes) (known_of self.new.nodes) }
     {
         let owner = owner_of(message)?;

@@ -50,8 +50,8 @@ impl Mount {
         bytes: &[u8],
         out: &mut Vec<u8>,
     ) -> Result<(), End>
-        ensures told { OnOk result (IsTold (MayHearFrom S.called S.entered S.left now) (known_of self.old.nodes) (known_of self.new.nodes)
-            bytes.now head.unique (vec_capacity out.old) sessions.old out.old.items sessions.new out.new.items) }
+        ensures told { OnOk result (IsTold (MayHearFrom S.called S.entered S.left now) now (known_of self.old.nodes)
+            (known_of self.new.nodes) bytes.now head.unique (vec_capacity out.old) sessions.old out.old.items sessions.new out.new.items) }
         ensures err { IfErr result (λ e. e ≡ End.OutOfMemory) }
         ensures full { OnErr result (vec_capacity out.old < vec_len out.old + 65552) }
         ensures none { OnErr result ((sessions.new ≡ sessions.old) × (self.new ≡ self.old) × (out.new.items ≡ out.old.items)) }
@@ -79,7 +79,7 @@ impl Mount {
         bytes: &[u8],
         out: &mut Vec<u8>,
     ) -> Result<(), End>
-        ensures answered { OnOk result (IsAnswered (MayHearFrom S.called S.entered S.left now) (known_of self.old.nodes)
+        ensures answered { OnOk result (IsAnswered (MayHearFrom S.called S.entered S.left now) now (known_of self.old.nodes)
             (known_of self.new.nodes) bytes.now (vec_capacity out.old) sessions.old out.old.items sessions.new out.new.items) }
         ensures silent { OnOk result ((out.new.items ≡ out.old.items) ↔ IsTrue (is_silent (opcode_in bytes.now))) }
         ensures short { (result ≡ Err End.NoMessage) ↔ (length bytes.now < 40) }

@@ -13,7 +13,7 @@ ghost use Rattle.fuse_server.specs.Entries.{IsKnown, KeepsNumbers};
 ghost use Rattle.fuse_server.specs.Kinds.{is_done, IsEntry, IsOfLookup};
 ghost use Rattle.fuse_server.specs.Reach.{CalledFrom, IsAt, IsNamed};
 ghost use Rattle.fuse_server.specs.Telling.{AskedFor, FoundAt, ToldBehind, ShownAt, told_of};
-ghost use Rattle.fuse_server.specs.Telling.Making.{NewName};
+ghost use Rattle.fuse_server.specs.Making.Making.{NewName};
 ghost use Rattle.fuse_server.specs.Telling.Telling.{Made, Name, Unlinked, Removed, Renamed};
 ghost use Rattle.fuse_server.specs.Plans.{May};
 ghost use Rattle.fuse_server.specs.Plans.Kind.{Close, Lstat, Open, Rename};

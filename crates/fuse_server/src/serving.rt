@@ -108,8 +108,8 @@ impl Mount {
         requires plan { work.reach.plan ≡ plan_of message.now.request }
         ensures asked { OnErr result (Talked (CalledFrom work.reach S.called) S.entered S.left work.now sessions.old sessions.new) }
         ensures told { IfOk result (IsFor (known_of self.new.nodes) message.now.request) }
-        ensures behind { IfOk result (λ a. ToldBehind (CalledFrom work.reach S.called) S.entered S.left work.now work.reach (telling
-            message.now.request) (known_of self.new.nodes) sessions.old a sessions.new) }
+        ensures behind { IfOk result (λ a. ToldBehind (CalledFrom work.reach S.called) S.entered S.left work.now work.reach
+            (telling work.now message.now) (known_of self.new.nodes) sessions.old a sessions.new) }
         ensures steps { Steps (known_of self.old.nodes) (known_of self.new.nodes) }
     {
         match message.request {
@@ -141,8 +141,8 @@ impl Mount {
         requires plan { work.reach.plan ≡ plan_of message.now.request }
         ensures asked { OnErr result (Talked (CalledFrom work.reach S.called) S.entered S.left work.now sessions.old sessions.new) }
         ensures told { IfOk result (IsFor (known_of self.new.nodes) message.now.request) }
-        ensures behind { IfOk result (λ a. ToldBehind (CalledFrom work.reach S.called) S.entered S.left work.now work.reach (telling
-            message.now.request) (known_of self.new.nodes) sessions.old a sessions.new) }
+        ensures behind { IfOk result (λ a. ToldBehind (CalledFrom work.reach S.called) S.entered S.left work.now work.reach
+            (telling work.now message.now) (known_of self.new.nodes) sessions.old a sessions.new) }
         ensures steps { Steps (known_of self.old.nodes) (known_of self.new.nodes) }
     {
         match message.request {
@@ -166,8 +166,8 @@ impl Mount {
         requires plan { work.reach.plan ≡ plan_of message.now.request }
         ensures asked { OnErr result (Talked (CalledFrom work.reach S.called) S.entered S.left work.now sessions.old sessions.new) }
         ensures told { IfOk result (IsFor (known_of self.new.nodes) message.now.request) }
-        ensures behind { IfOk result (λ a. ToldBehind (CalledFrom work.reach S.called) S.entered S.left work.now work.reach (telling
-            message.now.request) (known_of self.new.nodes) sessions.old a sessions.new) }
+        ensures behind { IfOk result (λ a. ToldBehind (CalledFrom work.reach S.called) S.entered S.left work.now work.reach
+            (telling work.now message.now) (known_of self.new.nodes) sessions.old a sessions.new) }
         ensures steps { Steps (known_of self.old.nodes) (known_of self.new.nodes) }
     {
         match message.request {
@@ -210,8 +210,8 @@ impl Mount {
         requires plan { work.reach.plan ≡ plan_of message.now.request }
         ensures asked { OnErr result (Talked (CalledFrom work.reach S.called) S.entered S.left work.now sessions.old sessions.new) }
         ensures told { IfOk result (IsFor (known_of self.new.nodes) message.now.request) }
-        ensures behind { IfOk result (λ a. ToldBehind (CalledFrom work.reach S.called) S.entered S.left work.now work.reach (telling
-            message.now.request) (known_of self.new.nodes) sessions.old a sessions.new) }
+        ensures behind { IfOk result (λ a. ToldBehind (CalledFrom work.reach S.called) S.entered S.left work.now work.reach
+            (telling work.now message.now) (known_of self.new.nodes) sessions.old a sessions.new) }
         ensures steps { Steps (known_of self.old.nodes) (known_of self.new.nodes) }
     {
         match message.request {
@@ -265,7 +265,7 @@ impl Mount {
         message: &Message<'_>,
     ) -> FuseAnswer
         requires plan { work.reach.plan ≡ plan_of message.now.request }
-        ensures behind { ToldBehind (CalledFrom work.reach S.called) S.entered S.left work.now work.reach (telling message.now.request)
+        ensures behind { ToldBehind (CalledFrom work.reach S.called) S.entered S.left work.now work.reach (telling work.now message.now)
             (known_of self.new.nodes) sessions.old result sessions.new }
         ensures told { IsFor (known_of self.new.nodes) message.now.request result }
         ensures steps { Steps (known_of self.old.nodes) (known_of self.new.nodes) }
@@ -284,8 +284,8 @@ impl Mount {
         message: &Message<'_>,
     ) -> Said
         requires plan { work.reach.plan ≡ plan_of message.now.request }
-        ensures asked { AskedFor (MayHear (CalledFrom work.reach S.called) S.entered S.left work.now) work.reach (telling
-            message.now.request) (known_of self.new.nodes) sessions.old result sessions.new }
+        ensures asked { AskedFor (MayHear (CalledFrom work.reach S.called) S.entered S.left work.now) work.reach
+            (telling work.now message.now) (known_of self.new.nodes) sessions.old result sessions.new }
         ensures told { IsSaidTo (known_of self.new.nodes) message.now.request result }
         ensures steps { Steps (known_of self.old.nodes) (known_of self.new.nodes) }
     {
@@ -317,8 +317,8 @@ impl Mount {
     /// What is said to a message that is no sync.
     fn said_of<S: Sessions>(&mut self, sessions: &mut S, work: Work, message: &Message<'_>) -> Said
         requires plan { work.reach.plan ≡ plan_of message.now.request }
-        ensures asked { AskedFor (MayHear (CalledFrom work.reach S.called) S.entered S.left work.now) work.reach (telling
-            message.now.request) (known_of self.new.nodes) sessions.old result sessions.new }
+        ensures asked { AskedFor (MayHear (CalledFrom work.reach S.called) S.entered S.left work.now) work.reach
+            (telling work.now message.now) (known_of self.new.nodes) sessions.old result sessions.new }
         ensures told { IsSaidTo (known_of self.new.nodes) message.now.request result }
         ensures steps { Steps (known_of self.old.nodes) (known_of self.new.nodes) }
     {
@@ -331,8 +331,8 @@ impl Mount {
     /// What is said to a message.
     fn said_by<S: Sessions>(&mut self, sessions: &mut S, work: Work, message: &Message<'_>) -> Said
         requires plan { work.reach.plan ≡ plan_of message.now.request }
-        ensures asked { AskedFor (MayHear (CalledFrom work.reach S.called) S.entered S.left work.now) work.reach (telling
-            message.now.request) (known_of self.new.nodes) sessions.old result sessions.new }
+        ensures asked { AskedFor (MayHear (CalledFrom work.reach S.called) S.entered S.left work.now) work.reach
+            (telling work.now message.now) (known_of self.new.nodes) sessions.old result sessions.new }
         ensures told { IsSaidTo (known_of self.new.nodes) message.now.request result }
         ensures steps { Steps (known_of self.old.nodes) (known_of self.new.nodes) }
     {
@@ -344,8 +344,8 @@ impl Mount {
 
     /// What is said to the bytes of a message: EINVAL where they can't be read.
     pub(crate) fn said_to<S: Sessions>(&mut self, sessions: &mut S, now: u32, bytes: &[u8]) -> Said
-        ensures said { IsSaidToBytes (MayHearFrom S.called S.entered S.left now) (known_of self.old.nodes) (known_of self.new.nodes) bytes.now
-            sessions.old result sessions.new }
+        ensures said { IsSaidToBytes (MayHearFrom S.called S.entered S.left now) now (known_of self.old.nodes)
+            (known_of self.new.nodes) bytes.now sessions.old result sessions.new }
         ensures steps { Steps (known_of self.old.nodes) (known_of self.new.nodes) }
     {
         match read(bytes) {

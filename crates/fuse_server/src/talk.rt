@@ -1,14 +1,14 @@
 //! Calls by the sessions of user 0, by whom all calls are made: the kernel has looked at who may do what.
-#![tactic(auto, using(crate::proofs::Asking::goes_on, crate::proofs::Asking::stays))]
+#![tactic(auto, using(crate::proofs::Asking::goes_on, crate::proofs::Asking::stays, crate::proofs::Asking::none_asked))]
 
-ghost use Rattle.std.specs.Prelude.{◌≡◌, false, Some, IfOk, OnOk, OnErr};
+ghost use Rattle.std.specs.Prelude.{◌≡◌, false, Some, [], IfOk, OnOk, OnErr};
 ghost use Rattle.tree.specs.declared.Reply.TheVariants as reply;
 ghost use Rattle.tree.specs.declared.Outcome.TheVariants as outcome;
 ghost use Rattle.talks.specs.Talks.{MayHear};
 ghost use Rattle.talks.specs.declared.ask.Ask.TheVariants as ask;
 ghost use Rattle.talks.specs.declared.heard.Heard.TheVariants as heard_of;
 ghost use Rattle.fuse_server.specs.Losing.{takes_name};
-ghost use Rattle.fuse_server.specs.Asking.{Talked, TalkedTo, TalkedFor, LookedAt};
+ghost use Rattle.fuse_server.specs.Asking.{Talked, TalkedBy, TalkedTo, TalkedFor, LookedAt};
 ghost use Rattle.fuse_server.specs.Reach.{AsksFrom, CalledFrom, IsNamed};
 ghost use Rattle.fuse_server.specs.Plans.{May, kind_of};
 ghost use Rattle.fuse_server.specs.Plans.Kind.{Lstat};
@@ -72,7 +72,7 @@ fn taking<S: Sessions>(
 
 /// A new session of user 0.
 fn entering<S: Sessions>(sessions: &mut S, work: Work) -> Result<u8, Refused>
-    ensures { Talked (CalledFrom work.reach S.called) S.entered S.left work.now sessions.old sessions.new }
+    ensures { TalkedBy (CalledFrom work.reach S.called) S.entered S.left work.now sessions.old [] sessions.new }
 {
     heard(sessions, work.now, &Ask::Enter { uid: 0, gid: 0 }).session()
 }
@@ -98,7 +98,8 @@ impl Seats {
         work: Work,
         at: usize,
     ) -> Result<u8, Refused>
-        ensures { Talked (CalledFrom work.reach S.called) S.entered S.left work.now sessions.old sessions.new }
+        ensures asked { Talked (CalledFrom work.reach S.called) S.entered S.left work.now sessions.old sessions.new }
+        ensures none { TalkedBy (CalledFrom work.reach S.called) S.entered S.left work.now sessions.old [] sessions.new }
     {
         if let Some(session) = self.begun.get(at) {
             return Ok(*session);

@@ -1,7 +1,7 @@
-use Rattle.fuse_server.proofs.Asking.{goes_on, on_err, asking}
+use Rattle.fuse_server.proofs.Asking.{goes_on, on_err, by_one}
 use Rattle.std.proofs.Common.{refl}
-use Rattle.fuse_server.specs.Telling.Making.{NewDirectory}
-use Rattle.fuse_server.proofs.Telling.{made_behind, made_directory}
+use Rattle.fuse_server.specs.Making.Making.{NewDirectory}
+use Rattle.fuse_server.proofs.Telling.{made_behind, directory_made}
 use Rattle.fuse_server.proofs.mount.Mount.mkdir.Goals as goal
 
 pub returns-in_err-entry-clause-asked : goal.returns-in_err-entry-clause-asked
@@ -9,6 +9,6 @@ returns-in_err-entry-clause-asked g c = on_err _ (goes_on c.ask_done.ensures.ask
 
 pub returns-clause-behind : goal.returns-clause-behind
 returns-clause-behind g c =
-    made_behind c.args.work.reach c.args.name.now (NewDirectory _) c.in_ok-entry.entry c.in_ok-path.path c.in_ok-path.ensures.at
-    (asking refl c.in_ok-ask_done.ensures.done)
-    (made_directory c.args.work.reach c.in_ok-path.path _ _ c.mode_of-mode.ensures) c.in_ok-entry.ensures.shown
+    made_behind c.args.work.reach c.args.name.now (NewDirectory _ _) c.in_ok-entry.entry c.in_ok-path.path c.in_ok-path.ensures.at
+    (by_one refl c.in_ok-ask_done.ensures.done) c.in_ok-entry.ensures.shown
+    (directory_made c.args.work.reach c.in_ok-path.path _ _ _ _ c.mode_of-mode.ensures c.in_ok-owner.ensures)

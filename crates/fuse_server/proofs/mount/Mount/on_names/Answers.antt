@@ -10,5 +10,5 @@ pub returns-in_default-clause-told : goal.returns-in_default-clause-told
 returns-in_default-clause-told g c = unknown_for (known_of c.args.self.now.nodes) c.args.message.now.request
 
 pub returns-in_default-clause-behind : goal.returns-in_default-clause-behind
-returns-in_default-clause-behind g c = unknown_behind c.args.work.reach (telling c.args.message.now.request)
+returns-in_default-clause-behind g c = unknown_behind c.args.work.reach (telling c.args.work.now c.args.message.now)
     (stays (CalledFrom c.args.work.reach g.S.Sessions.called) g.S.Sessions.entered g.S.Sessions.left c.args.work.now c.args.sessions.now)

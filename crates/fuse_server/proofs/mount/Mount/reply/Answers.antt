@@ -9,7 +9,7 @@ use Rattle.fuse_server.proofs.mount.Mount.reply.Goals as goal
 
 pub returns-in-Ok-clause-told : goal.returns-in-Ok-clause-told
 returns-in-Ok-clause-told g c =
-    told (MayHearFrom g.S.Sessions.called g.S.Sessions.entered g.S.Sessions.left c.args.now)
+    told (MayHearFrom g.S.Sessions.called g.S.Sessions.entered g.S.Sessions.left c.args.now) c.args.now
     (known_of c.args.self.now.nodes) (known_of c.said_to-said.new.self.nodes) c.args.bytes.now c.args.head.unique
     (vec_capacity c.args.out.now)
     c.args.sessions.now
@@ -19,7 +19,7 @@ returns-in-Ok-clause-told g c =
 
 pub returns-in-Err-clause-told : goal.returns-in-Err-clause-told
 returns-in-Err-clause-told g c =
-    no_room (MayHearFrom g.S.Sessions.called g.S.Sessions.entered g.S.Sessions.left c.args.now)
+    no_room (MayHearFrom g.S.Sessions.called g.S.Sessions.entered g.S.Sessions.left c.args.now) c.args.now
     (known_of c.args.self.now.nodes) (known_of c.args.self.now.nodes) c.args.bytes.now c.args.head.unique (vec_capacity c.args.out.now)
     c.args.sessions.now
     c.args.out.now.items c.reserve.new.self.items c.refuse.new.out.items c.refuse.result

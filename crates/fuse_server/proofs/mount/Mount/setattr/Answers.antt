@@ -1,6 +1,7 @@
+use Rattle.std.proofs.Common.{sym, ◌∙◌}
 use Rattle.fuse_nodes.specs.Known.{known_of}
 use Rattle.fuse_server.proofs.Asking.{goes_on, on_err}
-use Rattle.fuse_server.proofs.Telling.{told_same, node_after}
+use Rattle.fuse_server.proofs.Telling.{told_same, changed_behind}
 use Rattle.fuse_server.proofs.mount.Mount.setattr.Goals as goal
 
 pub returns-in_err-attributes-clause-asked : goal.returns-in_err-attributes-clause-asked
@@ -8,4 +9,5 @@ returns-in_err-attributes-clause-asked g c = on_err _ (goes_on c.attributes.ensu
 
 pub returns-clause-behind : goal.returns-clause-behind
 returns-clause-behind g c = told_same c.answer_of.result c.answer_of.ensures
-    (node_after c.attributes.ensures.asked (c.in_ok-attributes.ensures.behind (known_of c.args.self.now.nodes)))
+    (changed_behind c.args.wanted.now c.in_ok-was.was' c.in_ok-changes.changes _ (sym c.changes.ensures ∙ c.in_ok-changes.was)
+    (c.in_ok-was.ensures.behind (known_of c.args.self.now.nodes)) (c.in_ok-attributes.ensures.behind (known_of c.args.self.now.nodes)))

@@ -1,9 +1,10 @@
 use Rattle.fuse_server.proofs.Asking.{goes_on}
-use Rattle.fuse_server.proofs.Telling.{told_after}
+use Rattle.fuse_server.proofs.Telling.{link_told}
 use Rattle.fuse_server.proofs.mount.Mount.tell_link.Goals as goal
 
 pub returns-clause-asked : goal.returns-clause-asked
-returns-clause-asked g c = goes_on c.give_link.ensures c.tell.ensures.asked
+returns-clause-asked g c = goes_on c.give_link.ensures.asked c.tell.ensures.asked
 
 pub returns-clause-shown : goal.returns-clause-shown
-returns-clause-shown g c = told_after c.tell.new.sessions c.args.path c.give_link.ensures c.tell.result c.tell.ensures.shown
+returns-clause-shown g c =
+    link_told c.tell.new.sessions c.args.path c.args.owner c.in_ok-give_link.ensures.given c.tell.result c.tell.ensures.shown

@@ -1,9 +1,11 @@
+use Rattle.std.proofs.Common.{refl}
 use Rattle.fuse_server.proofs.Asking.{goes_on}
-use Rattle.fuse_server.proofs.Telling.{told_after}
+use Rattle.fuse_server.proofs.Telling.{told_by}
 use Rattle.fuse_server.proofs.mount.Mount.tell_made.Goals as goal
 
 pub returns-clause-asked : goal.returns-clause-asked
-returns-clause-asked g c = goes_on c.give.ensures c.tell.ensures.asked
+returns-clause-asked g c = goes_on c.give.ensures.asked c.tell.ensures.asked
 
 pub returns-clause-shown : goal.returns-clause-shown
-returns-clause-shown g c = told_after c.tell.new.sessions c.args.path c.give.ensures c.tell.result c.tell.ensures.shown
+returns-clause-shown g c =
+    told_by c.tell.new.sessions c.args.path _ refl c.in_ok-give.ensures.given c.tell.result c.tell.ensures.shown
