@@ -18,6 +18,9 @@ const BEST: u32 = 4096;
 /// The pages that the kernel has of a file stay when it is opened again.
 const KEEP_PAGES: u32 = 2;
 
+/// The kernel keeps the names of a directory that it was told, until a message of its own changes them; and when it is opened again.
+const KEEP_NAMES: u32 = 0xa;
+
 /// The type of directories.
 const DIRECTORY: u16 = 0o4;
 
@@ -117,7 +120,10 @@ pub(crate) fn opened_file(handle: u64) -> Opened {
 
 /// A directory that was opened.
 pub(crate) fn opened_directory(handle: u64) -> Opened {
-    Opened { handle, flags: 0 }
+    Opened {
+        handle,
+        flags: KEEP_NAMES,
+    }
 }
 
 /// The room of the volume.
