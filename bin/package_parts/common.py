@@ -6,7 +6,8 @@ NAME = "lecternowl"
 MAKER = "Lecternowl maintainers <maintainers@users.noreply.lecternowl.example>"
 DOC = f"usr/share/doc/{NAME}"
 PROGRAMS = ("mkmfs", "mfsck", "mfs", "mfs9p", "mfsfuse", "mfmig", "mfssim")
-SCRIPTS = {"mfs-mount": "mount", "mfs-umount": "umount", "mfs-new": "new-volume"}  # by their names in a package; one man page has all
+# by their names in a package; one man page has all
+SCRIPTS = {"mfs-mount": "mount", "mfs-umount": "umount", "mfs-new": "new-volume", "mfs-settle": "settle"}
 
 
 def refuse(why, status=1):
