@@ -43,17 +43,18 @@ fn open_and_do<
     board: Arc<Board>,
     link: L,
     clean: Clean,
-    setup: &Setup,
+    minor: u8,
+    frames: u32,
     running: Running<N>,
     gate: Arc<G>,
     tasks: Vec<T>,
 ) -> Result<Result<Came<T::Output>, ServeRefusal>, AllocError>
-    requires started { IsStarted N.ServiceParameters L.Link L.runs_on L.marks (arc_value board) link setup.now.minor setup.now.frames }
+    requires started { IsStarted N.ServiceParameters L.Link L.runs_on L.marks (arc_value board) link minor frames }
     requires clean { IsClean N.ServiceParameters clean.geometry }
     ensures done { IfOk result (λ o. IfOk o (AreDone (HasEnded L.Link N.opening) N.geometry N.opening tasks.items)) }
     ensures undone { IfOk result (λ o. IfErr o (IsNotDone (HasEnded L.Link N.opening))) }
 {
-    match opened_server::<N, L>(alloc, link, setup.minor, clean, setup.frames as u32) {
+    match opened_server::<N, L>(alloc, link, minor, clean, frames) {
         Ok(server) => {
             let service = Service::over(alloc, rt, board, server, running, gate)?;
             Ok(do_all(alloc, &rt, service, tasks))
@@ -95,7 +96,18 @@ fn start_and_do<
         alloc, rt, board, seat, prepared, setup, supply, asked,
     )?;
     cut_once_spent::<N, R>();
-    open_and_do(alloc, rt, board, link, clean, setup, running, gate, tasks)
+    open_and_do(
+        alloc,
+        rt,
+        board,
+        link,
+        clean,
+        setup.minor,
+        setup.frames as u32,
+        running,
+        gate,
+        tasks,
+    )
 }
 
 /// Starts a service on the volume in an image, does these tasks at one time, each in a session and a thread of its own, and stops the

@@ -49,18 +49,19 @@ fn open_and_answer<
     board: Arc<Board>,
     link: L,
     clean: Clean,
-    setup: &Setup,
+    minor: u8,
+    frames: u32,
     running: Running<N>,
     gate: Arc<G>,
     streams: Streams<I, O, C, A, W>,
 ) -> Result<Result<Came<I, O, C, A, W>, NoImage>, AllocError>
-    requires started { IsStarted N.ServiceParameters L.Link L.runs_on L.marks (arc_value board) link setup.now.minor setup.now.frames }
+    requires started { IsStarted N.ServiceParameters L.Link L.runs_on L.marks (arc_value board) link minor frames }
     requires clean { IsClean N.ServiceParameters clean.geometry }
     ensures played { IfOk result (λ o. IfOk o (λ came.
         IsLeftBy A.puts W.fewest W.answers streams.answerer N.geometry N.opening (I.Read.remaining streams.input) (O.contents streams.output)
         (O.contents came.streams.output) streams.archive came.streams.archive came.answered came.image.items)) }
 {
-    match opened_server::<N, L>(alloc, link, setup.minor, clean, setup.frames as u32) {
+    match opened_server::<N, L>(alloc, link, minor, clean, frames) {
         Ok(server) => {
             let service = Service::over(alloc, rt, board, server, running, gate)?;
             answer_on(alloc, rt, service, streams)
@@ -106,7 +107,18 @@ fn start_and_answer<
     let (board, link, running) = started_link::<N, R, D, G>(
         alloc, rt, board, seat, prepared, setup, supply, asked,
     )?;
-    open_and_answer(alloc, rt, board, link, clean, setup, running, gate, streams)
+    open_and_answer(
+        alloc,
+        rt,
+        board,
+        link,
+        clean,
+        setup.minor,
+        setup.frames as u32,
+        running,
+        gate,
+        streams,
+    )
 }
 
 /// Starts a service on the volume in an image, whose threads ask this gate, answers messages by its sessions until their

@@ -1,6 +1,7 @@
 //! The volume of an image, checked before a service is started on it.
 
 ghost use Rattle.std.specs.Prelude.{◌≡◌, IfErr, IfOk, map};
+ghost use Rattle.std.specs.List.{concat};
 ghost use Rattle.records.specs.Opening.{contents_at};
 ghost use Rattle.true_replies.specs.Events.{opening_media};
 ghost use Rattle.volume_mount.specs.Laws.{sizes_in};
@@ -36,6 +37,7 @@ pub fn prepare_checked<D: BlockDriver>(
     ensures refused { IfErr result (IsNotServable image.items setup.now (map D.state supply.now)) }
     ensures servable { IfOk result (λ c. IsServable image.items setup.now (map D.state supply.now) c.clean.geometry c.prepared.range) }
     ensures sizes { IfOk result (λ c. c.clean.geometry ≡ sizes_in (contents_at (opening_of image.items setup.now.minor c.prepared.range))) }
+    ensures bytes { IfOk result (λ c. concat c.prepared.media.sectors ≡ image.items) }
     ensures contents { IfOk result (λ c. c.prepared.media ≡ opening_media (opening_of image.items setup.now.minor c.prepared.range)) }
 {
     let prepared = prepare(image, setup, supply)?;

@@ -45,18 +45,19 @@ fn open_and_play<
     board: Arc<Board>,
     link: L,
     clean: Clean,
-    setup: &Setup,
+    minor: u8,
+    frames: u32,
     running: Running<N>,
     gate: Arc<G>,
     scripts: &[Script<'_>],
 ) -> Result<Result<Came, ServiceRefusal>, AllocError>
-    requires started { IsStarted N.ServiceParameters L.Link L.runs_on L.marks (arc_value board) link setup.now.minor setup.now.frames }
+    requires started { IsStarted N.ServiceParameters L.Link L.runs_on L.marks (arc_value board) link minor frames }
     requires clean { IsClean N.ServiceParameters clean.geometry }
     ensures played { IfOk result (λ o. IfOk o (λ came. AreServed (HasEnded L.Link N.opening) N.geometry N.opening (map said scripts.now)
         came.sessions.items came.last_sync came.image.items)) }
     ensures unserved { IfOk result (λ o. IfErr o (IsUnservedBy L.Link L.numbers N.opening)) }
 {
-    match opened_server::<N, L>(alloc, link, setup.minor, clean, setup.frames as u32) {
+    match opened_server::<N, L>(alloc, link, minor, clean, frames) {
         Ok(server) => {
             let service = Service::over(alloc, rt, board, server, running, gate)?;
             Ok(play_on(alloc, &rt, service, scripts))
@@ -98,7 +99,18 @@ fn start_and_play<
         alloc, rt, board, seat, prepared, setup, supply, asked,
     )?;
     cut_once_spent::<N, R>();
-    open_and_play(alloc, rt, board, link, clean, setup, running, gate, scripts)
+    open_and_play(
+        alloc,
+        rt,
+        board,
+        link,
+        clean,
+        setup.minor,
+        setup.frames as u32,
+        running,
+        gate,
+        scripts,
+    )
 }
 
 /// Starts a service on the volume in an image, whose threads ask this gate, plays scripts at one time, each in a session and a thread of
