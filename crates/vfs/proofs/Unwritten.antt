@@ -32,7 +32,6 @@ use Rattle.cache.specs.Slots.{is_dirty, is_dirty_held, ticket_of}
 use Rattle.cache.specs.Frames.{CacheAgrees, Tied, frame_of, frames_of}
 use Rattle.cache.specs.Calls.{AbstractCache}
 use Rattle.descriptors.specs.Files.{Files}
-use Rattle.vfs.specs.Serving.{server_of}
 use Rattle.vfs.proofs.Framed.{frame_state, writes_frames}
 
 -- the requests that are pending, as the record has them
