@@ -1,5 +1,5 @@
 -- From a schedule that was run out to what is shown of the run.
-use Rattle.std.proofs.Common.{◌≡◌, cond, inl, inr, ℕ, zero, suc, ◌-◌, ◌*◌, ◌≤◌, mul-le-mul_right, List, [], ◌∷◌, Bool, true, false, length, refl, sym, ap, ◌∙◌, subst, arith}
+use Rattle.std.proofs.Common.{◌≡◌, cond, inl, inr, ℕ, zero, suc, ◌*◌, ◌≤◌, mul-le-mul_right, List, [], ◌∷◌, Bool, true, false, length, refl, sym, ap, ◌∙◌, subst, arith}
 use Rattle.std.specs.List.{concat}
 use Rattle.layout.specs.declared.Geometry.{Geometry}
 use Rattle.layout.specs.Places.{IsGeometry, geometry_of}
@@ -28,7 +28,7 @@ use Rattle.schedule.specs.Headline.{Transcript}
 use Rattle.schedule.specs.Noted.{marks_in}
 use Rattle.simulated_link.specs.declared.run.RunLink.{RunLink}
 use Rattle.simulated_link.specs.StateView.{RunState, RunTruth, IsOpened}
-use Rattle.simulated_link.specs.Moments.{Doing, Resting, Hearing, Answering, Moment, Runs, Needs}
+use Rattle.simulated_link.specs.Moments.{Doing, Resting, Hearing, Answering, Runs, Needs}
 use Rattle.conformance.specs.Steady.{drivers_of}
 use Rattle.conformance.specs.Whole.{IsUnused, IsAtEnd, IsWhole as IsWholeRun}
 use Rattle.conformance.proofs.WholeLaws.{runs_are_whole}
@@ -47,7 +47,7 @@ use Rattle.world.specs.declared.run_refusal.RunRefusal.TheVariants.{OutOfMemory}
 use Rattle.world.specs.Beginning.{IsBegun, IsNotBegun, range_of}
 use Rattle.transcript.specs.ShownTranscript.{frames_in}
 use Rattle.world.specs.ServerRuns.{IsFresh, RunsFrom}
-use Rattle.world.specs.Exact.{IsExact, media_with}
+use Rattle.world.specs.Exact.{media_with}
 use Rattle.world.specs.Occurs.{RunShows}
 
 -- ---- before the first event

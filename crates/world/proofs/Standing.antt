@@ -58,11 +58,11 @@ frames_hold g t is a v tree marks same guarantees stood live =
     (subst (λ (l : List Mark). FramesHold t.geometry (contents_at v) tree l t.outbox (state_of t)) (sym (guarantees v marks stood.truth).is) first)
 
 -- turns lead on
-turns_join : (area : Area) (g : Geometry) (image : Contents) (tree : Tree) (m n o : Moment) (f h k : FrameState)
-    → Turns area g image tree m f n h → Turns area g image tree n h o k → Turns area g image tree m f o k
-turns_join area g image tree m n .n f h .h first Starts = first
-turns_join area g image tree m n o f h k first (Then p .o q .k between turn) =
-    Then p o q k (turns_join area g image tree m n p f h q first between) turn
+turns_join : (area : Area) (g : Geometry) (image : Contents) (tree : Tree) (m : Moment) (f : FrameState) (n : Moment) (h : FrameState)
+    (o : Moment) (k : FrameState) → Turns area g image tree m f n h → Turns area g image tree n h o k → Turns area g image tree m f o k
+turns_join area g image tree m f n h _ _ first Starts = first
+turns_join area g image tree m f n h o k first (Then p _ q _ between turn) =
+    Then p o q k (turns_join area g image tree m f n h p q first between) turn
 
 -- servers of the same volume
 turns_at : (s t : Serving) (image : Contents) (tree : Tree) (m n : Moment) (f h : FrameState) → t.geometry ≡ s.geometry → t.minor ≡ s.minor
@@ -101,7 +101,7 @@ runs_joins s t u was then is b m a x y z first next = record {
         stands = after.stands;
         runs = runs_join (area_at s) (moment s b x) (moment t m y) (moment u a z) between.runs
             (runs_at (area_at t) (area_at s) (moment t m y) (moment u a z) (same_area s t first.geometry first.minor) after.runs);
-        turns = turns_join (area_at s) s.geometry (contents_at v) tree (moment s b x) (moment t m y) (moment u a z) (state_of s) (state_of t) (state_of u)
+        turns = turns_join (area_at s) s.geometry (contents_at v) tree (moment s b x) (state_of s) (moment t m y) (state_of t) (moment u a z) (state_of u)
             between.turns (turns_at s t (contents_at v) tree (moment t m y) (moment u a z) (state_of t) (state_of u) first.geometry first.minor after.turns);
       };
 }
@@ -246,7 +246,7 @@ handed s t u was noted is b m a r message came absorbs on w idle left guarantees
             } in
             let runs : Runs (area_at s) (moment s b Resting) (moment u a Resting) = runs_join (area_at s) (moment s b Resting) (record { run = m; outbox = owed_after_message message marks s.outbox; doing = Hearing message })
                   (moment u a Resting)
-                  (Then (moment s b Resting) (record { run = m; outbox = owed_after_message message marks s.outbox; doing = Hearing message }) Starts
+                  (moments.Then (moment s b Resting) (record { run = m; outbox = owed_after_message message marks s.outbox; doing = Hearing message }) moments.Starts
                   (subst (λ (l : List Mark). Step (area_at s) (moment s b Resting)
                   (record { run = m; outbox = owed_after_message message l s.outbox; doing = Hearing message })) is_record
                   (aside_step (area_at s) b m s.outbox message x.asides idle.live (rests s was b v tree marks guarantees stood) left)))
@@ -431,7 +431,7 @@ cut_to s t was is b a arrived calls on live first last =
 hands_there : (s t : Serving) (was is : Truth) (b a : RunState) (first : Option Arrived) → SameServing s t → HandsOut b first a → b.over ≡ false → b.owed ≡ false
     → IsGuarantee was b → IsGuarantee is a → ((v : Opening) (marks : List Mark) → was v marks → is v marks) → s.ended ≡ false
     → RunsOn s t was is b a Resting (doing_of first)
-hands_there s t was is b a first same hands live paid guarantees finally truth open = record {
+hands_there s t was is b a first same hands live paid guarantees finally truth unended = record {
   geometry = same.geometry;
   minor = same.minor;
   frame_count = same.frame_count;
@@ -445,7 +445,7 @@ hands_there s t was is b a first same hands live paid guarantees finally truth o
         marks = marks;
         stands = there;
         runs = runs;
-        turns = stays_turn s t was is b a Resting (doing_of first) v tree marks same guarantees finally stood there runs (same.ended ∙ open);
+        turns = stays_turn s t was is b a Resting (doing_of first) v tree marks same guarantees finally stood there runs (same.ended ∙ unended);
       };
 }
 
@@ -453,11 +453,11 @@ pub handed_out : {Line : Type 0} (truth : Line → Truth) (run : Line → RunSta
     → lent ≡ before → there ≡ after → SameServing s t → HandsOut (run lent) first (run after) → (run before).over ≡ false → (run before).owed ≡ false
     → s.ended ≡ false → ((l : Line) → IsGuarantee (truth l) (run l)) → ((v : Opening) (marks : List Mark) → truth lent v marks → truth after v marks)
     → RunsOn s t (truth before) (truth there) (run before) (run there) Resting (doing_of first)
-handed_out {Line} truth run s t before lent after there first value put same hands live paid open guarantees keeps =
+handed_out {Line} truth run s t before lent after there first value put same hands live paid unended guarantees keeps =
     subst (λ (l : Line). RunsOn s t (truth before) (truth l) (run before) (run l) Resting (doing_of first)) (sym put)
     (subst (λ (l : Line). RunsOn s t (truth l) (truth after) (run l) (run after) Resting (doing_of first)) value
     (hands_there s t (truth lent) (truth after) (run lent) (run after) first same hands (ap (λ (l : Line). (run l).over) value ∙ live)
-    (ap (λ (l : Line). (run l).owed) value ∙ paid) (guarantees lent) (guarantees after) keeps open))
+    (ap (λ (l : Line). (run l).owed) value ∙ paid) (guarantees lent) (guarantees after) keeps unended))
 
 pub hands : {Line : Type 0} (run : Line → RunState) (before lent after there : Line) (first : Option Arrived) → lent ≡ before → there ≡ after
     → HandsOut (run lent) first (run after) → HandsOut (run before) first (run there)

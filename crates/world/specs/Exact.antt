@@ -1,5 +1,5 @@
 -- That a run is its schedule's, event by event.
-use Rattle.std.specs.Prelude.{◌≡◌, ◌⊎◌, ℕ, List, [], ◌++◌, length, map, reverse, true, false, None}
+use Rattle.std.specs.Prelude.{◌≡◌, ◌⊎◌, ℕ, List, [], ◌++◌, length, map, reverse, true, None}
 use Rattle.std.specs.List.{concat}
 use Rattle.media.specs.Contents.{MediaState, sectors_of}
 use Rattle.layout.specs.declared.Geometry.{Geometry}
