@@ -110,14 +110,14 @@ telling_of now owner (request.Setattr valid handle size lock_owner atime mtime c
 })
 telling_of now owner request.Readlink = Target
 telling_of now owner (request.Symlink name target) = Made name.now (NewLink target.now owner)
-telling_of now owner (request.Mknod mode device umask name) = Made name.now (NewFile (mode % 4096) owner)
-telling_of now owner (request.Mkdir mode umask name) = Made name.now (NewDirectory (mode % 4096) owner)
+telling_of now owner (request.Mknod mode device umask name) = Made name.now (NewFile (mode % 512) owner)
+telling_of now owner (request.Mkdir mode umask name) = Made name.now (NewDirectory (mode % 512) owner)
 telling_of now owner (request.Unlink name) = Unlinked name.now
 telling_of now owner (request.Rmdir name) = Removed name.now
 telling_of now owner (request.Rename new_directory old_name new_name) = Renamed old_name.now new_name.now
 telling_of now owner (request.Rename2 new_directory flags old_name new_name) = Renamed old_name.now new_name.now
 telling_of now owner (request.Link file name) = Made name.now NewName
-telling_of now owner (request.Create flags mode umask open_flags name) = Made name.now (NewFile (mode % 4096) owner)
+telling_of now owner (request.Create flags mode umask open_flags name) = Made name.now (NewFile (mode % 512) owner)
 telling_of now owner request.Statfs = Room
 telling_of now owner (request.Read span) = ReadAt span.offset span.count
 telling_of now owner (request.Write handle offset write_flags lock_owner flags bytes) = WrittenAt offset bytes.now
