@@ -63,6 +63,18 @@ abbrev pub is_dirty_held : Option Slot → Bool
 is_dirty_held None = false
 is_dirty_held (Some s) = is_dirty s.state
 
+-- the bytes were changed since the write that is under way was begun
+abbrev pub is_changed : State → Bool
+is_changed Clean = false
+is_changed Dirty = false
+is_changed (Writing t) = false
+is_changed (Changed t) = true
+
+-- so were those of a block's slot, if it has one
+abbrev pub is_changed_held : Option Slot → Bool
+is_changed_held None = false
+is_changed_held (Some s) = is_changed s.state
+
 -- the slot holds a block, and its bytes may not be the disk's
 abbrev pub is_unclean_slot : Slot → Bool
 is_unclean_slot s = is_some s.block && not (is_clean s.state)

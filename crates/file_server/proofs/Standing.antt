@@ -7,17 +7,21 @@ use Rattle.tree.specs.Tree.{Tree}
 use Rattle.records.specs.Marks.{Mark, Took}
 use Rattle.volume.specs.Reading.{blocks_of}
 use Rattle.records.specs.Disk.{Contents, disk_after}
-use Rattle.records.specs.Flushes.{may_write, pending_requests}
+use Rattle.records.specs.Flushes.{FrameState, WritesFrames, may_write, pending_requests}
 use Rattle.records.specs.Opening.{contents_at}
 use Rattle.records.specs.Acts.{Outbox, IsAtRest, marks_after}
 use Rattle.records.specs.Area.{WritesInside}
 use Rattle.records.specs.Legal.{IsLegal, tree_after}
 use Rattle.records.specs.View.{Frames, ReadsBack, server_view}
-use Rattle.records.specs.ServerCall.{Serving, Serves, IsQuiet, HasTree, has_open_file}
+use Rattle.records.specs.ServerCall.{Serving, Serves, IsQuiet, HasTree, has_open_file, state_of}
 use Rattle.records.specs.Settled.{is_settled, LookingWritesNothing}
 use Rattle.reissue.specs.Calls.{Truth}
 use Rattle.file_server.specs.Over.{SameServing}
 use Rattle.file_server.specs.Laws.{SameStands, MessageStands, AnswerStands, CutStands}
+
+-- their frames
+pub same_state : (old new : Serving) → SameServing old new → state_of new ≡ state_of old
+same_state old new same = λ i. record { frames = same.frames i; unwritten = same.unwritten i; overtaken = same.overtaken i }
 
 pub serves_same : (old new : Serving) (image : Contents) (tree : Tree) (marks : List Mark) → SameServing old new
     → Serves old image tree marks → Serves new image tree marks
@@ -26,15 +30,19 @@ serves_same old new image tree marks same s = record {
   well_formed = s.well_formed;
   inside = subst (λ (g : Geometry). WritesInside g marks) (sym same.geometry) s.inside;
   at_rest = subst (λ (o : Outbox). IsAtRest marks o) (sym same.outbox) s.at_rest;
-  unwritten = record {
+  known = record {
     framed = λ block is. subst (λ (f : Frames). IsSome (f block)) (sym same.frames)
-        (s.unwritten.framed block (ap (λ (u : ℕ → Bool). u block) (sym same.unwritten) ∙ is));
+        (s.known.framed block (ap (λ (u : ℕ → Bool). u block) (sym same.unwritten) ∙ is));
     others = λ replies block written none.
-        let was = s.unwritten.others replies block (ap (λ (u : ℕ → Bool). u block) (sym same.unwritten) ∙ written)
+        let was = s.known.others replies block (ap (λ (u : ℕ → Bool). u block) (sym same.unwritten) ∙ written)
         (ap (λ (g : Geometry). list_any (may_write g.block_size block) (pending_requests marks old.outbox)) (sym same.geometry)
         ∙ ap (λ (o : Outbox). list_any (may_write new.geometry.block_size block) (pending_requests marks o)) (sym same.outbox) ∙ none) in
         subst (λ (g : Geometry). server_view g new.frames image marks block ≡ blocks_of g (disk_after image marks) block) (sym same.geometry)
         (subst (λ (f : Frames). server_view old.geometry f image marks block ≡ blocks_of old.geometry (disk_after image marks) block) (sym same.frames) was);
+    pending =
+        subst (λ (g : Geometry). WritesFrames g.block_size (state_of new) (pending_requests marks new.outbox)) (sym same.geometry)
+        (subst (λ (f : FrameState). WritesFrames old.geometry.block_size f (pending_requests marks new.outbox)) (sym (same_state old new same))
+        (subst (λ (o : Outbox). WritesFrames old.geometry.block_size (state_of old) (pending_requests marks o)) (sym same.outbox) s.known.pending));
   };
   legal = λ replies. subst (λ (g : Geometry). IsLegal g image tree marks) (sym same.geometry) (s.legal replies);
   has_tree = λ replies live not_given_up.

@@ -54,6 +54,7 @@ pub record SameServing (old new : Serving) : Type 0 where
   pub ended : new.ended ≡ old.ended
   pub settled : old.settled → new.settled
   pub unwritten : new.unwritten ≡ old.unwritten
+  pub overtaken : new.overtaken ≡ old.overtaken
   pub wanted : new.wanted ≡ old.wanted
 
 -- the server serves with this record, and its link guarantees this one

@@ -1,6 +1,8 @@
--- What a Flush makes pending, by three unwritten blocks of 1024 bytes, 5, 6 and 9; a dup that flushes, and a look that loses a frame.
-use Rattle.std.specs.Prelude.{◌≡◌, ℕ, ◌+◌, ◌*◌, ◌<◌, List, [], ◌∷◌, ◌++◌, sum, Bool, true, false, ◌&&◌, ◌||◌, ◌==◌, if◌then◌else◌, ◌≤◌, Some, None, replicate, refl}
-use Rattle.std.proofs.Common.{arith, sym, ap, ◌∙◌, inl, inr}
+-- What a Flush makes pending, by three unwritten blocks of 1024 bytes, 5, 6 and 9; a dup that flushes, a look that loses a frame, and a
+-- pending write beside its frame.
+use Rattle.std.specs.Prelude.{◌≡◌, ℕ, ◌+◌, ◌*◌, ◌<◌, List, [], ◌∷◌, ◌++◌, sum, Bool, true, false, ◌&&◌, ◌||◌, ◌==◌, if◌then◌else◌, ◌≤◌, Option, Some, None, replicate, slice_index, refl}
+use Rattle.std.proofs.Common.{arith, sym, ap, subst, ◌∙◌, inl, inr}
+use Rattle.std.proofs.lemmas.List.{get_or-replicate}
 use Rattle.std.proofs.lemmas.Bool.{cases_lt}
 use Rattle.std.proofs.lemmas.Bool.Decides.{nat_tests}
 use Rattle.message.specs.Good.{is_write}
@@ -10,8 +12,8 @@ use Rattle.message.specs.declared.BlockRequest.{BlockRequest}
 use Rattle.tree.specs.declared.Who.{Who}
 use Rattle.tree.specs.declared.Call.TheVariants.{Dup}
 use Rattle.records.specs.Acts.{Began, empty_outbox}
-use Rattle.records.specs.Flushes.{Flushes, WritesLowest, WritesRun, without_run}
-use Rattle.records.specs.ServerCall.{Serving, Outcome, CallKeeps, KnowsUnwritten, LeavesView}
+use Rattle.records.specs.Flushes.{Flushes, FrameState, HasByte, WritesFrames, WritesLowest, WritesRun, without_run}
+use Rattle.records.specs.ServerCall.{Serving, Outcome, CallKeeps, KnowsFrames, LeavesView, state_of}
 use Rattle.records.proofs.LegalRows.{small, zeros}
 
 -- the unwritten blocks
@@ -167,6 +169,7 @@ with_frame has = record {
   ended = false;
   settled = Unit {0};
   unwritten = λ block. false;
+  overtaken = λ block. false;
   wanted = false;
 }
 
@@ -175,5 +178,44 @@ frame_taken : LeavesView (with_frame true) (with_frame false) zeros [] [] → �
 frame_taken h = let e : 0 ≡ 1 = ap (λ (d : ℕ → ℕ → ℕ). d 5 0) h.same in absurd (omega (arith, e))
 
 -- refused: that it has nothing to write
-frame_unsaid : KnowsUnwritten (with_frame true) zeros [] → ⊥
+frame_unsaid : KnowsFrames (record small { block_size = 1024 }) (state_of (with_frame true)) empty_outbox zeros [] → ⊥
 frame_unsaid h = let e : 1 ≡ 0 = ap (λ (row : ℕ → ℕ). row 0) (h.others tt 5 refl refl) in absurd (omega (arith, e))
+
+-- a pending write of block 5, whose bytes are all this
+abbrev written : ℕ → BlockRequest
+written byte = record (request Write 5 1) { bytes = replicate 4096 byte }
+
+-- that frame, changed since the write was begun or not
+abbrev ones_at_five : Bool → FrameState
+ones_at_five changed = record { frames = (with_frame true).frames; unwritten = λ block. false; overtaken = λ block. changed && (block == 5) }
+
+-- right: the frame's bytes
+frame_written : WritesFrames 1024 (ones_at_five false) (written 1 ∷ [])
+frame_written = (λ write. record { each = λ block place k low lt at clear. each block place k low lt at }, tt)
+  where
+    each : (block place k : ℕ) → place < 1024 → k < 1024 → block * 1024 + place ≡ 5 * 1024 + k
+        → HasByte (with_frame true).frames block place (slice_index (replicate 4096 1) k)
+    each block place k low lt at =
+        let five : 5 ≡ block = omega (arith, low, lt, at) in
+        let far : k < 4096 = omega (arith, lt) in
+        subst (λ (b : ℕ). HasByte (with_frame true).frames b place (slice_index (replicate 4096 1) k)) five
+        (record { bytes = replicate 1024 1; is = refl; there = get_or-replicate 1024 place 1 0 low ∙ sym (get_or-replicate 4096 k 1 0 far) })
+
+-- refused: zeros
+zeros_written : WritesFrames 1024 (ones_at_five false) (written 0 ∷ []) → ⊥
+zeros_written h =
+    let x = (h.0 refl).each 5 0 0 (omega arith) (omega arith) refl refl in
+    let e : 1 ≡ 0 = ap first_byte x.is ∙ x.there in absurd (omega (arith, e))
+  where
+    first_byte : Option (List ℕ) → ℕ
+    first_byte None = 0
+    first_byte (Some bytes) = slice_index bytes 0
+
+-- right: zeros, where the frame was changed since
+zeros_overtaken : WritesFrames 1024 (ones_at_five true) (written 0 ∷ [])
+zeros_overtaken = (λ write. record { each = λ block place k low lt at clear. absurd (clash block place k low lt at clear) }, tt)
+  where
+    clash : (block place k : ℕ) → place < 1024 → k < 1024 → block * 1024 + place ≡ 5 * 1024 + k → (ones_at_five true).overtaken block ≡ false → ⊥
+    clash block place k low lt at clear =
+        let five : block ≡ 5 = omega (arith, low, lt, at) in
+        let e : true ≡ false = ap (ones_at_five true).overtaken (sym five) ∙ clear in cc

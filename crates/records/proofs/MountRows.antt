@@ -48,6 +48,7 @@ busy told ended = record {
   ended = ended;
   settled = Unit {0};
   unwritten = λ block. false;
+  overtaken = λ block. false;
   wanted = false;
 }
 

@@ -15,7 +15,8 @@ use Rattle.records.specs.Disk.{Contents}
 use Rattle.records.specs.Acts.{empty_outbox, target}
 use Rattle.records.specs.Legal.{IsLegalTook, IsLegalCall, tree_after, tree_after_answer}
 use Rattle.records.specs.View.{server_view}
-use Rattle.records.specs.ServerCall.{Serving, KnowsUnwritten, has_open_file, Outcome, Replied, Cut, CallKeeps, AbsorbKeeps}
+use Rattle.records.specs.Flushes.{WritesFrames, pending_requests}
+use Rattle.records.specs.ServerCall.{Serving, KnowsFrames, state_of, has_open_file, Outcome, Replied, Cut, CallKeeps, AbsorbKeeps}
 use Rattle.records.specs.Mount.{OpenKeeps}
 use Rattle.records.specs.Unmount.{UnmountKeeps, Busy, Unmounted}
 use Rattle.records.proofs.LegalRows.{small, user_0, fresh, stat_root, root_of_size}
@@ -34,12 +35,19 @@ server is_busy ended = record {
   ended = ended;
   settled = Unit {0};
   unwritten = λ block. false;
+  overtaken = λ block. false;
   wanted = false;
 }
 
 -- it has no frames, and nothing to write
-knows : (is_busy ended : Bool) (image : Contents) (marks : List Mark) → KnowsUnwritten (server is_busy ended) image marks
-knows is_busy ended image marks = record { framed = λ block is. absurd (false_not_true is); others = λ tr block not_so none. refl }
+knows : (is_busy ended : Bool) (image : Contents) (marks : List Mark)
+    → WritesFrames small.block_size (state_of (server is_busy ended)) (pending_requests marks empty_outbox)
+    → KnowsFrames small (state_of (server is_busy ended)) empty_outbox image marks
+knows is_busy ended image marks pending = record {
+  framed = λ block is. absurd (false_not_true is);
+  others = λ tr block not_so none. refl;
+  pending = pending;
+}
 
 -- of no open files none is open
 none_open : some_below (λ k. is_some {T = OpenFile} None) most_open_files ≡ false
@@ -111,7 +119,7 @@ right_call = record {
         well_formed = (s.well_formed, tt);
         inside = s.inside;
         at_rest = record { complaint = refl; post = s.at_rest.post };
-        unwritten = knows false false image (Took user_0 100 stat_root (root_of_size 128) ∷ marks);
+        known = knows false false image (Took user_0 100 stat_root (root_of_size 128) ∷ marks) s.known.pending;
         legal = λ true_replies. (s.legal true_replies, legal_took image tree marks s.agrees.0 s.agrees.1);
         has_tree = λ true_replies live not_given_up.
             let was = s.has_tree true_replies live not_given_up in
@@ -207,7 +215,7 @@ right_open = record {
     well_formed = tt;
     inside = tt;
     at_rest = record { complaint = refl; post = refl };
-    unwritten = record { framed = λ block is. absurd (false_not_true is); others = λ tr block not_so none. refl };
+    known = record { framed = λ block is. absurd (false_not_true is); others = λ tr block not_so none. refl; pending = tt };
     legal = λ true_replies. tt;
     has_tree = λ true_replies live not_given_up. record {
       reads_back = record { holds = first.holds; covered = record { each = λ place is_unsure. absurd (false_not_true is_unsure) } };

@@ -1,11 +1,12 @@
--- What a server begins to write on a Flush.
-use Rattle.std.specs.Prelude.{◌≡◌, ◌⊎◌, ℕ, ◌+◌, ◌-◌, ◌*◌, ◌/◌, ◌<◌, ◌≤◌, min, nat_lt, nat_le, List, [], ◌∷◌, ◌++◌, length, sum, Bool, true, false, not, ◌&&◌, IsTrue}
+-- What a server begins to write on a Flush, and the bytes of what is pending.
+use Rattle.std.specs.Prelude.{◌≡◌, ◌⊎◌, ℕ, ◌+◌, ◌-◌, ◌*◌, ◌/◌, ◌<◌, ◌≤◌, min, nat_lt, nat_le, List, [], ◌∷◌, ◌++◌, length, sum, Bool, true, false, not, ◌&&◌, IsTrue, Some, slice_index}
 use Rattle.std.specs.List.{list_any}
 use Rattle.message.specs.declared.BlockRequest.{BlockRequest}
 use Rattle.message.specs.Good.{is_write}
 use Rattle.records.specs.Marks.{Mark}
 use Rattle.records.specs.Open.{open_requests}
 use Rattle.records.specs.Acts.{Outbox}
+use Rattle.records.specs.View.{Frames}
 
 -- the pending requests: those that are open, and those that were never issued
 abbrev pub pending_requests : List Mark → Outbox → List BlockRequest
@@ -62,3 +63,33 @@ pub record Flushes (size : ℕ) (live : Bool) (old new : ℕ → Bool) (pending 
   pub counts : List ℕ
   pub writes : WritesLowest counts 16 size old new pending pending'
   pub all : live ≡ true → (sum counts ≡ 16) ⊎ IsStuck size new pending'
+
+-- The frames of a server, beside the disk: their bytes; the blocks whose frames were changed, and whose writes aren't under way; those whose
+-- frames were changed since the write that is under way was begun.
+pub record FrameState : Type 0 where
+  pub frames : Frames
+  pub unwritten : ℕ → Bool
+  pub overtaken : ℕ → Bool
+
+-- a block has a frame, with this byte there
+pub record HasByte (frames : Frames) (block place byte : ℕ) : Type 0 where
+  pub bytes : List ℕ
+  pub is : frames block ≡ Some bytes
+  pub there : slice_index bytes place ≡ byte
+
+-- A request has the bytes of the frames of its blocks, each byte that of its block's frame at its place: but for blocks whose frames were
+-- changed since.
+pub record HasFrames (size : ℕ) (f : FrameState) (r : BlockRequest) : Type 0 where
+  pub each : (block place k : ℕ) → place < size → k < r.count → block * size + place ≡ r.position + k → f.overtaken block ≡ false
+      → HasByte f.frames block place (slice_index r.bytes k)
+
+-- so has each write among these
+abbrev pub WritesFrames : ℕ → FrameState → List BlockRequest → Type 0
+WritesFrames size f [] = Unit {0}
+WritesFrames size f (r ∷ rs) = (is_write r.kind ≡ true → HasFrames size f r) × WritesFrames size f rs
+
+-- A Flush is carried out: such writes become pending, and frames keep their bytes.
+pub record FlushesOn (size : ℕ) (live : Bool) (old new : FrameState) (pending pending' : List BlockRequest) : Type 0 where
+  pub writes : Flushes size live old.unwritten new.unwritten pending pending'
+  pub frames : new.frames ≡ old.frames
+  pub overtaken : new.overtaken ≡ old.overtaken

@@ -21,7 +21,7 @@ use Rattle.records.specs.Legal.{IsLegal, tree_after}
 use Rattle.records.specs.View.{Frames, ReadsBack, IsCovered, server_view}
 use Rattle.records.specs.Area.{area_of, WritesInside}
 use Rattle.records.specs.Settled.{only_looks, is_settled, none_written, LookingWritesNothing}
-use Rattle.records.specs.Flushes.{Flushes, pending_requests, may_write}
+use Rattle.records.specs.Flushes.{FlushesOn, FrameState, WritesFrames, pending_requests, may_write}
 
 -- What is said of a server.
 pub record Serving : Type 1 where
@@ -45,6 +45,8 @@ pub record Serving : Type 1 where
   pub settled : Type 0
   -- the blocks whose frames were changed, and whose writes aren't under way
   pub unwritten : ℕ → Bool
+  -- those whose frames were changed since the write that is under way was begun
+  pub overtaken : ℕ → Bool
   -- a Flush was taken that wasn't carried out yet
   pub wanted : Bool
 
@@ -62,13 +64,19 @@ pub record IsQuiet (s : Serving) (marks : List Mark) : Type 0 where
   pub settled : s.settled
   pub none_written : none_written marks ≡ true
 
--- Which blocks are unwritten: they have frames. Over true replies, what would be read back of each other block is the disk's, unless a write
--- is pending that may have it.
-pub record KnowsUnwritten (s : Serving) (image : Contents) (marks : List Mark) : Type 0 where
-  pub framed : (block : ℕ) → s.unwritten block ≡ true → IsSome (s.frames block)
-  pub others : HasTrueReplies image marks → (block : ℕ) → s.unwritten block ≡ false
-      → list_any (may_write s.geometry.block_size block) (pending_requests marks s.outbox) ≡ false
-      → server_view s.geometry s.frames image marks block ≡ blocks_of s.geometry (disk_after image marks) block
+-- a server's frames
+abbrev pub state_of : Serving → FrameState
+state_of s = record { frames = s.frames; unwritten = s.unwritten; overtaken = s.overtaken }
+
+-- How frames stand beside the disk. Which blocks are unwritten: they have frames. Over true replies, what would be read back of each other block
+-- is the disk's, unless a write is pending that may have it. Each pending write has the bytes of its blocks' frames, but for those that were
+-- changed since it was begun.
+pub record KnowsFrames (g : Geometry) (f : FrameState) (o : Outbox) (image : Contents) (marks : List Mark) : Type 0 where
+  pub framed : (block : ℕ) → f.unwritten block ≡ true → IsSome (f.frames block)
+  pub others : HasTrueReplies image marks → (block : ℕ) → f.unwritten block ≡ false
+      → list_any (may_write g.block_size block) (pending_requests marks o) ≡ false
+      → server_view g f.frames image marks block ≡ blocks_of g (disk_after image marks) block
+  pub pending : WritesFrames g.block_size f (pending_requests marks o)
 
 -- A server serves a volume: it agrees with the record, which is well formed whatever the link answered, each write in it lies in the
 -- volume behind its first two blocks, and nothing is owed.
@@ -79,7 +87,7 @@ pub record Serves (s : Serving) (image : Contents) (tree : Tree) (marks : List M
   pub well_formed : IsWellFormed marks
   pub inside : WritesInside s.geometry marks
   pub at_rest : IsAtRest marks s.outbox
-  pub unwritten : KnowsUnwritten s image marks
+  pub known : KnowsFrames s.geometry (state_of s) s.outbox image marks
   pub legal : HasTrueReplies image marks → IsLegal s.geometry image tree marks
   pub has_tree : HasTrueReplies image marks → s.ended ≡ false → gave_up marks ≡ false → HasTree s image tree marks
   pub looking : HasTrueReplies image marks → LookingWritesNothing s.geometry tree marks
@@ -137,12 +145,6 @@ pub record CallKeeps (old : Serving) (who : Who) (now : ℕ) (call : Call) (outc
   pub serves : (image : Contents) (tree : Tree) (marks : List Mark) → Serves old image tree marks
       → Serves new image tree (with_outcome who now call outcome (marks_after acts marks))
 
--- what a Flush makes a server write
-abbrev pub FlushesOn : Serving → Serving → List Mark → List Mark → Type 0
-FlushesOn old new before after =
-    Flushes old.geometry.block_size (not new.ended && not (gave_up after)) old.unwritten new.unwritten
-    (pending_requests before old.outbox) (pending_requests after new.outbox)
-
 -- One message between two calls: its mark, if it leaves one, stands before what the link is told then; no message is taken, no file is
 -- opened or closed, and an End has no effect. A Flush is carried out, and no Flush is wanted after another message than End.
 pub record AbsorbKeeps (old : Serving) (message : Incoming) (new : Serving) : Type 0 where
@@ -154,7 +156,8 @@ pub record AbsorbKeeps (old : Serving) (message : Incoming) (new : Serving) : Ty
   pub no_effect : message ≡ End → later ≡ []
   pub flushed : message ≢ End → new.wanted ≡ false
   pub flushes : (image : Contents) (tree : Tree) (marks : List Mark) → old.Agrees image tree marks → message ≡ Flush
-      → FlushesOn old new marks (marks_after (later ++ Absorbed message ∷ []) marks)
+      → FlushesOn old.geometry.block_size (not new.ended && not (gave_up (marks_after (later ++ Absorbed message ∷ []) marks))) (state_of old)
+      (state_of new) (pending_requests marks old.outbox) (pending_requests (marks_after (later ++ Absorbed message ∷ []) marks) new.outbox)
   pub rules : (image : Contents) (tree : Tree) (marks : List Mark) → old.Agrees image tree marks
       → Rules old (later ++ Absorbed message ∷ []) new marks
   pub serves : (image : Contents) (tree : Tree) (marks : List Mark) → Serves old image tree marks

@@ -25,3 +25,4 @@ mod LeftOpen
 mod HeldRows
 mod FirstEvents
 mod WithinRow
+mod FrameRows

@@ -1,5 +1,5 @@
 -- What a Flush makes pending, as the record has it.
-use Rattle.std.proofs.Common.{◌≡◌, ℕ, ◌+◌, ◌-◌, ◌*◌, ◌^◌, ◌<◌, ◌≤◌, List, [], ◌∷◌, length, refl, sym, ap, ◌∙◌, arith, Bool, true, false, Option, Some, None}
+use Rattle.std.proofs.Common.{◌≡◌, ℕ, ◌+◌, ◌-◌, ◌*◌, ◌^◌, ◌<◌, ◌≤◌, List, [], ◌∷◌, refl, sym, ap, ◌∙◌, arith, Bool, true, false, Option, Some, None}
 use mathlib.Core.Logic.{inl, inr}
 use Rattle.std.specs.Prelude.{◌||◌, ◌&&◌, not, map, nat_le, nat_lt, sum}
 use Rattle.std.specs.List.{list_any}
@@ -8,14 +8,11 @@ use Rattle.std.proofs.lemmas.Bool.Decides.{nat_tests}
 use Rattle.std.proofs.lemmas.List.{length-map}
 use Rattle.lemmas.proofs.Bools.{from_clash, and_left, and_right}
 use Rattle.message.specs.declared.BlockRequest.{BlockRequest}
-use Rattle.message.specs.declared.Kind.{Kind}
-use Rattle.message.specs.declared.Kind.TheVariants.{Read, Write}
 use Rattle.message.specs.Good.{is_write}
 use Rattle.records.specs.Flushes.{WritesRun, WritesLowest, without_run, may_read}
 use Rattle.records.specs.Flushes as record_of
 use Rattle.reissue.specs.declared.pending.Pending.{Pending}
 use Rattle.reissue.specs.Entries.{IsAmong, begun_of, request_of, meets}
-use Rattle.reissue.specs.Moves.{written_by}
 use Rattle.reissue.proofs.Tickets.{pending_among}
 use Rattle.cache.specs.declared.slot.Slot.{Slot}
 use Rattle.cache.specs.declared.state.State.TheVariants.{Dirty}
@@ -26,6 +23,7 @@ use Rattle.cache.specs.Calls.{AbstractCache, IsReady, IsStuck}
 use Rattle.cache.proofs.Begun.{dirty_held}
 use Rattle.cache.proofs.Tied.{Within, within_or, in_run, way_ticket}
 use Rattle.flusher.specs.Flushing.{WritesRuns}
+use Rattle.vfs.proofs.Framed.{bytes_of}
 use Rattle.vfs.proofs.Unwritten.{may_have_of}
 
 -- the blocks with dirty slots
@@ -121,11 +119,6 @@ runs_written (n ∷ counts) most size old new ps qs low x = (
 )
 
 -- ---- no further write can begin
-
--- what a write has
-bytes_of : (k : Kind) (xs : List ℕ) → is_write k ≡ true → written_by k xs ≡ Some xs
-bytes_of Read xs e = cc
-bytes_of Write xs e = refl
 
 -- a pending write has no byte of a dirty block
 apart : (c : AbstractCache) → IsReady c → 0 < c.size → (b : ℕ) (s : Slot) → c.held b ≡ Some s → s.state ≡ Dirty → (p : Pending) → IsAmong p c.table.pending

@@ -1,7 +1,7 @@
 -- What a message that is handed over to a server over a cache keeps.
 use Rattle.std.proofs.Common.{◌≡◌, ◌≢◌, ℕ, ◌+◌, ◌*◌, ◌^◌, ◌<◌, ◌≤◌, List, [], ◌∷◌, ◌++◌, Bool, true, false, refl, sym, ◌∙◌, ap, subst, arith, Some}
 use mathlib.Core.Logic.{inl, inr}
-use Rattle.std.specs.Prelude.{is_some, not, map, Option}
+use Rattle.std.specs.Prelude.{is_some, not, ◌&&◌, map, Option}
 use Rattle.std.proofs.Math.Nat.{mul-le-mul_right}
 use Rattle.std.proofs.lemmas.Bool.{and_parts, cases_lt}
 use Rattle.std.proofs.lemmas.List.{append_cancel_right}
@@ -20,8 +20,8 @@ use Rattle.records.specs.Told.{Told, Received, received, grown, took_end}
 use Rattle.records.specs.Acts.{Absorbed, marks_after}
 use Rattle.records.specs.Legal.{tree_after}
 use Rattle.records.specs.View.{server_view}
-use Rattle.records.specs.ServerCall.{Serving, Serves, KnowsUnwritten, FlushesOn, AbsorbKeeps}
-use Rattle.records.specs.Flushes.{WritesLowest, IsStuck, pending_requests}
+use Rattle.records.specs.ServerCall.{Serving, Serves, KnowsFrames, AbsorbKeeps, state_of}
+use Rattle.records.specs.Flushes.{FlushesOn, WritesLowest, IsStuck, pending_requests}
 use Rattle.records.specs.Settled.{none_written, PostsReads}
 use Rattle.records.proofs.Quiet.{settled_acts, looking_acts, written_received, written_told}
 use Rattle.records.specs.Area.{Area, area_of}
@@ -43,6 +43,7 @@ use Rattle.descriptors.specs.Files.{Files, HasFiles}
 use Rattle.file_server.specs.Over.{AbsorbsOver}
 use Rattle.vfs.specs.Serving.{IsServer, MayServe, server_of}
 use Rattle.vfs.specs.Laws.{BeginsRuns}
+use Rattle.vfs.proofs.Framed.{flush_keeps, flush_overtakes}
 use Rattle.vfs.proofs.Unwritten.{knows, pending_is}
 use Rattle.vfs.proofs.Flushed.{dirty_in, runs_written, stuck as stuck_so}
 use Rattle.vfs.proofs.Keeping.{tree_acts, legal_acts, gone_acts, view_of, covers_of}
@@ -136,7 +137,7 @@ module _ (g : Geometry) (a b : AbstractCache) (n k : ℕ) (many : k ≡ n) (w u 
 
   -- it knows which blocks are unwritten
   unwritten : (image : Contents) (marks : List Mark) → Agrees b.table marks
-      → (HasTrueReplies image marks → CacheAgrees b.size b.held (state_after image marks)) → KnowsUnwritten t image marks
+      → (HasTrueReplies image marks → CacheAgrees b.size b.held (state_after image marks)) → KnowsFrames t.geometry (state_of t) t.outbox image marks
   unwritten image marks agrees slots = knows g b k u f some (x.size ∙ sized) x.ready.tied image marks agrees slots
 
   serves : (image : Contents) (tree : Tree) (marks : List Mark) → Serves s image tree marks → Serves t image tree (after marks)
@@ -150,7 +151,7 @@ module _ (g : Geometry) (a b : AbstractCache) (n k : ℕ) (many : k ≡ n) (w u 
         inside = acts_write_inside g a.area.minor (x.acts ++ Absorbed m ∷ []) marks (outbox_of a.table)
             (led.rules marks was.table).keep k.inside;
         at_rest = at_rest b.table (after marks) agrees;
-        unwritten = unwritten image (after marks) agrees slots;
+        known = unwritten image (after marks) agrees slots;
         legal = λ tr. legal_acts g image tree (x.acts ++ Absorbed m ∷ []) marks (k.legal (early image marks was.table tr));
         has_tree = λ tr e u.
             let first = early image marks was.table tr in
@@ -194,7 +195,8 @@ module _ (g : Geometry) (a b : AbstractCache) (n k : ℕ) (many : k ≡ n) (w u 
       ]
 
   -- a Flush is carried out
-  flushes : (marks : List Mark) → Agrees a.table marks → m ≡ Flush → FlushesOn s t marks (after marks)
+  flushes : (marks : List Mark) → Agrees a.table marks → m ≡ Flush → FlushesOn g.block_size (not b.ended && not (gave_up (after marks))) (state_of s) (state_of t)
+      (pending_requests marks (outbox_of a.table)) (pending_requests (after marks) (outbox_of b.table))
   flushes marks agrees is =
       let r = begins is marks agrees in
       let before : map request_of a.table.pending ≡ pending_requests marks (outbox_of a.table) = sym (pending_is a.table marks agrees) in
@@ -204,20 +206,26 @@ module _ (g : Geometry) (a b : AbstractCache) (n k : ℕ) (many : k ≡ n) (w u 
       runs_written r.counts 16 a.size a.held b.held (map request_of a.table.pending) (map request_of b.table.pending) low r.runs in
       let given_up : b.table.given_up ≡ gave_up (after marks) = (table marks agrees).holds.given_up in
       record {
-        counts = r.counts;
-        writes = subst (λ (z : ℕ). WritesLowest r.counts 16 z (dirty_in a.held) (dirty_in b.held) (pending_requests marks (outbox_of a.table))
-            (pending_requests (after marks) (outbox_of b.table))) sized
-            (subst (λ (l : List BlockRequest). WritesLowest r.counts 16 a.size (dirty_in a.held) (dirty_in b.held) l
-            (pending_requests (after marks) (outbox_of b.table))) before
-            (subst (λ (l : List BlockRequest). WritesLowest r.counts 16 a.size (dirty_in a.held) (dirty_in b.held)
-            (map request_of a.table.pending) l) later runs));
-        all = λ live.
-            let both = and_parts (not b.ended) (not (gave_up (after marks))) live in
-            elim (r.all (record { not_ended = not_true b.ended both.0; not_given_up = given_up ∙ not_true (gave_up (after marks)) both.1 })) [
-              | inl all ↦ inl all
-              | inr stuck ↦ inr (subst (λ (z : ℕ). IsStuck z (dirty_in b.held) (pending_requests (after marks) (outbox_of b.table))) (x.size ∙ sized)
-                  (subst (λ (l : List BlockRequest). IsStuck b.size (dirty_in b.held) l) later (stuck_so b x.ready (subst (λ (z : ℕ). 0 < z) (sym (x.size ∙ sized)) some) stuck)))
-            ];
+        writes = record {
+          counts = r.counts;
+          writes = subst (λ (z : ℕ). WritesLowest r.counts 16 z (dirty_in a.held) (dirty_in b.held) (pending_requests marks (outbox_of a.table))
+              (pending_requests (after marks) (outbox_of b.table))) sized
+              (subst (λ (l : List BlockRequest). WritesLowest r.counts 16 a.size (dirty_in a.held) (dirty_in b.held) l
+              (pending_requests (after marks) (outbox_of b.table))) before
+              (subst (λ (l : List BlockRequest). WritesLowest r.counts 16 a.size (dirty_in a.held) (dirty_in b.held)
+              (map request_of a.table.pending) l) later runs));
+          all = λ live.
+              let both = and_parts (not b.ended) (not (gave_up (after marks))) live in
+              elim (r.all (record { not_ended = not_true b.ended both.0; not_given_up = given_up ∙ not_true (gave_up (after marks)) both.1 })) [
+                | inl all ↦ inl all
+                | inr stuck ↦ inr (subst (λ (z : ℕ). IsStuck z (dirty_in b.held) (pending_requests (after marks) (outbox_of b.table))) (x.size ∙ sized)
+                    (subst (λ (l : List BlockRequest). IsStuck b.size (dirty_in b.held) l) later (stuck_so b x.ready (subst (λ (z : ℕ). 0 < z) (sym (x.size ∙ sized)) some) stuck)))
+              ];
+        };
+        frames = ap (λ (z : ℕ). frames_of z b.held) x.size
+            ∙ (λ i block. flush_keeps r.counts 16 a.size a.held b.held (map request_of a.table.pending) (map request_of b.table.pending) r.runs a.size block i);
+        overtaken = λ i block.
+            flush_overtakes r.counts 16 a.size a.held b.held (map request_of a.table.pending) (map request_of b.table.pending) r.runs block i;
       }
     where
       not_true : (v : Bool) → not v ≡ true → v ≡ false

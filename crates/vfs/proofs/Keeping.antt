@@ -23,7 +23,7 @@ use Rattle.records.specs.Told.{Told, Posted, Complained, Received, received, gro
 use Rattle.records.specs.Acts.{Act, Began, Absorbed, AtLink, marks_after}
 use Rattle.records.specs.Legal.{IsLegal, IsLegalTook, is_sync, tree_after, tree_after_answer, is_success, IsSynced}
 use Rattle.records.specs.View.{server_view, IsCovered}
-use Rattle.records.specs.ServerCall.{Serving, Serves, IsQuiet, KnowsUnwritten, LeavesView, Replied, Cut, CallKeeps}
+use Rattle.records.specs.ServerCall.{Serving, Serves, IsQuiet, KnowsFrames, state_of, LeavesView, Replied, Cut, CallKeeps}
 use Rattle.records.specs.Settled.{only_looks, is_settled, none_written, LookingWritesNothing, PostsReads}
 use Rattle.records.proofs.Quiet.{settled_acts, looking_acts, written_told}
 use Rattle.records.specs.Area.{Area, WritesInside, area_of}
@@ -245,7 +245,7 @@ module _ (g : Geometry) (a b : AbstractCache) (n m : ℕ) (many : m ≡ n) (w u 
       }
 
   -- it knows which blocks are unwritten
-  unwritten : (image : Contents) (tree : Tree) (marks : List Mark) → IsServer g a p image tree marks → KnowsUnwritten t image (after marks)
+  unwritten : (image : Contents) (tree : Tree) (marks : List Mark) → IsServer g a p image tree marks → KnowsFrames t.geometry (state_of t) t.outbox image (after marks)
   unwritten image tree marks k =
       knows g b m u q some (x.size ∙ sized) x.ready.tied image (after marks) (table marks k.table) (slots image tree marks k)
 
@@ -358,7 +358,7 @@ module _ (g : Geometry) (a b : AbstractCache) (n m : ℕ) (many : m ≡ n) (w u 
           well_formed = took.holds.well_formed;
           inside = inside marks k.agrees.table k.inside;
           at_rest = at_rest b.table (more marks) took;
-          unwritten = knows g b m u q some (x.size ∙ sized) x.ready.tied image (more marks) took (λ tr. slots image tree marks k.agrees tr);
+          known = knows g b m u q some (x.size ∙ sized) x.ready.tied image (more marks) took (λ tr. slots image tree marks k.agrees tr);
           legal = λ tr. (
             legal_acts g image tree x.acts marks (k.legal (early image marks k.agrees.table tr)),
             subst (λ (z : Bool). IsLegalTook g image (tree_after g tree (after marks)) (after marks) z who now call answer)
@@ -445,7 +445,7 @@ module _ (g : Geometry) (a b : AbstractCache) (n m : ℕ) (many : m ≡ n) (w u 
           well_formed = agrees.holds.well_formed;
           inside = inside marks k.agrees.table k.inside;
           at_rest = at_rest b.table (after marks) agrees;
-          unwritten = unwritten image tree marks k.agrees;
+          known = unwritten image tree marks k.agrees;
           legal = λ tr. legal_acts g image tree x.acts marks (k.legal (early image marks k.agrees.table tr));
           has_tree = λ tr e u.
               let sized' = x.size ∙ sized in
@@ -526,7 +526,7 @@ module _ (g : Geometry) (a b : AbstractCache) (n m : ℕ) (many : m ≡ n) (w u 
             well_formed = agrees.holds.well_formed;
             inside = inside marks k.agrees.table k.inside;
             at_rest = at_rest b.table (after marks) agrees;
-            unwritten = unwritten image tree marks k.agrees;
+            known = unwritten image tree marks k.agrees;
             legal = λ tr. legal_acts g image tree x.acts marks (k.legal (early image marks k.agrees.table tr));
             has_tree = λ tr e u. from_clash (sym end ∙ e);
             looking = λ tr. looking_acts g tree x.acts marks (k.looking (early image marks k.agrees.table tr));
@@ -558,7 +558,7 @@ module _ (g : Geometry) (a b : AbstractCache) (n m : ℕ) (many : m ≡ n) (w u 
             well_formed = took.holds.well_formed;
             inside = inside marks k.agrees.table k.inside;
             at_rest = at_rest b.table (Took who now call (refused EIO) ∷ after marks) took;
-            unwritten = knows g b m u q some (x.size ∙ sized) x.ready.tied image (Took who now call (refused EIO) ∷ after marks) took
+            known = knows g b m u q some (x.size ∙ sized) x.ready.tied image (Took who now call (refused EIO) ∷ after marks) took
                 (λ tr. slots image tree marks k.agrees tr);
             legal = λ tr. (
               legal_acts g image tree x.acts marks (k.legal (early image marks k.agrees.table tr)),

@@ -1,5 +1,5 @@
 -- Which blocks of a server over a cache are unwritten.
-use Rattle.std.proofs.Common.{◌≡◌, ℕ, ◌+◌, ◌*◌, ◌<◌, ◌≤◌, List, [], ◌∷◌, ◌++◌, length, refl, sym, ap, ◌∙◌, arith, Bool, true, false, Option, Some, None}
+use Rattle.std.proofs.Common.{◌≡◌, ℕ, ◌+◌, ◌*◌, ◌<◌, ◌≤◌, List, [], ◌∷◌, ◌++◌, length, refl, sym, ap, subst, ◌∙◌, arith, Bool, true, false, Option, Some, None}
 use mathlib.Core.Logic.{inl, inr}
 use Rattle.std.specs.Prelude.{◌||◌, ◌==◌, IsSome, map, drop, take, nat_lt, slice_index}
 use Rattle.std.specs.List.{list_any}
@@ -17,8 +17,8 @@ use Rattle.volume.specs.Reading.{blocks_of}
 use Rattle.records.specs.Marks.{Mark}
 use Rattle.records.specs.Disk.{Contents, HasTrueReplies, disk_after}
 use Rattle.records.specs.View.{frame_or, server_view}
-use Rattle.records.specs.Flushes.{pending_requests, may_have, may_write}
-use Rattle.records.specs.ServerCall.{KnowsUnwritten}
+use Rattle.records.specs.Flushes.{WritesFrames, pending_requests, may_have, may_write}
+use Rattle.records.specs.ServerCall.{KnowsFrames}
 use Rattle.reissue.specs.declared.pending.Pending.{Pending}
 use Rattle.reissue.specs.declared.table.Table.{Table}
 use Rattle.reissue.specs.Agrees.{Agrees}
@@ -32,7 +32,7 @@ use Rattle.cache.specs.Slots.{is_dirty, is_dirty_held, ticket_of}
 use Rattle.cache.specs.Frames.{CacheAgrees, Tied, frame_of, frames_of}
 use Rattle.cache.specs.Calls.{AbstractCache}
 use Rattle.descriptors.specs.Files.{Files}
-use Rattle.vfs.specs.Serving.{server_of}
+use Rattle.vfs.proofs.Framed.{frame_state, writes_frames}
 
 -- the requests that are pending, as the record has them
 pub pending_is : (t : Table) (marks : List Mark) → Agrees t marks → pending_requests marks (outbox_of t) ≡ map request_of t.pending
@@ -92,10 +92,13 @@ covers size block (p ∷ ps) t r bytes some is written from to =
 -- which they are
 pub knows : (g : Geometry) (c : AbstractCache) (n : ℕ) (w : Bool) (f : Files) → 0 < g.block_size → c.size ≡ g.block_size
     → Tied c.size c.held (pending_of c.table.pending) → (image : Contents) (marks : List Mark) → Agrees c.table marks
-    → (HasTrueReplies image marks → CacheAgrees c.size c.held (state_after image marks)) → KnowsUnwritten (server_of g c n w f) image marks
+    → (HasTrueReplies image marks → CacheAgrees c.size c.held (state_after image marks)) → KnowsFrames g (frame_state c) (outbox_of c.table) image marks
 knows g c n w f some sized tied image marks k slots = record {
   framed = λ block is. framed (c.held block) is;
   others = λ tr block written none. by tr block none (c.held block) refl written;
+  pending = subst (λ (size : ℕ). WritesFrames size (frame_state c) (pending_requests marks (outbox_of c.table))) sized
+      (subst (λ (rs : List BlockRequest). WritesFrames c.size (frame_state c) rs) (sym (pending_is c.table marks k))
+      (writes_frames c (rw sized some) tied marks k));
 }
   where
     framed : (o : Option Slot) → is_dirty_held o ≡ true → IsSome (frame_of c.size o)

@@ -23,6 +23,7 @@ stays_by words s l told = record {
   ended = refl;
   settled = λ h. record { clean = h.clean; no_write = h.no_write };
   unwritten = refl;
+  overtaken = refl;
   wanted = refl;
 }
 

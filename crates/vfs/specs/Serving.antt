@@ -20,7 +20,7 @@ use Rattle.reissue.specs.Rules.{outbox_of}
 use Rattle.cache.specs.Calls.{AbstractCache, Keeps, IsReady, messages_left}
 use Rattle.cache.specs.Frames.{CacheAgrees, frames_of}
 use Rattle.cache.specs.Looking.{IsSettled, Looks}
-use Rattle.cache.specs.Slots.{is_dirty_held}
+use Rattle.cache.specs.Slots.{is_changed_held, is_dirty_held}
 use Rattle.cached_blocks.specs.World.{Sees}
 use Rattle.descriptors.specs.Files.{Files, HasFiles, is_busy}
 
@@ -52,6 +52,7 @@ server_of g c frames wanted f = record {
   ended = c.ended;
   settled = IsSettled c;
   unwritten = λ block. is_dirty_held (c.held block);
+  overtaken = λ block. is_changed_held (c.held block);
   wanted = wanted;
 }
 

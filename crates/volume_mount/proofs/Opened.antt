@@ -1,10 +1,11 @@
 -- A server over a cache that was just made.
 use Rattle.std.proofs.Common.{◌≡◌, ℕ, ◌<◌, List, [], Bool, true, false, refl, sym, ◌∙◌, ap, subst, Option, Some, None}
-use Rattle.std.specs.Prelude.{is_some, Result, Ok, Err, IfOk, IsErrOf, ◌↔◌}
+use Rattle.std.specs.Prelude.{is_some, Result, Ok, Err, IfOk, IsErrOf, ◌↔◌, map}
 use Rattle.cache.specs.declared.refusals.CacheRefusal.{CacheRefusal}
 use Rattle.cache.specs.declared.refusals.CacheRefusal.TheVariants.{BadFrames, OutOfMemory}
 use Rattle.layout.specs.declared.Geometry.{Geometry}
 use Rattle.lemmas.specs.Sums.{some_below}
+use Rattle.message.specs.declared.BlockRequest.{BlockRequest}
 use Rattle.tree.specs.Tree.{Tree, OpenFile, most_open_files}
 use Rattle.volume.specs.Reading.{Disk, blocks_of}
 use Rattle.volume.specs.Holds.{HoldsVolume}
@@ -12,6 +13,7 @@ use Rattle.records.specs.Marks.{Mark}
 use Rattle.records.specs.Disk.{Contents, HasTrueReplies, disk_after, unsure}
 use Rattle.records.specs.Acts.{empty_outbox}
 use Rattle.records.specs.Area.{Area, WritesInside}
+use Rattle.records.specs.Flushes.{WritesFrames}
 use Rattle.records.specs.Legal.{IsAtFirst, IsLegal, tree_after}
 use Rattle.records.specs.View.{Frames, frame_or, server_view}
 use Rattle.records.specs.Mount.{IsJustMade, OpenKeeps, is_frame_count}
@@ -22,7 +24,7 @@ use Rattle.reissue.specs.declared.transfers.Transfers.{Transfers}
 use Rattle.reissue.specs.Transfers.{link_of, table_of}
 use Rattle.reissue.specs.Agrees.{Agrees}
 use Rattle.reissue.specs.declared.pending.Pending.{Pending}
-use Rattle.reissue.specs.Entries.{pending_of}
+use Rattle.reissue.specs.Entries.{pending_of, request_of}
 use Rattle.reissue.specs.Moves.{Begun, state_after}
 use Rattle.reissue.specs.Rules.{outbox_of}
 use Rattle.reissue.proofs.TableRules.{at_rest}
@@ -39,6 +41,8 @@ use Rattle.vfs.specs.Serving.{server_of}
 use Rattle.vfs.specs.OverLink.{IsIdleOver, caching_of, serving_over}
 use Rattle.volume_mount.specs.Opening.{IsNewOver, Opens}
 use Rattle.vfs.proofs.Keeping.{covers_of}
+use Rattle.vfs.proofs.Framed.{frame_state}
+use Rattle.vfs.proofs.Unwritten.{pending_is}
 
 -- the image is what was handed in, and each place of it is sure
 pub record IsUnchanged (image : Contents) (marks : List Mark) : Type 0 where
@@ -74,9 +78,11 @@ serves_new g c n w f image tree marks some sized none closed agrees same first s
   well_formed = agrees.holds.well_formed;
   inside = inside;
   at_rest = at_rest c.table marks agrees;
-  unwritten = record {
+  known = record {
     framed = λ block is. absurd (no_slot (c.held block) (none block) is);
     others = λ tr block written clear. ap (λ (o : Option Slot). frame_or (frame_of c.size o) (blocks_of g (disk_after image marks) block)) (none block);
+    pending = subst (λ (rs : List BlockRequest). WritesFrames g.block_size (frame_state c) rs)
+        (sym (pending_is c.table marks agrees ∙ ap (λ (ps : List Pending). map request_of ps) idle)) tt;
   };
   legal = λ tr. legal;
   has_tree = λ tr e u. record {

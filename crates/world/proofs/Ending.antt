@@ -11,7 +11,7 @@ use Rattle.records.specs.Opening.{Opening, contents_at}
 use Rattle.records.specs.Legal.{IsLegal}
 use Rattle.records.specs.View.{Frames, ReadsBack}
 use Rattle.records.specs.Settled.{LookingWritesNothing, is_settled, none_written}
-use Rattle.records.specs.ServerCall.{Serving, HasTree, IsQuiet}
+use Rattle.records.specs.ServerCall.{Serving, HasTree, IsQuiet, state_of}
 use Rattle.records.specs.Area.{WritesInside}
 use Rattle.reissue.specs.Calls.{Truth}
 use Rattle.schedule.specs.Faultless.{without_faults, FaultsChangeNothing}
@@ -91,7 +91,7 @@ holds : (s t : Serving) (was is : Truth) (b a : RunState) (last : Doing) (unansw
     → (v : Opening) (tree : Tree) (marks : List Mark) → Stands s was v tree marks
     → RunStands s.geometry t.frames s.minor v tree (moment s b Resting) (moment t a last) unanswered
 holds s t was is b a last unanswered runs live guarantees answered v tree marks stood =
-    let later : StandsAfter (area_at s) t is v tree (moment s b Resting) (moment t a last) = runs.stands v tree marks stood in
+    let later : StandsAfter (area_at s) s.geometry (state_of s) t is v tree (moment s b Resting) (moment t a last) = runs.stands v tree marks stood in
     let kept : RunTruth v a.scene later.marks = guarantees v later.marks later.stands.truth in
     record {
       holds = record {
@@ -101,6 +101,7 @@ holds s t was is b a last unanswered runs live guarantees answered v tree marks 
         media = media_hold v a.scene later.marks kept;
       };
       runs = later.runs;
+      served = record { first = state_of s; last = state_of t; frames_are = refl; turns = later.turns };
       calm = later.stands.serves.at_rest.complaint;
       needs = λ over. runs_end_needing (area_at s) (moment s b Resting) (moment t a last) later.runs live over;
     }

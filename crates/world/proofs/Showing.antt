@@ -14,6 +14,7 @@ use Rattle.records.specs.Marks.{Started}
 use Rattle.records.specs.Area.{WritesInside, area_of}
 use Rattle.records.specs.Opening.{Opening, Range, contents_at, volume_bytes}
 use Rattle.records.specs.Open.{IsWellFormed}
+use Rattle.records.specs.View.{Frames}
 use Rattle.records.specs.ServerCall.{Serving}
 use Rattle.synchronous_driver.specs.Inline.{IsReady}
 use Rattle.true_replies.specs.Events.{IsOnMedia}
@@ -35,6 +36,7 @@ use Rattle.file_server.specs.Over.{Hears}
 use Rattle.world.specs.Ends.{RunHolds, RunStands, EndsIn}
 use Rattle.world.specs.Starts.{at_first}
 use Rattle.world.specs.Runs.{moment}
+use Rattle.world.specs.Served.{IsServed}
 use Rattle.world.specs.Shows.{Shows}
 use Rattle.world.proofs.RunShowing.{runs_are_shown}
 use Rattle.world.proofs.Throughout.{held_throughout}
@@ -183,6 +185,12 @@ module _ {L : Type 0} (words : LinkWords L) (run : L → RunState) (link : L) (i
         throughout = held_throughout g v (area_of g setup.minor) (at_first (run link))
             (moment (serving_over words s) last from.plays.last) refl (Started (driver 1) ∷ []) first_true new.sectors_are
             (subst IsWellFormed marks shows.replies.well_formed) (subst (WritesInside g) marks shows.replies.inside);
+        served = subst (λ (x : Frames). IsServed (area_of g setup.minor) g (contents_at v) tree x (at_first (run link))
+            (moment (serving_over words s) last from.plays.last)) (sym frames_are)
+            (subst (λ n. IsServed (area_of g n) g (contents_at v) tree (frames_in s) (at_first (run link))
+            (moment (serving_over words s) last from.plays.last)) from.opened.minor_is
+            (subst (λ (h : Geometry). IsServed (area_of h (serving_over words from.before).minor) h (contents_at v) tree (frames_in s) (at_first (run link))
+            (moment (serving_over words s) last from.plays.last)) from.opened.geometry x.served));
       }
 
 -- a run that was to be begun is refused for want of memory alone

@@ -1,31 +1,38 @@
 -- A server over its link leads on through what is done at the link, through messages and through calls.
 use Rattle.std.proofs.Common.{◌≡◌, ◌⊎◌, ◌<◌, List, [], ◌∷◌, ◌++◌, Bool, true, false, refl, sym, ◌∙◌, ap, subst, arith}
-use Rattle.std.specs.Prelude.{◌||◌, Option, Some, None, Result, Ok, Err, IfOk, OnOk, OnErr}
+use Rattle.std.specs.Prelude.{ℕ, ◌||◌, ◌&&◌, not, Option, Some, None, Result, Ok, Err, IfOk, OnOk, OnErr}
 use Rattle.std.specs.declared.alloc.AllocError.{AllocError}
 use Rattle.lemmas.proofs.Bools.{is_false, true_not_false}
+use Rattle.layout.specs.declared.Geometry.{Geometry}
+use Rattle.message.specs.declared.BlockRequest.{BlockRequest}
 use Rattle.message.specs.declared.Incoming.{Incoming}
+use Rattle.message.specs.declared.Incoming.TheVariants.{Flush}
 use Rattle.tree.specs.Tree.{Tree}
 use Rattle.tree.specs.declared.Reply.{Reply}
 use Rattle.tree.specs.Answers.{Answer, answer_of}
-use Rattle.records.specs.Marks.{Mark, Took}
+use Rattle.records.specs.Marks.{Mark, Took, gave_up}
+use Rattle.records.specs.Disk.{Contents}
 use Rattle.records.specs.Opening.{Opening, contents_at}
 use Rattle.records.specs.Told.{received, took_end}
-use Rattle.records.specs.Acts.{Absorbed, told_of, marks_after, owed_after_message, IsAtRest}
-use Rattle.records.specs.ServerCall.{Serving, Serves, Outcome, Replied, Cut as WasCutOff}
-use Rattle.records.specs.Area.{area_of}
+use Rattle.records.specs.Acts.{Absorbed, Outbox, told_of, marks_after, owed_after_message, IsAtRest}
+use Rattle.records.specs.Flushes.{FlushesOn, FrameState, pending_requests}
+use Rattle.records.specs.ServerCall.{Serving, Serves, Outcome, Replied, Cut as WasCutOff, state_of}
+use Rattle.records.specs.Area.{Area, area_of}
 use Rattle.reissue.specs.Calls.{Truth}
 use Rattle.simulated_link.specs.Kept.{with_next}
 use Rattle.schedule.specs.declared.arrived.Arrived.{Arrived}
 use Rattle.simulated_link.specs.StateView.{RunState, RunTruth, GoesOn, Asides, HandsEvent, HandsNone, HandsOwed, HandsNothing, Answers, HandsOut, work_left}
 use Rattle.simulated_link.specs.Laws.{LeadsOn, IsToldOfEnd}
 use Rattle.simulated_link.specs.Waiting.{arrival_of, HasCalls}
-use Rattle.simulated_link.specs.Moments.{Doing, Resting, Hearing, Answering, record_of, Step, Runs, Starts, Then}
+use Rattle.simulated_link.specs.Moments.{Doing, Resting, Hearing, Answering, Moment, record_of, Step, Runs}
+use Rattle.simulated_link.specs.Moments as moments
 use Rattle.simulated_link.proofs.Leading.{leads_stays, leads_joins, servers_lead_on, asides_lead_on, calls_lead_on, answers_lead_on}
 use Rattle.simulated_link.proofs.Waits.{servers_hand_none, asides_hand_none, one_is_handed_out, it_is_answered}
 use Rattle.simulated_link.proofs.Running.{history_of, goes_told_of_end, quiet_next, runs_join, runs_at, servers_end_rightly}
-use Rattle.file_server.specs.Over.{SameServing, Hears, AbsorbsOver, CallSpecification}
-use Rattle.file_server.proofs.Standing.{serves_same}
+use Rattle.file_server.specs.Over.{SameServing, Hears, Stands, AbsorbsOver, CallSpecification}
+use Rattle.file_server.proofs.Standing.{same_state, serves_same}
 use Rattle.world.specs.declared.run_loop.course.Course.TheVariants.{More, Cut}
+use Rattle.world.specs.Served.{FramesHold, Turn, Turns, Starts, Then, Stays, Cuts, Hears as Hears_message, Answers as Answers_call}
 use Rattle.world.specs.Runs.{area_at, moment, RunsOn, StandsAfter, Awaits, Notes, IsLive, IsIdle, IsNext, RunsOne, AnswersTo, doing_of}
 use Rattle.world.proofs.Stepping.{no_end, told_absorbed, over_is_ended, asides_over, asides_told, asides_record, aside_step, quiet_step, asides_next, owing, owing_first, absorbed_history, absorb_runs, CallRuns, call_history, call_runs, replied, same_left, hands_run}
 
@@ -37,13 +44,45 @@ same_area s t geometry minor = λ i. area_of (geometry i) (minor i)
 abbrev pub IsGuarantee : Truth → RunState → Type 0
 IsGuarantee was p = (v : Opening) (marks : List Mark) → was v marks → RunTruth v p.scene marks
 
+-- ---- its frames, turn by turn
+
+-- they hold where the server stands
+frames_hold : (g : Geometry) (t : Serving) (is : Truth) (a : RunState) (v : Opening) (tree : Tree) (marks : List Mark) → t.geometry ≡ g
+    → IsGuarantee is a → Stands t is v tree marks → t.ended ≡ false → FramesHold g (contents_at v) tree (record_of a) t.outbox (state_of t)
+frames_hold g t is a v tree marks same guarantees stood live =
+    let first : FramesHold t.geometry (contents_at v) tree marks t.outbox (state_of t) = record {
+      reads_back = λ tr u. (stood.serves.has_tree tr live u).reads_back;
+      known = stood.serves.known;
+    } in
+    subst (λ (x : Geometry). FramesHold x (contents_at v) tree (record_of a) t.outbox (state_of t)) same
+    (subst (λ (l : List Mark). FramesHold t.geometry (contents_at v) tree l t.outbox (state_of t)) (sym (guarantees v marks stood.truth).is) first)
+
+-- turns lead on
+turns_join : (area : Area) (g : Geometry) (image : Contents) (tree : Tree) (m n o : Moment) (f h k : FrameState)
+    → Turns area g image tree m f n h → Turns area g image tree n h o k → Turns area g image tree m f o k
+turns_join area g image tree m n .n f h .h first Starts = first
+turns_join area g image tree m n o f h k first (Then p .o q .k between turn) =
+    Then p o q k (turns_join area g image tree m n p f h q first between) turn
+
+-- servers of the same volume
+turns_at : (s t : Serving) (image : Contents) (tree : Tree) (m n : Moment) (f h : FrameState) → t.geometry ≡ s.geometry → t.minor ≡ s.minor
+    → Turns (area_at t) t.geometry image tree m f n h → Turns (area_at s) s.geometry image tree m f n h
+turns_at s t image tree m n f h geometry minor turns =
+    subst (λ (g : Geometry). Turns (area_at s) g image tree m f n h) geometry
+    (subst (λ (area : Area). Turns area t.geometry image tree m f n h) (same_area s t geometry minor) turns)
+
+-- one turn
+one : (area : Area) (g : Geometry) (image : Contents) (tree : Tree) (m n : Moment) (f h : FrameState) → Turn area g image tree m n f h
+    → Turns area g image tree m f n h
+one area g image tree m n f h turn = Then m n f h Starts turn
+
 pub runs_stays : (s : Serving) (was : Truth) (b : RunState) (x : Doing) → RunsOn s s was was b b x x
 runs_stays s was b x = record {
   geometry = refl;
   minor = refl;
   frame_count = refl;
   leads = leads_stays b;
-  stands = λ v tree marks stood. record { marks = marks; stands = stood; runs = Starts };
+  stands = λ v tree marks stood. record { marks = marks; stands = stood; runs = moments.Starts; turns = Starts };
 }
 
 pub runs_joins : (s t u : Serving) (was then is : Truth) (b m a : RunState) (x y z : Doing) → RunsOn s t was then b m x y → RunsOn t u then is m a y z
@@ -54,13 +93,16 @@ runs_joins s t u was then is b m a x y z first next = record {
   frame_count = next.frame_count ∙ first.frame_count;
   leads = leads_joins b m a first.leads next.leads;
   stands = λ v tree marks stood.
-      let between : StandsAfter (area_at s) t then v tree (moment s b x) (moment t m y) = first.stands v tree marks stood in
-      let after : StandsAfter (area_at t) u is v tree (moment t m y) (moment u a z) = next.stands v tree between.marks between.stands in
+      let between : StandsAfter (area_at s) s.geometry (state_of s) t then v tree (moment s b x) (moment t m y) = first.stands v tree marks stood in
+      let after : StandsAfter (area_at t) t.geometry (state_of t) u is v tree (moment t m y) (moment u a z) =
+      next.stands v tree between.marks between.stands in
       record {
         marks = after.marks;
         stands = after.stands;
         runs = runs_join (area_at s) (moment s b x) (moment t m y) (moment u a z) between.runs
             (runs_at (area_at t) (area_at s) (moment t m y) (moment u a z) (same_area s t first.geometry first.minor) after.runs);
+        turns = turns_join (area_at s) s.geometry (contents_at v) tree (moment s b x) (moment t m y) (moment u a z) (state_of s) (state_of t) (state_of u)
+            between.turns (turns_at s t (contents_at v) tree (moment t m y) (moment u a z) (state_of t) (state_of u) first.geometry first.minor after.turns);
       };
 }
 
@@ -92,23 +134,38 @@ rests : (s : Serving) (was : Truth) (b : RunState) (v : Opening) (tree : Tree) (
     → IsAtRest (record_of b) s.outbox
 rests s was b v tree marks guarantees stood = subst (λ (l : List Mark). IsAtRest l s.outbox) (sym (guarantees v marks stood.truth).is) stood.serves.at_rest
 
+-- nothing was done but an event, or that a call was handed out
+stays_turn : (s t : Serving) (was is : Truth) (b a : RunState) (x y : Doing) (v : Opening) (tree : Tree) (marks : List Mark) → SameServing s t
+    → IsGuarantee was b → IsGuarantee is a → Hears s was v tree marks marks → Hears t is v tree marks marks
+    → Runs (area_at s) (moment s b x) (moment t a y) → t.ended ≡ false
+    → Turns (area_at s) s.geometry (contents_at v) tree (moment s b x) (state_of s) (moment t a y) (state_of t)
+stays_turn s t was is b a x y v tree marks same first later stood there runs live =
+    one (area_at s) s.geometry (contents_at v) tree (moment s b x) (moment t a y) (state_of s) (state_of t)
+    (Stays runs ((later v marks there.truth).is ∙ sym (first v marks stood.truth).is) (same_state s t same)
+    (frames_hold s.geometry t is a v tree marks same.geometry later there live))
+
 -- no message came
 pub none_came : (s t : Serving) (was is : Truth) (b a : RunState) (r : Option Incoming) → r ≡ None → Awaits s t was is b a r → IsIdle s b
-    → (b.owed ≡ true) ⊎ IsNext b → IsGuarantee was b → RunsOn s t was is b a Resting Resting
-none_came s t was is b a r none w idle left guarantees = by (subst (λ (o : Option Incoming). Awaits s t was is b a o) none w) where
+    → (b.owed ≡ true) ⊎ IsNext b → IsGuarantee was b → IsGuarantee is a → RunsOn s t was is b a Resting Resting
+none_came s t was is b a r none w idle left guarantees later = by (subst (λ (o : Option Incoming). Awaits s t was is b a o) none w) where
   by : Awaits s t was is b a None → RunsOn s t was is b a Resting Resting
   by x = record {
     geometry = x.same.geometry;
     minor = x.same.minor;
     frame_count = x.same.frame_count;
     leads = (asides_lead_on b a (Ok None) x.asides).leads;
-    stands = λ v tree marks stood. record {
-      marks = marks;
-      stands = still_serves s t was is v tree marks marks x.same stood (x.truth v marks stood.truth);
-      runs = owing (area_at s) (moment s b Resting) a s.outbox t.outbox Resting (sym x.same.outbox)
-          (Then (moment s b Resting) (record { run = a; outbox = s.outbox; doing = Resting }) Starts
-          (quiet_step (area_at s) b a s.outbox x.asides idle.live (rests s was b v tree marks guarantees stood) left));
-    };
+    stands = λ v tree marks stood.
+        let there : Hears t is v tree marks marks = still_serves s t was is v tree marks marks x.same stood (x.truth v marks stood.truth) in
+        let runs : Runs (area_at s) (moment s b Resting) (moment t a Resting) =
+        owing (area_at s) (moment s b Resting) a s.outbox t.outbox Resting (sym x.same.outbox)
+        (moments.Then (moment s b Resting) (record { run = a; outbox = s.outbox; doing = Resting }) moments.Starts
+        (quiet_step (area_at s) b a s.outbox x.asides idle.live (rests s was b v tree marks guarantees stood) left)) in
+        record {
+          marks = marks;
+          stands = there;
+          runs = runs;
+          turns = stays_turn s t was is b a Resting Resting v tree marks x.same guarantees later stood there runs (x.same.ended ∙ idle.ended);
+        };
   }
 
 pub none_came_idle : (s t : Serving) (was is : Truth) (b a : RunState) (r : Option Incoming) → Awaits s t was is b a r → IsIdle s b → IsIdle t a
@@ -122,11 +179,56 @@ none_came_idle s t was is b a r w idle = record {
 pub none_came_one : (s t : Serving) (was is : Truth) (b a : RunState) (r : Option Incoming) → Awaits s t was is b a r → RunsOne b a
 none_came_one s t was is b a r w = record { next = asides_next b a r w.asides; less = (asides_lead_on b a (Ok r) w.asides).less }
 
+-- nothing was taken in it
+absorbed_ended : (s t : Serving) (was is : Truth) (message : Incoming) → AbsorbsOver s t was is message → t.ended ≡ s.ended
+absorbed_ended s t was is message absorbs =
+    absorbs.keeps.leads.ended
+    ∙ ap (λ (b : Bool). b || s.ended) (ap took_end (told_absorbed absorbs.keeps.later message) ∙ no_end (told_of absorbs.keeps.later) absorbs.keeps.none_taken)
+
+-- a message was handed over to a server that stays
+hears_turn : (s t u : Serving) (was noted is : Truth) (b a : RunState) (message : Incoming) (v : Opening) (tree : Tree) (marks : List Mark)
+    → SameServing s t → (absorbs : AbsorbsOver t u noted is message) → IsGuarantee was b → IsGuarantee is a → Hears s was v tree marks marks
+    → Hears t noted v tree marks (received message marks) → Stands u is v tree (marks_after (absorbs.keeps.later ++ Absorbed message ∷ []) marks)
+    → Runs (area_at s) (moment s b Resting) (moment u a Resting) → u.ended ≡ false
+    → Turns (area_at s) s.geometry (contents_at v) tree (moment s b Resting) (state_of s) (moment u a Resting) (state_of u)
+hears_turn s t u was noted is b a message v tree marks same absorbs first later stood heard there runs live =
+    one (area_at s) s.geometry (contents_at v) tree (moment s b Resting) (moment u a Resting) (state_of s) (state_of u)
+    (Hears_message message absorbs.keeps.later runs (after_is ∙ ap (marks_after (absorbs.keeps.later ++ Absorbed message ∷ [])) (sym before_is))
+    absorbs.keeps.none_absorbed absorbs.keeps.none_taken flushes
+    (frames_hold s.geometry u is a v tree after (absorbs.keeps.leads.geometry ∙ same.geometry) later there live))
+  where
+    after : List Mark
+    after = marks_after (absorbs.keeps.later ++ Absorbed message ∷ []) marks
+
+    before_is : record_of b ≡ marks
+    before_is = (first v marks stood.truth).is
+
+    after_is : record_of a ≡ after
+    after_is = (later v after there.truth).is
+
+    flushes : message ≡ Flush → FlushesOn s.geometry.block_size (not (gave_up (record_of a))) (state_of s) (state_of u)
+        (pending_requests (record_of b) s.outbox) (pending_requests (record_of a) u.outbox)
+    flushes is_flush =
+        let was_so = absorbs.keeps.flushes (contents_at v) tree marks heard.serves.agrees is_flush in
+        let alive : (not u.ended && not (gave_up after)) ≡ not (gave_up (record_of a)) =
+        ap (λ (x : Bool). not x && not (gave_up after)) live ∙ ap (λ (l : List Mark). not (gave_up l)) (sym after_is) in
+        subst (λ (size : ℕ). FlushesOn size (not (gave_up (record_of a))) (state_of s) (state_of u) (pending_requests (record_of b) s.outbox)
+        (pending_requests (record_of a) u.outbox)) (ap (λ (g : Geometry). g.block_size) same.geometry)
+        (subst (λ (x : Bool). FlushesOn t.geometry.block_size x (state_of s) (state_of u) (pending_requests (record_of b) s.outbox)
+        (pending_requests (record_of a) u.outbox)) alive
+        (subst (λ (f : FrameState). FlushesOn t.geometry.block_size (not u.ended && not (gave_up after)) f (state_of u)
+        (pending_requests (record_of b) s.outbox) (pending_requests (record_of a) u.outbox)) (same_state s t same)
+        (subst (λ (rs : List BlockRequest). FlushesOn t.geometry.block_size (not u.ended && not (gave_up after)) (state_of t) (state_of u) rs
+        (pending_requests (record_of a) u.outbox))
+        (ap (λ (o : Outbox). pending_requests marks o) same.outbox ∙ ap (λ (l : List Mark). pending_requests l s.outbox) (sym before_is))
+        (subst (λ (rs : List BlockRequest). FlushesOn t.geometry.block_size (not u.ended && not (gave_up after)) (state_of t) (state_of u)
+        (pending_requests marks t.outbox) rs) (ap (λ (l : List Mark). pending_requests l u.outbox) (sym after_is)) was_so))))
+
 -- the message is handed over
 pub handed : (s t u : Serving) (was noted is : Truth) (b m a : RunState) (r : Option Incoming) (message : Incoming) → r ≡ Some message
     → AbsorbsOver t u noted is message → GoesOn m a → Awaits s t was noted b m r → IsIdle s b → (b.owed ≡ true) ⊎ IsNext b → IsGuarantee was b
-    → t.told ≡ history_of m → u.told ≡ history_of a → RunsOn s u was is b a Resting Resting
-handed s t u was noted is b m a r message came absorbs on w idle left guarantees first last =
+    → IsGuarantee is a → t.told ≡ history_of m → u.told ≡ history_of a → RunsOn s u was is b a Resting Resting
+handed s t u was noted is b m a r message came absorbs on w idle left guarantees finally first last =
     by (subst (λ (o : Option Incoming). Awaits s t was noted b m o) came w) where
       by : Awaits s t was noted b m (Some message) → RunsOn s u was is b a Resting Resting
       by x = record {
@@ -137,14 +239,12 @@ handed s t u was noted is b m a r message came absorbs on w idle left guarantees
         stands = λ v tree marks stood.
             let h : Hears t noted v tree marks (received message marks) = still_serves s t was noted v tree marks (received message marks) x.same stood (x.truth v marks stood.truth) in
             let is_record : record_of b ≡ marks = (guarantees v marks stood.truth).is in
-            record {
-              marks = marks_after (absorbs.keeps.later ++ Absorbed message ∷ []) marks;
-              stands = record {
-                minor = h.minor ∙ sym absorbs.keeps.leads.minor;
-                serves = absorbs.keeps.serves (contents_at v) tree marks h.serves;
-                truth = absorbs.truth v tree marks h.minor h.serves.agrees h.truth;
-              };
-              runs = runs_join (area_at s) (moment s b Resting) (record { run = m; outbox = owed_after_message message marks s.outbox; doing = Hearing message })
+            let there : Stands u is v tree (marks_after (absorbs.keeps.later ++ Absorbed message ∷ []) marks) = record {
+              minor = h.minor ∙ sym absorbs.keeps.leads.minor;
+              serves = absorbs.keeps.serves (contents_at v) tree marks h.serves;
+              truth = absorbs.truth v tree marks h.minor h.serves.agrees h.truth;
+            } in
+            let runs : Runs (area_at s) (moment s b Resting) (moment u a Resting) = runs_join (area_at s) (moment s b Resting) (record { run = m; outbox = owed_after_message message marks s.outbox; doing = Hearing message })
                   (moment u a Resting)
                   (Then (moment s b Resting) (record { run = m; outbox = owed_after_message message marks s.outbox; doing = Hearing message }) Starts
                   (subst (λ (l : List Mark). Step (area_at s) (moment s b Resting)
@@ -154,17 +254,17 @@ handed s t u was noted is b m a r message came absorbs on w idle left guarantees
                   (owing_first (area_at t) m (owed_after_message message marks t.outbox) (owed_after_message message marks s.outbox) (Hearing message)
                   (moment u a Resting) (ap (owed_after_message message marks) x.same.outbox)
                   (absorb_runs t u noted is m a message v tree marks absorbs on (asides_told b m (Some message) x.asides idle.told_of_end) first last
-                  (asides_record b m message x.asides ∙ ap (received message) is_record) h.serves)));
+                  (asides_record b m message x.asides ∙ ap (received message) is_record) h.serves))) in
+            record {
+              marks = marks_after (absorbs.keeps.later ++ Absorbed message ∷ []) marks;
+              stands = there;
+              runs = runs;
+              turns = hears_turn s t u was noted is b a message v tree marks x.same absorbs guarantees finally stood h there runs
+                  (absorbed_ended t u noted is message absorbs ∙ x.same.ended ∙ idle.ended);
             };
       }
 
--- nothing was taken in it
-absorbed_ended : (s t : Serving) (was is : Truth) (message : Incoming) → AbsorbsOver s t was is message → t.ended ≡ s.ended
-absorbed_ended s t was is message absorbs =
-    absorbs.keeps.leads.ended
-    ∙ ap (λ (b : Bool). b || s.ended) (ap took_end (told_absorbed absorbs.keeps.later message) ∙ no_end (told_of absorbs.keeps.later) absorbs.keeps.none_taken)
-
--- and so the link still hasn't ended
+-- the link still hasn't ended
 pub absorbed_live : (s t : Serving) (was is : Truth) (b a : RunState) (message : Incoming) → AbsorbsOver s t was is message → GoesOn b a → IsToldOfEnd b
     → s.ended ≡ false → b.over ≡ false → HasCalls [] b → s.told ≡ history_of b → t.told ≡ history_of a → IsIdle t a
 absorbed_live s t was is b a message absorbs on told ended live calls first last =
@@ -236,8 +336,9 @@ answered_over s t was is b a arrived reply calls on handed first last =
 -- a call was answered, and its answer noted
 pub answered : (s t u : Serving) (was is after : Truth) (b m a : RunState) (arrived : Arrived) (reply : Reply)
     → CallSpecification s t was is arrived.who arrived.now arrived.call (Replied (answer_of reply)) → GoesOn b m → Notes t u is after m a arrived reply
-    → IsLive (Answering arrived) s b → IsGuarantee was b → s.told ≡ history_of b → t.told ≡ history_of m → RunsOn s u was after b a (Answering arrived) Resting
-answered s t u was is after b m a arrived reply calls on n live guarantees first last = record {
+    → IsLive (Answering arrived) s b → IsGuarantee was b → IsGuarantee after a → s.told ≡ history_of b → t.told ≡ history_of m
+    → RunsOn s u was after b a (Answering arrived) Resting
+answered s t u was is after b m a arrived reply calls on n live guarantees finally first last = record {
   geometry = n.same.geometry ∙ calls.keeps.leads.geometry;
   minor = n.same.minor ∙ calls.keeps.leads.minor;
   frame_count = n.same.frame_count ∙ calls.keeps.leads.frame_count;
@@ -248,18 +349,26 @@ answered s t u was is after b m a arrived reply calls on n live guarantees first
       let runs : CallRuns s t b m arrived (marks_after calls.keeps.acts marks) =
       call_runs s t was is b m arrived (Replied (answer_of reply)) v tree marks calls on live.told_of_end first last
       (guarantees v marks stood.truth).is stood.serves in
-      record {
-        marks = Took arrived.who arrived.now arrived.call (answer_of reply) ∷ marks_after calls.keeps.acts marks;
-        stands = record {
-          minor = stood.minor ∙ sym calls.keeps.leads.minor ∙ sym n.same.minor;
-          serves = serves_same t u (contents_at v) tree (Took arrived.who arrived.now arrived.call (answer_of reply) ∷ marks_after calls.keeps.acts marks)
-              n.same done;
-          truth = n.truth v (marks_after calls.keeps.acts marks) (calls.truth v tree marks stood.minor stood.serves.agrees stood.truth);
-        };
-        runs = owing (area_at s) (moment s b (Answering arrived)) a t.outbox u.outbox Resting (sym n.same.outbox)
+      let there : Stands u after v tree (Took arrived.who arrived.now arrived.call (answer_of reply) ∷ marks_after calls.keeps.acts marks) = record {
+        minor = stood.minor ∙ sym calls.keeps.leads.minor ∙ sym n.same.minor;
+        serves = serves_same t u (contents_at v) tree (Took arrived.who arrived.now arrived.call (answer_of reply) ∷ marks_after calls.keeps.acts marks)
+            n.same done;
+        truth = n.truth v (marks_after calls.keeps.acts marks) (calls.truth v tree marks stood.minor stood.serves.agrees stood.truth);
+      } in
+      let all_runs : Runs (area_at s) (moment s b (Answering arrived)) (moment u a Resting) = owing (area_at s) (moment s b (Answering arrived)) a t.outbox u.outbox Resting (sym n.same.outbox)
             (subst (λ (p : RunState). Runs (area_at s) (moment s b (Answering arrived)) (record { run = p; outbox = t.outbox; doing = Resting })) (sym n.answers)
             (replied (area_at s) (moment s b (Answering arrived)) m t.outbox arrived reply (marks_after calls.keeps.acts marks) runs.runs
-            (answered_over s t was is b m arrived reply calls on live first last) runs.record_is done.at_rest));
+            (answered_over s t was is b m arrived reply calls on live first last) runs.record_is done.at_rest)) in
+      record {
+        marks = Took arrived.who arrived.now arrived.call (answer_of reply) ∷ marks_after calls.keeps.acts marks;
+        stands = there;
+        runs = all_runs;
+        turns = one (area_at s) s.geometry (contents_at v) tree (moment s b (Answering arrived)) (moment u a Resting) (state_of s) (state_of u)
+            (Answers_call arrived (answer_of reply) calls.keeps.acts all_runs ((finally v _ there.truth).is
+            ∙ ap (λ (l : List Mark). Took arrived.who arrived.now arrived.call (answer_of reply) ∷ marks_after calls.keeps.acts l)
+            (sym (guarantees v marks stood.truth).is)) calls.keeps.none_absorbed
+            (frames_hold s.geometry u after a v tree _ (n.same.geometry ∙ calls.keeps.leads.geometry) finally there
+            (n.same.ended ∙ answered_ended s t was is arrived reply calls)));
       };
 }
 
@@ -279,22 +388,29 @@ answered_to s t u was is after b m a arrived reply calls on n live first last th
 
 -- a call was cut
 pub cut_off : (s t : Serving) (was is : Truth) (b a : RunState) (arrived : Arrived) → CallSpecification s t was is arrived.who arrived.now arrived.call WasCutOff
-    → GoesOn b a → IsLive (Answering arrived) s b → IsGuarantee was b → s.told ≡ history_of b → t.told ≡ history_of a
+    → GoesOn b a → IsLive (Answering arrived) s b → IsGuarantee was b → IsGuarantee is a → s.told ≡ history_of b → t.told ≡ history_of a
     → RunsOn s t was is b a (Answering arrived) (Answering arrived)
-cut_off s t was is b a arrived calls on live guarantees first last = record {
+cut_off s t was is b a arrived calls on live guarantees finally first last = record {
   geometry = calls.keeps.leads.geometry;
   minor = calls.keeps.leads.minor;
   frame_count = calls.keeps.leads.frame_count;
   leads = servers_lead_on b a on;
-  stands = λ v tree marks stood. record {
-    marks = marks_after calls.keeps.acts marks;
-    stands = record {
-      minor = stood.minor ∙ sym calls.keeps.leads.minor;
-      serves = calls.keeps.serves (contents_at v) tree marks stood.serves;
-      truth = calls.truth v tree marks stood.minor stood.serves.agrees stood.truth;
-    };
-    runs = (call_runs s t was is b a arrived WasCutOff v tree marks calls on live.told_of_end first last (guarantees v marks stood.truth).is stood.serves).runs;
-  };
+  stands = λ v tree marks stood.
+      let there : Stands t is v tree (marks_after calls.keeps.acts marks) = record {
+        minor = stood.minor ∙ sym calls.keeps.leads.minor;
+        serves = calls.keeps.serves (contents_at v) tree marks stood.serves;
+        truth = calls.truth v tree marks stood.minor stood.serves.agrees stood.truth;
+      } in
+      let runs : Runs (area_at s) (moment s b (Answering arrived)) (moment t a (Answering arrived)) =
+      (call_runs s t was is b a arrived WasCutOff v tree marks calls on live.told_of_end first last (guarantees v marks stood.truth).is stood.serves).runs in
+      record {
+        marks = marks_after calls.keeps.acts marks;
+        stands = there;
+        runs = runs;
+        turns = one (area_at s) s.geometry (contents_at v) tree (moment s b (Answering arrived)) (moment t a (Answering arrived)) (state_of s) (state_of t)
+            (Cuts calls.keeps.acts runs ((finally v _ there.truth).is ∙ ap (marks_after calls.keeps.acts) (sym (guarantees v marks stood.truth).is))
+            calls.keeps.none_absorbed);
+      };
 }
 
 pub cut_to : (s t : Serving) (was is : Truth) (b a : RunState) (arrived : Arrived) → CallSpecification s t was is arrived.who arrived.now arrived.call WasCutOff
@@ -313,29 +429,35 @@ cut_to s t was is b a arrived calls on live first last =
 
 -- a call is handed out by the link that was lent
 hands_there : (s t : Serving) (was is : Truth) (b a : RunState) (first : Option Arrived) → SameServing s t → HandsOut b first a → b.over ≡ false → b.owed ≡ false
-    → IsGuarantee was b → ((v : Opening) (marks : List Mark) → was v marks → is v marks) → RunsOn s t was is b a Resting (doing_of first)
-hands_there s t was is b a first same hands live paid guarantees truth = record {
+    → IsGuarantee was b → IsGuarantee is a → ((v : Opening) (marks : List Mark) → was v marks → is v marks) → s.ended ≡ false
+    → RunsOn s t was is b a Resting (doing_of first)
+hands_there s t was is b a first same hands live paid guarantees finally truth open = record {
   geometry = same.geometry;
   minor = same.minor;
   frame_count = same.frame_count;
   leads = (calls_lead_on b a first hands).leads;
-  stands = λ v tree marks stood. record {
-    marks = marks;
-    stands = still_serves s t was is v tree marks marks same stood (truth v marks stood.truth);
-    runs = owing (area_at s) (moment s b Resting) a s.outbox t.outbox (doing_of first) (sym same.outbox)
-        (hands_run (area_at s) b a s.outbox first hands live paid (rests s was b v tree marks guarantees stood));
-  };
+  stands = λ v tree marks stood.
+      let there : Hears t is v tree marks marks = still_serves s t was is v tree marks marks same stood (truth v marks stood.truth) in
+      let runs : Runs (area_at s) (moment s b Resting) (moment t a (doing_of first)) =
+      owing (area_at s) (moment s b Resting) a s.outbox t.outbox (doing_of first) (sym same.outbox)
+      (hands_run (area_at s) b a s.outbox first hands live paid (rests s was b v tree marks guarantees stood)) in
+      record {
+        marks = marks;
+        stands = there;
+        runs = runs;
+        turns = stays_turn s t was is b a Resting (doing_of first) v tree marks same guarantees finally stood there runs (same.ended ∙ open);
+      };
 }
 
 pub handed_out : {Line : Type 0} (truth : Line → Truth) (run : Line → RunState) (s t : Serving) (before lent after there : Line) (first : Option Arrived)
     → lent ≡ before → there ≡ after → SameServing s t → HandsOut (run lent) first (run after) → (run before).over ≡ false → (run before).owed ≡ false
-    → ((l : Line) → IsGuarantee (truth l) (run l)) → ((v : Opening) (marks : List Mark) → truth lent v marks → truth after v marks)
+    → s.ended ≡ false → ((l : Line) → IsGuarantee (truth l) (run l)) → ((v : Opening) (marks : List Mark) → truth lent v marks → truth after v marks)
     → RunsOn s t (truth before) (truth there) (run before) (run there) Resting (doing_of first)
-handed_out {Line} truth run s t before lent after there first value put same hands live paid guarantees keeps =
+handed_out {Line} truth run s t before lent after there first value put same hands live paid open guarantees keeps =
     subst (λ (l : Line). RunsOn s t (truth before) (truth l) (run before) (run l) Resting (doing_of first)) (sym put)
     (subst (λ (l : Line). RunsOn s t (truth l) (truth after) (run l) (run after) Resting (doing_of first)) value
     (hands_there s t (truth lent) (truth after) (run lent) (run after) first same hands (ap (λ (l : Line). (run l).over) value ∙ live)
-    (ap (λ (l : Line). (run l).owed) value ∙ paid) (guarantees lent) keeps))
+    (ap (λ (l : Line). (run l).owed) value ∙ paid) (guarantees lent) (guarantees after) keeps open))
 
 pub hands : {Line : Type 0} (run : Line → RunState) (before lent after there : Line) (first : Option Arrived) → lent ≡ before → there ≡ after
     → HandsOut (run lent) first (run after) → HandsOut (run before) first (run there)

@@ -19,6 +19,7 @@ use Rattle.simulated_link.specs.Waiting.{arrival_of}
 use Rattle.simulated_link.specs.Moments.{Doing, Resting, Hearing, Answering, Moment, Runs, Needs}
 use Rattle.file_server.specs.Over.{Stands}
 use Rattle.world.specs.Runs.{moment, out_in}
+use Rattle.world.specs.Served.{IsServed}
 
 -- Of a volume that held this tree, without an open file: the replies are true, and each is that of the tree after each earlier call taken once;
 -- what the server would read back is the tree now, where no call is left and the device isn't given up; and the media hold what the record
@@ -33,11 +34,12 @@ EndsIn Resting t a = (t.ended ≡ false) × (a.over ≡ false) × (a.queue ≡ [
 EndsIn (Hearing message) t a = ⊥
 EndsIn (Answering call) t a = (t.ended ≡ true) × (a.over ≡ true)
 
--- a run over a volume holds, each of its steps was by the rules, and at its end no complaint is owed; where the link has ended, the server needs
+-- a run over a volume holds, each of its steps was by the rules, turn by turn, and at its end no complaint is owed; where the link has ended, the server needs
 -- a message, and the device isn't given up
 pub record RunStands (g : Geometry) (frames : Frames) (minor : ℕ) (v : Opening) (tree : Tree) (from to : Moment) (unanswered : ℕ) : Type 0 where
   pub holds : RunHolds g frames v tree to.run.scene unanswered
   pub runs : Runs (area_of g minor) from to
+  pub served : IsServed (area_of g minor) g (contents_at v) tree frames from to
   pub calm : to.outbox.complaint ≡ None
   pub needs : to.run.over ≡ true → Needs to
 

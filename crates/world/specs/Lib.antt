@@ -1,6 +1,7 @@
 pub mod Exact
 pub mod FirstEvents
 pub mod Throughout
+pub mod Served
 pub mod Occurs
 pub mod Shows
 pub mod Reasons

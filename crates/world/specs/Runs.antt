@@ -1,12 +1,14 @@
 -- What a run leads through: turns between two calls, in which events are run, messages handed over, and calls answered.
 use Rattle.std.specs.Prelude.{◌≡◌, ◌⊎◌, ◌≤◌, ◌<◌, ◌+◌, List, [], ◌∷◌, length, Bool, true, false, Option, Some, None, Ok, if◌then◌else◌}
+use Rattle.layout.specs.declared.Geometry.{Geometry}
 use Rattle.message.specs.declared.Incoming.{Incoming}
 use Rattle.tree.specs.Tree.{Tree}
 use Rattle.tree.specs.declared.Reply.{Reply}
 use Rattle.tree.specs.Answers.{answer_of}
 use Rattle.records.specs.Marks.{Mark, Took}
-use Rattle.records.specs.Opening.{Opening}
-use Rattle.records.specs.ServerCall.{Serving}
+use Rattle.records.specs.Opening.{Opening, contents_at}
+use Rattle.records.specs.Flushes.{FrameState}
+use Rattle.records.specs.ServerCall.{Serving, state_of}
 use Rattle.records.specs.Area.{Area, area_of}
 use Rattle.reissue.specs.Calls.{Truth}
 use Rattle.simulated_link.specs.Kept.{with_next}
@@ -17,6 +19,7 @@ use Rattle.simulated_link.specs.Laws.{LeadsOn, IsToldOfEnd}
 use Rattle.simulated_link.specs.Waiting.{HasCalls, arrival_of}
 use Rattle.simulated_link.specs.Moments.{Doing, Resting, Hearing, Answering, Moment, Runs}
 use Rattle.file_server.specs.Over.{Stands, SameServing}
+use Rattle.world.specs.Served.{Turns}
 use Rattle.world.specs.declared.run_loop.course.Course.{Course}
 use Rattle.world.specs.declared.run_loop.course.Course.TheVariants.{More, Done, Cut}
 
@@ -52,11 +55,12 @@ pub record WasCut (call : Arrived) (s : Serving) (p : RunState) : Type 0 where
   pub why : (p.starved ≡ true) ⊎ IsSpent p
   pub calls : HasCalls (arrival_of call ∷ []) p
 
--- a server stands with a record, to which a run by the rules led
-pub record StandsAfter (area : Area) (t : Serving) (is : Truth) (v : Opening) (tree : Tree) (from to : Moment) : Type 0 where
+-- a server stands with a record, to which a run by the rules led, turn by turn
+pub record StandsAfter (area : Area) (g : Geometry) (f : FrameState) (t : Serving) (is : Truth) (v : Opening) (tree : Tree) (from to : Moment) : Type 0 where
   pub marks : List Mark
   pub stands : Stands t is v tree marks
   pub runs : Runs area from to
+  pub turns : Turns area g (contents_at v) tree from f to (state_of t)
 
 -- A server over a link, from one moment to another: what it serves stays, the schedule stays and no event is run twice; and where it
 -- stood with a record, it stands with one, to which the steps of a run led.
@@ -66,7 +70,7 @@ pub record RunsOn (s t : Serving) (was is : Truth) (b a : RunState) (x y : Doing
   pub frame_count : t.frame_count ≡ s.frame_count
   pub leads : LeadsOn b a
   pub stands : (v : Opening) (tree : Tree) (marks : List Mark) → Stands s was v tree marks
-      → StandsAfter (area_at s) t is v tree (moment s b x) (moment t a y)
+      → StandsAfter (area_at s) s.geometry (state_of s) t is v tree (moment s b x) (moment t a y)
 
 -- an event was run, or what was owed was told, and the message, if there is one, wasn't handed over yet
 pub record Awaits (s t : Serving) (was is : Truth) (b a : RunState) (message : Option Incoming) : Type 0 where

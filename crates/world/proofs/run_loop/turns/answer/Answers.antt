@@ -11,6 +11,7 @@ returns-in_ok-note_answer-in-Answered-clause-runs g c =
     answered _ _ _ _ _ _ _ _ _ (g.L.Waiting.Arrival.arrived c.args.arrived) c.call.new.reply
     (of_call _ _ _ _ _ _ _ c.as_arrived-asked.ensures c.in-Answered.ensures.keeps) (g.met.L.Ran.goes _ _ c.call.ensures.goes)
     c.in_ok-note_answer-in-Answered.ensures.noted c.requires.handed (λ v marks. g.met.L.Ran.guarantees _ v marks)
+    (λ v marks. g.met.L.Ran.guarantees _ v marks)
     (g.met.S.FileServer.tells _ ∙ g.met.L.Ran.tells _) (g.met.S.FileServer.tells _ ∙ g.met.L.Ran.tells _)
 
 pub returns-in_ok-note_answer-in-Answered-clause-course : goal.returns-in_ok-note_answer-in-Answered-clause-course
@@ -24,7 +25,7 @@ pub returns-in-Cut-clause-runs : goal.returns-in-Cut-clause-runs
 returns-in-Cut-clause-runs g c =
     cut_off _ _ _ _ _ _ (g.L.Waiting.Arrival.arrived c.args.arrived) (of_call _ _ _ _ _ _ _ c.as_arrived-asked.ensures c.in-Cut.ensures.keeps)
     (g.met.L.Ran.goes _ _ c.call.ensures.goes) c.requires.handed
-    (λ v marks. g.met.L.Ran.guarantees _ v marks) (g.met.S.FileServer.tells _ ∙ g.met.L.Ran.tells _)
+    (λ v marks. g.met.L.Ran.guarantees _ v marks) (λ v marks. g.met.L.Ran.guarantees _ v marks) (g.met.S.FileServer.tells _ ∙ g.met.L.Ran.tells _)
     (g.met.S.FileServer.tells _ ∙ g.met.L.Ran.tells _)
 
 pub returns-in-Cut-clause-course : goal.returns-in-Cut-clause-course

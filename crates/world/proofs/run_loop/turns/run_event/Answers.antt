@@ -5,7 +5,7 @@ use Rattle.world.proofs.run_loop.turns.run_event.Goals as goal
 pub returns-in-Some-clause-runs : goal.returns-in-Some-clause-runs
 returns-in-Some-clause-runs g c =
     handed _ _ _ _ _ _ _ _ _ _ _ c.in-Some.is c.absorb.ensures.keeps (g.met.L.Ran.goes _ _ c.absorb.ensures.goes) c.in_ok-message.ensures.awaits
-    c.requires.idle c.requires.left (λ v marks. g.met.L.Ran.guarantees _ v marks)
+    c.requires.idle c.requires.left (λ v marks. g.met.L.Ran.guarantees _ v marks) (λ v marks. g.met.L.Ran.guarantees _ v marks)
     (g.met.S.FileServer.tells _ ∙ g.met.L.Ran.tells _) (g.met.S.FileServer.tells _ ∙ g.met.L.Ran.tells _)
 
 pub returns-in-Some-clause-idle : goal.returns-in-Some-clause-idle
@@ -20,7 +20,7 @@ returns-in-Some-clause-one g c =
 
 pub returns-in_default-clause-runs : goal.returns-in_default-clause-runs
 returns-in_default-clause-runs g c =
-    none_came _ _ _ _ _ _ _ c.in_default.is c.in_ok-message.ensures.awaits c.requires.idle c.requires.left (λ v marks. g.met.L.Ran.guarantees _ v marks)
+    none_came _ _ _ _ _ _ _ c.in_default.is c.in_ok-message.ensures.awaits c.requires.idle c.requires.left (λ v marks. g.met.L.Ran.guarantees _ v marks) (λ v marks. g.met.L.Ran.guarantees _ v marks)
 
 pub returns-in_default-clause-idle : goal.returns-in_default-clause-idle
 returns-in_default-clause-idle g c = none_came_idle _ _ _ _ _ _ _ c.in_ok-message.ensures.awaits c.requires.idle
