@@ -87,14 +87,15 @@ again {t = t} d offset given tried refused few = record {
 
 pub tried_again : {S : Type 0} {called : S → ℕ → ℕ → Call → Outcome → S → Type 0} {entered : S → ℕ → ℕ → Result ℕ EnterRefusal → S → Type 0}
     {left : S → Leaving → S → Type 0} {now : ℕ} {s t u : S} {bytes : List ℕ} (d : Descriptor) (offset : ℕ) (z : ℤ) (given : Bor (List ℕ))
-    (less : List ℕ) → z ≡ pos offset → TriedFor called entered left now s d offset bytes given.now t
-    → SoughtFor called entered left now t d z (call.Write d.fd given) (reply.Refused ENOSPC) u
+    (less : List ℕ) (told : Option ℕ) → told ≡ None → z ≡ pos offset → TriedFor called entered left now s d offset bytes given.now t
+    → SoughtFor called entered left now t d z (call.Write d.fd given) (room_reply told) u
     → fewer offset (length given.now) < length given.now → less ≡ take (fewer offset (length given.now)) given.now
     → TriedFor called entered left now s d offset bytes less u
-tried_again {S} {called} {entered} {left} {now} {s} {t} {u} {bytes} d offset z given less at tried refused few same =
+tried_again {S} {called} {entered} {left} {now} {s} {t} {u} {bytes} d offset z given less told none at tried refused few same =
     let At : ℤ → Type 0 = λ y. SoughtFor called entered left now t d y (call.Write d.fd given) (reply.Refused ENOSPC) u in
+    let Told : Option ℕ → Type 0 = λ it. SoughtFor called entered left now t d z (call.Write d.fd given) (room_reply it) u in
     let P : List ℕ → Type 0 = λ it. TriedFor called entered left now s d offset bytes it u in
-    subst P (sym same) (again d offset given tried (subst At at refused) few)
+    subst P (sym same) (again d offset given tried (subst At at (subst Told none refused)) few)
 
 -- those given were written
 pub wrote_some : {S : Type 0} {called : S → ℕ → ℕ → Call → Outcome → S → Type 0} {entered : S → ℕ → ℕ → Result ℕ EnterRefusal → S → Type 0}
