@@ -45,7 +45,7 @@ pub data AreTries (d : Descriptor) (offset : ℕ) (bytes : List ℕ) : List ℕ 
   Fewer : (given : Bor (List ℕ)) (position : ℕ) (log : List Exchange) → AreTries d offset bytes given.now log
       → fewer offset (length given.now) < length given.now
       → AreTries d offset bytes (take (fewer offset (length given.now)) given.now)
-        (wrote_by d given (reply.Refused ENOSPC) ∷ sought_at d offset position ∷ log)
+      (wrote_by d given (reply.Refused ENOSPC) ∷ sought_at d offset position ∷ log)
 
 -- By such tries, and nothing else, sessions come from one state to another.
 pub record TriedFor {S : Type 0} (called : S → ℕ → ℕ → Call → Outcome → S → Type 0) (entered : S → ℕ → ℕ → Result ℕ EnterRefusal → S → Type 0)
