@@ -169,6 +169,41 @@ def small(trial):
         volume.umount()
 
 
+@end("full-to-the-last")
+def full_to_the_last(trial):
+    """A write that finds less room than it needs takes all there is: large ones fill the volume to the last block, at blocks of each size."""
+    for block_size in 1024, 2048, 4096:
+        with Volume(trial, f"last-{block_size}", {**SMALL, "block_size": block_size}) as volume:
+            volume.mount()
+            file, data = volume.folder / "large", random.Random(trial.seed).randbytes(5 << 20)
+            with open(file, "wb", buffering=0) as opened:
+                opened.write(data[:1000])  # so that no write begins where a block does
+                wrote = 1000 + filled_with(opened, data[1000:], 300_000)
+            same("blocks that are free", os.statvfs(volume.folder).f_bfree, 0)
+            same("bytes behind the last full block", wrote % block_size, 0)
+            volume.umount()
+            volume.mount()
+            same("the bytes at the next mount", file.read_bytes() == data[:wrote], True)
+            os.unlink(file)
+            for words in ("cp", volume.image, file), ("dd", "if=/dev/zero", f"of={file}", "bs=1M", "status=none"):
+                said_so = run(*words).stderr
+                holds(f"{words[0]} says why", b"No space left" in said_so)
+                same(f"blocks that are free behind {words[0]}", os.statvfs(volume.folder).f_bfree, 0)
+                os.unlink(file)
+            volume.umount()
+
+
+def filled_with(opened, data, size):
+    """Writes pieces of bytes to an open file until there is no room: how many were written."""
+    wrote = 0
+    try:
+        while wrote < len(data):
+            wrote += opened.write(data[wrote:wrote + size])
+    except OSError as error:
+        same("the error", errno.errorcode[error.errno], "ENOSPC")
+    return wrote
+
+
 @end("full")
 def full(trial):
     """A full volume refuses with ENOSPC what finds no room, keeps all else, and has its room back behind a removal."""

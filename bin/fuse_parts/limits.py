@@ -1,7 +1,7 @@
 """What a volume can't do, each with the error by which it is refused (docs/MOUNT.md)."""
-import ctypes, errno, os
+import ctypes, errno, os, time
 from .files import forget
-from .rows import Wrong, need_root, row, same
+from .rows import Skip, Wrong, need, need_root, ran, row, same
 
 LIBRARY = ctypes.CDLL(None, use_errno=True)
 FROM_HERE = -100  # AT_FDCWD
@@ -72,11 +72,51 @@ def large_files(at, trial):
 
 @limit("mode-bits")
 def mode_bits(at, trial):
-    """No set-user-id, set-group-id or sticky bits."""
-    for mode in 0o4755, 0o2755, 0o1755:
-        refused("EINVAL", os.chmod, made(at / "file"), mode)
-    same("its mode", os.stat(at / "file").st_mode & 0o7777, 0o644)
-    refused("EINVAL", os.mkdir, at / "folder", 0o1755)
+    """Set-user-id, set-group-id and sticky bits are dropped, and nothing is refused for them."""
+    for bit in 0o4000, 0o2000, 0o1000:
+        room = at / f"{bit:o}"
+        os.mkdir(room, bit | 0o711)
+        os.mkdir(room / "folder")
+        os.chmod(room / "folder", bit | 0o750)
+        os.chmod(made(room / "file"), bit | 0o755)
+        os.mknod(room / "node", bit | 0o100640)
+        os.close(os.open(room / "opened", os.O_CREAT | os.O_WRONLY, bit | 0o600))
+        for _ in range(2):  # what the answers tell, and what the volume has
+            modes = [os.stat(room / it).st_mode & 0o7777 for it in ("", "folder", "file", "node", "opened")]
+            same(f"the modes without {bit:o}", modes, [0o711, 0o750, 0o755, 0o640, 0o600])
+            forget()
+
+
+def carried(at, source):
+    """The names of the copies of a tree that cp, tar and rsync make in this folder, with all that they can keep."""
+    need("rsync")
+    ran("cp", "-a", source, at / "cp")
+    ran("tar", "-C", source.parent, "-cf", at / "all.tar", source.name)
+    ran("tar", "-C", at, "-xpf", at / "all.tar")
+    os.rename(at / source.name, at / "tar")
+    ran("rsync", "-a", f"{source}/", at / "rsync")
+    return "cp", "tar", "rsync"
+
+
+@limit("set-group-id")
+def set_group_id(at, trial):
+    """A tree with such bits is copied by cp, tar and rsync, without them; git makes a repository that a group shares."""
+    need("git")
+    source = trial.folder / "shared-source"
+    modes = {"": 0o2775, "file": 0o6755, "all": 0o1777}
+    source.mkdir()
+    (source / "all").mkdir()
+    made(source / "file", b"text")
+    for it, mode in modes.items():
+        os.chmod(source / it, mode)
+    for copy in carried(at, source):
+        forget()
+        same(f"the modes by {copy}", [os.stat(at / copy / it).st_mode & 0o7777 for it in modes], [0o775, 0o755, 0o777])
+        same(f"the bytes by {copy}", (at / copy / "file").read_bytes(), b"text")
+    ran("git", "init", "-q", "--shared=group", at / "repo")
+    made(at / "repo" / "file")
+    for words in ("add", "file"), ("commit", "-q", "-m", "one"), ("fsck", "--strict"):
+        ran("git", "-C", at / "repo", *words)
 
 
 @limit("kinds")
@@ -230,9 +270,29 @@ def large_owners(at, trial):
 
 @limit("times")
 def times(at, trial):
-    """Whole seconds up to 2106."""
-    file = made(at / "file")
-    os.utime(file, (100.75, 200.75))
-    same("its times", (os.stat(file).st_atime, os.stat(file).st_mtime), (100, 200))
-    os.utime(file, (0, 2**32 - 1))
-    same("its times", (os.stat(file).st_atime, os.stat(file).st_mtime), (0, 2**32 - 1))
+    """Whole seconds from 1970 to 2106; a time before or behind becomes the nearest of these."""
+    file, last = made(at / "file"), 2**32 - 1
+    for given, kept in ((100.75, 200.75), (100, 200)), ((0, last), (0, last)), ((-1, last + 1), (0, last)), ((-2**40, 2**40), (0, last)), \
+            ((2**62, -2**62), (last, 0)), ((-0.5, 5), (0, 5)):
+        os.utime(file, given)
+        for _ in range(2):  # what the answer tells, and what the volume has
+            same(f"its times for {given}", (os.stat(file).st_atime, os.stat(file).st_mtime), kept)
+            forget()
+
+
+@limit("far-times")
+def far_times(at, trial):
+    """Files of 1960 and 2200 are touched, and copied by cp, tar and rsync."""
+    source, far = trial.folder / "far-source", {"1960-01-01": 0, "2200-01-01": 2**32 - 1}
+    source.mkdir()
+    for day in far:
+        ran("touch", "-d", f"{day} UTC", at / day, made(source / day, day.encode()))
+        if time.gmtime(os.stat(source / day).st_mtime).tm_year != int(day[:4]):
+            raise Skip(f"{source} keeps no time of {day}")
+    copies = carried(at, source)
+    forget()
+    for day, kept in far.items():
+        same(f"the time of {day}", os.stat(at / day).st_mtime, kept)
+        for copy in copies:
+            same(f"the time of {day} by {copy}", os.stat(at / copy / day).st_mtime, kept)
+            same(f"the bytes of {day} by {copy}", (at / copy / day).read_bytes(), day.encode())

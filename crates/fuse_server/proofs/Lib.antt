@@ -4,6 +4,7 @@ pub mod Asking
 pub mod Losing
 pub mod Changing
 pub mod Telling
+pub mod Tries
 pub mod Replies
 pub mod KindLaws
 pub mod Answering

@@ -461,38 +461,6 @@ pub past_behind : {S : Type 0} (called : S → ℕ → ℕ → Call → Outcome 
 past_behind called entered left now k s x offset count told past none =
     record { log = []; leads = refl; told = inr (past, none, refl); loses = tt }
 
--- bytes were put there
-written_exactly : {S : Type 0} {called : S → ℕ → ℕ → Call → Outcome → S → Type 0}
-    {entered : S → ℕ → ℕ → Result ℕ EnterRefusal → S → Type 0} {left : S → Leaving → S → Type 0} {now : ℕ} {k : Known}
-    {s t u : S} (x : Reach) (d : Descriptor) (offset : ℕ) (bytes : List ℕ) (given : Bor (List ℕ)) (wrote told : ℕ)
-    → HasOwn called entered left now s x d t
-    → SoughtFor called entered left now t d (pos offset) (call.Write d.fd given) (reply.Wrote wrote) u
-    → given.now ≡ take 65536 bytes → told ≡ min wrote (length bytes)
-    → ToldBehind called entered left now x (WrittenAt offset bytes) k s (answer_of.Write told) u
-written_exactly {k = k} {t = t} {u} x d offset bytes given wrote told own sought taken is = record {
-  log = both_of own.talked d offset (call.Write d.fd given) (reply.Wrote wrote) sought;
-  leads = (sought.between, (t, own.talked.leads, sought.sought), sought.last);
-  told = record {
-    given = given;
-    first = taken;
-    wrote = wrote;
-    there = record { descriptor = d; position = sought.position; ends = (refl, refl, refl, refl, own.own) };
-    is = is;
-  };
-  loses = (λ done. tt, (λ done. tt, quiet_loses k own.talked.log own.talked.quiet));
-}
-
-pub written_behind : {S : Type 0} {called : S → ℕ → ℕ → Call → Outcome → S → Type 0}
-    {entered : S → ℕ → ℕ → Result ℕ EnterRefusal → S → Type 0} {left : S → Leaving → S → Type 0} {now : ℕ} {k : Known}
-    {s t u : S} (x : Reach) (d : Descriptor) (offset : ℕ) (z : ℤ) (bytes : List ℕ) (given : Bor (List ℕ)) (wrote told : ℕ)
-    → HasOwn called entered left now s x d t → z ≡ pos offset
-    → SoughtFor called entered left now t d z (call.Write d.fd given) (reply.Wrote wrote) u
-    → given.now ≡ take 65536 bytes → told ≡ min wrote (length bytes)
-    → ToldBehind called entered left now x (WrittenAt offset bytes) k s (answer_of.Write told) u
-written_behind {called = called} {entered} {left} {now} {t = t} {u} x d offset z bytes given wrote told own at sought taken is =
-    let At : ℤ → Type 0 = λ y. SoughtFor called entered left now t d y (call.Write d.fd given) (reply.Wrote wrote) u in
-    written_exactly x d offset bytes given wrote told own (subst At at sought) taken is
-
 -- changes were made of a node, and then it was looked at
 pub set_behind : {S : Type 0} {called : S → ℕ → ℕ → Call → Outcome → S → Type 0} {entered : S → ℕ → ℕ → Result ℕ EnterRefusal → S → Type 0}
     {left : S → Leaving → S → Type 0} {now : ℕ}

@@ -6,6 +6,7 @@ pub mod Calls
 pub mod Changing
 pub mod Making
 pub mod Asking
+pub mod Tries
 pub mod Entries
 pub mod Kinds
 pub mod Telling

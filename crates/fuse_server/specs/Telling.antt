@@ -39,6 +39,7 @@ use Rattle.fuse_server.specs.Losing.{Loses}
 use Rattle.fuse_server.specs.Making.{Making, AreMaking, asker, given_to, itself, seen_at}
 use Rattle.fuse_server.specs.Making.Making.{NewDirectory, NewFile, NewLink, NewName}
 use Rattle.fuse_server.specs.Reach.{IsAt}
+use Rattle.fuse_server.specs.Tries.{AreTries, sought_at, wrote_by}
 use Rattle.fuse_server.specs.declared.making.Owner.{Owner}
 use Rattle.fuse_server.specs.declared.said.FuseAnswer.{FuseAnswer}
 use Rattle.fuse_server.specs.declared.said.FuseAnswer.TheVariants as answer_of
@@ -110,14 +111,14 @@ telling_of now owner (request.Setattr valid handle size lock_owner atime mtime c
 })
 telling_of now owner request.Readlink = Target
 telling_of now owner (request.Symlink name target) = Made name.now (NewLink target.now owner)
-telling_of now owner (request.Mknod mode device umask name) = Made name.now (NewFile (mode % 4096) owner)
-telling_of now owner (request.Mkdir mode umask name) = Made name.now (NewDirectory (mode % 4096) owner)
+telling_of now owner (request.Mknod mode device umask name) = Made name.now (NewFile (mode % 512) owner)
+telling_of now owner (request.Mkdir mode umask name) = Made name.now (NewDirectory (mode % 512) owner)
 telling_of now owner (request.Unlink name) = Unlinked name.now
 telling_of now owner (request.Rmdir name) = Removed name.now
 telling_of now owner (request.Rename new_directory old_name new_name) = Renamed old_name.now new_name.now
 telling_of now owner (request.Rename2 new_directory flags old_name new_name) = Renamed old_name.now new_name.now
 telling_of now owner (request.Link file name) = Made name.now NewName
-telling_of now owner (request.Create flags mode umask open_flags name) = Made name.now (NewFile (mode % 4096) owner)
+telling_of now owner (request.Create flags mode umask open_flags name) = Made name.now (NewFile (mode % 512) owner)
 telling_of now owner request.Statfs = Room
 telling_of now owner (request.Read span) = ReadAt span.offset span.count
 telling_of now owner (request.Write handle offset write_flags lock_owner flags bytes) = WrittenAt offset bytes.now
@@ -261,12 +262,17 @@ pub record IsRead (x : Reach) (offset count : ℕ) (told : List ℕ) (log : List
   pub there : IsAtPosition x offset (λ fd. call.Read fd (min count 65536)) (reply.Bytes read) log
   pub is : told ≡ take (min count 65536) read.items
 
--- in a write of these bytes there, of as many as a call takes: of how many is told
+-- in a seek of the node's descriptor there, and a write of bytes by it, behind the tries that give these, alone: of how many is told
 pub record IsWritten (x : Reach) (offset : ℕ) (bytes : List ℕ) (told : ℕ) (log : List Exchange) : Type 0 where
+  pub descriptor : Descriptor
   pub given : Bor (List ℕ)
-  pub first : given.now ≡ take 65536 bytes
+  pub position : ℕ
   pub wrote : ℕ
-  pub there : IsAtPosition x offset (λ fd. call.Write fd given) (reply.Wrote wrote) log
+  pub tries : List Exchange
+  pub before : List Exchange
+  pub all : log ≡ wrote_by descriptor given (reply.Wrote wrote) ∷ sought_at descriptor offset position ∷ (tries ++ before)
+  pub tried : AreTries descriptor offset bytes given.now tries
+  pub own : IsOwn x descriptor before
   pub is : told ≡ min wrote (length bytes)
 
 -- Past the largest position of a file there are no bytes, and none are asked for.

@@ -10,22 +10,23 @@ ghost use Rattle.tree.specs.declared.Reply.TheVariants as reply;
 ghost use Rattle.tree.specs.declared.Whence.TheVariants.{Set};
 ghost use Rattle.talks.specs.declared.ask.Ask.TheVariants as ask;
 ghost use Rattle.talks.specs.declared.heard.Heard.TheVariants as heard_of;
-ghost use Rattle.fuse_server.specs.Asking.{ReadFrom, SoughtFor, Talked};
+ghost use Rattle.fuse_server.specs.Asking.{ReadFrom, Talked};
 ghost use Rattle.fuse_server.specs.Reach.{CalledFrom};
 ghost use Rattle.fuse_server.specs.Telling.{AskedFor, ToldBehind};
 ghost use Rattle.fuse_server.specs.Telling.Telling.{Other, ReadAt, WrittenAt};
 ghost use Rattle.fuse_server.specs.Kinds.{is_open, is_done, IsWithin, IsCount, IsOfSync};
 ghost use Rattle.fuse_server.specs.Plans.{May};
-ghost use Rattle.fuse_server.specs.Plans.Kind.{Seek, Read, Write};
+ghost use Rattle.fuse_server.specs.Plans.Kind.{Seek, Read};
 ghost use Rattle.fuse_server.specs.declared.work.Plan.TheVariants as plan;
 ghost use Rattle.fuse_nodes.specs.Laws.{Steps};
 
-use crate::bounds::{most_of, within};
+use crate::bounds::most_of;
 use crate::mount::Mount;
 use crate::said::{FuseAnswer, Said};
 use crate::talk::calling;
 use crate::told::opened_file;
 use crate::work::Work;
+use crate::writing::write_some;
 use errno::Errno;
 use fuse::request::Span;
 use fuse_nodes::handles::Handle;
@@ -33,11 +34,12 @@ use fuse_nodes::node::Descriptor;
 use std::alloc::Global;
 use talks::refused::Refused;
 use talks::sessions::Sessions;
-use tree::{Call, MAX_SIZE, MAX_TRANSFER, Whence};
+use tree::{Call, MAX_SIZE, Whence};
 
 /// An offset as a position; none past the largest one.
 fn position(offset: u64) -> Option<i64>
     ensures at { IfSome result (λ position. position ≡ pos offset) }
+    ensures low { IfSome result (λ position. offset ≤ 2147483647) }
     ensures past { IfNone result (2147483647 < offset) }
 {
     if offset > u64::from(MAX_SIZE) {
@@ -64,7 +66,7 @@ fn written(count: u32, bytes: &[u8]) -> u32
 }
 
 /// Sets the position of a descriptor.
-fn seek<S: Sessions>(
+pub(crate) fn seek<S: Sessions>(
     sessions: &mut S,
     work: Work,
     descriptor: Descriptor,
@@ -104,28 +106,6 @@ fn read_at<S: Sessions>(
         count,
     };
     calling(sessions, work, descriptor.session, &call).bytes()
-}
-
-/// Writes at a position: how many bytes were written.
-fn write_at<S: Sessions>(
-    sessions: &mut S,
-    work: Work,
-    descriptor: Descriptor,
-    offset: i64,
-    bytes: &[u8],
-) -> Result<u32, Refused>
-    requires seeks { May work.reach.plan Seek }
-    requires writes { May work.reach.plan Write }
-    ensures asked { Talked (CalledFrom work.reach S.called) S.entered S.left work.now sessions.old sessions.new }
-    ensures written { IfOk result (λ count. SoughtFor (CalledFrom work.reach S.called) S.entered S.left work.now sessions.old descriptor
-        offset (call.Write descriptor.fd bytes.entry) (reply.Wrote count) sessions.new) }
-{
-    seek(sessions, work, descriptor, offset)?;
-    let call = Call::Write {
-        fd: descriptor.fd,
-        bytes,
-    };
-    calling(sessions, work, descriptor.session, &call).wrote()
 }
 
 impl Mount {
@@ -185,7 +165,7 @@ impl Mount {
         Ok(FuseAnswer::Bytes(bytes))
     }
 
-    /// WRITE: at most as many bytes as a call takes. EFBIG past the largest offset.
+    /// WRITE: at most as many bytes as a call takes, and as there is room for. EFBIG past the largest offset.
     pub(crate) fn write<S: Sessions>(
         &mut self,
         sessions: &mut S,
@@ -202,17 +182,11 @@ impl Mount {
         ensures steps { Steps (known_of self.old.nodes) (known_of self.new.nodes) }
     {
         self.check_file(work, handle)?;
-        let Some(offset) = position(offset) else {
+        let Some(position) = position(offset) else {
             return Err(Refused::By(Errno::EFBIG));
         };
         let descriptor = self.descriptor(sessions, work)?;
-        let count = write_at(
-            sessions,
-            work,
-            descriptor,
-            offset,
-            within(bytes, MAX_TRANSFER),
-        )?;
+        let count = write_some(sessions, work, descriptor, position, offset, bytes)?;
         Ok(FuseAnswer::Write(written(count, bytes)))
     }
 

@@ -17,3 +17,4 @@ mod serving;
 mod talk;
 mod told;
 mod work;
+mod writing;

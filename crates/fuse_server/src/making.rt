@@ -214,7 +214,7 @@ impl Mount {
         ensures asked { OnErr result (Talked (CalledFrom work.reach S.called) S.entered S.left work.now sessions.old sessions.new) }
         ensures told { IfOk result (IsEntry (known_of self.new.nodes)) }
         ensures behind { IfOk result (λ a. ToldBehind (CalledFrom work.reach S.called) S.entered S.left work.now work.reach (Made name.now
-            (NewFile (mode % 4096) (asker message.now))) (known_of self.new.nodes) sessions.old a sessions.new) }
+            (NewFile (mode % 512) (asker message.now))) (known_of self.new.nodes) sessions.old a sessions.new) }
         ensures steps { Steps (known_of self.old.nodes) (known_of self.new.nodes) }
     {
         if !is_file(mode) {
@@ -241,7 +241,7 @@ impl Mount {
         ensures asked { OnErr result (Talked (CalledFrom work.reach S.called) S.entered S.left work.now sessions.old sessions.new) }
         ensures told { IfOk result (IsEntry (known_of self.new.nodes)) }
         ensures behind { IfOk result (λ a. ToldBehind (CalledFrom work.reach S.called) S.entered S.left work.now work.reach (Made name.now
-            (NewDirectory (mode % 4096) (asker message.now))) (known_of self.new.nodes) sessions.old a sessions.new) }
+            (NewDirectory (mode % 512) (asker message.now))) (known_of self.new.nodes) sessions.old a sessions.new) }
         ensures steps { Steps (known_of self.old.nodes) (known_of self.new.nodes) }
     {
         let owner = owner_of(message)?;
@@ -357,7 +357,7 @@ impl Mount {
         ensures asked { OnErr result (Talked (CalledFrom work.reach S.called) S.entered S.left work.now sessions.old sessions.new) }
         ensures told { IfOk result (IsCreate (known_of self.new.nodes)) }
         ensures behind { IfOk result (λ a. ToldBehind (CalledFrom work.reach S.called) S.entered S.left work.now work.reach (Made name.now
-            (NewFile (mode % 4096) (asker message.now))) (known_of self.new.nodes) sessions.old a sessions.new) }
+            (NewFile (mode % 512) (asker message.now))) (known_of self.new.nodes) sessions.old a sessions.new) }
         ensures steps { Steps (known_of self.old.nodes) (known_of self.new.nodes) }
     {
         let owner = owner_of(message)?;

@@ -87,7 +87,7 @@ taken_by flags bits = if is_set flags 0x80 then None else Some (flags_by bits)
 abbrev pub creates : Known → ℕ → List ℕ → ℕ → ℕ → ℕ → Plan
 creates k fid name flags mode gid = with_it (unopened k.fids fid) (λ directory. with_it (checked name)
     (λ _. with_it (open_bits flags) (λ bits. OrNoMemory (making_file fid directory.user (below directory.path name)
-    (flags_by (bits + 24)) (mode % 4096) (taken_by flags bits) (group_of directory.user gid)))))
+    (flags_by (bits + 24)) (mode % 512) (taken_by flags bits) (group_of directory.user gid)))))
 
 -- the call that makes a directory or a symbolic link
 abbrev pub making_call : List ℕ → Made → Call
@@ -117,7 +117,7 @@ making session path what group =
 -- Tmkdir
 abbrev pub makes_directory : Known → ℕ → List ℕ → ℕ → ℕ → Plan
 makes_directory k directory name mode gid = with_it (named_for k.fids directory name)
-    (λ parent. OrNoMemory (making parent.user.session (below parent.path name) (made.Directory (mode % 4096)) (group_of parent.user gid)))
+    (λ parent. OrNoMemory (making parent.user.session (below parent.path name) (made.Directory (mode % 512)) (group_of parent.user gid)))
 
 -- Tsymlink: it is given no group
 abbrev pub makes_link : Known → ℕ → List ℕ → List ℕ → Plan

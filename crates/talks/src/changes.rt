@@ -2,13 +2,13 @@
 
 ghost use Rattle.std.specs.Prelude.{◌≡◌, [], ◌∷◌, MatchOption, Ok};
 ghost use Rattle.talks.specs.Plain.{plain_call};
-ghost use Rattle.talks.specs.Changes.{size_wanted, mode_wanted, owner_wanted, time_wanted, comes_with_size, changes_wanted};
-ghost use Rattle.talks.specs.Changes.{may_change, in_order, change_call};
+ghost use Rattle.talks.specs.Changes.{size_wanted, mode_wanted, owner_wanted, seconds_in, time_wanted, times_wanted, comes_with_size};
+ghost use Rattle.talks.specs.Changes.{changes_wanted, may_change, in_order, change_call};
 
 use crate::flags::{has, mode_of};
 use crate::refused::Refused;
 use errno::Errno;
-use tree::{Attributes, Call, MAX_PERMISSIONS, PathFrom};
+use tree::{Attributes, Call, PathFrom};
 
 /// The bits that say which attributes are changed, and whether times are given or are now.
 const MODE: u32 = 0x1;
@@ -27,6 +27,9 @@ const ATIME_SET: u32 = 0x80;
 
 const MTIME_SET: u32 = 0x100;
 
+/// The largest signed number of 64 bits.
+const LARGEST: u64 = 0x7fff_ffff_ffff_ffff;
+
 /// The attributes that a client wants changed: those of the bits of `valid`.
 #[derive(Clone, Copy)]
 pub struct Wanted {
@@ -35,7 +38,7 @@ pub struct Wanted {
     pub uid: u32,
     pub gid: u32,
     pub size: u64,
-    /// Seconds since 1970, as the other times.
+    /// Seconds since 1970: a signed number, as the other time given.
     pub atime: u64,
     pub mtime: u64,
     /// The time that "now" means.
@@ -55,18 +58,15 @@ fn size(valid: u32, given: u64) -> Result<Option<u32>, Refused>
     }
 }
 
-/// What a mode becomes, if it changes. EINVAL where it has other bits than permissions.
-fn mode(valid: u32, given: u32) -> Result<Option<u16>, Refused>
+/// What a mode becomes, if it changes: its permissions.
+fn mode(valid: u32, given: u32) -> Option<u16>
     ensures { result ≡ mode_wanted valid given }
 {
-    if !has(valid, MODE) {
-        return Ok(None);
+    if has(valid, MODE) {
+        Some(mode_of(given))
+    } else {
+        None
     }
-    let mode = mode_of(given);
-    if mode > MAX_PERMISSIONS {
-        return Err(Refused::By(Errno::EINVAL));
-    }
-    Ok(Some(mode))
 }
 
 /// Whether the only time that is wanted is that of the change of size that is wanted, now: the server sets it with the size.
@@ -76,19 +76,29 @@ fn comes_with_size(valid: u32) -> bool
     has(valid, SIZE) && !has(valid, ATIME | MTIME_SET)
 }
 
-/// What a time becomes: the given one, now, or what it was. EINVAL where it doesn't fit the volume.
-fn time(valid: u32, bits: (u32, u32), given: u64, now: u32, was: u32) -> Result<u32, Refused>
+/// The time that a volume has instead of a given one: 0 for one below, the last one for one past it.
+fn seconds(given: u64) -> u32
+    ensures { result ≡ seconds_in given }
+{
+    if given > LARGEST {
+        return 0;
+    }
+    match u32::try_from(given) {
+        Ok(seconds) => seconds,
+        Err(_) => u32::MAX,
+    }
+}
+
+/// What a time becomes: the given one, now, or what it was.
+fn time(valid: u32, bits: (u32, u32), given: u64, now: u32, was: u32) -> u32
     ensures { result ≡ time_wanted valid bits given now was }
 {
     if !has(valid, bits.0) {
-        return Ok(was);
-    }
-    if !has(valid, bits.1) {
-        return Ok(now);
-    }
-    match u32::try_from(given) {
-        Ok(seconds) => Ok(seconds),
-        Err(_) => Err(Refused::By(Errno::EINVAL)),
+        was
+    } else if has(valid, bits.1) {
+        seconds(given)
+    } else {
+        now
     }
 }
 
@@ -138,17 +148,26 @@ pub struct Changes {
 }
 
 impl Wanted {
-    /// The changes, where the node is so. EFBIG, EINVAL: a number doesn't fit the volume.
+    /// Both times, where the node is so: that of access, and that of the last change of bytes.
+    fn times(&self, was: &Attributes) -> (u32, u32)
+        ensures { result ≡ times_wanted self.entry.now was.now }
+    {
+        let atime = (ATIME, ATIME_SET);
+        let mtime = (MTIME, MTIME_SET);
+        (
+            time(self.valid, atime, self.atime, self.now, was.atime),
+            time(self.valid, mtime, self.mtime, self.now, was.mtime),
+        )
+    }
+
+    /// The changes, where the node is so. EFBIG, EINVAL: a size, an owner doesn't fit the volume.
     pub fn changes(&self, was: &Attributes) -> Result<Changes, Refused>
         ensures { result ≡ changes_wanted self.entry.now was.now }
     {
         let valid = self.valid;
         let size = size(valid, self.size)?;
-        let mode = mode(valid, self.mode)?;
         let uid = owner(valid, UID, self.uid, was.uid)?;
         let gid = owner(valid, GID, self.gid, was.gid)?;
-        let atime = time(valid, (ATIME, ATIME_SET), self.atime, self.now, was.atime)?;
-        let mtime = time(valid, (MTIME, MTIME_SET), self.mtime, self.now, was.mtime)?;
         Ok(Changes {
             size,
             owners: if has(valid, UID | GID) {
@@ -156,9 +175,9 @@ impl Wanted {
             } else {
                 None
             },
-            mode,
+            mode: mode(valid, self.mode),
             times: if has(valid, ATIME | MTIME) && !comes_with_size(valid) {
-                Some((atime, mtime))
+                Some(self.times(was))
             } else {
                 None
             },

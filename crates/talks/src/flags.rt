@@ -10,9 +10,9 @@ pub fn has(flags: u32, bit: u32) -> bool
     flags & bit != 0
 }
 
-/// The permission bits of a mode of Linux, with those that the server refuses.
+/// The permissions of a mode of Linux, without its set-user-id, set-group-id and sticky bits, of which a volume has none.
 pub fn mode_of(mode: u32) -> u16
-    ensures { result ≡ mode % 4096 }
+    ensures { result ≡ mode % 512 }
 {
-    (mode % 0o10000) as u16
+    (mode % 0o1000) as u16
 }
