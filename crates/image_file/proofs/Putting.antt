@@ -1,21 +1,20 @@
 -- Each moment of a put.
-use Rattle.std.proofs.Common.{◌≡◌, ◌⊎◌, inl, inr, ⊎_elim, ℕ, ◌+◌, ◌<◌, List, [], ◌∷◌, ◌++◌, length, map, arith, refl, sym, ◌∙◌, ap, subst, Option, Some, None, Result, Ok, Err, OnOk, OnErr, false}
+use Rattle.std.proofs.Common.{◌≡◌, ◌⊎◌, inl, inr, ⊎_elim, ℕ, ◌<◌, List, [], ◌∷◌, ◌++◌, length, map, arith, refl, sym, ◌∙◌, subst, Option, Some, None, Result, Ok, Err, OnOk, OnErr, false}
 use Rattle.std.specs.List.{zip}
 use Rattle.stable.specs.declared.Which.TheVariants.{Log, Image}
-use Rattle.stable.specs.Disk.{Contents, Changes, Step, Write, Sync, put, Touches, Keeps, Disk, Held, Event, Did, done, run}
+use Rattle.stable.specs.Disk.{Contents, Changes, Step, Write, Sync, put, Touches, Keeps, Disk, Event, Did, done, run}
 use Rattle.stable.specs.Runs.{Known, now, Happens, Follows, Knows, EachMoment}
 use Rattle.redo.specs.Record.{recovered}
 use Rattle.redo.specs.Plans.{log_plan, recover_plan}
-use Rattle.redo.specs.UnderWay.{AnyHow, changes_of, place, IsAtRest, IsEither, IsUnderWay, IsUnderWayBy, IsCurrent}
+use Rattle.redo.specs.UnderWay.{AnyHow, changes_of, place, IsAtRest, IsEither, IsUnderWay, IsCurrent}
 use Rattle.redo.specs.Laws.{IsImage, FindsEither, IsRecoverable, RestsWithEither}
-use Rattle.redo.proofs.Left.{happens-nil}
 use Rattle.redo.proofs.Units.{put_agrees}
 use Rattle.redo.proofs.Moments.{run-append}
 use Rattle.redo.proofs.CommitLaws.{finds_either, image_as, image_either, rest_current}
 use Rattle.redo.proofs.RecoverLaws.{current_recoverable, rest_as}
 use Rattle.image_file.specs.Images.{IsImageSound, ShowsImage}
 use Rattle.image_file.specs.Puts.{put_plan, long_plan, FindsBetween, CurrentWithEither}
-use Rattle.image_file.proofs.Calls.{each_as, each_then, known_still}
+use Rattle.image_file.proofs.Calls.{each_as, each_then}
 
 pub knows_as : (P Q : Disk → Type 0) → ((d : Disk) → P d → Q d) → (o : Option Known) → Knows P o → Knows Q o
 knows_as P Q to None h = absurd h

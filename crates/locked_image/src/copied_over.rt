@@ -16,8 +16,8 @@ const SECOND: u64 = 1_000_000_000;
 /// How many nanoseconds old the last touch of a due log is at most when its program writes the image.
 const HALF: u128 = 500_000_000;
 
-/// When a file was changed last, be it in its bytes, its name, its owner or its permissions: in nanoseconds since 1970; 0 before that, 2^64 - 1
-/// from 2554 on.
+/// When a file was changed last, be it in its bytes, its name, its owner or its permissions: in nanoseconds since 1970; 0 before that,
+/// 2^64 - 1 from 2554 on.
 fn changed_at(metadata: &Metadata) -> u64 {
     let secs = u64::try_from(metadata.ctime()).unwrap_or(0);
     let nanos = u64::try_from(metadata.ctime_nsec()).unwrap_or(0);
@@ -54,8 +54,8 @@ pub(crate) fn is_copied_over(image: &File, log: &File) -> io::Result<bool> {
     Ok(is_later(changed_at(&told), changed_at(&log.metadata()?), is_due))
 }
 
-/// Makes the system count a log as changed now, in none of its bytes. Its owner may set a time of it; whoever else may write it gives it the
-/// length that it has.
+/// Makes the system count a log as changed now, in none of its bytes. Its owner may set a time of it; whoever else may write it gives it
+/// the length that it has.
 pub(crate) fn touch(log: &File, now: SystemTime) -> io::Result<()> {
     match log.set_modified(now) {
         Ok(()) => Ok(()),

@@ -20,8 +20,8 @@ const HEAD: [u8; 8] = *b"MFSREDO1";
 /// Once a write of a gate of the log or any sync has failed, each later call is refused: what the system then shows of a file may not be
 /// what is on the disk. The program has to be started again.
 ///
-/// The image is written while the log asks for changes of it alone. Before that, and each half second meanwhile, the log is touched, so that
-/// a kill leaves no image that seems to have been copied over the one of its log. Where it can't be touched the image isn't written.
+/// The image is written while the log asks for changes of it alone. Before that, and each half second meanwhile, the log is touched, so
+/// that a kill leaves no image that seems to have been copied over the one of its log. Where it can't be touched the image isn't written.
 #[derive(Drop)]
 pub struct ImageFiles<C> {
     log: File,

@@ -1,4 +1,4 @@
-use Rattle.std.proofs.Common.{◌≡◌, ℕ, refl, subst, sym, ◌∙◌}
+use Rattle.std.proofs.Common.{ℕ, refl, subst, sym, ◌∙◌}
 use Rattle.stable.specs.Disk.{Contents, put}
 use Rattle.stable.specs.Runs.{Knows, EachMoment}
 use Rattle.redo.specs.UnderWay.{IsAtRest, IsCurrent, IsUnderWay}
