@@ -76,36 +76,6 @@ def explained(line):
 
 # ---- whether an image is the one that was meant
 
-HEAD = 4096  # bytes of a log's first gate, and of the head behind it: equal where the log asks for something
-
-
-def is_due(log):
-    """Whether a log asks for something, as a kill leaves it."""
-    try:
-        with open(log, "rb") as file:
-            gate, head = file.read(HEAD), file.read(HEAD)
-    except OSError:
-        return False
-    return len(head) == HEAD and gate == head and gate.startswith(b"MFSREDO1")
-
-
-def is_changed_behind(image):
-    """Whether an image was changed later than the log that a kill left beside it: as where a copy took its place. The program changes it so
-    only for a moment, when it writes to the image what the log asks for."""
-    log = f"{image}.log"
-    try:
-        return os.stat(image).st_ctime_ns > os.stat(log).st_ctime_ns + 1_000_000_000 and is_due(log)
-    except OSError:
-        return False
-
-
-def touch_log(image):
-    """Says of a log that it is newer than its image: a program that failed or was killed may have changed that last."""
-    try:
-        os.utime(f"{image}.log")
-    except OSError:
-        pass
-
 
 def same_file(image):
     """What tells a file from another that takes its name; None where there is none."""

@@ -109,8 +109,9 @@ def drawn_state(draw, first, events):
 
 
 def put_files(files, contents):
-    """Gives files these bytes; each stays the file that it is."""
-    for file, bytes_ in zip(files, contents):
+    """Gives files these bytes, the last file first: so a log, which is named first, isn't older than its image. Each stays the file that it
+    is."""
+    for file, bytes_ in reversed(list(zip(files, contents))):
         with open(file, "r+b" if os.path.exists(file) else "wb") as to:
             to.truncate(0)
             to.write(bytes_)

@@ -1,21 +1,20 @@
 -- Each moment of a put.
-use Rattle.std.proofs.Common.{◌≡◌, ◌⊎◌, inl, inr, ⊎_elim, ℕ, ◌+◌, ◌<◌, List, [], ◌∷◌, ◌++◌, length, map, arith, refl, sym, ◌∙◌, ap, subst, Option, Some, None, Result, Ok, Err, OnOk, OnErr, false}
+use Rattle.std.proofs.Common.{◌≡◌, ◌⊎◌, inl, inr, ⊎_elim, ℕ, ◌<◌, List, [], ◌∷◌, ◌++◌, length, map, arith, refl, sym, ◌∙◌, subst, Option, Some, None, Result, Ok, Err, OnOk, OnErr, false}
 use Rattle.std.specs.List.{zip}
 use Rattle.stable.specs.declared.Which.TheVariants.{Log, Image}
-use Rattle.stable.specs.Disk.{Contents, Changes, Step, Write, Sync, put, Disk, Held, Event, Did, done, run}
+use Rattle.stable.specs.Disk.{Contents, Changes, Step, Write, Sync, put, Touches, Keeps, Disk, Event, Did, done, run}
 use Rattle.stable.specs.Runs.{Known, now, Happens, Follows, Knows, EachMoment}
 use Rattle.redo.specs.Record.{recovered}
 use Rattle.redo.specs.Plans.{log_plan, recover_plan}
-use Rattle.redo.specs.UnderWay.{AnyHow, IsAtRest, IsEither, IsUnderWay, IsUnderWayBy, IsCurrent}
+use Rattle.redo.specs.UnderWay.{AnyHow, changes_of, place, IsAtRest, IsEither, IsUnderWay, IsCurrent}
 use Rattle.redo.specs.Laws.{IsImage, FindsEither, IsRecoverable, RestsWithEither}
-use Rattle.redo.proofs.Left.{happens-nil}
 use Rattle.redo.proofs.Units.{put_agrees}
 use Rattle.redo.proofs.Moments.{run-append}
 use Rattle.redo.proofs.CommitLaws.{finds_either, image_as, image_either, rest_current}
 use Rattle.redo.proofs.RecoverLaws.{current_recoverable, rest_as}
 use Rattle.image_file.specs.Images.{IsImageSound, ShowsImage}
 use Rattle.image_file.specs.Puts.{put_plan, long_plan, FindsBetween, CurrentWithEither}
-use Rattle.image_file.proofs.Calls.{each_as, each_then, known_still}
+use Rattle.image_file.proofs.Calls.{each_as, each_then}
 
 pub knows_as : (P Q : Disk → Type 0) → ((d : Disk) → P d → Q d) → (o : Option Known) → Knows P o → Knows Q o
 knows_as P Q to None h = absurd h
@@ -134,6 +133,7 @@ image_sound (Write Image at units ∷ steps) d = image_sound steps (done d (Writ
 image_sound (Sync Log ∷ steps) d = image_sound steps (done d (Sync Log))
 image_sound (Sync Image ∷ steps) d = image_sound steps (done d (Sync Image))
 
+-- a recovery that was done leaves the image file sound
 still_sound : (plan : Known → List Step) (name at : ℕ) (image : Contents) (a b : Option Known) → Knows (IsCurrent name at image) a
     → ((k : Known) → a ≡ Some k → (now k).log.failed ≡ false → Happens (map Did (plan k)) a b) → Knows IsImageSound a → Knows IsImageSound b
 still_sound plan name at image None b c h sound = absurd c
@@ -141,14 +141,33 @@ still_sound plan name at image (Some k) b c h sound =
     subst (Knows IsImageSound) (sym (h k refl c.sound))
     (subst IsImageSound (sym (run-append k.events (map Did (plan k)) k.first)) (image_sound (plan k) (now k) ∙ sound))
 
+-- so does one that followed its plan and answered ok
+pub settled_sound : {T E : Type 0} (plan : Known → List Step) (name at : ℕ) (image : Contents) (a b : Option Known) (r : Result T E) → Knows (IsCurrent name at image) a
+    → ((k : Known) → a ≡ Some k → (now k).log.failed ≡ false → Follows (plan k) a b r) → Knows IsImageSound a → OnOk r (Knows IsImageSound b)
+settled_sound plan name at image a b (Ok v) c h sound = still_sound plan name at image a b c h sound
+settled_sound plan name at image a b (Err e) c h sound = tt
+
 shows_rest : (image : Contents) (d : Disk) → IsAtRest image d → IsImageSound d → ShowsImage image d
 shows_rest image d rest sound = record { sound = sound; shows = λ n. let k = rest.image_is n in k.is }
 
--- a settled image file shows the image
-pub settled_shows : (plan : Known → List Step) (name at : ℕ) (image : Contents) (a b : Option Known) → Knows (IsCurrent name at image) a
-    → ((k : Known) → a ≡ Some k → (now k).log.failed ≡ false → Happens (map Did (plan k)) a b) → Knows IsImageSound a → Knows (IsAtRest image) b → Knows (ShowsImage image) b
-settled_shows plan name at image a b c h sound rest =
-    knows_both (IsAtRest image) IsImageSound (ShowsImage image) (shows_rest image) b rest (still_sound plan name at image a b c h sound)
+-- an image file at rest shows the image
+pub rest_shows : (image : Contents) (o : Option Known) → Knows (IsAtRest image) o → Knows IsImageSound o → Knows (ShowsImage image) o
+rest_shows image o rest sound = knows_both (IsAtRest image) IsImageSound (ShowsImage image) (shows_rest image) o rest sound
+
+-- where the next record is the first one, the log says nothing
+first_says : (records : List Changes) (n : ℕ) → place records ≡ 0 → Touches (changes_of records) n → ⊥
+first_says [] n is t = t
+first_says (c ∷ records) n is t = absurd (omega (arith, is))
+
+first_keeps : (name : ℕ) (image : Contents) (d : Disk) (c : IsCurrent name 0 image d) (n : ℕ) → Keeps d.image n (image n)
+first_keeps name image d c n = let logged = c.logged in let makes = logged.makes in ⊎_elim (λ is. is) (λ t. absurd (first_says c.records n c.at_is t)) (makes.rest n)
+
+first_rest : (name : ℕ) (image : Contents) (d : Disk) → IsCurrent name 0 image d → IsAtRest image d
+first_rest name image d c = record { gate = c.gate; image_is = first_keeps name image d c; sound = c.sound }
+
+-- so all is at rest
+pub rest_at : (name at : ℕ) (image : Contents) (o : Option Known) → at ≡ 0 → Knows (IsCurrent name at image) o → Knows (IsAtRest image) o
+rest_at name at image o is h = knows_as (IsCurrent name 0 image) (IsAtRest image) (first_rest name image) o (subst (λ (k : ℕ). Knows (IsCurrent name k image) o) is h)
 
 -- a whole image is put: what changes make is that image
 module _ (name : ℕ) (before after mid : Contents) (same : (n : ℕ) → mid n ≡ after n) where
@@ -166,8 +185,8 @@ module _ (name : ℕ) (before after mid : Contents) (same : (n : ℕ) → mid n 
   pub image_settles : (a b : Option Known) → EachMoment (IsUnderWay name mid mid) a b → EachMoment (FindsEither name before after) a b
   image_settles a b h = each_as (IsUnderWay name mid mid) (FindsEither name before after) a b last_finds h
 
-  pub image_rests : (o : Option Known) → Knows (RestsWithEither mid mid) o → Knows (IsAtRest after) o
-  image_rests o h = knows_as (RestsWithEither mid mid) (IsAtRest after) (λ d r. rest_as mid after same d (rested mid d r)) o h
+  pub image_rests : (o : Option Known) → Knows (IsAtRest mid) o → Knows (IsAtRest after) o
+  image_rests o h = knows_as (IsAtRest mid) (IsAtRest after) (rest_as mid after same) o h
 
 -- a fact of one value is one of another that is the same
 pub at_first : {K : Type 0} (m s : K) → m ≡ s → (P : K → Type 0) → P m → P s

@@ -217,8 +217,28 @@ impl<S: Storage + Drop> Kept<S> {
         self.put_settled(changes)
     }
 
+    /// Settles what was put since the files were opened or settled last. Where nothing was, nothing is asked of them.
+    fn settle_puts(&mut self) -> io::Result<()>
+        ensures name { self.new.name ≡ self.old.name }
+        ensures settled { OnOk result (self.new.unsettled ≡ false) }
+        ensures place { OnOk result (self.new.at ≡ 0) }
+        ensures any_moment { (image : ℕ → List ℕ) → Knows (IsCurrent self.old.name self.old.at image) (S.known self.old.storage)
+            → EachMoment (IsUnderWay self.old.name image image) (S.known self.old.storage) (S.known self.new.storage) }
+        ensures ok { (image : ℕ → List ℕ) → Knows (IsCurrent self.old.name self.old.at image) (S.known self.old.storage)
+            → OnOk result (Knows (IsAtRest image) (S.known self.new.storage)) }
+        ensures sound { (image : ℕ → List ℕ) → Knows (IsCurrent self.old.name self.old.at image) (S.known self.old.storage)
+            → Knows IsImageSound (S.known self.old.storage) → OnOk result (Knows IsImageSound (S.known self.new.storage)) }
+    {
+        let is_settled = !self.unsettled && self.at == 0;
+        if is_settled {
+            return Ok(());
+        }
+        self.settle()
+    }
+
     /// Puts the units of an image that the file doesn't show, whatever changed before, and settles them: once it is `Ok`, the file is the
-    /// image, unit for unit. Behind the image's units the file stays as it is. It takes memory for the units that differ.
+    /// image, unit for unit. Behind the image's units the file stays as it is. It takes memory for the units that differ. Where nothing was
+    /// put before and no unit differs, it waits for no sync.
     ///
     /// InvalidInput where the image has 2^32 units or more. After an error it is as after one of `put`.
     pub fn put_image(&mut self, image: &[u8]) -> io::Result<()>
@@ -234,9 +254,9 @@ impl<S: Storage + Drop> Kept<S> {
             → Knows IsImageSound (S.known self.old.storage)
             → OnOk result (Knows (IsAtRest (with_image image.now before)) (S.known self.new.storage)) }
     {
-        self.settle()?;
+        self.settle_puts()?;
         let changes = differing(self.alloc, &mut self.storage, image)?;
         self.put_settled(&changes)?;
-        self.settle()
+        self.settle_puts()
     }
 }

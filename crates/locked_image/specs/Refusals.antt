@@ -1,10 +1,11 @@
 -- The numbers of refusals of image files.
 use Rattle.std.specs.Prelude.{ℕ}
 use Rattle.locked_image.specs.declared.FilesRefusal.{FilesRefusal}
-use Rattle.locked_image.specs.declared.FilesRefusal.TheVariants.{CannotWrite, Served, Foreign}
+use Rattle.locked_image.specs.declared.FilesRefusal.TheVariants.{CannotWrite, Served, Foreign, CopiedOver}
 
 -- in the order in which they are looked for
 abbrev pub files_refusal_number : FilesRefusal → ℕ
 files_refusal_number (CannotWrite _) = 1
 files_refusal_number (Served _) = 2
 files_refusal_number (Foreign _) = 3
+files_refusal_number (CopiedOver _) = 4

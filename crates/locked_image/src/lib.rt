@@ -2,6 +2,7 @@
 #![tactic(auto)]
 
 pub mod beside;
+mod copied_over;
 pub mod locked;
 pub mod reading;
 pub mod storing;
@@ -28,6 +29,8 @@ pub enum FilesRefusal<'n> {
     Served(&'n str),
     /// 3: its log is open for another image, or the file of that name is no log. It is as it was.
     Foreign(&'n str),
+    /// 4: it was changed more than a second later than its log, which asks for changes of it. Both are as they were.
+    CopiedOver(&'n str),
 }
 
 impl FilesRefusal<'_> {
@@ -39,6 +42,7 @@ impl FilesRefusal<'_> {
             FilesRefusal::CannotWrite(_) => 1,
             FilesRefusal::Served(_) => 2,
             FilesRefusal::Foreign(_) => 3,
+            FilesRefusal::CopiedOver(_) => 4,
         }
     }
 }
@@ -49,6 +53,13 @@ impl fmt::Display for FilesRefusal<'_> {
             FilesRefusal::CannotWrite(name) => write!(f, "cannot write {name}"),
             FilesRefusal::Served(name) => write!(f, "{name} is being served"),
             FilesRefusal::Foreign(name) => write!(f, "{name}.log is of another image"),
+            FilesRefusal::CopiedOver(name) => {
+                write!(
+                    f,
+                    "{name} was changed later than {name}.log, which a kill left: "
+                )?;
+                f.write_str("if another image took its place remove that log, else touch it")
+            }
         }
     }
 }

@@ -1,5 +1,6 @@
 //! An image that one program alone may write: it holds the lock of the image's log.
 
+use crate::copied_over::is_copied_over;
 use crate::storing::{ImageFiles, is_log, is_shut};
 use crate::{FilesRefusal, MOST_TRIES, image_at, is_at, is_taken, log_name};
 use host::whole_file::{flush_folder, place_of, replace_filled};
@@ -10,6 +11,7 @@ use std::io::{self, ErrorKind};
 use std::os::unix::fs::{MetadataExt, chown};
 use std::path::PathBuf;
 use std::rt::Files;
+use std::time::Clock;
 
 /// An image, or the name of one that is to be made, and its log, which is locked until `close` or the end of the process.
 #[derive(Drop)]
@@ -107,11 +109,16 @@ impl LockedImage {
     }
 
     /// Does what the log asks for, and keeps the image from now on; `name` is the name that a refusal tells.
-    pub fn keep<'n, R: Files<File = File> + AllocGlobal>(
+    pub fn keep<'n, R: Files<File = File> + AllocGlobal + Clock + Copy>(
         &self,
         rt: &R,
         name: &'n str,
-    ) -> Result<Kept<ImageFiles>, FilesRefusal<'n>> {
+    ) -> Result<Kept<ImageFiles<R>>, FilesRefusal<'n>> {
+        match self.is_copied_over() {
+            Ok(false) => {}
+            Ok(true) => return Err(FilesRefusal::CopiedOver(name)),
+            Err(_) => return Err(FilesRefusal::CannotWrite(name)),
+        }
         let Ok((files, number)) = self.files(rt) else {
             return Err(FilesRefusal::CannotWrite(name));
         };
@@ -122,9 +129,20 @@ impl LockedImage {
         }
     }
 
+    /// Whether another image was copied over this one, whose log is due.
+    fn is_copied_over(&self) -> io::Result<bool> {
+        match &self.image {
+            Some(image) => is_copied_over(image, &self.log),
+            None => Ok(false),
+        }
+    }
+
     /// The two files, and the image's name in its log: the number of its inode, and 0, which is that of no file, where there is no image.
     /// The name of a log that was made is on the disk first.
-    fn files<R: Files<File = File> + AllocGlobal>(&self, rt: &R) -> io::Result<(ImageFiles, u64)> {
+    fn files<R: Files<File = File> + AllocGlobal + Clock + Copy>(
+        &self,
+        rt: &R,
+    ) -> io::Result<(ImageFiles<R>, u64)> {
         if self.is_new {
             flush_folder(rt, &self.log_name)?;
         }
@@ -133,13 +151,13 @@ impl LockedImage {
             None => (None, 0),
         };
         Ok((
-            ImageFiles::new(rt.alloc(), self.log.try_clone()?, image)?,
+            ImageFiles::new(rt.alloc(), *rt, self.log.try_clone()?, image)?,
             number,
         ))
     }
 
     /// Does what the log asks for, where there was one; `name` is the name that a refusal tells.
-    pub fn settle<'n, R: Files<File = File> + AllocGlobal>(
+    pub fn settle<'n, R: Files<File = File> + AllocGlobal + Clock + Copy>(
         &self,
         rt: &R,
         name: &'n str,
@@ -174,7 +192,7 @@ impl LockedImage {
 
 /// Puts bytes in the place of an image, or makes it, as `replace_filled` does, while no other program may write it. What its log asked for
 /// is done first, so that the image that was there is whole where the new one can't be written; the log goes.
-pub fn replace_image<'n, R: Files<File = File> + AllocGlobal>(
+pub fn replace_image<'n, R: Files<File = File> + AllocGlobal + Clock + Copy>(
     rt: &R,
     name: &'n str,
     bytes: &[u8],

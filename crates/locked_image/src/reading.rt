@@ -1,5 +1,6 @@
 //! Images that are only read.
 
+use crate::copied_over::is_copied_over;
 use crate::storing::{ImageFiles, is_log};
 use crate::{FilesRefusal, MOST_TRIES, is_at, is_taken, log_name};
 use host::whole_file::{place_of, read};
@@ -8,12 +9,14 @@ use std::fs::File;
 use std::io::{self, ErrorKind};
 use std::os::unix::fs::MetadataExt;
 use std::rt::Files;
+use std::time::Clock;
 
 /// The bytes of an image, or none where it can't be read, or its log can't. Where a log lies beside it, what the log asks for is put into
 /// them; no file is changed.
 ///
-/// Refused are an image that a program may be writing (`Served`), and one whose log is another image's, or none (`Foreign`).
-pub fn read_image<'n, R: Files<File = File> + AllocGlobal>(
+/// Refused are an image that a program may be writing (`Served`), one whose log is another image's, or none (`Foreign`), and one that was
+/// copied over that of its log (`CopiedOver`).
+pub fn read_image<'n, R: Files<File = File> + AllocGlobal + Clock + Copy>(
     rt: &R,
     name: &'n str,
 ) -> Result<Option<Vec<u8>>, FilesRefusal<'n>> {
@@ -25,7 +28,7 @@ pub fn read_image<'n, R: Files<File = File> + AllocGlobal>(
 }
 
 /// The same; an error where a file can't be read. Where a log comes or goes meanwhile all is read again.
-fn try_read<'n, R: Files<File = File> + AllocGlobal>(
+fn try_read<'n, R: Files<File = File> + AllocGlobal + Clock + Copy>(
     rt: &R,
     name: &'n str,
 ) -> io::Result<Result<Vec<u8>, FilesRefusal<'n>>> {
@@ -60,7 +63,7 @@ fn log_at<R: Files<File = File>>(rt: &R, name: &str) -> io::Result<Option<File>>
 }
 
 /// The bytes of the image at a place, with what its log asks for.
-fn read_behind<'n, R: Files<File = File> + AllocGlobal>(
+fn read_behind<'n, R: Files<File = File> + AllocGlobal + Clock + Copy>(
     rt: &R,
     name: &'n str,
     place: &str,
@@ -71,8 +74,11 @@ fn read_behind<'n, R: Files<File = File> + AllocGlobal>(
         return Ok(Err(FilesRefusal::Foreign(name)));
     }
     let image = File::open(rt, place)?;
+    if is_copied_over(&image, &log)? {
+        return Ok(Err(FilesRefusal::CopiedOver(name)));
+    }
     let number = image.metadata()?.ino();
-    let mut files = ImageFiles::new(rt.alloc(), log, Some(image))?;
+    let mut files = ImageFiles::new(rt.alloc(), *rt, log, Some(image))?;
     let mut bytes = bytes;
     match read_through(rt.alloc(), &mut files, number, bytes.as_mut_slice()) {
         Ok(()) => Ok(Ok(bytes)),

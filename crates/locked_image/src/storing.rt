@@ -1,11 +1,13 @@
 //! An image and its log as storage of units.
 
+use crate::copied_over::{is_old, touch};
 use host::sparse::is_zero;
 use stable::{Storage, UNIT, Which};
 use std::alloc::Global;
 use std::fs::File;
 use std::io::{self, ErrorKind};
 use std::os::unix::fs::FileExt;
+use std::time::{Clock, SystemTime};
 
 /// How many bytes of a file are read at once, how many of an image are written at once at least where so many come one behind the other, and
 /// how many zeros are written behind what lengthens a log (own).
@@ -17,8 +19,11 @@ const HEAD: [u8; 8] = *b"MFSREDO1";
 ///
 /// Once a write of a gate of the log or any sync has failed, each later call is refused: what the system then shows of a file may not be
 /// what is on the disk. The program has to be started again.
+///
+/// The image is written while the log asks for changes of it alone. Before that, and each half second meanwhile, the log is touched, so
+/// that a kill leaves no image that seems to have been copied over the one of its log. Where it can't be touched the image isn't written.
 #[derive(Drop)]
-pub struct ImageFiles {
+pub struct ImageFiles<C> {
     log: File,
     log_ahead: Ahead,
     // None where there is no image yet.
@@ -33,6 +38,9 @@ pub struct ImageFiles {
     // gate, in front of it; and the first gate is closed.
     last: u64,
     is_doubtful: bool,
+    clock: C,
+    // When the log was touched last.
+    touched: Option<SystemTime>,
 }
 
 /// Bytes of a file, in its order: what was read last, until the file is written.
@@ -129,9 +137,22 @@ pub(crate) fn is_log(log: &File) -> io::Result<bool> {
     Ok(is_shut(log)? || unit_at(log, length, UNIT as u64)?.starts_with(&HEAD))
 }
 
-impl ImageFiles {
-    /// The storage of a log and an image, which has as many bytes as it has now.
-    pub(crate) fn new(alloc: Global, log: File, image: Option<File>) -> io::Result<ImageFiles> {
+/// Whether a log asks for changes of the image whose file has this number: its first gate is the head behind it.
+pub(crate) fn is_due(log: &File, number: u64) -> io::Result<bool> {
+    let length = log.metadata()?.len();
+    let head = unit_at(log, length, UNIT as u64)?;
+    let is_of_it = head.starts_with(&HEAD) && head[HEAD.len()..].starts_with(&number.to_be_bytes());
+    Ok(is_of_it && unit_at(log, length, 0)? == head)
+}
+
+impl<C: Clock + Drop> ImageFiles<C> {
+    /// The storage of a log and an image, which has as many bytes as it has now, by this clock.
+    pub(crate) fn new(
+        alloc: Global,
+        clock: C,
+        log: File,
+        image: Option<File>,
+    ) -> io::Result<ImageFiles<C>> {
         let length = match &image {
             Some(image) => image.metadata()?.len(),
             None => 0,
@@ -150,6 +171,8 @@ impl ImageFiles {
             room,
             last: 0,
             is_doubtful: false,
+            clock,
+            touched: None,
         })
     }
 
@@ -224,20 +247,40 @@ impl ImageFiles {
         Ok(())
     }
 
+    /// Touches the log, where it may be older than the image once that is written.
+    fn touch_log(&mut self) -> io::Result<()> {
+        let now = SystemTime::now(&self.clock)?;
+        if is_old(self.touched, now) {
+            touch(self.file(Which::Log)?, now)?;
+            self.touched = Some(now);
+        }
+        Ok(())
+    }
+
     /// Writes what the image is to have, of which only the bytes within its length.
     fn write_behind(&mut self) -> io::Result<()> {
-        let image = self.file(Which::Image)?;
         let rest = self.length.saturating_sub(self.image_behind.at);
         let rest = usize::try_from(rest).unwrap_or(usize::MAX);
         let there = self.image_behind.bytes.len().min(rest);
-        let written = image.write_all_at(&self.image_behind.bytes[..there], self.image_behind.at);
+        let written = self.write_front(there);
         self.image_behind.bytes.truncate(0);
         self.image_ahead.bytes.truncate(0);
         written
     }
+
+    /// Writes so many bytes of what the image is to have, if there are any.
+    fn write_front(&mut self, count: usize) -> io::Result<()> {
+        let _ = self.file(Which::Image)?;
+        if count == 0 {
+            return Ok(());
+        }
+        self.touch_log()?;
+        self.file(Which::Image)?
+            .write_all_at(&self.image_behind.bytes[..count], self.image_behind.at)
+    }
 }
 
-impl Storage for ImageFiles {
+impl<C: Clock + Drop> Storage for ImageFiles<C> {
     fn read(&mut self, file: Which, n: u64) -> io::Result<[u8; UNIT]> {
         let at = place_of(n)?;
         match file {

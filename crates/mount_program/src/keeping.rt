@@ -17,7 +17,7 @@ use std::io;
 use volume_commands::verify::{Verified, verify};
 
 /// The image that is kept.
-pub(crate) type KeptImage = FileArchive<ImageFiles>;
+pub(crate) type KeptImage = FileArchive<ImageFiles<HostRuntime>>;
 
 /// What a mount begins with.
 #[derive(Drop)]
@@ -100,7 +100,7 @@ fn kept_image(
     rt: HostRuntime,
     locked: &LockedImage,
     name: &str,
-) -> Result<Kept<ImageFiles>, MountStatus> {
+) -> Result<Kept<ImageFiles<HostRuntime>>, MountStatus> {
     locked
         .keep(&rt, name)
         .map_err(|refusal| refused(rt, &refusal))

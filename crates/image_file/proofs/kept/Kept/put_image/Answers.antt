@@ -1,103 +1,97 @@
-use Rattle.std.proofs.Common.{◌≡◌, ℕ, refl, subst, sym, ◌∙◌}
+use Rattle.std.proofs.Common.{ℕ, refl, subst, sym, ◌∙◌}
 use Rattle.stable.specs.Disk.{Contents, put}
-use Rattle.stable.specs.Runs.{now, Knows, EachMoment}
-use Rattle.redo.specs.Plans.{recover_plan}
+use Rattle.stable.specs.Runs.{Knows, EachMoment}
 use Rattle.redo.specs.UnderWay.{IsAtRest, IsCurrent, IsUnderWay}
-use Rattle.redo.specs.Laws.{FindsEither, RestsWithEither}
+use Rattle.redo.specs.Laws.{FindsEither}
 use Rattle.changes.specs.Units.{puts_of}
 use Rattle.image_file.specs.Images.{with_image}
 use Rattle.image_file.proofs.Calls.{each_then, known_still}
-use Rattle.image_file.proofs.Putting.{widely, all_find, to_recover_it, rests_it, current_at, nothing_moves, settled_shows, image_puts, image_settles, image_rests, on_ok}
+use Rattle.image_file.proofs.Putting.{widely, all_find, current_at, nothing_moves, rest_shows, image_puts, image_settles, image_rests, on_ok}
 use Rattle.image_file.proofs.kept.Kept.put_image.Goals as goal
 
-pub returns-in_err-settle-clause-any_moment : goal.returns-in_err-settle-clause-any_moment
-returns-in_err-settle-clause-any_moment g c before settled current sound =
+pub returns-in_err-settle_puts-clause-any_moment : goal.returns-in_err-settle_puts-clause-any_moment
+returns-in_err-settle_puts-clause-any_moment g c before settled current sound =
     let s = c.args.self.now in
     let a = g.S.Storage.known s.storage in
-    let b = g.S.Storage.known c.settle.new.self.storage in
+    let b = g.S.Storage.known c.settle_puts.new.self.storage in
     let after : Contents = with_image c.args.image.now before in
-    all_find s.name before after a b (widely s.name before after a b (c.settle.ensures.any_moment before before (to_recover_it s.name s.at before a current)))
+    all_find s.name before after a b (widely s.name before after a b (c.settle_puts.ensures.any_moment before current))
 
 pub returns-in_err-changes-clause-any_moment : goal.returns-in_err-changes-clause-any_moment
 returns-in_err-changes-clause-any_moment g c before settled current sound =
     let s = c.args.self.now in
-    let m = c.settle.new.self in
+    let m = c.settle_puts.new.self in
     let a = g.S.Storage.known s.storage in
     let b = g.S.Storage.known m.storage in
     let mid = g.S.Storage.known c.differing.new.storage in
     let after : Contents = with_image c.args.image.now before in
-    let rec = to_recover_it s.name s.at before a current in
-    let rest = rests_it before b (c.in_ok-settle.ensures.ok before before rec) in
+    let rest = c.in_ok-settle_puts.ensures.ok before current in
     let here : Knows (IsCurrent s.name 0 before) b = current_at s.name 0 before b refl rest in
-    each_then (FindsEither s.name before after) a b mid (all_find s.name before after a b (widely s.name before after a b (c.settle.ensures.any_moment before before rec)))
+    each_then (FindsEither s.name before after) a b mid (all_find s.name before after a b (widely s.name before after a b (c.settle_puts.ensures.any_moment before current)))
     (all_find s.name before after b mid (nothing_moves s.name 0 before after b mid c.differing.ensures.same here))
 
 pub returns-in_err-put_settled-clause-any_moment : goal.returns-in_err-put_settled-clause-any_moment
 returns-in_err-put_settled-clause-any_moment g c before settled current sound =
     let s = c.args.self.now in
-    let m = c.settle.new.self in
+    let m = c.settle_puts.new.self in
     let a = g.S.Storage.known s.storage in
     let b = g.S.Storage.known m.storage in
     let mid = g.S.Storage.known c.differing.new.storage in
     let d = g.S.Storage.known c.put_settled.new.self.storage in
     let after : Contents = with_image c.args.image.now before in
     let ws = puts_of c.in_ok-changes.changes in
-    let rec = to_recover_it s.name s.at before a current in
-    let rest = rests_it before b (c.in_ok-settle.ensures.ok before before rec) in
-    let shown = settled_shows (λ k. recover_plan s.name (now k).log.shows) s.name s.at before a b current c.in_ok-settle.ensures.follows sound rest in
-    let here = current_at m.name m.at before b c.in_ok-settle.ensures.place rest in
+    let rest = c.in_ok-settle_puts.ensures.ok before current in
+    let shown = rest_shows before b rest (c.in_ok-settle_puts.ensures.sound before current sound) in
+    let here = current_at m.name m.at before b c.in_ok-settle_puts.ensures.place rest in
     let there = known_still (IsCurrent m.name m.at before) b mid c.differing.ensures.same here in
-    let first = each_then (FindsEither s.name before after) a b mid (all_find s.name before after a b (widely s.name before after a b (c.settle.ensures.any_moment before before rec)))
+    let first = each_then (FindsEither s.name before after) a b mid (all_find s.name before after a b (widely s.name before after a b (c.settle_puts.ensures.any_moment before current)))
     (all_find s.name before after b mid (nothing_moves s.name 0 before after b mid c.differing.ensures.same (current_at s.name 0 before b refl rest))) in
     each_then (FindsEither s.name before after) a mid d first
     (image_puts s.name before after (put ws before) (c.in_ok-changes.ensures.differ before shown) mid d
-    (subst (λ (n : ℕ). EachMoment (IsUnderWay n before (put ws before)) mid d) c.settle.ensures.name (c.put_settled.ensures.any_moment before there)))
+    (subst (λ (n : ℕ). EachMoment (IsUnderWay n before (put ws before)) mid d) c.settle_puts.ensures.name (c.put_settled.ensures.any_moment before there)))
 
 pub returns-clause-any_moment : goal.returns-clause-any_moment
 returns-clause-any_moment g c before settled current sound =
     let s = c.args.self.now in
-    let m = c.settle.new.self in
+    let m = c.settle_puts.new.self in
     let p = c.put_settled.new.self in
     let a = g.S.Storage.known s.storage in
     let b = g.S.Storage.known m.storage in
     let mid = g.S.Storage.known c.differing.new.storage in
     let d = g.S.Storage.known p.storage in
-    let e = g.S.Storage.known c.settle-2.new.self.storage in
+    let e = g.S.Storage.known c.settle_puts-2.new.self.storage in
     let after : Contents = with_image c.args.image.now before in
     let ws = puts_of c.in_ok-changes.changes in
     let made : Contents = put ws before in
-    let rec = to_recover_it s.name s.at before a current in
-    let rest = rests_it before b (c.in_ok-settle.ensures.ok before before rec) in
-    let shown = settled_shows (λ k. recover_plan s.name (now k).log.shows) s.name s.at before a b current c.in_ok-settle.ensures.follows sound rest in
-    let here = current_at m.name m.at before b c.in_ok-settle.ensures.place rest in
+    let rest = c.in_ok-settle_puts.ensures.ok before current in
+    let shown = rest_shows before b rest (c.in_ok-settle_puts.ensures.sound before current sound) in
+    let here = current_at m.name m.at before b c.in_ok-settle_puts.ensures.place rest in
     let there = known_still (IsCurrent m.name m.at before) b mid c.differing.ensures.same here in
     let same = c.in_ok-changes.ensures.differ before shown in
     let put_there : Knows (IsCurrent p.name p.at made) d = subst (λ (n : ℕ). Knows (IsCurrent n p.at made) d) (sym c.put_settled.ensures.name) (c.in_ok-put_settled.ensures.ok before there) in
-    let first = each_then (FindsEither s.name before after) a b mid (all_find s.name before after a b (widely s.name before after a b (c.settle.ensures.any_moment before before rec)))
+    let first = each_then (FindsEither s.name before after) a b mid (all_find s.name before after a b (widely s.name before after a b (c.settle_puts.ensures.any_moment before current)))
     (all_find s.name before after b mid (nothing_moves s.name 0 before after b mid c.differing.ensures.same (current_at s.name 0 before b refl rest))) in
     let second = each_then (FindsEither s.name before after) a mid d first
     (image_puts s.name before after made same mid d
-    (subst (λ (n : ℕ). EachMoment (IsUnderWay n before made) mid d) c.settle.ensures.name (c.put_settled.ensures.any_moment before there))) in
+    (subst (λ (n : ℕ). EachMoment (IsUnderWay n before made) mid d) c.settle_puts.ensures.name (c.put_settled.ensures.any_moment before there))) in
     each_then (FindsEither s.name before after) a d e second
     (image_settles s.name before after made same d e
-    (subst (λ (n : ℕ). EachMoment (IsUnderWay n made made) d e) (c.put_settled.ensures.name ∙ c.settle.ensures.name) (c.settle-2.ensures.any_moment made made (to_recover_it p.name p.at made d put_there))))
+    (subst (λ (n : ℕ). EachMoment (IsUnderWay n made made) d e) (c.put_settled.ensures.name ∙ c.settle_puts.ensures.name) (c.settle_puts-2.ensures.any_moment made put_there)))
 
 pub returns-clause-ok : goal.returns-clause-ok
 returns-clause-ok g c before settled current sound =
     let s = c.args.self.now in
-    let m = c.settle.new.self in
+    let m = c.settle_puts.new.self in
     let p = c.put_settled.new.self in
-    let a = g.S.Storage.known s.storage in
     let b = g.S.Storage.known m.storage in
     let mid = g.S.Storage.known c.differing.new.storage in
     let d = g.S.Storage.known p.storage in
-    let e = g.S.Storage.known c.settle-2.new.self.storage in
+    let e = g.S.Storage.known c.settle_puts-2.new.self.storage in
     let after : Contents = with_image c.args.image.now before in
     let made : Contents = put (puts_of c.in_ok-changes.changes) before in
-    let rec = to_recover_it s.name s.at before a current in
-    let rest = rests_it before b (c.in_ok-settle.ensures.ok before before rec) in
-    let shown = settled_shows (λ k. recover_plan s.name (now k).log.shows) s.name s.at before a b current c.in_ok-settle.ensures.follows sound rest in
-    let there = known_still (IsCurrent m.name m.at before) b mid c.differing.ensures.same (current_at m.name m.at before b c.in_ok-settle.ensures.place rest) in
+    let rest = c.in_ok-settle_puts.ensures.ok before current in
+    let shown = rest_shows before b rest (c.in_ok-settle_puts.ensures.sound before current sound) in
+    let there = known_still (IsCurrent m.name m.at before) b mid c.differing.ensures.same (current_at m.name m.at before b c.in_ok-settle_puts.ensures.place rest) in
     let put_there : Knows (IsCurrent p.name p.at made) d = subst (λ (n : ℕ). Knows (IsCurrent n p.at made) d) (sym c.put_settled.ensures.name) (c.in_ok-put_settled.ensures.ok before there) in
-    on_ok c.settle-2.result (Knows (RestsWithEither made made) e) (Knows (IsAtRest after) e) (image_rests s.name before after made (c.in_ok-changes.ensures.differ before shown) e)
-    (c.settle-2.ensures.ok made made (to_recover_it p.name p.at made d put_there))
+    on_ok c.settle_puts-2.result (Knows (IsAtRest made) e) (Knows (IsAtRest after) e) (image_rests s.name before after made (c.in_ok-changes.ensures.differ before shown) e)
+    (c.settle_puts-2.ensures.ok made put_there)
