@@ -245,16 +245,16 @@ handed s t u was noted is b m a r message came absorbs on w idle left guarantees
               truth = absorbs.truth v tree marks h.minor h.serves.agrees h.truth;
             } in
             let runs : Runs (area_at s) (moment s b Resting) (moment u a Resting) = runs_join (area_at s) (moment s b Resting) (record { run = m; outbox = owed_after_message message marks s.outbox; doing = Hearing message })
-                  (moment u a Resting)
-                  (moments.Then (moment s b Resting) (record { run = m; outbox = owed_after_message message marks s.outbox; doing = Hearing message }) moments.Starts
-                  (subst (λ (l : List Mark). Step (area_at s) (moment s b Resting)
-                  (record { run = m; outbox = owed_after_message message l s.outbox; doing = Hearing message })) is_record
-                  (aside_step (area_at s) b m s.outbox message x.asides idle.live (rests s was b v tree marks guarantees stood) left)))
-                  (runs_at (area_at t) (area_at s) _ _ (same_area s t x.same.geometry x.same.minor)
-                  (owing_first (area_at t) m (owed_after_message message marks t.outbox) (owed_after_message message marks s.outbox) (Hearing message)
-                  (moment u a Resting) (ap (owed_after_message message marks) x.same.outbox)
-                  (absorb_runs t u noted is m a message v tree marks absorbs on (asides_told b m (Some message) x.asides idle.told_of_end) first last
-                  (asides_record b m message x.asides ∙ ap (received message) is_record) h.serves))) in
+            (moment u a Resting)
+            (moments.Then (moment s b Resting) (record { run = m; outbox = owed_after_message message marks s.outbox; doing = Hearing message }) moments.Starts
+            (subst (λ (l : List Mark). Step (area_at s) (moment s b Resting)
+            (record { run = m; outbox = owed_after_message message l s.outbox; doing = Hearing message })) is_record
+            (aside_step (area_at s) b m s.outbox message x.asides idle.live (rests s was b v tree marks guarantees stood) left)))
+            (runs_at (area_at t) (area_at s) _ _ (same_area s t x.same.geometry x.same.minor)
+            (owing_first (area_at t) m (owed_after_message message marks t.outbox) (owed_after_message message marks s.outbox) (Hearing message)
+            (moment u a Resting) (ap (owed_after_message message marks) x.same.outbox)
+            (absorb_runs t u noted is m a message v tree marks absorbs on (asides_told b m (Some message) x.asides idle.told_of_end) first last
+            (asides_record b m message x.asides ∙ ap (received message) is_record) h.serves))) in
             record {
               marks = marks_after (absorbs.keeps.later ++ Absorbed message ∷ []) marks;
               stands = there;
@@ -356,9 +356,9 @@ answered s t u was is after b m a arrived reply calls on n live guarantees final
         truth = n.truth v (marks_after calls.keeps.acts marks) (calls.truth v tree marks stood.minor stood.serves.agrees stood.truth);
       } in
       let all_runs : Runs (area_at s) (moment s b (Answering arrived)) (moment u a Resting) = owing (area_at s) (moment s b (Answering arrived)) a t.outbox u.outbox Resting (sym n.same.outbox)
-            (subst (λ (p : RunState). Runs (area_at s) (moment s b (Answering arrived)) (record { run = p; outbox = t.outbox; doing = Resting })) (sym n.answers)
-            (replied (area_at s) (moment s b (Answering arrived)) m t.outbox arrived reply (marks_after calls.keeps.acts marks) runs.runs
-            (answered_over s t was is b m arrived reply calls on live first last) runs.record_is done.at_rest)) in
+      (subst (λ (p : RunState). Runs (area_at s) (moment s b (Answering arrived)) (record { run = p; outbox = t.outbox; doing = Resting })) (sym n.answers)
+      (replied (area_at s) (moment s b (Answering arrived)) m t.outbox arrived reply (marks_after calls.keeps.acts marks) runs.runs
+      (answered_over s t was is b m arrived reply calls on live first last) runs.record_is done.at_rest)) in
       record {
         marks = Took arrived.who arrived.now arrived.call (answer_of reply) ∷ marks_after calls.keeps.acts marks;
         stands = there;
