@@ -141,7 +141,10 @@ pub(crate) fn is_log(log: &File) -> io::Result<bool> {
 pub(crate) fn is_due(log: &File, number: u64) -> io::Result<bool> {
     let length = log.metadata()?.len();
     let head = unit_at(log, length, UNIT as u64)?;
-    let is_of_it = head.starts_with(&HEAD) && head[HEAD.len()..].starts_with(&number.to_be_bytes());
+    let is_of_it = match head.split_first_chunk::<8>() {
+        Some((letters, rest)) => *letters == HEAD && rest.starts_with(&number.to_be_bytes()),
+        None => false,
+    };
     Ok(is_of_it && unit_at(log, length, 0)? == head)
 }
 
@@ -259,24 +262,22 @@ impl<C: Clock + Drop> ImageFiles<C> {
 
     /// Writes what the image is to have, of which only the bytes within its length.
     fn write_behind(&mut self) -> io::Result<()> {
-        let rest = self.length.saturating_sub(self.image_behind.at);
-        let rest = usize::try_from(rest).unwrap_or(usize::MAX);
-        let there = self.image_behind.bytes.len().min(rest);
-        let written = self.write_front(there);
+        let written = self.write_within();
         self.image_behind.bytes.truncate(0);
         self.image_ahead.bytes.truncate(0);
         written
     }
 
-    /// Writes so many bytes of what the image is to have, if there are any.
-    fn write_front(&mut self, count: usize) -> io::Result<()> {
-        let _ = self.file(Which::Image)?;
-        if count == 0 {
-            return Ok(());
+    /// The same, and the bytes stay to be written.
+    fn write_within(&mut self) -> io::Result<()> {
+        let rest = self.length.saturating_sub(self.image_behind.at);
+        let rest = usize::try_from(rest).unwrap_or(usize::MAX);
+        if rest > 0 && !self.image_behind.bytes.is_empty() {
+            self.touch_log()?;
         }
-        self.touch_log()?;
-        self.file(Which::Image)?
-            .write_all_at(&self.image_behind.bytes[..count], self.image_behind.at)
+        let image = self.file(Which::Image)?;
+        let there = self.image_behind.bytes.len().min(rest);
+        image.write_all_at(&self.image_behind.bytes[..there], self.image_behind.at)
     }
 }
 
