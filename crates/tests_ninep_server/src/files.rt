@@ -248,7 +248,7 @@ static ATTRIBUTES_ARE_CHANGED: [Row<'static>; 3] = [
             Given::Done,
             Given::Done,
         ],
-        b"\x1a\x01\0\x02\0\0\0\x7b\0\0\0\xa4\x01\0\0\x09\0\0\0\xff\xff\xff\xff\x64\0\0\0\0\0\0\0\x63\0\0\0\0\0\0\0\0\0\
+        b"\x1a\x01\0\x02\0\0\0\x7b\0\0\0\xa4\x09\0\0\x09\0\0\0\xff\xff\xff\xff\x64\0\0\0\0\0\0\0\x63\0\0\0\0\0\0\0\0\0\
           \0\0\0\0\0\0\x62\0\0\0\0\0\0\0\0\0\0\0\0\0\0\0",
         "0 lstat /f;0 truncate /f 100;0 chown /f 9 7;0 chmod /f 420;0 utime /f 1000 1000;",
         b"\x1b\x01\0",
@@ -269,7 +269,8 @@ static ATTRIBUTES_ARE_CHANGED: [Row<'static>; 3] = [
     ),
 ];
 
-/// Each attribute that is named is changed, in turn; those that aren't stay. A time is now where none is given.
+/// Each attribute that is named is changed, in turn; those that aren't stay. Of a mode the permissions are taken, without the set-user-id
+/// bit. A time is now where none is given.
 #[test]
 fn attributes_are_changed(rt: HostRuntime) -> Result<(), Fail> {
     with_file(rt.alloc(), &ATTRIBUTES_ARE_CHANGED)
@@ -360,7 +361,7 @@ fn lost_files_stay(rt: HostRuntime) -> Result<(), Fail> {
 static REFUSED_CHANGES_LEAVE_ALL: [Row<'static>; 5] = [
     (
         &[Given::Node(3, 0o100644)],
-        b"\x1a\x01\0\x02\0\0\0\x09\0\0\0\xed\x09\0\0\0\0\0\0\0\0\0\0\x64\0\0\0\0\0\0\0\0\0\0\0\0\0\0\0\0\0\0\0\0\0\0\0\0\
+        b"\x1a\x01\0\x02\0\0\0\x0a\0\0\0\0\0\0\0\0\0\x01\0\0\0\0\0\x64\0\0\0\0\0\0\0\0\0\0\0\0\0\0\0\0\0\0\0\0\0\0\0\0\
           \0\0\0\0\0\0\0\0\0\0\0\0\0\0\0",
         "0 lstat /f;",
         b"\x07\x01\0\x16\0\0\0",
@@ -393,8 +394,8 @@ static REFUSED_CHANGES_LEAVE_ALL: [Row<'static>; 5] = [
     ),
 ];
 
-/// A mode that another user may not change, or that has other bits than permissions, is refused before the size is changed; behind a size,
-/// the time of the change isn't changed by itself.
+/// A mode that another user may not change, or an owner past the last one, is refused before the size is changed; behind a size, the time of
+/// the change isn't changed by itself.
 #[test]
 fn refused_changes_leave_all(rt: HostRuntime) -> Result<(), Fail> {
     with_file(rt.alloc(), &REFUSED_CHANGES_LEAVE_ALL)
