@@ -157,7 +157,7 @@ fn long_logs_are_settled(rt: HostRuntime) -> Result<(), Fail> {
     )
 }
 
-// Units 1 and 3 differ; the last one is cut, and zeros follow.
+// Nothing was put before. Units 1 and 3 differ; the last one is cut, and zeros follow.
 #[test]
 fn image_is_put(rt: HostRuntime) -> Result<(), Fail> {
     let (_, mut kept) = opened(rt.alloc(), usize::MAX)?;
@@ -172,7 +172,7 @@ fn image_is_put(rt: HostRuntime) -> Result<(), Fail> {
     let is_put = is_image(&mut memory, &[[1; UNIT], [1; UNIT], last])?;
     is_told(
         format!(in rt.alloc(); "{} {is_put}", memory.history().len())?.as_str(),
-        "15 true",
+        "14 true",
     )
 }
 
