@@ -272,7 +272,7 @@ impl<'p> Play<'p> {
     }
 
     /// What it gives under this gate.
-    pub(crate) fn played_at<R: Threads + Wait + Copy + Send + Sync + 'static, G: Gate + 'static>(
+    pub fn played_at<R: Threads + Wait + Copy + Send + Sync + 'static, G: Gate + 'static>(
         &self,
         alloc: Global,
         rt: R,

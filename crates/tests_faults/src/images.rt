@@ -2,6 +2,7 @@
 
 use crate::replies::are_replies;
 use fixtures::new_volume;
+use fixtures_faults::damaged::{Clean, LOOKED_AT, clean_at, is_clean, put};
 use fixtures_plays::plays::Play;
 use fsck::{Verdict, check};
 use std::alloc::{AllocError, Global};
@@ -10,100 +11,6 @@ use std::test::Fail;
 use std::thread::Threads;
 use std::time::Clock;
 use volume::Finding;
-
-/// With which values of a byte the small volume is clean.
-#[derive(Clone, Copy)]
-enum Clean {
-    /// With each, since nothing looks at the byte.
-    Ignored,
-    /// With each, since each has a meaning.
-    Any,
-    /// With that of the volume alone.
-    Own,
-    /// With those from one on to another.
-    Between(u8, u8),
-    /// With those that have all these bits clear.
-    Without(u8),
-}
-
-/// The bytes of the small volume up to the end of the root's zone, in runs: how many each has, and with which values of one of them the
-/// volume is clean. They follow from docs/FORMAT.md alone.
-static RUNS: [(usize, Clean); 26] = [
-    // the boot block
-    (1024, Clean::Ignored),
-    // 17 to 32 inodes take the two blocks of the table
-    (1, Clean::Between(17, 32)),
-    (3, Clean::Own),
-    // a pad
-    (2, Clean::Ignored),
-    // both maps' blocks, the first data zone, the logarithm
-    (8, Clean::Own),
-    // a pad
-    (2, Clean::Ignored),
-    // the greatest size
-    (4, Clean::Own),
-    // the image has 64 blocks, and the root's zone is number 6
-    (1, Clean::Between(7, 64)),
-    // the other bytes of the zones, the magic number
-    (5, Clean::Own),
-    // a pad
-    (2, Clean::Ignored),
-    // the block size, the version
-    (3, Clean::Own),
-    // behind the superblock
-    (993, Clean::Ignored),
-    // the inode map: the bits 0 to 31 are nobody's, the root's and those of inodes without a mode, bit 32 the last inode's
-    (4, Clean::Own),
-    (1, Clean::Without(1)),
-    (1019, Clean::Ignored),
-    // the zone map: the bits 0 to 55 are nobody's, that of the root's zone and those of zones without a use, 56 to 58 the last three's
-    (7, Clean::Own),
-    (1, Clean::Without(7)),
-    (1016, Clean::Ignored),
-    // the root's mode: nine permissions of a directory, which a link isn't; its links
-    (1, Clean::Any),
-    (1, Clean::Between(0x40, 0x41)),
-    (2, Clean::Own),
-    // its user and group; its size; its times; its zones
-    (4, Clean::Any),
-    (4, Clean::Own),
-    (12, Clean::Any),
-    (40, Clean::Own),
-    // inodes that aren't marked
-    (1984, Clean::Ignored),
-];
-
-/// How many bytes the root's two entries have, of which each has to be as it is. Nothing looks at those behind them.
-const ENTRIES: usize = 128;
-
-/// The bytes up to the end of the root's zone.
-const LOOKED_AT: usize = 7168;
-
-/// With which values of the byte at a place the volume is clean.
-fn clean_at(place: usize) -> Clean {
-    let mut end = 0usize;
-    for (count, clean) in &RUNS {
-        end = end.saturating_add(*count);
-        if place < end {
-            return *clean;
-        }
-    }
-    if place < end.saturating_add(ENTRIES) {
-        Clean::Own
-    } else {
-        Clean::Ignored
-    }
-}
-
-/// Whether this is such a value, where the volume has that one.
-fn is_clean(clean: Clean, value: u8, own: u8) -> bool {
-    match clean {
-        Clean::Ignored | Clean::Any => true,
-        Clean::Own => value == own,
-        Clean::Between(first, last) => first <= value && value <= last,
-        Clean::Without(bits) => value & bits == 0,
-    }
-}
 
 /// Whether a value of a byte is tried: each, but of a byte that nothing looks at 0, 85, 170 and 255.
 fn is_tried(values: Clean, value: u8) -> bool {
@@ -149,13 +56,6 @@ fn clean_values_at(alloc: Global, image: &mut [u8], place: usize) -> Result<u32,
     }
     put(image, place, &[own]);
     Ok(count)
-}
-
-/// Puts bytes at a place.
-pub fn put(image: &mut [u8], at: usize, bytes: &[u8]) {
-    for (place, byte) in image.iter_mut().skip(at).zip(bytes) {
-        *place = *byte;
-    }
 }
 
 /// It is an error where a count is another one.

@@ -1,8 +1,8 @@
 //! Schedules, scripts and boot sectors of drawn bytes: each is refused by name, or run.
 
-use crate::images::put;
 use crate::replies::are_replies;
 use fixtures::{new_volume, whole};
+use fixtures_faults::damaged::put;
 use fixtures_faults::draws::Draws;
 use fixtures_plays::plays::Play;
 use modeldisk::supply::{drivers_for, table_in};
