@@ -33,6 +33,7 @@ use Rattle.cache.proofs.Tied.{tied_run, tied_read}
 use Rattle.cache.proofs.Inside.{asks_read, asks_write, inside_begun, inside_still, run_inside}
 use Rattle.cache.proofs.Agreeing.{agrees_moved, view_moved, agrees_begun, view_begun}
 use Rattle.cache.proofs.Begun.{begun_one, dirty_held}
+use Rattle.cache.proofs.Overtaking.{overtakes_begun, overtakes_same}
 use Rattle.cache.proofs.Edits.{one_slot}
 use Rattle.cache.proofs.Runs.{begin_runs}
 
@@ -172,6 +173,7 @@ write_many ask old new b count n some begun from x adds opens write minor positi
       same = λ a. ap (λ (k : ℕ). view k new.held v) size
           ∙ view_moved old.size new.held (pending_of new.table.pending) w v sp tied
           ∙ view_begun old.size old.held new.held w b count n begun;
+      none_overtaken = overtakes_begun old.held new.held b count n begun;
     })
   where
     asks : AsksIn old.area ask
@@ -251,6 +253,7 @@ read_one ask old new b n all x adds opens read minor position count ready same s
       same = λ a. ap (λ (k : ℕ). view k new.held v) size
           ∙ view_moved old.size new.held (pending_of new.table.pending) w v sp tied
           ∙ ap (λ (h : ℕ → Option Slot). view old.size h w) all;
+      none_overtaken = overtakes_same old.held new.held all;
     })
   where
     asks : AsksIn old.area ask

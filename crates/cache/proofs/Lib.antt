@@ -19,6 +19,7 @@ pub mod Sizes
 pub mod Tied
 pub mod Inside
 pub mod Agreeing
+pub mod Overtaking
 pub mod Handing
 pub mod Looking
 pub mod Runs

@@ -12,7 +12,7 @@ use Rattle.cache.specs.declared.slot.Slot.{Slot}
 use Rattle.cache.specs.declared.state.State.{State}
 use Rattle.cache.specs.declared.state.State.TheVariants.{Clean, Dirty, Writing, Changed}
 use Rattle.block_store.specs.declared.Cut.{Cut}
-use Rattle.cache.specs.Slots.{held, ticket_of, dirtied, is_clean, is_unclean_slot, IsDistinct}
+use Rattle.cache.specs.Slots.{held, ticket_of, dirtied, is_clean, is_changed, is_unclean_slot, IsDistinct}
 use Rattle.cache.specs.Edits.{IsSetAt, IsFilledAt, IsSlotAt, IsFreeAt, IsAt}
 use Rattle.cache.specs.Frames.{Tied, IsWritable, AllInside, CacheAgrees, HasSure, view, frame_of, disk_block, with_bytes}
 use Rattle.cache.specs.Calls.{AbstractCache, IsReady, Runs, Serves, Keeps, Rewrites, Blanks, unless_clean, forgotten}
@@ -24,6 +24,7 @@ use Rattle.cache.proofs.Filling.{vacated_held, filled_held}
 use Rattle.cache.proofs.Tied.{tied_idle, tied_changed, no_ticket}
 use Rattle.cache.proofs.Inside.{inside_put, inside_still, writable_still}
 use Rattle.cache.proofs.Agreeing.{agrees_put, agrees_given_up, view_given_up, view_put, view_row, not_clean, seen_within, seen_past}
+use Rattle.cache.proofs.Overtaking.{overtakes_put}
 use Rattle.cache.proofs.Edits.{one_slot}
 use Rattle.cache.proofs.Runs.{runs_none, runs_as, runs_then, same_left, ids_kept}
 
@@ -34,6 +35,7 @@ pub serves_then : (a b c : AbstractCache) (u v w : DiskState) → Serves a b u v
 serves_then a b c u v w x y = record {
   agrees = λ k. y.agrees (x.agrees k);
   same = λ k. y.same (x.agrees k) ∙ x.same k;
+  none_overtaken = λ block is. x.none_overtaken block (y.none_overtaken block is);
 }
 
 -- one after the other
@@ -43,7 +45,7 @@ keeps_then a b c x y =
 
 -- nothing was done
 pub keeps_none : (c : AbstractCache) → IsReady c → Keeps c c
-keeps_none c ready = runs_none c (λ w v. Serves c c w v) ready (λ w. record { agrees = λ a. a; same = λ a. refl })
+keeps_none c ready = runs_none c (λ w v. Serves c c w v) ready (λ w. record { agrees = λ a. a; same = λ a. refl; none_overtaken = λ block is. is })
 
 -- after a call, a message taken
 pub keeps_took : (r : Result Taking Cut) (a b c : AbstractCache) → Keeps a b → Runs None b c (λ w v. Takes r b c w v) → Keeps a c
@@ -196,6 +198,7 @@ vacated old new items items' at d f e here all ready = subst (λ (c : AbstractCa
         (λ w. record {
           agrees = λ a. subst (λ (h : ℕ → Option Slot). CacheAgrees old.size h w) (sym to) (agrees_given_up old.size old.held w b s is clean a);
           same = λ a. ap (λ (h : ℕ → Option Slot). view old.size h w) to ∙ view_given_up old.size old.held w b s is clean a;
+          none_overtaken = overtakes_put old.held (held items') b None to refl;
         })
 
 -- ---- a block comes into a free slot
@@ -219,6 +222,7 @@ placed old new items items' at b start size bytes before d free none e here all 
           (let k : t ≡ u = cc in k) (sure w a told o lt)) (λ h o lt. cc) a);
       same = λ a. ap (λ (h : ℕ → Option Slot). view old.size h w) to
           ∙ view_put old.size old.held w b (Some t) (λ o lt. rw slot (sure w a told o lt).byte_is);
+      none_overtaken = overtakes_put old.held (held items') b (Some t) to (ap is_changed e.state_is);
     })))
   where
     t : Slot

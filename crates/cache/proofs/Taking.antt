@@ -27,6 +27,7 @@ use Rattle.cache.specs.Takes.{read_into, Takes, ReadTells, ReadsStay, NoReadBegu
 use Rattle.cache.proofs.Tied.{tied_read_settled, tied_written, same_begun}
 use Rattle.cache.proofs.Inside.{inside_settled, inside_still}
 use Rattle.cache.proofs.Agreeing.{agrees_moved, view_moved, agrees_written, view_written}
+use Rattle.cache.proofs.Overtaking.{overtakes_after}
 use Rattle.cache.proofs.Edits.{leaves_none}
 use Rattle.cache.proofs.Runs.{step_runs, absorb_runs}
 
@@ -110,6 +111,7 @@ serves_settled res old new items items' w v closes settles here there size k m =
     record {
       agrees = λ a. subst (λ (n : ℕ). CacheAgrees n new.held v) (sym size) (y.agrees a);
       same = λ a. ap (λ (n : ℕ). view n new.held v) size ∙ y.same a;
+      none_overtaken = overtakes_after res items items' old.held new.held settles here there;
     }
 
 -- a settled read tells the disk's bytes
@@ -213,7 +215,7 @@ takes_one res old new items items' x settles here there ready busy alive going a
 
 -- a call that was cut before it took anything
 pub takes_none : (r : Result Taking Cut) (c : AbstractCache) (w : DiskState) → IsErr r → Takes r c c w w
-takes_none (Err cut) c w h = record { serves = record { agrees = λ a. a; same = λ a. refl }; tells = tt }
+takes_none (Err cut) c w h = record { serves = record { agrees = λ a. a; same = λ a. refl; none_overtaken = λ block is. is }; tells = tt }
 takes_none (Ok t) c w h = cc
 
 -- a take that was cut
@@ -238,6 +240,7 @@ pub absorbs_one : (m : Incoming) (res : Settlement) (old new : AbstractCache) (i
 absorbs_one m res old new items items' x settles here there ready spare area size ended budget room ids stays = record {
   runs = both.0;
   none_taken = ap (λ (l : List Act). took_nothing (told_of l)) both.1 ∙ d.none_taken;
+  none_overtaken = overtakes_after res items items' old.held new.held settles here there;
   no_effect = λ e. both.1 ∙ d.no_effect e;
 }
   where

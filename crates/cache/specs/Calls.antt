@@ -27,7 +27,7 @@ use Rattle.cache.specs.declared.shape.Shape.{Shape}
 use Rattle.cache.specs.declared.cache.Cache.{Cache}
 use Rattle.block_store.specs.declared.Cut.{Cut}
 use Rattle.block_store.specs.declared.Cut.TheVariants.{Eio, LinkEnded}
-use Rattle.cache.specs.Slots.{held, is_clean}
+use Rattle.cache.specs.Slots.{held, is_clean, OvertakesNone}
 use Rattle.cache.specs.Edits.{IsAt, NoneDirty}
 use Rattle.cache.specs.Frames.{Tied, IsWritable, AllInside, CacheAgrees, view}
 
@@ -147,10 +147,11 @@ pub record Runs (message : Option Incoming) (old new : AbstractCache) (Related :
 abbrev pub Does : {L : Type 0} → LinkWords L → Cache L → Cache L → (AbstractCache → AbstractCache → DiskState → DiskState → Type 0) → Type 0
 Does words old new Related = Runs None (caching words old) (caching words new) (Related (caching words old) (caching words new))
 
--- slots and the disk go on agreeing, and what would be read back stays
+-- slots and the disk go on agreeing, what would be read back stays, and no block is overtaken: none is changed while its write is under way
 pub record Serves (old new : AbstractCache) (w v : DiskState) : Type 0 where
   pub agrees : CacheAgrees old.size old.held w → CacheAgrees new.size new.held v
   pub same : CacheAgrees old.size old.held w → view new.size new.held v ≡ view old.size old.held w
+  pub none_overtaken : OvertakesNone old.held new.held
 
 -- a call that leaves what would be read back
 abbrev pub Keeps : AbstractCache → AbstractCache → Type 0
@@ -162,10 +163,11 @@ pub record IsIdle (c : AbstractCache) : Type 0 where
   pub marks : List Mark
   pub agrees : Agrees c.table marks
 
--- A message that is handed over between two calls: no message is taken, and an End has no effect.
+-- A message that is handed over between two calls: no message is taken, no block is overtaken, whatever the replies, and an End has no effect.
 pub record HandsOver (message : Incoming) (old new : AbstractCache) : Type 0 where
   pub runs : Runs (Some message) old new (λ w v. Serves old new w v)
   pub none_taken : took_nothing (told_of runs.acts) ≡ true
+  pub none_overtaken : OvertakesNone old.held new.held
   pub no_effect : message ≡ End → runs.acts ≡ []
 
 -- slots and the disk go on agreeing, and of what would be read back the bytes of one block alone change, in this way

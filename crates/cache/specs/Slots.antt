@@ -75,6 +75,10 @@ abbrev pub is_changed_held : Option Slot → Bool
 is_changed_held None = false
 is_changed_held (Some s) = is_changed s.state
 
+-- those of no block were, but of blocks of which it was so before
+abbrev pub OvertakesNone : (ℕ → Option Slot) → (ℕ → Option Slot) → Type 0
+OvertakesNone old new = (block : ℕ) → is_changed_held (new block) ≡ true → is_changed_held (old block) ≡ true
+
 -- the slot holds a block, and its bytes may not be the disk's
 abbrev pub is_unclean_slot : Slot → Bool
 is_unclean_slot s = is_some s.block && not (is_clean s.state)

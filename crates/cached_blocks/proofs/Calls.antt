@@ -53,10 +53,16 @@ turns_fresh f goes a b (Ok x) block on runs =
     on runs
 turns_fresh f goes a b (Err c) block on runs = turns_as _ _ _ _ _ (λ d e x. tt) (turns_kept f goes a b on runs)
 
--- what a call keeps is seen to stay
+-- what a call keeps stays where it is seen
+pub seen_kept : (a b : AbstractCache) (d e : Disk) (k : Keeps a b) (s : Sees a b d e)
+    → Serves a b (state_after s.image s.marks) (state_after s.image (grown k.told s.marks))
+seen_kept a b d e k s =
+    let same : s.told ≡ k.told = one_told a b s.told k.told s.history k.history in
+    let tr : HasTrueReplies s.image (grown k.told s.marks) = subst (λ (l : List Told). HasTrueReplies s.image (grown l s.marks)) same s.true_replies in
+    k.related s.image s.marks s.agrees tr
+
 pub seen_same : (a b : AbstractCache) (d e : Disk) → Keeps a b → Sees a b d e → e ≡ d
 seen_same a b d e k s =
     let same : s.told ≡ k.told = one_told a b s.told k.told s.history k.history in
-    let tr : HasTrueReplies s.image (grown k.told s.marks) = subst (λ (l : List Told). HasTrueReplies s.image (grown l s.marks)) same s.true_replies in
     s.after ∙ ap (λ (l : List Told). view b.size b.held (state_after s.image (grown l s.marks))) same
-    ∙ (k.related s.image s.marks s.agrees tr).same s.covered ∙ sym s.before
+    ∙ (seen_kept a b d e k s).same s.covered ∙ sym s.before

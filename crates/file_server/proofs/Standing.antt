@@ -43,6 +43,10 @@ serves_same old new image tree marks same s = record {
         subst (λ (g : Geometry). WritesFrames g.block_size (state_of new) (pending_requests marks new.outbox)) (sym same.geometry)
         (subst (λ (f : FrameState). WritesFrames old.geometry.block_size f (pending_requests marks new.outbox)) (sym (same_state old new same))
         (subst (λ (o : Outbox). WritesFrames old.geometry.block_size (state_of old) (pending_requests marks o)) (sym same.outbox) s.known.pending));
+    under_way = λ block is.
+        ap (λ (o : Outbox). list_any (may_write new.geometry.block_size block) (pending_requests marks o)) same.outbox
+        ∙ ap (λ (g : Geometry). list_any (may_write g.block_size block) (pending_requests marks old.outbox)) same.geometry
+        ∙ s.known.under_way block (ap (λ (u : ℕ → Bool). u block) (sym same.overtaken) ∙ is);
   };
   legal = λ replies. subst (λ (g : Geometry). IsLegal g image tree marks) (sym same.geometry) (s.legal replies);
   has_tree = λ replies live not_given_up.

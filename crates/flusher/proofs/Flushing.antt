@@ -13,7 +13,7 @@ use Rattle.cache.specs.declared.slot.Slot.{Slot}
 use Rattle.cache.specs.declared.state.State.{State}
 use Rattle.cache.specs.declared.state.State.TheVariants.{Clean, Dirty, Writing, Changed}
 use Rattle.block_store.specs.declared.Cut.{Cut}
-use Rattle.cache.specs.Slots.{ticket_of, is_clean, is_dirty}
+use Rattle.cache.specs.Slots.{ticket_of, is_clean, is_dirty, is_changed, is_changed_held}
 use Rattle.cache.specs.Edits.{AllClean, SomeUnclean, IssuesLowest, IsBegun, IsOutside, AreBegun}
 use Rattle.cache.specs.Runs.{IssuesRun, BeginsRun}
 use Rattle.cache.specs.Looking.{IsSettled}
@@ -21,7 +21,7 @@ use Rattle.cache.specs.Frames.{CacheAgrees}
 use Rattle.cache.specs.Calls.{AbstractCache, IsReady, IsStuck, PostsAlone, Runs, Keeps, Serves}
 use Rattle.records.specs.Told.{Told, Posted, Complained, Received}
 use Rattle.reissue.specs.Posts.{OnlyPosts}
-use Rattle.cache.proofs.Tied.{way_ticket, no_ticket}
+use Rattle.cache.proofs.Tied.{way_ticket, no_ticket, within_or}
 use Rattle.cache.proofs.Agreeing.{same_view, byte_or}
 use Rattle.cache.proofs.Runs.{runs_as}
 use Rattle.cache.proofs.Begun.{fits_in}
@@ -272,3 +272,22 @@ all_of most size left old new pending pending' none h =
     let is = h.left_is in
     let whole : sum h.counts ≡ most = omega (arith, is, none) in
     subst (λ (k : ℕ). WritesJust k old new) whole h.just
+
+-- ---- overtaken blocks
+
+-- none is overtaken that wasn't, nor the other way round
+run_overtakes : (most size n : ℕ) (old new : ℕ → Option Slot) (ps qs : List BlockRequest) → IssuesRun most size n old new ps qs
+    → (b : ℕ) → is_changed_held (new b) ≡ is_changed_held (old b)
+run_overtakes most size n old new ps qs x b = elim (within_or x.block n b) [
+  | inl here ↦
+      let y = x.run.begun.each here.index here.below in
+      let was : is_changed_held (old b) ≡ false = ap (λ k. is_changed_held (old k)) here.is ∙ ap is_changed_held y.is ∙ ap is_changed y.dirty in
+      ap (λ k. is_changed_held (new k)) here.is ∙ ap is_changed_held y.after ∙ sym was
+  | inr out ↦ ap is_changed_held (x.run.begun.others b out)
+]
+
+pub flush_overtakes : (counts : List ℕ) (most size : ℕ) (old new : ℕ → Option Slot) (ps qs : List BlockRequest)
+    → WritesRuns counts most size old new ps qs → (b : ℕ) → is_changed_held (new b) ≡ is_changed_held (old b)
+flush_overtakes [] most size old new ps qs x b = ap (λ (f : ℕ → Option Slot). is_changed_held (f b)) x.0
+flush_overtakes (n ∷ counts) most size old new ps qs x b =
+    run_overtakes (most - sum counts) size n x.0 new x.1 qs x.3 b ∙ flush_overtakes counts most size old x.0 ps x.1 x.2 b

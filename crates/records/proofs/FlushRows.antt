@@ -1,5 +1,5 @@
--- What a Flush makes pending, by three unwritten blocks of 1024 bytes, 5, 6 and 9; a dup that flushes, a look that loses a frame, and a
--- pending write beside its frame.
+-- What a Flush makes pending, by three unwritten blocks of 1024 bytes, 5, 6 and 9; a dup that flushes, a look that loses a frame or overtakes
+-- one, and a pending write beside its frame.
 use Rattle.std.specs.Prelude.{◌≡◌, ℕ, ◌+◌, ◌*◌, ◌<◌, List, [], ◌∷◌, ◌++◌, sum, Bool, true, false, ◌&&◌, ◌||◌, ◌==◌, if◌then◌else◌, ◌≤◌, Option, Some, None, replicate, slice_index, refl}
 use Rattle.std.proofs.Common.{arith, sym, ap, subst, ◌∙◌, inl, inr}
 use Rattle.std.proofs.lemmas.List.{get_or-replicate}
@@ -10,10 +10,14 @@ use Rattle.message.specs.declared.Kind.{Kind}
 use Rattle.message.specs.declared.Kind.TheVariants.{Read, Write}
 use Rattle.message.specs.declared.BlockRequest.{BlockRequest}
 use Rattle.tree.specs.declared.Who.{Who}
-use Rattle.tree.specs.declared.Call.TheVariants.{Dup}
-use Rattle.records.specs.Acts.{Began, empty_outbox}
+use Rattle.tree.specs.declared.Call.TheVariants.{Dup, Statfs}
+use Rattle.tree.specs.Tree.{Tree}
+use Rattle.message.specs.declared.Incoming.{Incoming}
+use Rattle.records.specs.Marks.{Mark}
+use Rattle.records.specs.Disk.{Contents, HasTrueReplies}
+use Rattle.records.specs.Acts.{Began, empty_outbox, marks_after}
 use Rattle.records.specs.Flushes.{Flushes, FrameState, HasByte, WritesFrames, WritesLowest, WritesRun, without_run}
-use Rattle.records.specs.ServerCall.{Serving, Outcome, CallKeeps, KnowsFrames, LeavesView, state_of}
+use Rattle.records.specs.ServerCall.{Serving, Serves, Outcome, CallKeeps, AbsorbKeeps, KnowsFrames, LeavesView, state_of}
 use Rattle.records.proofs.LegalRows.{small, zeros}
 
 -- the unwritten blocks
@@ -155,6 +159,18 @@ flushing_dup : (old new : Serving) (who : Who) (now fd : ℕ) (outcome : Outcome
 flushing_dup old new who now fd outcome keeps unwanted is =
     let e : [] ≡ Began (request Write 5 2) ∷ [] = sym (keeps.still fd refl unwanted) ∙ is in cc
 
+-- refused: a statfs that overtakes a block, over true replies
+overtaking_look : (old new : Serving) (who : Who) (now block : ℕ) (outcome : Outcome) (keeps : CallKeeps old who now Statfs outcome new)
+    (image : Contents) (tree : Tree) (marks : List Mark) → Serves old image tree marks → HasTrueReplies image (marks_after keeps.acts marks)
+    → old.overtaken block ≡ false → new.overtaken block ≡ true → ⊥
+overtaking_look old new who now block outcome keeps image tree marks serves replies was is =
+    let e : true ≡ false = sym ((keeps.looked image tree marks serves replies refl).none_overtaken block is) ∙ was in cc
+
+-- refused: a message that does
+overtaking_message : (old new : Serving) (message : Incoming) (block : ℕ) → AbsorbKeeps old message new
+    → old.overtaken block ≡ false → new.overtaken block ≡ true → ⊥
+overtaking_message old new message block keeps was is = let e : true ≡ false = sym (keeps.none_overtaken block is) ∙ was in cc
+
 -- a server with ones in the frame of block 5 alone, or without frames
 abbrev with_frame : Bool → Serving
 with_frame has = record {
@@ -219,3 +235,7 @@ zeros_overtaken = (λ write. record { each = λ block place k low lt at clear. a
     clash block place k low lt at clear =
         let five : block ≡ 5 = omega (arith, low, lt, at) in
         let e : true ≡ false = ap (ones_at_five true).overtaken (sym five) ∙ clear in cc
+
+-- refused: that it was changed since, where no write is pending
+overtaken_by_none : KnowsFrames (record small { block_size = 1024 }) (ones_at_five true) empty_outbox zeros [] → ⊥
+overtaken_by_none h = let e : false ≡ true = h.under_way 5 refl in cc

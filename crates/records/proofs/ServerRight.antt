@@ -47,6 +47,7 @@ knows is_busy ended image marks pending = record {
   framed = λ block is. absurd (false_not_true is);
   others = λ tr block not_so none. refl;
   pending = pending;
+  under_way = λ block is. absurd (false_not_true is);
 }
 
 -- of no open files none is open
@@ -110,6 +111,7 @@ right_call = record {
   looked = λ image tree marks s true_replies only. record {
     same = refl;
     covered = record { each = (s.has_tree true_replies refl s.agrees.1).reads_back.covered.each };
+    none_overtaken = λ block is. is;
   };
   serves = λ image tree marks s.
       let after : tree_after small tree (Took user_0 100 stat_root (root_of_size 128) ∷ marks) ≡ tree_after small tree marks =
@@ -171,6 +173,7 @@ right_end = record {
   none_absorbed = refl;
   none_taken = refl;
   same_files = refl;
+  none_overtaken = λ block is. is;
   no_effect = λ e. refl;
   flushed = λ other. refl;
   flushes = λ image tree marks agrees is. absurd (end_flush is);
@@ -215,7 +218,12 @@ right_open = record {
     well_formed = tt;
     inside = tt;
     at_rest = record { complaint = refl; post = refl };
-    known = record { framed = λ block is. absurd (false_not_true is); others = λ tr block not_so none. refl; pending = tt };
+    known = record {
+      framed = λ block is. absurd (false_not_true is);
+      others = λ tr block not_so none. refl;
+      pending = tt;
+      under_way = λ block is. absurd (false_not_true is);
+    };
     legal = λ true_replies. tt;
     has_tree = λ true_replies live not_given_up. record {
       reads_back = record { holds = first.holds; covered = record { each = λ place is_unsure. absurd (false_not_true is_unsure) } };

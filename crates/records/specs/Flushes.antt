@@ -71,6 +71,10 @@ pub record FrameState : Type 0 where
   pub unwritten : ℕ → Bool
   pub overtaken : ℕ → Bool
 
+-- no block is overtaken that wasn't
+abbrev pub OvertakesNone : FrameState → FrameState → Type 0
+OvertakesNone old new = (block : ℕ) → new.overtaken block ≡ true → old.overtaken block ≡ true
+
 -- a block has a frame, with this byte there
 pub record HasByte (frames : Frames) (block place byte : ℕ) : Type 0 where
   pub bytes : List ℕ

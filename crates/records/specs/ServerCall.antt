@@ -21,7 +21,7 @@ use Rattle.records.specs.Legal.{IsLegal, tree_after}
 use Rattle.records.specs.View.{Frames, ReadsBack, IsCovered, server_view}
 use Rattle.records.specs.Area.{area_of, WritesInside}
 use Rattle.records.specs.Settled.{only_looks, is_settled, none_written, LookingWritesNothing}
-use Rattle.records.specs.Flushes.{FlushesOn, FrameState, WritesFrames, pending_requests, may_write}
+use Rattle.records.specs.Flushes.{FlushesOn, FrameState, OvertakesNone, WritesFrames, pending_requests, may_write}
 
 -- What is said of a server.
 pub record Serving : Type 1 where
@@ -70,13 +70,14 @@ state_of s = record { frames = s.frames; unwritten = s.unwritten; overtaken = s.
 
 -- How frames stand beside the disk. Which blocks are unwritten: they have frames. Over true replies, what would be read back of each other block
 -- is the disk's, unless a write is pending that may have it. Each pending write has the bytes of its blocks' frames, but for those that were
--- changed since it was begun.
+-- changed since it was begun: of each block that is overtaken a write is pending that may have it.
 pub record KnowsFrames (g : Geometry) (f : FrameState) (o : Outbox) (image : Contents) (marks : List Mark) : Type 0 where
   pub framed : (block : ℕ) → f.unwritten block ≡ true → IsSome (f.frames block)
   pub others : HasTrueReplies image marks → (block : ℕ) → f.unwritten block ≡ false
       → list_any (may_write g.block_size block) (pending_requests marks o) ≡ false
       → server_view g f.frames image marks block ≡ blocks_of g (disk_after image marks) block
   pub pending : WritesFrames g.block_size f (pending_requests marks o)
+  pub under_way : (block : ℕ) → f.overtaken block ≡ true → list_any (may_write g.block_size block) (pending_requests marks o) ≡ true
 
 -- A server serves a volume: it agrees with the record, which is well formed whatever the link answered, each write in it lies in the
 -- volume behind its first two blocks, and nothing is owed.
@@ -117,14 +118,16 @@ abbrev pub with_outcome : Who → ℕ → Call → Outcome → List Mark → Lis
 with_outcome who now call (Replied answer) marks = Took who now call answer ∷ marks
 with_outcome who now call Cut marks = marks
 
--- what would be read back stays, and each unsure place lies in a block with a frame
+-- what would be read back stays, each unsure place lies in a block with a frame, and no block is overtaken that wasn't
 pub record LeavesView (old new : Serving) (image : Contents) (before after : List Mark) : Type 0 where
   pub same : server_view new.geometry new.frames image after ≡ server_view old.geometry old.frames image before
   pub covered : IsCovered new.geometry new.frames after
+  pub none_overtaken : OvertakesNone (state_of old) (state_of new)
 
 -- One call. Nothing is handed over in it. It is cut exactly where a take gave End, in it or earlier. Else it answers EIO exactly where
 -- the device is given up, in it or earlier. Where either was so earlier, it does nothing, and so does a dup where no Flush is wanted.
--- None is wanted once the call is answered otherwise. A call that only looks leaves what would be read back, also where it is cut.
+-- None is wanted once the call is answered otherwise. A call that only looks leaves what would be read back and overtakes no block, also where
+-- it is cut.
 pub record CallKeeps (old : Serving) (who : Who) (now : ℕ) (call : Call) (outcome : Outcome) (new : Serving) : Type 0 where
   pub acts : List Act
   pub leads : Leads old acts new
@@ -146,13 +149,15 @@ pub record CallKeeps (old : Serving) (who : Who) (now : ℕ) (call : Call) (outc
       → Serves new image tree (with_outcome who now call outcome (marks_after acts marks))
 
 -- One message between two calls: its mark, if it leaves one, stands before what the link is told then; no message is taken, no file is
--- opened or closed, and an End has no effect. A Flush is carried out, and no Flush is wanted after another message than End.
+-- opened or closed, no block is overtaken, and an End has no effect. A Flush is carried out, and no Flush is wanted after another message
+-- than End.
 pub record AbsorbKeeps (old : Serving) (message : Incoming) (new : Serving) : Type 0 where
   pub later : List Act
   pub leads : Leads old (later ++ Absorbed message ∷ []) new
   pub none_absorbed : has_absorbed later ≡ false
   pub none_taken : took_nothing (told_of later) ≡ true
   pub same_files : new.is_busy ≡ old.is_busy
+  pub none_overtaken : OvertakesNone (state_of old) (state_of new)
   pub no_effect : message ≡ End → later ≡ []
   pub flushed : message ≢ End → new.wanted ≡ false
   pub flushes : (image : Contents) (tree : Tree) (marks : List Mark) → old.Agrees image tree marks → message ≡ Flush

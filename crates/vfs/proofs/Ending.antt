@@ -117,9 +117,9 @@ stopped_at_once g a n w f may who now call why o e h =
   where
     by : (y : Why) → IsWhyCut a y → CallSpecification (server_of g a n w f) (server_of g a n w f) a.truth a.truth who now call (outcome_of (stopped y))
     by LinkEnded h = calls_cut g a a n n refl w w f f may.size may.geometry.sized may.area may.ends (none a may.ready) who now call
-        (λ e. refl) (λ e. refl) (λ fd is unwanted. refl) (λ image tree marks k tr only. (looks_none a, refl)) h
+        (λ e. refl) (λ e. refl) (λ fd is unwanted. refl) (λ image tree marks k tr only. (looks_none a, refl, λ block is. is)) h
     by Eio h = calls_eio g a a n n refl w w f f may.size may.geometry.sized may.area may.ends (none a may.ready) who now call
-        (λ e. refl) (λ e. refl) (λ fd is unwanted. refl) (λ image tree marks k tr only. (looks_none a, refl)) h.0 h.1
+        (λ e. refl) (λ e. refl) (λ fd is unwanted. refl) (λ image tree marks k tr only. (looks_none a, refl, λ block is. is)) h.0 h.1
 
 -- a call is cut off on its way
 pub stopped_later : (g : Geometry) (a b : AbstractCache) (n m : ℕ) → m ≡ n → (w u : Bool) (f h : Files) → MayServe g a → IsLive a → Leads a b

@@ -122,20 +122,3 @@ pub flush_keeps : (counts : List ℕ) (most size : ℕ) (old new : ℕ → Optio
 flush_keeps [] most size old new ps qs x length b = ap (λ (f : ℕ → Option Slot). frame_of length (f b)) x.0
 flush_keeps (n ∷ counts) most size old new ps qs x length b =
     run_keeps (most - sum counts) size n x.0 new x.1 qs x.3 length b ∙ flush_keeps counts most size old x.0 ps x.1 x.2 length b
-
--- none is overtaken that wasn't, nor the other way round
-run_overtakes : (most size n : ℕ) (old new : ℕ → Option Slot) (ps qs : List BlockRequest) → IssuesRun most size n old new ps qs
-    → (b : ℕ) → is_changed_held (new b) ≡ is_changed_held (old b)
-run_overtakes most size n old new ps qs x b = elim (within_or x.block n b) [
-  | inl here ↦
-      let y = x.run.begun.each here.index here.below in
-      let was : is_changed_held (old b) ≡ false = ap (λ k. is_changed_held (old k)) here.is ∙ ap is_changed_held y.is ∙ ap is_changed y.dirty in
-      ap (λ k. is_changed_held (new k)) here.is ∙ ap is_changed_held y.after ∙ sym was
-  | inr out ↦ ap is_changed_held (x.run.begun.others b out)
-]
-
-pub flush_overtakes : (counts : List ℕ) (most size : ℕ) (old new : ℕ → Option Slot) (ps qs : List BlockRequest)
-    → WritesRuns counts most size old new ps qs → (b : ℕ) → is_changed_held (new b) ≡ is_changed_held (old b)
-flush_overtakes [] most size old new ps qs x b = ap (λ (f : ℕ → Option Slot). is_changed_held (f b)) x.0
-flush_overtakes (n ∷ counts) most size old new ps qs x b =
-    run_overtakes (most - sum counts) size n x.0 new x.1 qs x.3 b ∙ flush_overtakes counts most size old x.0 ps x.1 x.2 b

@@ -43,7 +43,8 @@ use Rattle.descriptors.specs.Files.{Files, HasFiles}
 use Rattle.file_server.specs.Over.{AbsorbsOver}
 use Rattle.vfs.specs.Serving.{IsServer, MayServe, server_of}
 use Rattle.vfs.specs.Laws.{BeginsRuns}
-use Rattle.vfs.proofs.Framed.{flush_keeps, flush_overtakes}
+use Rattle.flusher.proofs.Flushing.{flush_overtakes}
+use Rattle.vfs.proofs.Framed.{flush_keeps}
 use Rattle.vfs.proofs.Unwritten.{knows, pending_is}
 use Rattle.vfs.proofs.Flushed.{dirty_in, runs_written, stuck as stuck_so}
 use Rattle.vfs.proofs.Keeping.{tree_acts, legal_acts, gone_acts, view_of, covers_of}
@@ -239,6 +240,7 @@ module _ (g : Geometry) (a b : AbstractCache) (n k : ℕ) (many : k ≡ n) (w u 
     none_absorbed = x.none_absorbed;
     none_taken = h.none_taken;
     same_files = refl;
+    none_overtaken = h.none_overtaken;
     no_effect = h.no_effect;
     flushed = done;
     flushes = λ image tree marks k is. flushes marks k.table is;

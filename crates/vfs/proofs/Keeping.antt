@@ -37,6 +37,7 @@ use Rattle.reissue.proofs.Taking.{agrees_took}
 use Rattle.cache.specs.Calls.{AbstractCache, Runs}
 use Rattle.cache.specs.Laws.{LeadsBy}
 use Rattle.cache.specs.Frames.{CacheAgrees, frames_of, view}
+use Rattle.cache.specs.Slots.{OvertakesNone}
 use Rattle.cache.proofs.Runs.{true_before}
 use Rattle.cache.proofs.Leading.{leads_by}
 use Rattle.cache.proofs.ReadingBack.{frames_read_back}
@@ -51,7 +52,7 @@ use Rattle.file_server.specs.Over.{CallSpecification}
 use Rattle.vfs.specs.Serving.{IsServer, LooksOver, server_of}
 use Rattle.vfs.specs.UnmountingLaws.{UnmountsOver}
 use Rattle.vfs.proofs.Unwritten.{knows}
-use Rattle.cached_blocks.proofs.Calls.{seen_same}
+use Rattle.cached_blocks.proofs.Calls.{seen_kept, seen_same}
 
 -- ---- acts leave the tree and a legal record (as in the crate `serve`)
 
@@ -228,11 +229,11 @@ module _ (g : Geometry) (a b : AbstractCache) (n m : ℕ) (many : m ≡ n) (w u 
       let same : l.told ≡ x.told = append_cancel_right l.told x.told a.told (sym l.history ∙ x.history) in
       ap none_written (grows marks k) ∙ written_told x.told marks (subst (λ (told : List Told). PostsReads told) same l.reads) none
 
-  -- a call that only looks finds nothing to write, after any record, and leaves what would be read back
+  -- a call that only looks finds nothing to write, after any record, leaves what would be read back, and overtakes no block
   abbrev pub LooksThere : Who → Call → Type 0
   LooksThere who call = (image : Contents) (tree : Tree) (marks : List Mark) → Serves s image tree marks → HasTrueReplies image (after marks)
       → IsTrue (only_looks (tree_after g tree marks) who call)
-      → Looks a b × (view b.size b.held (state_after image (after marks)) ≡ view a.size a.held (state_after image marks))
+      → Looks a b × (view b.size b.held (state_after image (after marks)) ≡ view a.size a.held (state_after image marks)) × OvertakesNone a.held b.held
 
   -- and leaves what would be read back
   leaves : (who : Who) (call : Call) → LooksThere who call → (image : Contents) (tree : Tree) (marks : List Mark) → Serves s image tree marks
@@ -242,6 +243,7 @@ module _ (g : Geometry) (a b : AbstractCache) (n m : ℕ) (many : m ≡ n) (w u 
       record {
         same = view_of g some b sized' image (after marks) ∙ (looks image tree marks k tr only).1 ∙ sym (view_of g some a sized image marks);
         covered = covers_of g some b sized' image (after marks) (slots image tree marks k.agrees tr);
+        none_overtaken = (looks image tree marks k tr only).2;
       }
 
   -- it knows which blocks are unwritten
@@ -261,7 +263,7 @@ module _ (g : Geometry) (a b : AbstractCache) (n m : ℕ) (many : m ≡ n) (w u 
       let l = looks d e there (tree_after g tree marks)
       (subst (λ (y : Disk). HoldsVolume g y (tree_after g tree marks)) (view_of g some a sized image marks) (k.has_tree first live up).reads_back.holds)
       (k.agrees.files first live up) only in
-      (l.0, seen_same a b d e l.1 there)
+      (l.0, seen_same a b d e l.1 there, (seen_kept a b d e l.1 there).none_overtaken)
 
   -- a dup does nothing, where no Flush is wanted
   abbrev pub IsCalm : Call → Type 0

@@ -28,7 +28,7 @@ use Rattle.reissue.specs.Rules.{outbox_of}
 use Rattle.cache.specs.declared.slot.Slot.{Slot}
 use Rattle.cache.specs.declared.state.State.{State}
 use Rattle.cache.specs.declared.state.State.TheVariants.{Clean, Dirty, Writing, Changed}
-use Rattle.cache.specs.Slots.{is_dirty, is_dirty_held, ticket_of}
+use Rattle.cache.specs.Slots.{is_changed, is_changed_held, is_dirty, is_dirty_held, ticket_of}
 use Rattle.cache.specs.Frames.{CacheAgrees, Tied, frame_of, frames_of}
 use Rattle.cache.specs.Calls.{AbstractCache}
 use Rattle.descriptors.specs.Files.{Files}
@@ -99,6 +99,7 @@ knows g c n w f some sized tied image marks k slots = record {
   pending = subst (λ (size : ℕ). WritesFrames size (frame_state c) (pending_requests marks (outbox_of c.table))) sized
       (subst (λ (rs : List BlockRequest). WritesFrames c.size (frame_state c) rs) (sym (pending_is c.table marks k))
       (writes_frames c (rw sized some) tied marks k));
+  under_way = λ block is. overtaken block (c.held block) refl is;
 }
   where
     framed : (o : Option Slot) → is_dirty_held o ≡ true → IsSome (frame_of c.size o)
@@ -131,14 +132,29 @@ knows g c n w f some sized tied image marks k slots = record {
 
     -- one whose write is under way has a pending write
     under : (block t : ℕ) (s : Slot) → c.held block ≡ Some s → ticket_of s.state ≡ Some t
-        → list_any (may_write g.block_size block) (pending_requests marks (outbox_of c.table)) ≡ false → ⊥
-    under block t s is ticket none =
+        → list_any (may_write g.block_size block) (pending_requests marks (outbox_of c.table)) ≡ true
+    under block t s is ticket =
         let x = tied.issued block t s is ticket in
         let some' : 0 < c.size = rw sized some in
         let y : list_any (may_write c.size block) (map request_of c.table.pending) ≡ true =
         covers c.size block c.table.pending t x.request x.bytes some' x.is x.write x.from x.to in
-        from_clash (sym y ∙ ap (λ m. list_any (may_write m block) (map request_of c.table.pending)) sized
-        ∙ ap (λ (l : List BlockRequest). list_any (may_write g.block_size block) l) (sym (pending_is c.table marks k)) ∙ none)
+        ap (λ (l : List BlockRequest). list_any (may_write g.block_size block) l) (pending_is c.table marks k)
+        ∙ ap (λ m. list_any (may_write m block) (map request_of c.table.pending)) (sym sized) ∙ y
+
+    -- so has each that is overtaken
+    overtaken : (block : ℕ) (o : Option Slot) → c.held block ≡ o → is_changed_held (c.held block) ≡ true
+        → list_any (may_write g.block_size block) (pending_requests marks (outbox_of c.table)) ≡ true
+    overtaken block None e is = from_clash (sym is ∙ ap is_changed_held e)
+    overtaken block (Some s) e is = state s.state refl
+      where
+        clash : (x : State) → s.state ≡ x → is_changed x ≡ false → list_any (may_write g.block_size block) (pending_requests marks (outbox_of c.table)) ≡ true
+        clash x at clear = from_clash (sym is ∙ ap is_changed_held e ∙ ap is_changed at ∙ clear)
+
+        state : (x : State) → s.state ≡ x → list_any (may_write g.block_size block) (pending_requests marks (outbox_of c.table)) ≡ true
+        state Clean at = clash Clean at refl
+        state Dirty at = clash Dirty at refl
+        state (Writing t) at = clash (Writing t) at refl
+        state (Changed t) at = under block t s e (ap ticket_of at)
 
     by : HasTrueReplies image marks → (block : ℕ) → list_any (may_write g.block_size block) (pending_requests marks (outbox_of c.table)) ≡ false
         → (o : Option Slot) → c.held block ≡ o → is_dirty_held (c.held block) ≡ false
@@ -149,5 +165,5 @@ knows g c n w f some sized tied image marks k slots = record {
         state : (x : State) → s.state ≡ x → frame_or (Some (take c.size s.bytes.value)) (disk block) ≡ disk block
         state Clean is = clean tr block s e is
         state Dirty is = from_clash (sym (ap is_dirty_held e ∙ ap is_dirty is) ∙ clear)
-        state (Writing t) is = absurd (under block t s e (ap ticket_of is) none)
-        state (Changed t) is = absurd (under block t s e (ap ticket_of is) none)
+        state (Writing t) is = from_clash (sym (under block t s e (ap ticket_of is)) ∙ none)
+        state (Changed t) is = from_clash (sym (under block t s e (ap ticket_of is)) ∙ none)

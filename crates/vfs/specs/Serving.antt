@@ -57,7 +57,7 @@ server_of g c frames wanted f = record {
 }
 
 -- a call that only looks, of some tree that would be read back with these open files, finds nothing to write where nothing was left to write,
--- and leaves what would be read back
+-- leaves what would be read back, and overtakes no block
 abbrev pub LooksOver : Geometry → Who → Call → Files → AbstractCache → AbstractCache → Type 0
 LooksOver g who call f a b =
     (d e : Disk) → Sees a b d e → (t : Tree) → HoldsVolume g d t → HasFiles f t → IsTrue (only_looks t who call)

@@ -29,7 +29,7 @@ use Rattle.reissue.specs.Moves.{Begun, state_after}
 use Rattle.reissue.specs.Rules.{outbox_of}
 use Rattle.reissue.proofs.TableRules.{at_rest}
 use Rattle.cache.specs.declared.slot.Slot.{Slot}
-use Rattle.cache.specs.Slots.{is_dirty_held}
+use Rattle.cache.specs.Slots.{is_changed_held, is_dirty_held}
 use Rattle.cache.specs.Calls.{AbstractCache, frame_count}
 use Rattle.cache.specs.Frames.{CacheAgrees, frame_of, frames_of}
 use Rattle.descriptors.specs.Files.{Files, HasFiles, is_busy}
@@ -83,6 +83,7 @@ serves_new g c n w f image tree marks some sized none closed agrees same first s
     others = λ tr block written clear. ap (λ (o : Option Slot). frame_or (frame_of c.size o) (blocks_of g (disk_after image marks) block)) (none block);
     pending = subst (λ (rs : List BlockRequest). WritesFrames g.block_size (frame_state c) rs)
         (sym (pending_is c.table marks agrees ∙ ap (λ (ps : List Pending). map request_of ps) idle)) tt;
+    under_way = λ block is. absurd (none_changed (c.held block) (none block) is);
   };
   legal = λ tr. legal;
   has_tree = λ tr e u. record {
@@ -105,6 +106,9 @@ serves_new g c n w f image tree marks some sized none closed agrees same first s
   where
     no_slot : (o : Option Slot) → o ≡ None → is_dirty_held o ≡ true → ⊥
     no_slot o e dirty = let clash : true ≡ false = sym dirty ∙ ap is_dirty_held e in cc
+
+    none_changed : (o : Option Slot) → o ≡ None → is_changed_held o ≡ true → ⊥
+    none_changed o e changed = let clash : true ≡ false = sym changed ∙ ap is_changed_held e in cc
 
     slots : HasTrueReplies image marks → CacheAgrees c.size c.held (state_after image marks)
     slots tr = record {

@@ -1,6 +1,6 @@
 -- A server over its link leads on through what is done at the link, through messages and through calls.
 use Rattle.std.proofs.Common.{◌≡◌, ◌⊎◌, ◌<◌, List, [], ◌∷◌, ◌++◌, Bool, true, false, refl, sym, ◌∙◌, ap, subst, arith}
-use Rattle.std.specs.Prelude.{ℕ, ◌||◌, ◌&&◌, not, Option, Some, None, Result, Ok, Err, IfOk, OnOk, OnErr}
+use Rattle.std.specs.Prelude.{ℕ, ◌||◌, ◌&&◌, not, Option, Some, None, Result, Ok, Err, IfOk, IsTrue, OnOk, OnErr}
 use Rattle.std.specs.declared.alloc.AllocError.{AllocError}
 use Rattle.lemmas.proofs.Bools.{is_false, true_not_false}
 use Rattle.layout.specs.declared.Geometry.{Geometry}
@@ -11,11 +11,13 @@ use Rattle.tree.specs.Tree.{Tree}
 use Rattle.tree.specs.declared.Reply.{Reply}
 use Rattle.tree.specs.Answers.{Answer, answer_of}
 use Rattle.records.specs.Marks.{Mark, Took, gave_up}
-use Rattle.records.specs.Disk.{Contents}
+use Rattle.records.specs.Disk.{Contents, HasTrueReplies}
+use Rattle.records.specs.Legal.{tree_after}
+use Rattle.records.specs.Settled.{only_looks}
 use Rattle.records.specs.Opening.{Opening, contents_at}
 use Rattle.records.specs.Told.{received, took_end}
 use Rattle.records.specs.Acts.{Absorbed, Outbox, told_of, marks_after, owed_after_message, IsAtRest}
-use Rattle.records.specs.Flushes.{FlushesOn, FrameState, pending_requests}
+use Rattle.records.specs.Flushes.{FlushesOn, FrameState, OvertakesNone, pending_requests}
 use Rattle.records.specs.ServerCall.{Serving, Serves, Outcome, Replied, Cut as WasCutOff, state_of}
 use Rattle.records.specs.Area.{Area, area_of}
 use Rattle.reissue.specs.Calls.{Truth}
@@ -194,7 +196,8 @@ hears_turn : (s t u : Serving) (was noted is : Truth) (b a : RunState) (message 
 hears_turn s t u was noted is b a message v tree marks same absorbs first later stood heard there runs live =
     one (area_at s) s.geometry (contents_at v) tree (moment s b Resting) (moment u a Resting) (state_of s) (state_of u)
     (Hears_message message absorbs.keeps.later runs (after_is ∙ ap (marks_after (absorbs.keeps.later ++ Absorbed message ∷ [])) (sym before_is))
-    absorbs.keeps.none_absorbed absorbs.keeps.none_taken flushes
+    absorbs.keeps.none_absorbed absorbs.keeps.none_taken
+    (subst (λ (f : FrameState). OvertakesNone f (state_of u)) (same_state s t same) absorbs.keeps.none_overtaken) flushes
     (frames_hold s.geometry u is a v tree after (absorbs.keeps.leads.geometry ∙ same.geometry) later there live))
   where
     after : List Mark
@@ -333,6 +336,18 @@ answered_over s t was is b a arrived reply calls on handed first last =
     (call_history s t was is b a arrived (Replied (answer_of reply)) calls first last) calls.keeps.leads.ended (handed.ended ∙ sym handed.live)
     ∙ answered_ended s t was is arrived reply calls
 
+-- a call that only looks overtakes no block
+looks_on : (s t u : Serving) (was is : Truth) (b a : RunState) (arrived : Arrived) (reply : Reply)
+    (calls : CallSpecification s t was is arrived.who arrived.now arrived.call (Replied (answer_of reply))) → SameServing t u
+    → (v : Opening) (tree : Tree) (marks : List Mark) → Stands s was v tree marks → record_of b ≡ marks
+    → record_of a ≡ Took arrived.who arrived.now arrived.call (answer_of reply) ∷ marks_after calls.keeps.acts marks
+    → HasTrueReplies (contents_at v) (record_of a) → IsTrue (only_looks (tree_after s.geometry tree (record_of b)) arrived.who arrived.call)
+    → OvertakesNone (state_of s) (state_of u)
+looks_on s t u was is b a arrived reply calls same v tree marks stood first last replies looks =
+    subst (λ (f : FrameState). OvertakesNone (state_of s) f) (sym (same_state t u same))
+    (calls.keeps.looked (contents_at v) tree marks stood.serves (subst (λ (l : List Mark). HasTrueReplies (contents_at v) l) last replies)
+    (subst (λ (l : List Mark). IsTrue (only_looks (tree_after s.geometry tree l) arrived.who arrived.call)) first looks)).none_overtaken
+
 -- a call was answered, and its answer noted
 pub answered : (s t u : Serving) (was is after : Truth) (b m a : RunState) (arrived : Arrived) (reply : Reply)
     → CallSpecification s t was is arrived.who arrived.now arrived.call (Replied (answer_of reply)) → GoesOn b m → Notes t u is after m a arrived reply
@@ -367,6 +382,7 @@ answered s t u was is after b m a arrived reply calls on n live guarantees final
             (Answers_call arrived (answer_of reply) calls.keeps.acts all_runs ((finally v _ there.truth).is
             ∙ ap (λ (l : List Mark). Took arrived.who arrived.now arrived.call (answer_of reply) ∷ marks_after calls.keeps.acts l)
             (sym (guarantees v marks stood.truth).is)) calls.keeps.none_absorbed
+            (looks_on s t u was is b a arrived reply calls n.same v tree marks stood (guarantees v marks stood.truth).is (finally v _ there.truth).is)
             (frames_hold s.geometry u after a v tree _ (n.same.geometry ∙ calls.keeps.leads.geometry) finally there
             (n.same.ended ∙ answered_ended s t was is arrived reply calls)));
       };

@@ -1,5 +1,5 @@
 -- What a server's frames hold through a run, and what becomes of them in each turn.
-use Rattle.std.specs.Prelude.{◌≡◌, List, [], ◌∷◌, ◌++◌, true, false, not}
+use Rattle.std.specs.Prelude.{◌≡◌, List, [], ◌∷◌, ◌++◌, true, false, not, IsTrue}
 use Rattle.layout.specs.declared.Geometry.{Geometry}
 use Rattle.message.specs.declared.BlockRequest.{BlockRequest}
 use Rattle.message.specs.declared.Incoming.{Incoming}
@@ -11,8 +11,10 @@ use Rattle.records.specs.Disk.{Contents, HasTrueReplies}
 use Rattle.records.specs.Told.{took_nothing}
 use Rattle.records.specs.Acts.{Act, Absorbed, Outbox, has_absorbed, marks_after, told_of}
 use Rattle.records.specs.Area.{Area}
+use Rattle.records.specs.Legal.{tree_after}
+use Rattle.records.specs.Settled.{only_looks}
 use Rattle.records.specs.View.{Frames, ReadsBack}
-use Rattle.records.specs.Flushes.{FlushesOn, FrameState, pending_requests}
+use Rattle.records.specs.Flushes.{FlushesOn, FrameState, OvertakesNone, pending_requests}
 use Rattle.records.specs.ServerCall.{KnowsFrames}
 use Rattle.schedule.specs.declared.arrived.Arrived.{Arrived}
 use Rattle.simulated_link.specs.Moments.{Moment, Runs, record_of}
@@ -32,16 +34,18 @@ abbrev pub pending_at : Moment → List BlockRequest
 pending_at m = pending_requests (record_of m.run) m.outbox
 
 -- One turn, from a moment with these frames to one with those. An event came that no message goes with, or a call was handed out: the frames
--- stay. A message was handed over: a Flush is carried out. A call was answered. The last call was cut.
+-- stay. A message was handed over: it overtakes no block, and a Flush is carried out. A call was answered: over true replies one that only
+-- looks overtakes none. The last call was cut.
 pub data Turn (area : Area) (g : Geometry) (image : Contents) (tree : Tree) (m n : Moment) (f h : FrameState) : Type 0 where
   Stays : Runs area m n → record_of n.run ≡ record_of m.run → h ≡ f → HoldAt g image tree n h → Turn area g image tree m n f h
   Hears : (message : Incoming) (later : List Act) → Runs area m n
       → record_of n.run ≡ marks_after (later ++ Absorbed message ∷ []) (record_of m.run) → has_absorbed later ≡ false
-      → took_nothing (told_of later) ≡ true
+      → took_nothing (told_of later) ≡ true → OvertakesNone f h
       → (message ≡ Flush → FlushesOn g.block_size (not (gave_up (record_of n.run))) f h (pending_at m) (pending_at n))
       → HoldAt g image tree n h → Turn area g image tree m n f h
   Answers : (call : Arrived) (answer : Answer) (acts : List Act) → Runs area m n
       → record_of n.run ≡ Took call.who call.now call.call answer ∷ marks_after acts (record_of m.run) → has_absorbed acts ≡ false
+      → (HasTrueReplies image (record_of n.run) → IsTrue (only_looks (tree_after g tree (record_of m.run)) call.who call.call) → OvertakesNone f h)
       → HoldAt g image tree n h → Turn area g image tree m n f h
   Cuts : (acts : List Act) → Runs area m n → record_of n.run ≡ marks_after acts (record_of m.run) → has_absorbed acts ≡ false
       → Turn area g image tree m n f h

@@ -2,13 +2,16 @@ use Rattle.std.proofs.Common.{ℕ, Option, ◌∙◌, ap, subst}
 use Rattle.cache.specs.declared.slot.Slot.{Slot}
 use Rattle.flusher.specs.Flushing.{BeginsAll}
 use Rattle.cached_blocks.specs.World.{goes_joins, stored_caching}
-use Rattle.cached_blocks.proofs.Flushes.{hands_then, from_there}
+use Rattle.cached_blocks.proofs.Flushes.{hands_then, from_there, wanted_overtakes}
 use Rattle.cache.proofs.Looking.{looks_then}
 use Rattle.cached_blocks.proofs.StoredCaches.absorb.Goals as goal
 
 pub returns-then-not-last-clause-hands_over : goal.returns-then-not-last-clause-hands_over
 returns-then-not-last-clause-hands_over g c =
+    let f = stored_caching g.L.Link in
     hands_then c.args.message _ _ _ c.if-not-last.ensures.other c.absorb.ensures.hands_over c.flush_wanted.ensures.keeps c.flush_wanted.ensures.posts
+    (wanted_overtakes c.absorb.new.self.flush (f (record { cache = c.absorb.new.self })) (f c.flush_wanted.new.self)
+    c.flush_wanted.ensures.flushed (λ e. ap f (c.flush_wanted.ensures.unasked e)))
 
 pub returns-then-not-last-clause-goes : goal.returns-then-not-last-clause-goes
 returns-then-not-last-clause-goes g c =
