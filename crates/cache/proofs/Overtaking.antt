@@ -1,5 +1,5 @@
 -- What overtakes no block.
-use Rattle.std.proofs.Common.{◌≡◌, ℕ, ◌+◌, ◌<◌, List, Bool, true, false, refl, sym, ap, subst, ◌∙◌, Option, Some, None}
+use Rattle.std.proofs.Common.{◌≡◌, ℕ, List, Bool, true, false, refl, sym, ap, ◌∙◌, Option, Some, None}
 use mathlib.Core.Logic.{inl, inr}
 use Rattle.std.specs.Prelude.{if◌then◌else◌}
 use Rattle.lemmas.proofs.Bools.{from_clash}
@@ -11,7 +11,7 @@ use Rattle.cache.specs.declared.slot.Slot.{Slot}
 use Rattle.cache.specs.declared.state.State.{State}
 use Rattle.cache.specs.declared.state.State.TheVariants.{Clean, Dirty, Writing, Changed}
 use Rattle.cache.specs.Slots.{held, is_changed, is_changed_held, is_under, written, OvertakesNone}
-use Rattle.cache.specs.Edits.{AreBegun, after_write, held_after_write}
+use Rattle.cache.specs.Edits.{AreBegun, held_after_write}
 use Rattle.cache.specs.Settling.{Settles}
 use Rattle.cache.proofs.Tied.{within_or}
 
