@@ -20,7 +20,8 @@ pub overtakes_same : (old new : ℕ → Option Slot) → new ≡ old → Overtak
 overtakes_same old new same = λ block is. ap (λ (h : ℕ → Option Slot). is_changed_held (h block)) (sym same) ∙ is
 
 -- one is put in or taken out that isn't overtaken
-pub overtakes_put : (old new : ℕ → Option Slot) (b : ℕ) (o : Option Slot) → new ≡ put old b o → is_changed_held o ≡ false → OvertakesNone old new
+pub overtakes_put : (old new : ℕ → Option Slot) (b : ℕ) (o : Option Slot) → new ≡ put old b o → is_changed_held o ≡ false
+    → OvertakesNone old new
 overtakes_put old new b o to clear = λ block is.
     let here : is_changed_held (put old b o block) ≡ true = ap (λ (h : ℕ → Option Slot). is_changed_held (h block)) (sym to) ∙ is in
     elim (put_cases old b o block) [

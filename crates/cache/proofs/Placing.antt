@@ -45,7 +45,8 @@ keeps_then a b c x y =
 
 -- nothing was done
 pub keeps_none : (c : AbstractCache) → IsReady c → Keeps c c
-keeps_none c ready = runs_none c (λ w v. Serves c c w v) ready (λ w. record { agrees = λ a. a; same = λ a. refl; none_overtaken = λ block is. is })
+keeps_none c ready =
+    runs_none c (λ w v. Serves c c w v) ready (λ w. record { agrees = λ a. a; same = λ a. refl; none_overtaken = λ block is. is })
 
 -- after a call, a message taken
 pub keeps_took : (r : Result Taking Cut) (a b c : AbstractCache) → Keeps a b → Runs None b c (λ w v. Takes r b c w v) → Keeps a c

@@ -163,7 +163,7 @@ pub record IsIdle (c : AbstractCache) : Type 0 where
   pub marks : List Mark
   pub agrees : Agrees c.table marks
 
--- A message that is handed over between two calls: no message is taken, no block is overtaken, whatever the replies, and an End has no effect.
+-- A message that is handed over between two calls: no message is taken, no block is overtaken, and an End has no effect.
 pub record HandsOver (message : Incoming) (old new : AbstractCache) : Type 0 where
   pub runs : Runs (Some message) old new (λ w v. Serves old new w v)
   pub none_taken : took_nothing (told_of runs.acts) ≡ true

@@ -58,8 +58,7 @@ pub seen_kept : (a b : AbstractCache) (d e : Disk) (k : Keeps a b) (s : Sees a b
     → Serves a b (state_after s.image s.marks) (state_after s.image (grown k.told s.marks))
 seen_kept a b d e k s =
     let same : s.told ≡ k.told = one_told a b s.told k.told s.history k.history in
-    let tr : HasTrueReplies s.image (grown k.told s.marks) = subst (λ (l : List Told). HasTrueReplies s.image (grown l s.marks)) same s.true_replies in
-    k.related s.image s.marks s.agrees tr
+    k.related s.image s.marks s.agrees (subst (λ (l : List Told). HasTrueReplies s.image (grown l s.marks)) same s.true_replies)
 
 pub seen_same : (a b : AbstractCache) (d e : Disk) → Keeps a b → Sees a b d e → e ≡ d
 seen_same a b d e k s =

@@ -46,10 +46,11 @@ posts_take_nothing (Complained about ∷ posts) more h = absurd h
 posts_take_nothing (Received message ∷ posts) more h = absurd h
 
 -- a message that is no End, and then posts
-pub hands_then : (m : Incoming) (a b c : AbstractCache) → (m ≡ End → ⊥) → HandsOver m a b → Keeps b c → PostsAlone b c → OvertakesNone b.held c.held
-    → HandsOver m a c
+pub hands_then : (m : Incoming) (a b c : AbstractCache) → (m ≡ End → ⊥) → HandsOver m a b → Keeps b c → PostsAlone b c
+    → OvertakesNone b.held c.held → HandsOver m a c
 hands_then m a b c other x y p over =
-    let runs = runs_then (Some m) a b c (λ w v. Serves a b w v) (λ w v. Serves b c w v) (λ w v. Serves a c w v) (serves_then a b c) x.runs y in
+    let runs =
+    runs_then (Some m) a b c (λ w v. Serves a b w v) (λ w v. Serves b c w v) (λ w v. Serves a c w v) (serves_then a b c) x.runs y in
     let all : told_of runs.acts ≡ p.posts ++ told_of x.runs.acts =
     append_cancel_right (told_of runs.acts) (p.posts ++ told_of x.runs.acts) a.told
     (sym runs.done ∙ p.history ∙ ap (λ (l : List Told). p.posts ++ l) x.runs.done ∙ sym (append_assoc p.posts (told_of x.runs.acts) a.told)) in

@@ -1,5 +1,5 @@
--- What a Flush makes pending, by three unwritten blocks of 1024 bytes, 5, 6 and 9; a dup that flushes, a look that loses a frame or overtakes
--- one, and a pending write beside its frame.
+-- What a Flush makes pending, by three unwritten blocks of 1024 bytes, 5, 6 and 9; a dup that flushes, a look that loses a frame or
+-- overtakes one, and a pending write beside its frame.
 use Rattle.std.specs.Prelude.{◌≡◌, ℕ, ◌+◌, ◌*◌, ◌<◌, List, [], ◌∷◌, ◌++◌, sum, Bool, true, false, ◌&&◌, ◌||◌, ◌==◌, if◌then◌else◌, ◌≤◌, Option, Some, None, replicate, slice_index, refl}
 use Rattle.std.proofs.Common.{arith, sym, ap, subst, ◌∙◌, inl, inr}
 use Rattle.std.proofs.lemmas.List.{get_or-replicate}

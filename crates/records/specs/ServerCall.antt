@@ -126,8 +126,8 @@ pub record LeavesView (old new : Serving) (image : Contents) (before after : Lis
 
 -- One call. Nothing is handed over in it. It is cut exactly where a take gave End, in it or earlier. Else it answers EIO exactly where
 -- the device is given up, in it or earlier. Where either was so earlier, it does nothing, and so does a dup where no Flush is wanted.
--- None is wanted once the call is answered otherwise. A call that only looks leaves what would be read back and overtakes no block, also where
--- it is cut.
+-- None is wanted once the call is answered otherwise. A call that only looks leaves what would be read back, and overtakes no block, also
+-- where it is cut.
 pub record CallKeeps (old : Serving) (who : Who) (now : ℕ) (call : Call) (outcome : Outcome) (new : Serving) : Type 0 where
   pub acts : List Act
   pub leads : Leads old acts new

@@ -1,5 +1,5 @@
--- Turns that no run has: a Flush at which nothing is begun, though a block is unwritten; a look that overtakes a block; a pending write of other
--- bytes than its frame's; a block that is overtaken where nothing is pending.
+-- Turns that no run has: a Flush at which nothing is begun, though a block is unwritten; a look that overtakes a block; a pending write of
+-- other bytes than its frame's; a block that is overtaken where nothing is pending.
 use Rattle.std.specs.Prelude.{◌≡◌, ℕ, ◌+◌, List, [], ◌∷◌, ◌++◌, length, Bool, true, false, cond, Option, Some, None, replicate, slice_index, sum, refl}
 use Rattle.std.specs.List.{list_any}
 use Rattle.std.proofs.Common.{arith, sym, ap, subst, ◌∙◌}
@@ -106,18 +106,19 @@ last_taken (Took who now call answer ∷ marks) = Some call
 last_taken _ = None
 
 -- refused: a statfs that overtakes a block, over true replies
-look_overtakes : (area : Area) (g : Geometry) (image : Contents) (tree : Tree) (m n : Moment) (f h : FrameState) (who : Who) (now block : ℕ) (answer : Answer)
+look_overtakes : (area : Area) (g : Geometry) (image : Contents) (tree : Tree) (m n : Moment) (f h : FrameState) (who : Who)
+    (now block : ℕ) (answer : Answer)
     → record_of n.run ≡ Took who now Statfs answer ∷ record_of m.run → HasTrueReplies image (record_of n.run)
     → f.overtaken block ≡ false → h.overtaken block ≡ true → Turn area g image tree m n f h → ⊥
-look_overtakes area g image tree m n f h who now block answer took replies was is (Stays runs same frames hold) =
+look_overtakes area g image tree m n f h who now block a took replies was is (Stays runs same frames hold) =
     let e : true ≡ false = sym is ∙ ap (λ (k : FrameState). k.overtaken block) frames ∙ was in cc
-look_overtakes area g image tree m n f h who now block answer took replies was is (Hears message later runs record_is alone nothing none flushes hold) =
+look_overtakes area g image tree m n f h who now block a took replies was is (Hears message later runs record_is alone quiet none flushes hold) =
     let e : true ≡ false = sym (none block is) ∙ was in cc
-look_overtakes area g image tree m n f h who now block answer took replies was is (Answers call its acts runs record_is alone looks hold) =
+look_overtakes area g image tree m n f h who now block a took replies was is (Answers call its acts runs record_is alone looks hold) =
     let same : Some call.call ≡ Some Statfs = ap last_taken (sym record_is ∙ took) in
     let it : call.call ≡ Statfs = cc in
     let only = ap (λ (c : Call). only_looks (tree_after g tree (record_of m.run)) call.who c) it in
     let e : true ≡ false = sym (looks replies only block is) ∙ was in cc
-look_overtakes area g image tree m n f h who now block answer took replies was is (Cuts acts runs record_is alone) =
+look_overtakes area g image tree m n f h who now block a took replies was is (Cuts acts runs record_is alone) =
     no_more (who, now, Statfs) (taken (record_of m.run))
     (ap taken (sym took ∙ record_is) ∙ taken_acts acts (record_of m.run))

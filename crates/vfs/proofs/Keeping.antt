@@ -233,7 +233,8 @@ module _ (g : Geometry) (a b : AbstractCache) (n m : ℕ) (many : m ≡ n) (w u 
   abbrev pub LooksThere : Who → Call → Type 0
   LooksThere who call = (image : Contents) (tree : Tree) (marks : List Mark) → Serves s image tree marks → HasTrueReplies image (after marks)
       → IsTrue (only_looks (tree_after g tree marks) who call)
-      → Looks a b × (view b.size b.held (state_after image (after marks)) ≡ view a.size a.held (state_after image marks)) × OvertakesNone a.held b.held
+      → Looks a b × (view b.size b.held (state_after image (after marks)) ≡ view a.size a.held (state_after image marks))
+      × OvertakesNone a.held b.held
 
   -- and leaves what would be read back
   leaves : (who : Who) (call : Call) → LooksThere who call → (image : Contents) (tree : Tree) (marks : List Mark) → Serves s image tree marks

@@ -147,13 +147,13 @@ knows g c n w f some sized tied image marks k slots = record {
     overtaken block None e is = from_clash (sym is ∙ ap is_changed_held e)
     overtaken block (Some s) e is = state s.state refl
       where
-        clash : (x : State) → s.state ≡ x → is_changed x ≡ false → list_any (may_write g.block_size block) (pending_requests marks (outbox_of c.table)) ≡ true
-        clash x at clear = from_clash (sym is ∙ ap is_changed_held e ∙ ap is_changed at ∙ clear)
+        here : is_changed s.state ≡ true
+        here = sym (ap is_changed_held e) ∙ is
 
         state : (x : State) → s.state ≡ x → list_any (may_write g.block_size block) (pending_requests marks (outbox_of c.table)) ≡ true
-        state Clean at = clash Clean at refl
-        state Dirty at = clash Dirty at refl
-        state (Writing t) at = clash (Writing t) at refl
+        state Clean at = from_clash (sym here ∙ ap is_changed at)
+        state Dirty at = from_clash (sym here ∙ ap is_changed at)
+        state (Writing t) at = from_clash (sym here ∙ ap is_changed at)
         state (Changed t) at = under block t s e (ap ticket_of at)
 
     by : HasTrueReplies image marks → (block : ℕ) → list_any (may_write g.block_size block) (pending_requests marks (outbox_of c.table)) ≡ false

@@ -382,7 +382,8 @@ answered s t u was is after b m a arrived reply calls on n live guarantees final
             (Answers_call arrived (answer_of reply) calls.keeps.acts all_runs ((finally v _ there.truth).is
             ∙ ap (λ (l : List Mark). Took arrived.who arrived.now arrived.call (answer_of reply) ∷ marks_after calls.keeps.acts l)
             (sym (guarantees v marks stood.truth).is)) calls.keeps.none_absorbed
-            (looks_on s t u was is b a arrived reply calls n.same v tree marks stood (guarantees v marks stood.truth).is (finally v _ there.truth).is)
+            (looks_on s t u was is b a arrived reply calls n.same v tree marks stood (guarantees v marks stood.truth).is
+            (finally v _ there.truth).is)
             (frames_hold s.geometry u after a v tree _ (n.same.geometry ∙ calls.keeps.leads.geometry) finally there
             (n.same.ended ∙ answered_ended s t was is arrived reply calls)));
       };

@@ -45,7 +45,8 @@ pub data Turn (area : Area) (g : Geometry) (image : Contents) (tree : Tree) (m n
       → HoldAt g image tree n h → Turn area g image tree m n f h
   Answers : (call : Arrived) (answer : Answer) (acts : List Act) → Runs area m n
       → record_of n.run ≡ Took call.who call.now call.call answer ∷ marks_after acts (record_of m.run) → has_absorbed acts ≡ false
-      → (HasTrueReplies image (record_of n.run) → IsTrue (only_looks (tree_after g tree (record_of m.run)) call.who call.call) → OvertakesNone f h)
+      → (HasTrueReplies image (record_of n.run) → IsTrue (only_looks (tree_after g tree (record_of m.run)) call.who call.call)
+      → OvertakesNone f h)
       → HoldAt g image tree n h → Turn area g image tree m n f h
   Cuts : (acts : List Act) → Runs area m n → record_of n.run ≡ marks_after acts (record_of m.run) → has_absorbed acts ≡ false
       → Turn area g image tree m n f h
