@@ -1,6 +1,6 @@
 -- Turns that no run has: a Flush at which nothing is begun, though a block is unwritten; a look that overtakes a block; a pending write of
 -- other bytes than its frame's; a block that is overtaken where nothing is pending.
-use Rattle.std.specs.Prelude.{◌≡◌, ℕ, ◌+◌, List, [], ◌∷◌, ◌++◌, length, Bool, true, false, cond, Option, Some, None, replicate, slice_index, sum, refl}
+use Rattle.std.specs.Prelude.{◌≡◌, ℕ, suc, List, [], ◌∷◌, ◌++◌, length, Bool, true, false, cond, Option, Some, None, replicate, slice_index, sum, refl}
 use Rattle.std.specs.List.{list_any}
 use Rattle.std.proofs.Common.{arith, sym, ap, subst, ◌∙◌}
 use mathlib.Core.Logic.{inl, inr}
@@ -98,10 +98,10 @@ taken_acts (AtLink (Complained e) ∷ acts) marks = taken_acts acts marks
 taken_acts (AtLink (Received m) ∷ acts) marks = taken_message m (marks_after acts marks) ∙ taken_acts acts marks
 
 no_more : (x : Arrival) (xs : List Arrival) → x ∷ xs ≡ xs → ⊥
-no_more x xs same = let e : length xs + 1 ≡ length xs = ap (λ (l : List Arrival). length l) same in absurd (omega (arith, e))
+no_more x xs same = let e : suc (length xs) ≡ length xs = ap (λ (l : List Arrival). length l) same in absurd (omega (arith, e))
 
 -- the call that was taken last
-last_taken : List Mark → Option Call
+abbrev last_taken : List Mark → Option Call
 last_taken (Took who now call answer ∷ marks) = Some call
 last_taken _ = None
 
