@@ -6,6 +6,8 @@ pub mod Names
 pub mod Blocks
 pub mod UsedFiles
 pub mod UsedPages
+pub mod Laid
+pub mod Taken
 pub mod UsedBelow
 pub mod UsedNames
 pub mod UsedNodes

@@ -1,5 +1,5 @@
 -- The zones that the tree of an old volume uses, with entries of version 3 and blocks of 1024 bytes.
-use Rattle.std.specs.Prelude.{◌≡◌, ℕ, zero, suc, ◌+◌, ◌-◌, ◌*◌, ◌/◌, Bool, false, not, ◌&&◌, ◌==◌, nat_lt, nat_le, Option}
+use Rattle.std.specs.Prelude.{◌≡◌, ℕ, zero, suc, ◌+◌, ◌-◌, ◌*◌, ◌/◌, Bool, false, not, ◌&&◌, ◌==◌, nat_lt, nat_le, if◌then◌else◌, Option}
 use Rattle.layout.specs.declared.Geometry.{Geometry}
 use Rattle.lemmas.specs.Sums.{sum_below, count_below, one_if}
 use Rattle.tree.specs.Tree.{Node}
@@ -50,6 +50,25 @@ blocks_over pages first width = (pages - first + width - 1) / width
 -- how many zones the first pages take: they, the blocks that name them, the blocks that name those, and the triple's
 abbrev pub zones_for : ℕ → ℕ
 zones_for pages = pages + blocks_over pages 7 256 + blocks_over pages 263 65536 + one_if (nat_lt 65799 pages)
+
+-- how many pages of 1024 bytes so many bytes cover
+abbrev pub pages_for : ℕ → ℕ
+pages_for bytes = (bytes + 1024 - 1) / 1024
+
+-- how many pages a number of a level leads to
+abbrev pub pages_below : ℕ → ℕ
+pages_below zero = 1
+pages_below (suc l) = 256 * pages_below l
+
+-- the first page to which a slot leads
+abbrev pub first_page : ℕ → ℕ
+first_page s = if s == 8 then 263 else if s == 9 then 65799 else s
+
+-- How many zones a number of a level takes that leads to a page and those behind it, where a file has so many pages. Where the file ends
+-- before, it takes none.
+abbrev pub laid_below : ℕ → ℕ → ℕ → ℕ
+laid_below pages zero p = one_if (nat_lt p pages)
+laid_below pages (suc l) p = one_if (nat_lt p pages) + sum_below (λ j. laid_below pages l (p + j * pages_below l)) 256
 
 -- no inode of the old volume has a bad size
 abbrev pub SizesAreGood : Image → Type 0

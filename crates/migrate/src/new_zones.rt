@@ -1,12 +1,13 @@
 //! The data zones of a new volume, taken one after the other.
 
-ghost use Rattle.std.specs.Prelude.{◌≡◌, ◌≤◌, ◌<◌, ◌*◌, ◌%◌, ◌^◌, IfErr, length};
-ghost use Rattle.migrate.specs.Zones.{Grows};
-ghost use Rattle.migrate.specs.Migrated.{IsLate};
+ghost use Rattle.std.specs.Prelude.{◌≡◌, ◌≤◌, ◌<◌, ◌+◌, ◌-◌, ◌*◌, ◌/◌, ◌%◌, ◌^◌, OnOk, length};
+ghost use Rattle.image.specs.Contents.{contents};
+ghost use Rattle.migrate.specs.Used.{laid_below, pages_below, pages_for, zones_below};
+ghost use Rattle.migrate.specs.Zones.{Takes};
 
-use crate::refusal::MigrateRefusal;
 use crate::volume_blocks::{BLOCK, VolumeBlocks};
 use byteorder::{ByteOrder, LittleEndian};
+use std::alloc::AllocError;
 
 /// How many zone numbers a block holds.
 pub(crate) const NUMBERS: usize = 256;
@@ -26,15 +27,12 @@ pub(crate) struct NewZones {
 
 impl NewZones {
     /// Takes the next zone for a block of bytes, and gives its number.
-    pub(crate) fn append(&mut self, block: &[u8]) -> Result<u32, MigrateRefusal>
-        requires { length block.now ≡ 1024 }
-        ensures grows { Grows self.old.limit self.new.limit self.old.image.items self.new.image.items }
-        ensures refused { IfErr result IsLate }
+    pub(crate) fn append(&mut self, block: &[u8]) -> Result<u32, AllocError>
+        requires whole { length block.now ≡ 1024 }
+        requires room { length self.old.image.items < self.old.limit }
+        ensures { OnOk result (Takes 1 self.old.limit self.new.limit self.old.image.items self.new.image.items) }
     {
         let at = self.image.len();
-        if at >= self.limit {
-            return Err(MigrateRefusal::Mismatch);
-        }
         self.image.extend_from_slice(block)?;
         Ok((at / BLOCK) as u32)
     }
@@ -46,10 +44,11 @@ impl NewZones {
         old: &VolumeBlocks,
         zone: u32,
         level: usize,
-    ) -> Result<u32, MigrateRefusal>
-        requires { level < 4 }
-        ensures grows { Grows self.old.limit self.new.limit self.old.image.items self.new.image.items }
-        ensures refused { IfErr result IsLate }
+    ) -> Result<u32, AllocError>
+        requires low { level < 4 }
+        requires room { length self.old.image.items + 1024 * zones_below (contents old.now.image) level zone ≤ self.old.limit }
+        ensures { OnOk result (Takes (zones_below (contents old.now.image) level zone) self.old.limit self.new.limit
+            self.old.image.items self.new.image.items) }
     {
         if zone == 0 {
             return Ok(0);
@@ -67,17 +66,13 @@ impl NewZones {
 
     /// Takes zones for the bytes of a file from a page on, as far as one number of a level leads, and gives that number; 0 where the
     /// file ends before.
-    pub(crate) fn lay(
-        &mut self,
-        bytes: &[u8],
-        page: usize,
-        level: usize,
-    ) -> Result<u32, MigrateRefusal>
+    pub(crate) fn lay(&mut self, bytes: &[u8], page: usize, level: usize) -> Result<u32, AllocError>
         requires low { level < 4 }
         requires short { length bytes.now < 2 ^ 32 }
         requires near { page < 2 ^ 32 }
-        ensures grows { Grows self.old.limit self.new.limit self.old.image.items self.new.image.items }
-        ensures refused { IfErr result IsLate }
+        requires room { length self.old.image.items + 1024 * laid_below (pages_for (length bytes.now)) level page ≤ self.old.limit }
+        ensures { OnOk result (Takes (laid_below (pages_for (length bytes.now)) level page) self.old.limit self.new.limit
+            self.old.image.items self.new.image.items) }
     {
         if BLOCK * page >= bytes.len() {
             return Ok(0);
@@ -96,7 +91,9 @@ impl NewZones {
 
 /// How many pages a number of a level leads to.
 fn pages_below(level: usize) -> usize
-    ensures { result ≤ 65536 }
+    requires { level < 3 }
+    ensures value { result ≡ pages_below level }
+    ensures few { result ≤ 65536 }
 {
     match level {
         0 => 1,

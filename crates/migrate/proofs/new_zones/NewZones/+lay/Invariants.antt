@@ -1,8 +1,13 @@
-use Rattle.migrate.specs.Zones.{Grows}
+use Rattle.std.proofs.Common.{◌+◌, ◌-◌, ◌*◌, length}
+use Rattle.lemmas.specs.Sums.{sum_below}
+use Rattle.migrate.specs.Used.{laid_below, pages_below, pages_for}
+use Rattle.migrate.specs.Zones.{Takes}
 use Rattle.migrate.proofs.new_zones.NewZones.+lay.Given as goal
 
 abbrev pub decreases-lay : goal.decreases-lay
 decreases-lay l = l.level
 
 abbrev pub invariant-loop-j : goal.invariant-loop-j
-invariant-loop-j l = Grows l.fn.self.limit l.self.limit l.fn.self.image.items l.self.image.items
+invariant-loop-j l = Takes
+    (sum_below (λ j. laid_below (pages_for (length l.bytes)) (l.level - 1) (l.page + j * pages_below (l.level - 1))) l.j)
+    l.fn.self.limit l.self.limit l.fn.self.image.items l.self.image.items
