@@ -1,14 +1,14 @@
 -- The zones that a directory's pages take, number by number.
-use Rattle.std.proofs.Common.{◌≡◌, ◌≢◌, ◌<◌, ◌≤◌, ◌+◌, ◌-◌, ◌*◌, ℕ, zero, suc, Bool, true, refl, sym, ap, ◌∙◌, arith}
+use Rattle.std.proofs.Common.{◌≡◌, ◌<◌, ◌≤◌, ◌+◌, ◌-◌, ◌*◌, ℕ, zero, suc, List, length, Bool, true, refl, sym, ap, ◌∙◌, arith}
 use mathlib.Core.Logic.{inl, inr}
 use Rattle.std.specs.Prelude.{◌/◌, ◌==◌, min, nat_lt}
 use Rattle.std.proofs.lemmas.Bool.{cases_lt, cond-true, cond-false, ne_eqb, lt-ltb, le-ltb}
 use Rattle.lemmas.specs.Sums.{sum_below, count_below, one_if}
 use Rattle.lemmas.proofs.Maps.{same_sum}
 use Rattle.tree.proofs.Needs.{sum_add}
-use Rattle.volume.proofs.Swapped.{sum_none}
 use Rattle.image.specs.Entered.{level_of}
-use Rattle.migrate.specs.Used.{laid_below, pages_below, first_page, zones_for, blocks_over}
+use Rattle.migrate.specs.Pages.{pages_below, pages_for, pages_from, first_page, zones_under}
+use Rattle.migrate.specs.Used.{zones_for, blocks_over}
 
 -- a sum's beginning is no more than the sum
 pub sum_front : (f : ℕ → ℕ) (k n : ℕ) → k ≤ n → sum_below f k ≤ sum_below f n
@@ -101,33 +101,19 @@ all_pages p few = elim (cases_lt p 264) [
 low_level : (s : ℕ) → s < 7 → level_of s ≡ 0
 low_level s h = cond-true (nat_lt s 7) 0 (s - 6) (lt-ltb s 7 h)
 
-low_page : (s : ℕ) → s < 7 → first_page s ≡ 0 + s * 1
+pub low_page : (s : ℕ) → s < 7 → first_page s ≡ 0 + s * 1
 low_page s h =
     let same : s ≡ 0 + s * 1 = omega arith in
     cond-false (s == 8) 263 _ (ne_eqb s 8 (λ e. absurd (omega arith)))
     ∙ cond-false (s == 9) 65799 s (ne_eqb s 9 (λ e. absurd (omega arith)))
     ∙ same
 
+-- how many zones a number takes that leads to a page and those behind it, where there are so many pages
+abbrev laid_below : ℕ → ℕ → ℕ → ℕ
+laid_below pages zero p = one_if (nat_lt p pages)
+laid_below pages (suc l) p = one_if (nat_lt p pages) + sum_below (λ j. laid_below pages l (p + j * pages_below l)) 256
+
 module _ (pages : ℕ) where
-  -- past the end stands none
-  pub none_laid : (l p : ℕ) → pages ≤ p → laid_below pages l p ≡ 0
-  none_laid zero p h = ap one_if (le-ltb p pages h)
-  none_laid (suc l) p h =
-      let here : one_if (nat_lt p pages) ≡ 0 = ap one_if (le-ltb p pages h) in
-      let rest = sum_none (λ j. laid_below pages l (p + j * pages_below l)) 256
-          (λ j _. none_laid l (p + j * pages_below l) (omega arith)) in
-      omega arith
-
-  -- a block is one, and what it names
-  pub block_laid : (l p : ℕ) → l ≢ 0 → p < pages
-      → laid_below pages l p ≡ 1 + sum_below (λ j. laid_below pages (l - 1) (p + j * pages_below (l - 1))) 256
-  block_laid zero p high h = absurd (high refl)
-  block_laid (suc l) p high h =
-      let same : suc l - 1 ≡ l = omega arith in
-      let here : one_if (nat_lt p pages) ≡ 1 = ap one_if (lt-ltb p pages h) in
-      ap (λ a. a + sum_below (λ j. laid_below pages l (p + j * pages_below l)) 256) here
-      ∙ ap (λ k. 1 + sum_below (λ j. laid_below pages k (p + j * pages_below k)) 256) (sym same)
-
   -- a page
   laid_page : (p : ℕ) → laid_below pages 0 p ≡ min 1 (pages - p)
   laid_page p = elim (cases_lt p pages) [
@@ -186,7 +172,7 @@ module _ (pages : ℕ) where
       omega arith
 
   -- the ten numbers of an inode
-  pub laid_all : pages ≤ 16777216 → sum_below (λ s. laid_below pages (level_of s) (first_page s)) 10 ≡ zones_for pages
+  laid_all : pages ≤ 16777216 → sum_below (λ s. laid_below pages (level_of s) (first_page s)) 10 ≡ zones_for pages
   unfolding sum_below
   laid_all few =
       let f : ℕ → ℕ = λ s. laid_below pages (level_of s) (first_page s) in
@@ -200,6 +186,17 @@ module _ (pages : ℕ) where
       let whole = all_pages pages few in
       (λ i. seven i + single i + double i + triple i) ∙ whole
       ∙ ap (λ t. pages + blocks_over pages 7 256 + blocks_over pages 263 65536 + t) (sym last)
+
+-- these are the zones of a row of bytes
+laid_is : (bytes : List ℕ) (l p : ℕ) → zones_under (pages_from bytes) l p ≡ laid_below (pages_for (length bytes)) l p
+laid_is bytes zero p = refl
+laid_is bytes (suc l) p = ap (λ s. one_if (nat_lt p (pages_for (length bytes))) + s)
+    (same_sum _ _ 256 (λ j _. laid_is bytes l (p + j * pages_below l)))
+
+-- all of them
+pub all_laid : (bytes : List ℕ) → pages_for (length bytes) ≤ 16777216
+    → sum_below (λ s. zones_under (pages_from bytes) (level_of s) (first_page s)) 10 ≡ zones_for (pages_for (length bytes))
+all_laid bytes few = same_sum _ _ 10 (λ s _. laid_is bytes (level_of s) (first_page s)) ∙ laid_all (pages_for (length bytes)) few
 
 -- a count of which the first two pass
 pub two_first : (p : ℕ → Bool) (n : ℕ) → p 0 ≡ true → p 1 ≡ true → count_below p (n + 2) ≡ count_below (λ e. p (e + 2)) n + 2

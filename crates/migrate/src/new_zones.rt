@@ -2,7 +2,8 @@
 
 ghost use Rattle.std.specs.Prelude.{◌≡◌, ◌≤◌, ◌<◌, ◌+◌, ◌-◌, ◌*◌, ◌/◌, ◌%◌, ◌^◌, OnOk, length};
 ghost use Rattle.image.specs.Contents.{contents};
-ghost use Rattle.migrate.specs.Used.{laid_below, pages_below, pages_for, zones_below};
+ghost use Rattle.migrate.specs.Pages.{pages_below, pages_from, zones_under};
+ghost use Rattle.migrate.specs.Used.{zones_below};
 ghost use Rattle.migrate.specs.Zones.{Takes};
 
 use crate::volume_blocks::{BLOCK, VolumeBlocks};
@@ -70,8 +71,8 @@ impl NewZones {
         requires low { level < 4 }
         requires short { length bytes.now < 2 ^ 32 }
         requires near { page < 2 ^ 32 }
-        requires room { length self.old.image.items + 1024 * laid_below (pages_for (length bytes.now)) level page ≤ self.old.limit }
-        ensures { OnOk result (Takes (laid_below (pages_for (length bytes.now)) level page) self.old.limit self.new.limit
+        requires room { length self.old.image.items + 1024 * zones_under (pages_from bytes.now) level page ≤ self.old.limit }
+        ensures { OnOk result (Takes (zones_under (pages_from bytes.now) level page) self.old.limit self.new.limit
             self.old.image.items self.new.image.items) }
     {
         if BLOCK * page >= bytes.len() {

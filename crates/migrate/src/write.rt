@@ -10,8 +10,10 @@ ghost use Rattle.tree.specs.Space.{data_zones, zones_of};
 ghost use Rattle.fsck.specs.Form.{version_2};
 ghost use Rattle.fsck.specs.Nodes.{entry_count_of, nodes_of};
 ghost use Rattle.migrate.specs.Holds.{IsSound};
-ghost use Rattle.migrate.specs.Used.{SizesAreGood, first_page, name_count, pages_for, zones_for, zones_in, zones_of_all};
+ghost use Rattle.migrate.specs.Pages.{first_page, pages_for};
+ghost use Rattle.migrate.specs.Used.{SizesAreGood, name_count, zones_for, zones_in, zones_of_all};
 ghost use Rattle.migrate.specs.Zones.{Takes};
+ghost use Rattle.migrate.specs.Laws.{WrittenIsConfirmed, WrittenIsSound};
 
 use crate::directory::new_entries;
 use crate::new_zones::{NUMBERS, NewZones};
@@ -186,3 +188,13 @@ fn finished(zones: NewZones, geometry: &Geometry) -> Result<Vec<u8>, AllocError>
     image.resize(zones.limit, 0)?;
     Ok(image)
 }
+
+/// A volume that is written so keeps the rules of the format that a tree doesn't show.
+fn written_is_sound()
+    ensures { WrittenIsSound }
+{}
+
+/// The image of a clean old volume that is written so is clean, and holds a tree with the old one's nodes.
+fn written_is_confirmed()
+    ensures { WrittenIsConfirmed }
+{}

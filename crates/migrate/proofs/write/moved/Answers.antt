@@ -10,7 +10,8 @@ use Rattle.fsck.specs.Nodes.{nodes_of}
 use Rattle.fsck.specs.declared.version.Version.TheVariants.{V2}
 use Rattle.fsck.proofs.EntryBytes.{small, two_entries}
 use Rattle.migrate.specs.Holds.{IsSound}
-use Rattle.migrate.specs.Used.{SizesAreGood, name_count, pages_for, zones_for, zones_in}
+use Rattle.migrate.specs.Pages.{pages_for}
+use Rattle.migrate.specs.Used.{SizesAreGood, name_count, zones_for, zones_in}
 use Rattle.migrate.specs.Zones.{Takes}
 use Rattle.migrate.proofs.UsedNodes.{directory_used, file_used}
 use Rattle.migrate.proofs.Taken.{on_ok}

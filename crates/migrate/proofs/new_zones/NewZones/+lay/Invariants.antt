@@ -1,6 +1,6 @@
-use Rattle.std.proofs.Common.{◌+◌, ◌-◌, ◌*◌, length}
+use Rattle.std.proofs.Common.{◌-◌}
 use Rattle.lemmas.specs.Sums.{sum_below}
-use Rattle.migrate.specs.Used.{laid_below, pages_below, pages_for}
+use Rattle.migrate.specs.Pages.{pages_from, zones_under}
 use Rattle.migrate.specs.Zones.{Takes}
 use Rattle.migrate.proofs.new_zones.NewZones.+lay.Given as goal
 
@@ -9,5 +9,5 @@ decreases-lay l = l.level
 
 abbrev pub invariant-loop-j : goal.invariant-loop-j
 invariant-loop-j l = Takes
-    (sum_below (λ j. laid_below (pages_for (length l.bytes)) (l.level - 1) (l.page + j * pages_below (l.level - 1))) l.j)
+    (sum_below (λ j. zones_under (pages_from l.bytes) (l.level - 1) ((pages_from l.bytes).below (l.level - 1) l.page j)) l.j)
     l.fn.self.limit l.self.limit l.fn.self.image.items l.self.image.items
