@@ -22,7 +22,7 @@ use Rattle.migrate.proofs.Under.{HolesStay}
 
 module _ (s : Pages) (d : ℕ → ℕ → ℕ) where
   -- a hole is the copy of a hole
-  hole_copy : (l e k z : ℕ) → s.some k ≡ false → z ≡ 0 → IsCopy s d l e k z
+  pub hole_copy : (l e k z : ℕ) → s.some k ≡ false → z ≡ 0 → IsCopy s d l e k z
   hole_copy zero e k z out o = (λ _. o, λ is. absurd (false_not_true (sym out ∙ is)))
   hole_copy (suc l) e k z out o = (λ _. o, λ is. absurd (false_not_true (sym out ∙ is)))
 

@@ -12,6 +12,8 @@ pub mod Times
 pub mod Agreed
 pub mod WrittenZones
 pub mod Copies
+pub mod Framed
+pub mod Taking
 pub mod WrittenFiles
 pub mod WrittenDirectories
 pub mod WrittenEntries

@@ -8,7 +8,7 @@ use Rattle.migrate.proofs.Laid.{sum_front, sum_next}
 
 -- none
 pub takes_none : (zones limit : ℕ) (xs : List ℕ) → zones ≡ 0 → Takes zones limit limit xs xs
-takes_none zones limit xs e = record { limit = refl; longer = omega arith }
+takes_none zones limit xs e = record { limit = refl; longer = omega arith; kept = λ p h. refl }
 
 -- none of a sum
 pub takes_no_sum : (f : ℕ → ℕ) (limit : ℕ) (xs : List ℕ) → Takes (sum_below f 0) limit limit xs xs
@@ -19,7 +19,7 @@ pub takes_both : (a b c l m n : ℕ) (xs ys zs : List ℕ) → Takes a l m xs ys
 takes_both a b c l m n xs ys zs s t e =
     let first = s.longer in
     let then = t.longer in
-    record { limit = t.limit ∙ s.limit; longer = omega arith }
+    record { limit = t.limit ∙ s.limit; longer = omega arith; kept = λ p h. t.kept p (omega arith) ∙ s.kept p h }
 
 -- one part more of a sum
 pub takes_next : (f : ℕ → ℕ) (j b l m n : ℕ) (xs ys zs : List ℕ) → Takes (sum_below f j) l m xs ys → Takes b m n ys zs → b ≡ f j

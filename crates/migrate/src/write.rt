@@ -154,7 +154,8 @@ fn put_inode(zones: &mut NewZones, geometry: &Geometry, n: u32, inode: &Inode)
     requires some { 1 ≤ n }
     requires most { n ≤ geometry.now.inodes }
     requires tables { 1024 * geometry.now.first_zone ≤ length zones.old.image.items }
-    ensures { Takes 0 zones.old.limit zones.new.limit zones.old.image.items zones.new.image.items }
+    ensures limit { zones.new.limit ≡ zones.old.limit }
+    ensures size { length zones.new.image.items ≡ length zones.old.image.items }
 {
     let table = 2 + geometry.inode_map_blocks as usize + geometry.zone_map_blocks as usize;
     let at = BLOCK * table + 64 * (n as usize - 1);

@@ -34,7 +34,7 @@ lay-requires-clause-room c =
 pub loop-slot-preserved : goal.loop-slot-preserved
 loop-slot-preserved c =
     takes_next (λ s. zones_under (pages_from c.in_ok-entries.entries.items) (level_of s) (first_page s)) c.loop-slot.slot _ _ _ _ _ _
-    _ c.loop-slot.invariant c.in_ok-moved.ensures
+    _ c.loop-slot.invariant c.in_ok-moved.ensures.takes
     (λ i. zones_under (pages_from (c.deref.ensures.value i)) (c.level_of.ensures i) (c.first_page.ensures i))
 
 pub returns : goal.returns

@@ -24,7 +24,8 @@ pub loop-slot-preserved : goal.loop-slot-preserved
 loop-slot-preserved c =
     let v = contents c.args.old.now.image in
     takes_next (λ s. zones_below v (level_of s) (slot c.args.inode.now s)) c.loop-slot.slot _ _ _ _ _ _ _
-    c.loop-slot.invariant c.in_ok-moved.ensures (ap (λ l. zones_below v l (slot c.args.inode.now c.loop-slot.slot)) c.level_of.ensures)
+    c.loop-slot.invariant c.in_ok-moved.ensures.takes (ap (λ l. zones_below v l
+    (slot c.args.inode.now c.loop-slot.slot)) c.level_of.ensures)
 
 pub returns : goal.returns
 returns c =

@@ -44,7 +44,7 @@ loop-n-preserved c =
     let i = c.args.old.now.image in
     let f : ℕ → ℕ = λ n. zones_of i.geometry (nodes_of version_2 i.geometry (contents i) n) in
     let moved = c.in_ok-inode.ensures.longer in
-    let put = c.put_inode.ensures.longer in
+    let put = c.put_inode.ensures.size in
     record {
       limit = c.put_inode.ensures.limit ∙ c.in_ok-inode.ensures.limit ∙ c.loop-n.invariant.limit;
       taken = next_behind f c.loop-n.n (f c.loop-n.n) _ _ _ c.loop-n.invariant.taken (omega arith) refl;
