@@ -14,6 +14,7 @@ pub mod WrittenZones
 pub mod Copies
 pub mod Framed
 pub mod Taking
+pub mod Listed
 pub mod WrittenFiles
 pub mod WrittenDirectories
 pub mod WrittenEntries

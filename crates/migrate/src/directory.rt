@@ -1,11 +1,12 @@
 //! A directory's entries as version 3 has them.
 
-ghost use Rattle.std.specs.Prelude.{◌≡◌, ◌≤◌, ◌+◌, ◌*◌, IfOk, length};
+ghost use Rattle.std.specs.Prelude.{◌≤◌, IfOk};
 ghost use Rattle.tree.specs.Tree.{most_size};
+ghost use Rattle.volume.specs.Nodes.{file_byte};
 ghost use Rattle.image.specs.Contents.{contents};
 ghost use Rattle.fsck.specs.Form.{version_2};
 ghost use Rattle.fsck.specs.Nodes.{entry_count_of};
-ghost use Rattle.migrate.specs.Used.{name_count};
+ghost use Rattle.migrate.specs.Written.{AreEntries};
 
 use crate::old_volume::entries::{entry, entry_count, is_free};
 use image::Image;
@@ -18,10 +19,9 @@ pub(crate) fn new_entries(
     image: &Image,
     inode: &Inode,
 ) -> Result<Vec<u8>, AllocError>
-    requires small { inode.now.size ≤ most_size }
-    requires two { 2 ≤ entry_count_of version_2 inode.now }
-    ensures { IfOk result (λ bytes. length bytes.items
-        ≡ 64 * (name_count image.now.geometry (contents image.now) inode.now + 2)) }
+    requires { inode.now.size ≤ most_size }
+    ensures { IfOk result (λ bytes. AreEntries (file_byte image.now.geometry (contents image.now) inode.now)
+        (entry_count_of version_2 inode.now) bytes.items) }
 {
     let mut bytes = Vec::new(alloc);
     for number in 0..entry_count(inode) {

@@ -6,8 +6,27 @@ use Rattle.migrate.specs.Pages.{first_page, pages_for, pages_from, zones_under}
 use Rattle.migrate.specs.Used.{name_count, zones_for}
 use Rattle.migrate.specs.Zones.{Takes}
 use Rattle.migrate.proofs.Laid.{all_laid}
+use Rattle.migrate.proofs.Listed.{entries_size}
 use Rattle.migrate.proofs.Taken.{takes_no_sum, takes_next, next_fits}
 use Rattle.migrate.proofs.write.moved_directory.Goals as goal
+
+pub overflow_cast-moved : goal.overflow_cast-moved
+overflow_cast-moved c =
+    let many = entries_size c.args.old.now.image.geometry (contents c.args.old.now.image) c.args.inode.now
+    c.in_ok-entries.entries.items c.requires.two c.in_ok-entries.ensures in
+    let room = c.requires.room in
+    let most = c.args.zones.now.few in
+    let read = c.len.ensures in
+    omega arith
+
+pub lay-requires-clause-short : goal.lay-requires-clause-short
+lay-requires-clause-short c =
+    let many = entries_size c.args.old.now.image.geometry (contents c.args.old.now.image) c.args.inode.now
+    c.in_ok-entries.entries.items c.requires.two c.in_ok-entries.ensures in
+    let room = c.requires.room in
+    let most = c.args.zones.now.few in
+    let read : length c.deref.result.now ≡ length c.in_ok-entries.entries.items = ap length c.deref.ensures.value in
+    omega arith
 
 pub loop-slot-init : goal.loop-slot-init
 loop-slot-init c =
@@ -20,7 +39,8 @@ lay-requires-clause-room c =
     let count : ℕ = name_count g v c.args.inode.now + 2 in
     let pages : ℕ = pages_for (length c.in_ok-entries.entries.items) in
     let f : ℕ → ℕ = λ s. zones_under (pages_from c.in_ok-entries.entries.items) (level_of s) (first_page s) in
-    let many : length c.in_ok-entries.entries.items ≡ 64 * count = c.in_ok-entries.ensures in
+    let many : length c.in_ok-entries.entries.items ≡ 64 * count
+    = entries_size g v c.args.inode.now c.in_ok-entries.entries.items c.requires.two c.in_ok-entries.ensures in
     let same : pages ≡ pages_for (64 * count) = ap pages_for many in
     let room = c.requires.room in
     let most = c.args.zones.now.few in
@@ -44,7 +64,8 @@ returns c =
     let count : ℕ = name_count g v c.args.inode.now + 2 in
     let pages : ℕ = pages_for (length c.in_ok-entries.entries.items) in
     let f : ℕ → ℕ = λ s. zones_under (pages_from c.in_ok-entries.entries.items) (level_of s) (first_page s) in
-    let many : length c.in_ok-entries.entries.items ≡ 64 * count = c.in_ok-entries.ensures in
+    let many : length c.in_ok-entries.entries.items ≡ 64 * count
+    = entries_size g v c.args.inode.now c.in_ok-entries.entries.items c.requires.two c.in_ok-entries.ensures in
     let room = c.requires.room in
     let most = c.args.zones.now.few in
     let all = all_laid c.in_ok-entries.entries.items (omega arith) in
