@@ -18,7 +18,7 @@ use Rattle.fsck.specs.Widened.{IsWidened}
 use Rattle.fsck.proofs.EntryBytes.{text_cut}
 
 -- two rows of the same bytes hold the same text
-text_same : (f h : ℕ → ℕ) (k p q : ℕ) → ((a : ℕ) → a < k → f (p + a) ≡ h (q + a)) → text_in f k p ≡ text_in h k q
+pub text_same : (f h : ℕ → ℕ) (k p q : ℕ) → ((a : ℕ) → a < k → f (p + a) ≡ h (q + a)) → text_in f k p ≡ text_in h k q
 text_same f h zero p q same = refl
 text_same f h (suc k) p q same =
     let p0 : p + 0 ≡ p = omega arith in

@@ -6,16 +6,16 @@ use Rattle.lemmas.specs.Sums.{some_below}
 use Rattle.volume.specs.declared.Finding.{Finding}
 use Rattle.volume.specs.Pieces.{Pieces}
 use Rattle.volume.specs.Findings.{lacks_inode_bit, lacks_zone_bit, lacks_root, has_bad_mode, has_bad_number, is_used_twice, has_bad_bit}
-use Rattle.volume.specs.Findings.{has_spare_zone, has_hole}
+use Rattle.volume.specs.Findings.{has_spare_zone, has_hole, has_bad_link}
 use Rattle.volume.specs.Verdict.{Clean, Test, place_limit}
 use Rattle.fsck.specs.Parts.{first_of}
 use Rattle.fsck.proofs.Firsts.{verdict_from, first_verdict, none_first}
 use Rattle.fsck.specs.Form.{version_2}
-use Rattle.fsck.specs.Findings.{has_bad_size, has_bad_dots, has_bad_entry}
+use Rattle.fsck.specs.Findings.{has_bad_size, has_bad_dots, has_bad_entry, has_bad_target, is_misplaced, has_bad_links}
 use Rattle.fsck.specs.Verdict.{tests, verdict_of_pieces}
 
 -- a test that is true nowhere
-abbrev Never : Geometry → Test → Type 0
+abbrev pub Never : Geometry → Test → Type 0
 Never g test = some_below test (place_limit g) ≡ false
 
 -- no finding of those on which the rules of the format rest, each by its name
@@ -31,6 +31,11 @@ pub record Quiet (g : Geometry) (v : Pieces) : Type 0 where
   pub holes : Never g (has_hole g v)
   pub dots : Never g (has_bad_dots version_2 g v)
   pub entries : Never g (has_bad_entry version_2 g v)
+  pub root : Never g (lacks_root g v)
+  pub targets : Never g (has_bad_target version_2 g v)
+  pub places : Never g (is_misplaced version_2 g v)
+  pub links : Never g (has_bad_links version_2 g v)
+  pub link_targets : Never g (has_bad_link g v)
 
 -- a clean verdict is that of no finding
 none_is : (o : Option Finding) → verdict_from o ≡ Clean → None ≡ o
@@ -54,6 +59,10 @@ clean_quiet g v is =
     let k = none_first l 11 (has_hole g v) _ j.1 in
     let m = none_first l 12 (has_bad_dots version_2 g v) _ k.1 in
     let n = none_first l 13 (has_bad_entry version_2 g v) _ m.1 in
+    let o = none_first l 14 (has_bad_target version_2 g v) _ n.1 in
+    let p = none_first l 15 (is_misplaced version_2 g v) _ o.1 in
+    let q = none_first l 16 (has_bad_links version_2 g v) _ p.1 in
+    let r = none_first l 17 (has_bad_link g v) _ q.1 in
     record {
       inode_bit = a.0;
       zone_bit = b.0;
@@ -66,4 +75,9 @@ clean_quiet g v is =
       holes = k.0;
       dots = m.0;
       entries = n.0;
+      root = c.0;
+      targets = o.0;
+      places = p.0;
+      links = q.0;
+      link_targets = r.0;
     }

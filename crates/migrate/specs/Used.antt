@@ -1,12 +1,12 @@
 -- The zones that the tree of an old volume uses, with entries of version 3 and blocks of 1024 bytes.
-use Rattle.std.specs.Prelude.{◌≡◌, ℕ, zero, suc, ◌+◌, ◌-◌, ◌*◌, ◌/◌, Bool, false, not, ◌&&◌, ◌==◌, nat_lt, nat_le, Option}
+use Rattle.std.specs.Prelude.{◌≡◌, ℕ, zero, suc, ◌+◌, ◌-◌, ◌*◌, ◌/◌, Bool, false, not, ◌&&◌, nat_lt, nat_le, Option}
 use Rattle.layout.specs.declared.Geometry.{Geometry}
 use Rattle.lemmas.specs.Sums.{sum_below, count_below, one_if}
 use Rattle.tree.specs.Tree.{Node}
 use Rattle.tree.specs.Space.{zones_of, data_zones}
 use Rattle.volume.specs.declared.Inode.{Inode}
 use Rattle.volume.specs.Pieces.{Pieces}
-use Rattle.volume.specs.Nodes.{number, slot, file_byte}
+use Rattle.volume.specs.Nodes.{slot, file_byte}
 use Rattle.image.specs.declared.Image.{Image}
 use Rattle.image.specs.Contents.{contents}
 use Rattle.image.specs.Entered.{level_of}
@@ -14,6 +14,7 @@ use Rattle.new_volume.specs.Sizes.{new_geometry}
 use Rattle.fsck.specs.Form.{version_2}
 use Rattle.fsck.specs.Nodes.{nodes_of, is_dropped, entry_count_of}
 use Rattle.fsck.specs.Findings.{has_bad_size}
+use Rattle.migrate.specs.Pages.{pages_in, zones_under}
 
 -- how many zones the nodes use: `zones_used` of a tree with these nodes
 abbrev pub zones_of_all : Geometry → (ℕ → Option Node) → ℕ
@@ -25,10 +26,9 @@ has_room g v blocks =
     let new = new_geometry blocks 1024 g.inodes in
     nat_lt new.first_zone blocks && nat_le (zones_of_all new (nodes_of version_2 g v)) (data_zones new)
 
--- how many zones stand at a number of a level and below it: at level 0 it is a page's, above it each block has 256 numbers
+-- how many zones stand at a number of a level and below it
 abbrev pub zones_below : Pieces → ℕ → ℕ → ℕ
-zones_below v zero z = one_if (not (z == 0))
-zones_below v (suc l) z = one_if (not (z == 0)) + sum_below (λ j. zones_below v l (number v z j)) 256
+zones_below v = zones_under (pages_in v)
 
 -- and no more than this
 abbrev pub most_below : ℕ → ℕ

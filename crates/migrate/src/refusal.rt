@@ -24,7 +24,7 @@ pub enum MigrateRefusal {
     DoesNotFit,
     /// No memory was found.
     OutOfMemory,
-    /// What was written has more zones than were counted, or, read back, isn't clean or doesn't hold the old volume's nodes.
+    /// What was written, read back, isn't clean or doesn't hold the old volume's nodes.
     Mismatch,
 }
 

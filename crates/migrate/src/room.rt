@@ -2,11 +2,13 @@
 
 ghost use Rattle.std.specs.Prelude.{◌≡◌, ◌≤◌, Ok, IfOk, IfErr, true};
 ghost use Rattle.layout.specs.Places.{IsGeometry};
+ghost use Rattle.tree.specs.Space.{data_zones};
 ghost use Rattle.image.specs.Contents.{contents};
 ghost use Rattle.new_volume.specs.Sizes.{sizes_of};
 ghost use Rattle.fsck.specs.Form.{version_2};
+ghost use Rattle.fsck.specs.Nodes.{nodes_of};
 ghost use Rattle.migrate.specs.Holds.{IsSound};
-ghost use Rattle.migrate.specs.Used.{SizesAreGood, has_room};
+ghost use Rattle.migrate.specs.Used.{SizesAreGood, has_room, zones_of_all};
 ghost use Rattle.migrate.specs.Migrated.{IsCramped};
 
 use crate::refusal::MigrateRefusal;
@@ -28,6 +30,8 @@ pub(crate) fn empty_volume(
     ensures sizes { IfOk result (λ empty. sizes_of blocks 1024 old.now.image.geometry.inodes ≡ Ok empty.volume) }
     ensures geometry { IfOk result (λ empty. IsGeometry empty.volume) }
     ensures room { IfOk result (λ _. has_room old.now.image.geometry (contents old.now.image) blocks ≡ true) }
+    ensures fits { IfOk result (λ empty. zones_of_all old.now.image.geometry
+        (nodes_of version_2 old.now.image.geometry (contents old.now.image)) ≤ data_zones empty.volume) }
     ensures refused { IfErr result (IsCramped old.now.image.geometry (contents old.now.image) blocks) }
 {
     let inodes = old.image.geometry().inodes;

@@ -1,24 +1,28 @@
 //! Writing the tree of an old volume into a new one.
 
-ghost use Rattle.std.specs.Prelude.{◌≡◌, ◌≤◌, ◌<◌, ◌+◌, ◌*◌, ◌/◌, IfOk, IfErr, length, true, ◌^◌};
+ghost use Rattle.std.specs.Prelude.{◌≡◌, ◌≤◌, ◌<◌, ◌+◌, ◌*◌, ◌/◌, IfOk, OnOk, length, true};
 ghost use Rattle.layout.specs.Places.{IsGeometry};
 ghost use Rattle.volume.specs.Nodes.{is_marked};
 ghost use Rattle.image.specs.Contents.{contents};
 ghost use Rattle.image.specs.Entered.{level_of};
 ghost use Rattle.tree.specs.Tree.{most_size};
-ghost use Rattle.migrate.specs.Used.{SizesAreGood};
-ghost use Rattle.migrate.specs.Zones.{Grows};
-ghost use Rattle.migrate.specs.Migrated.{IsLate};
+ghost use Rattle.tree.specs.Space.{data_zones, zones_of};
+ghost use Rattle.fsck.specs.Form.{version_2};
+ghost use Rattle.fsck.specs.Nodes.{entry_count_of, nodes_of};
+ghost use Rattle.migrate.specs.Holds.{IsSound};
+ghost use Rattle.migrate.specs.Pages.{first_page, pages_for};
+ghost use Rattle.migrate.specs.Used.{SizesAreGood, name_count, zones_for, zones_in, zones_of_all};
+ghost use Rattle.migrate.specs.Zones.{Takes};
+ghost use Rattle.migrate.specs.Laws.{WrittenIsConfirmed, WrittenIsSound};
 
 use crate::directory::new_entries;
 use crate::new_zones::{NUMBERS, NewZones};
-use crate::refusal::MigrateRefusal;
 use crate::volume_blocks::{BLOCK, VolumeBlocks};
 use image::is_directory_mode;
 use inode::encode;
 use layout::Geometry;
 use new_volume::NewVolume;
-use std::alloc::Global;
+use std::alloc::{AllocError, Global};
 use volume::Inode;
 
 /// The image of the new volume that is begun, with the old one's inodes. All zones are fresh ones.
@@ -26,12 +30,15 @@ pub(crate) fn written(
     alloc: Global,
     old: &VolumeBlocks,
     empty: NewVolume,
-) -> Result<Vec<u8>, MigrateRefusal>
+) -> Result<Vec<u8>, AllocError>
+    requires sound { IsSound version_2 old.now.image.geometry (contents old.now.image) }
     requires good { SizesAreGood old.now.image }
     requires sizes { IsGeometry empty.volume }
     requires block { empty.volume.block_size ≡ 1024 }
-    ensures whole { IfOk result (λ image. length image.items ≡ 1024 * empty.volume.zones) }
-    ensures refused { IfErr result IsLate }
+    requires inodes { empty.volume.inodes ≡ old.now.image.geometry.inodes }
+    requires room { zones_of_all old.now.image.geometry (nodes_of version_2 old.now.image.geometry (contents old.now.image))
+        ≤ data_zones empty.volume }
+    ensures { IfOk result (λ image. length image.items ≡ 1024 * empty.volume.zones) }
 {
     let geometry = empty.volume;
     let mut zones = tables_of(empty)?;
@@ -46,12 +53,11 @@ pub(crate) fn written(
 }
 
 /// The tables of a new volume, with no data zone taken, and room for all of them.
-fn tables_of(empty: NewVolume) -> Result<NewZones, MigrateRefusal>
+fn tables_of(empty: NewVolume) -> Result<NewZones, AllocError>
     requires sizes { IsGeometry empty.volume }
     requires block { empty.volume.block_size ≡ 1024 }
     ensures limit { IfOk result (λ zones. zones.limit ≡ 1024 * empty.volume.zones) }
     ensures tables { IfOk result (λ zones. length zones.image.items ≡ 1024 * empty.volume.first_zone) }
-    ensures refused { IfErr result IsLate }
 {
     let size = BLOCK * empty.volume.first_zone as usize;
     let limit = BLOCK * empty.volume.zones as usize;
@@ -68,11 +74,14 @@ fn moved(
     old: &VolumeBlocks,
     n: u32,
     zones: &mut NewZones,
-) -> Result<Inode, MigrateRefusal>
+) -> Result<Inode, AllocError>
+    requires sound { IsSound version_2 old.now.image.geometry (contents old.now.image) }
     requires marked { is_marked old.now.image.geometry (contents old.now.image) n ≡ true }
     requires sizes { SizesAreGood old.now.image }
-    ensures grows { Grows zones.old.limit zones.new.limit zones.old.image.items zones.new.image.items }
-    ensures refused { IfErr result IsLate }
+    requires room { length zones.old.image.items
+        + 1024 * zones_of old.now.image.geometry (nodes_of version_2 old.now.image.geometry (contents old.now.image) n) ≤ zones.old.limit }
+    ensures { OnOk result (Takes (zones_of old.now.image.geometry (nodes_of version_2 old.now.image.geometry (contents old.now.image) n))
+        zones.old.limit zones.new.limit zones.old.image.items zones.new.image.items) }
 {
     let inode = old.image.inode(n);
     if is_directory_mode(inode.mode) {
@@ -88,10 +97,14 @@ fn moved_directory(
     old: &VolumeBlocks,
     inode: &Inode,
     zones: &mut NewZones,
-) -> Result<Inode, MigrateRefusal>
-    requires { inode.now.size ≤ most_size }
-    ensures grows { Grows zones.old.limit zones.new.limit zones.old.image.items zones.new.image.items }
-    ensures refused { IfErr result IsLate }
+) -> Result<Inode, AllocError>
+    requires small { inode.now.size ≤ most_size }
+    requires two { 2 ≤ entry_count_of version_2 inode.now }
+    requires room { length zones.old.image.items
+        + 1024 * zones_for (pages_for (64 * (name_count old.now.image.geometry (contents old.now.image) inode.now + 2))) ≤ zones.old.limit }
+    ensures { OnOk result (Takes
+        (zones_for (pages_for (64 * (name_count old.now.image.geometry (contents old.now.image) inode.now + 2))))
+        zones.old.limit zones.new.limit zones.old.image.items zones.new.image.items) }
 {
     let entries = new_entries(alloc, &old.image, inode)?;
     let mut moved = *inode;
@@ -103,13 +116,10 @@ fn moved_directory(
 }
 
 /// The inode of what is no directory, with its zones copied.
-fn moved_file(
-    old: &VolumeBlocks,
-    inode: &Inode,
-    zones: &mut NewZones,
-) -> Result<Inode, MigrateRefusal>
-    ensures grows { Grows zones.old.limit zones.new.limit zones.old.image.items zones.new.image.items }
-    ensures refused { IfErr result IsLate }
+fn moved_file(old: &VolumeBlocks, inode: &Inode, zones: &mut NewZones) -> Result<Inode, AllocError>
+    requires { length zones.old.image.items + 1024 * zones_in (contents old.now.image) inode.now ≤ zones.old.limit }
+    ensures { OnOk result (Takes (zones_in (contents old.now.image) inode.now) zones.old.limit zones.new.limit
+        zones.old.image.items zones.new.image.items) }
 {
     let mut moved = *inode;
     for slot in 0..10 {
@@ -128,7 +138,7 @@ pub(crate) fn level_of(slot: usize) -> usize
 /// The first page to which a slot leads.
 fn first_page(slot: usize) -> usize
     requires { slot < 10 }
-    ensures { result < 2 ^ 32 }
+    ensures { result ≡ first_page slot }
 {
     match slot {
         8 => 7 + NUMBERS,
@@ -144,7 +154,8 @@ fn put_inode(zones: &mut NewZones, geometry: &Geometry, n: u32, inode: &Inode)
     requires some { 1 ≤ n }
     requires most { n ≤ geometry.now.inodes }
     requires tables { 1024 * geometry.now.first_zone ≤ length zones.old.image.items }
-    ensures { Grows zones.old.limit zones.new.limit zones.old.image.items zones.new.image.items }
+    ensures limit { zones.new.limit ≡ zones.old.limit }
+    ensures size { length zones.new.image.items ≡ length zones.old.image.items }
 {
     let table = 2 + geometry.inode_map_blocks as usize + geometry.zone_map_blocks as usize;
     let at = BLOCK * table + 64 * (n as usize - 1);
@@ -162,13 +173,12 @@ fn set_bit(image: &mut [u8], block: usize, bit: u32)
 }
 
 /// The whole image: the zones that were taken are marked, the others are zero.
-fn finished(zones: NewZones, geometry: &Geometry) -> Result<Vec<u8>, MigrateRefusal>
+fn finished(zones: NewZones, geometry: &Geometry) -> Result<Vec<u8>, AllocError>
     requires sizes { IsGeometry geometry.now }
     requires block { geometry.now.block_size ≡ 1024 }
     requires limit { zones.limit ≡ 1024 * geometry.now.zones }
     requires tables { 1024 * geometry.now.first_zone ≤ length zones.image.items }
-    ensures whole { IfOk result (λ image. length image.items ≡ 1024 * geometry.now.zones) }
-    ensures refused { IfErr result IsLate }
+    ensures { IfOk result (λ image. length image.items ≡ 1024 * geometry.now.zones) }
 {
     let mut image = zones.image;
     let end = (image.len() / BLOCK) as u32;
@@ -179,3 +189,13 @@ fn finished(zones: NewZones, geometry: &Geometry) -> Result<Vec<u8>, MigrateRefu
     image.resize(zones.limit, 0)?;
     Ok(image)
 }
+
+/// A volume that is written so keeps the rules of the format that a tree doesn't show.
+fn written_is_sound()
+    ensures { WrittenIsSound }
+{}
+
+/// The image of a clean old volume that is written so is clean, and holds a tree with the old one's nodes.
+fn written_is_confirmed()
+    ensures { WrittenIsConfirmed }
+{}

@@ -59,6 +59,14 @@ returns-in_err-empty-clause-refused c =
     err_same c.from_residual-in_err-empty.result c.in_err-empty.field-0.0 (IsRefused old c.args.blocks) c.from_residual-in_err-empty.ensures
     (cramped_refused i old bytes c.args.blocks g same parsed stamped none few c.in_err-empty.field-0.0 c.in_err-empty.ensures.refused)
 
+pub written-requires-clause-sound : goal.written-requires-clause-sound
+written-requires-clause-sound c =
+    sound_from c.in-Some.volume.image (sym c.in_default.is ∙ c.in_ok-found.ensures)
+
+pub written-requires-clause-inodes : goal.written-requires-clause-inodes
+written-requires-clause-inodes c =
+    (sizes_known c.args.blocks c.in-Some.volume.image.geometry.inodes c.in_ok-empty.empty.volume c.in_ok-empty.ensures.sizes).0
+
 pub written-requires-clause-good : goal.written-requires-clause-good
 written-requires-clause-good c =
     sizes_good c.in-Some.volume.image (sym c.in_default.is ∙ c.in_ok-found.ensures)
@@ -66,21 +74,6 @@ written-requires-clause-good c =
 pub written-requires-clause-block : goal.written-requires-clause-block
 written-requires-clause-block c =
     (sizes_known c.args.blocks c.in-Some.volume.image.geometry.inodes c.in_ok-empty.empty.volume c.in_ok-empty.ensures.sizes).1
-
-pub returns-in_err-image-clause-refused : goal.returns-in_err-image-clause-refused
-returns-in_err-image-clause-refused c =
-    let i = c.in-Some.volume.image in
-    let old = c.args.old.now in
-    let bytes = c.in_ok-old_blocks.old_blocks.items in
-    let g = c.in-Ok.geometry in
-    let same = c.in-Some.ensures.volume ∙ c.deref.ensures.value in
-    let parsed = sym c.in-Ok.ensures in
-    let stamped = c.in_ok-old_blocks.ensures in
-    let none = sym c.in_default.is ∙ c.in_ok-found.ensures in
-    let few = c.if-blocks-gt-MOST_BLOCKS.false in
-    err_same c.from_residual-in_err-image.result c.in_err-image.field-0.0 (IsRefused old c.args.blocks) c.from_residual-in_err-image.ensures
-    (late_refused i old bytes c.args.blocks g same parsed stamped none few c.in_ok-empty.ensures.room c.in_err-image.field-0.0
-    c.in_err-image.ensures.refused)
 
 pub confirm-requires : goal.confirm-requires
 confirm-requires c =
@@ -115,5 +108,5 @@ returns-clause-migrated c =
     let few = c.if-blocks-gt-MOST_BLOCKS.false in
     migrated i old bytes c.in_ok-image.image.items c.args.blocks g c.in_ok-empty.empty.volume same parsed stamped none
     (none_refused i old bytes c.args.blocks g same parsed stamped none few c.in_ok-empty.ensures.room) c.in_ok-empty.ensures.sizes
-    c.in_ok-image.ensures.whole
+    c.in_ok-image.ensures
     (subst (IsConfirmed i c.in_ok-empty.empty.volume) c.deref-2.ensures.value c.in_ok-confirm.ensures.confirmed)
