@@ -55,6 +55,7 @@ MEANINGS = (
     ("Mount Layout BadMagic", "it is no volume of MINIX version 3"),
     ("Mount Eio", "it ends before its volume does"),
     ("Mount Inconsistent", "the volume is damaged"),
+    ("NotAsRead", "what was read back through the drivers isn't what the image has, or it couldn't be read back"),
     ("log is of another image", "it is of a file in whose place this one came, or both are copies"),
 )
 

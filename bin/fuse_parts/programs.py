@@ -143,7 +143,7 @@ def fio(at, source):
 @program("dbench")
 def dbench(at, source):
     need("dbench")
-    out = ran("dbench", "-D", at, "-t", "5", "2", cwd="/tmp")
+    out = ran("dbench", "-D", at, "-t", "5", "1", cwd="/tmp")  # two clients may fill the volume
     empty(at)
     found = re.search(r"Throughput ([\d.]+) MB/sec", out)
     holds(f"dbench tells a throughput: {out[-200:]}", found)

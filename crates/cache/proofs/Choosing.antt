@@ -1,5 +1,5 @@
 -- Which dirty slot has the lowest block.
-use Rattle.std.proofs.Common.{◌≡◌, ℕ, ◌+◌, ◌<◌, ◌≤◌, List, length, set, refl, sym, ap, ◌∙◌, arith, true, false, cond, Option, Some, None}
+use Rattle.std.proofs.Common.{◌≡◌, ℕ, ◌+◌, ◌<◌, ◌≤◌, ◌++◌, List, length, set, refl, sym, ap, ◌∙◌, arith, true, false, cond, Option, Some, None}
 use mathlib.Core.Logic.{inl, inr}
 use Rattle.std.specs.Prelude.{slice_get, min}
 use Rattle.std.specs.Option.{unwrap_or}
@@ -10,14 +10,14 @@ use Rattle.cache.specs.declared.index.Entry.{Entry}
 use Rattle.cache.specs.declared.state.State.{State}
 use Rattle.cache.specs.declared.state.State.TheVariants.{Clean, Dirty, Writing, Changed}
 use Rattle.cache.specs.Slots.{held, is_clean, is_dirty, dirtied, IsDistinct}
-use Rattle.cache.specs.Slots.{dirty_block, clean_block, lower_of, NoneDirtyBelow}
+use Rattle.cache.specs.Slots.{dirty_block, clean_block, lower_of, AllFree, NoneDirtyBelow}
 use Rattle.cache.specs.Index.{place_there, IsRising, IsIndexOf, IsStartOf}
 use Rattle.cache.specs.Edits.{IsLowestDirty, IsLowestOf, IsLowestBlock, NoneDirty, NoneDirtyFrom, IsNextDirty, IsNextOf}
 use Rattle.cache.proofs.Edits.{one_slot}
 use Rattle.cache.proofs.Held.{place_of, held_at, in_range, get_set_same, get_set_other}
 use Rattle.cache.proofs.Entries.{entry_of, entry_there}
 use Rattle.cache.proofs.Indexed.{at_of, slot_by}
-use Rattle.cache.proofs.Making.{AllFree}
+use Rattle.cache.proofs.Growing.{grown_holds}
 
 -- ---- the dirty slots
 
@@ -40,6 +40,12 @@ has_dirty_block s b st block = ap (λ (x : State). cond (is_dirty x) s.block Non
 pub none_below_free : (items : List Slot) (from : ℕ) → AllFree items → NoneDirtyBelow items from
 none_below_free items from f = record {
   each = λ i s b is dirty. let z : None ≡ Some b = sym (f.each i s is) ∙ (dirty_parts s b dirty).1 in absurd (let q : ⊥ = cc in q);
+}
+
+-- more slots stand behind those that there were
+pub none_below_more : (xs ys : List Slot) (from : ℕ) → AllFree ys → NoneDirtyBelow xs from → NoneDirtyBelow (xs ++ ys) from
+none_below_more xs ys from f h = record {
+  each = λ i s b is dirty. h.each i s b (grown_holds xs ys i b s f is (dirty_parts s b dirty).1) dirty;
 }
 
 -- one slot is changed, and the search begins at its block at most

@@ -1,17 +1,17 @@
 -- An index of slots by their blocks, after one slot is changed.
-use Rattle.std.proofs.Common.{◌≡◌, ◌≢◌, ℕ, zero, suc, ◌+◌, ◌<◌, ◌≤◌, ◌^◌, List, [], ◌∷◌, length, set, refl, sym, ap, ◌∙◌, arith, Option, Some, None}
+use Rattle.std.proofs.Common.{◌≡◌, ◌≢◌, ℕ, zero, suc, ◌+◌, ◌<◌, ◌≤◌, ◌^◌, ◌++◌, List, [], ◌∷◌, length, set, refl, sym, ap, ◌∙◌, arith, Option, Some, None}
 use mathlib.Core.Logic.{inl, inr}
 use Rattle.std.specs.Prelude.{slice_get, cond, is_some}
 use Rattle.std.proofs.lemmas.Bool.{cases_eq}
 use Rattle.std.proofs.lemmas.List.{length-set}
 use Rattle.cache.specs.declared.index.Entry.{Entry}
 use Rattle.cache.specs.declared.slot.Slot.{Slot}
-use Rattle.cache.specs.Slots.{held}
+use Rattle.cache.specs.Slots.{held, AllFree}
 use Rattle.cache.specs.Index.{place_in, held_count, block_of, IsIndexOf, IsRising}
 use Rattle.cache.specs.Edits.{IsAt, IsPlaceOf}
-use Rattle.cache.proofs.Making.{AllFree}
 use Rattle.cache.proofs.Entries.{rises, entry_place}
 use Rattle.cache.proofs.Held.{place_of, get_set_same, get_set_other, some_holds}
+use Rattle.cache.proofs.Growing.{stays_grown, grown_holds, count_more}
 
 -- the slot there holds this block
 block_there : (o : Option Slot) (b : ℕ) → block_of o ≡ Some b → (s : Slot) × (o ≡ Some s) × (s.block ≡ Some b)
@@ -269,3 +269,10 @@ index_none items f = indexed_by [] items
     none : (xs : List Slot) → ((i : ℕ) (s : Slot) → slice_get xs i ≡ Some s → s.block ≡ None) → 0 ≡ held_count xs
     none [] g = refl
     none (x ∷ xs) g = none xs (λ i s h. g (suc i) s h) ∙ ap (λ (o : Option ℕ). cond (is_some o) (held_count xs + 1) (held_count xs)) (sym (g 0 x refl))
+
+-- more slots stand behind those that there were
+pub index_more : (entries : List Entry) (xs ys : List Slot) → AllFree ys → IsIndexOf entries xs → IsIndexOf entries (xs ++ ys)
+index_more entries xs ys f x = indexed_by entries (xs ++ ys)
+    (λ i b s h k. at_of entries xs x i b s (grown_holds xs ys i b s f h k) k)
+    (λ i b p. let o = is_of entries xs x i b p in (o.0, stays_grown xs ys i o.0 o.1, o.2))
+    (x.count ∙ sym (count_more xs ys f))

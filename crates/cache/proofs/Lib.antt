@@ -10,6 +10,7 @@ mod TournamentLaws
 mod Turns
 mod Choosing
 mod Making
+mod Growing
 mod Indexed
 mod Settled
 mod Open

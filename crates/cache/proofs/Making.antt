@@ -4,12 +4,7 @@ use Rattle.std.specs.Prelude.{slice_get}
 use Rattle.std.proofs.lemmas.Bool.{cond-false}
 use Rattle.cache.specs.declared.slot.Slot.{Slot}
 use Rattle.cache.specs.declared.state.State.TheVariants.{Clean}
-use Rattle.cache.specs.Slots.{is_number, held, IsDistinct}
-
--- no slot holds a block, and no write is under way
-pub record AllFree (items : List Slot) : Type 0 where
-  pub each : (i : ℕ) (s : Slot) → slice_get items i ≡ Some s → s.block ≡ None
-  pub clean : (i : ℕ) (s : Slot) → slice_get items i ≡ Some s → s.state ≡ Clean
+use Rattle.cache.specs.Slots.{is_number, held, AllFree, IsDistinct}
 
 -- there are none at first
 pub free_none : AllFree []

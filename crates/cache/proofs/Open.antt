@@ -1,18 +1,29 @@
 -- Where the slots stand that have a write under way.
-use Rattle.std.proofs.Common.{◌≡◌, ◌≢◌, ℕ, ◌+◌, ◌<◌, ◌≤◌, List, length, set, refl, sym, ap, ◌∙◌, arith, cond, Option, Some, None}
-use Rattle.std.proofs.lemmas.List.{length-set}
+use Rattle.std.proofs.Common.{◌≡◌, ◌≢◌, ℕ, ◌+◌, ◌<◌, ◌≤◌, ◌++◌, List, length, set, refl, sym, ap, ◌∙◌, arith, cond, Option, Some, None}
+use Rattle.std.proofs.lemmas.List.{length-append, length-set}
 use mathlib.Core.Logic.{inl, inr}
 use Rattle.std.specs.Prelude.{slice_get, min, max, is_some}
 use Rattle.std.proofs.lemmas.Bool.{cond-false, cases_eq, cases_lt}
 use Rattle.cache.specs.declared.slot.Slot.{Slot}
 use Rattle.cache.specs.declared.state.State.{State}
 use Rattle.cache.specs.declared.state.State.TheVariants.{Clean, Dirty, Writing, Changed}
-use Rattle.cache.specs.Slots.{ticket_of, is_under, written, is_number, dirtied, AreOpenWithin}
+use Rattle.cache.specs.Slots.{ticket_of, is_under, written, is_number, dirtied, AllFree, AreOpenWithin}
 use Rattle.cache.specs.Edits.{IsSetAt, after_write}
 use Rattle.cache.proofs.Edits.{one_slot}
 use Rattle.cache.proofs.Held.{in_range, get_set_same, get_set_other}
-use Rattle.cache.proofs.Making.{AllFree}
 use Rattle.cache.proofs.Settled.{Settling, AllSettled}
+use Rattle.cache.proofs.Growing.{grown_cases}
+
+-- ---- more slots stand behind those that there were
+
+pub open_more : (xs ys : List Slot) (from to : ℕ) → AllFree ys → AreOpenWithin xs from to → AreOpenWithin (xs ++ ys) from to
+open_more xs ys from to f h = record {
+  bound = let n = length-append xs ys in let le = h.bound in omega (arith, n, le);
+  each = λ i t s is open_is. elim (grown_cases xs ys i s f is) [
+    | inl p ↦ h.each i t s p open_is
+    | inr p ↦ let z : None ≡ Some t = sym (ap ticket_of p.1) ∙ open_is in absurd (let q : ⊥ = cc in q)
+  ];
+}
 
 -- ---- one slot is changed
 

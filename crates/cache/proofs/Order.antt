@@ -6,7 +6,7 @@ use Rattle.std.specs.List.{filter}
 use Rattle.std.proofs.lemmas.Bool.{cases_eq, cases_lt, lt-ltb}
 use Rattle.std.proofs.lemmas.Bool.Decides.{nat_tests}
 use Rattle.lemmas.proofs.Numbers.{less_fails}
-use Rattle.cache.specs.Uses.{AllBelow, IsNewest, rank, KeepsOrder}
+use Rattle.cache.specs.Uses.{AllBelow, IsNewest, IsLonger, rank, KeepsOrder}
 
 -- one where this holds
 abbrev one_if : Bool → ℕ
@@ -175,3 +175,49 @@ newest_keeps old new at k h = record {
 -- each place has its own number
 pub record IsCounted (numbers : List ℕ) (n : ℕ) : Type 0 where
   pub each : (i : ℕ) → i < n → get_or numbers i 0 ≡ i
+
+-- ---- more places, which were never used
+
+-- of two places or more the one that was used last has a number above 0
+newest_used : (numbers : List ℕ) (at : ℕ) → 1 < length numbers → IsNewest numbers at → 0 < get_or numbers at 0
+newest_used numbers at two h = elim (cases_eq at 0) [
+  | inl e ↦ let k = h.above 1 two (λ f. let q : ⊥ = omega (arith, e, f) in q) in omega (arith, k)
+  | inr ne ↦ let k = h.above 0 (omega (arith, two)) (λ f. ne (sym f)) in omega (arith, k)
+]
+
+pub longer_by : (old mid new : List ℕ) (n count : ℕ) → mid ≡ old → n ≡ length old → length old ≤ count → length new ≡ count
+    → ((k d : ℕ) → k < count → k < n → get_or new k d ≡ get_or mid k d) → ((k d : ℕ) → n ≤ k → k < count → get_or new k d ≡ 0)
+    → IsLonger old new count
+longer_by old mid new n count same many le is kept unused = record {
+  count_is = is;
+  kept = λ i lt. kept i 0 (omega (arith, lt, le)) (omega (arith, lt, many)) ∙ ap (λ (l : List ℕ). get_or l i 0) same;
+  unused = λ i ge lt. unused i 0 (omega (arith, ge, many)) lt;
+}
+
+pub below_longer : (old new : List ℕ) (count next : ℕ) → 1 < length old → IsLonger old new count → AllBelow old next → AllBelow new next
+below_longer old new count next two l h = record {
+  each = λ i ini. elim (cases_lt i (length old)) [
+    | inl lt ↦ let is = l.kept i lt in let k = h.each i lt in omega (arith, is, k)
+    | inr ge ↦
+        let is = l.unused i ge (let n = l.count_is in omega (arith, n, ini)) in
+        let k = h.each 0 (omega (arith, two)) in
+        omega (arith, is, k)
+  ];
+}
+
+pub newest_longer : (old new : List ℕ) (count at : ℕ) → 1 < length old → IsLonger old new count → IsNewest old at → IsNewest new at
+newest_longer old new count at two l h = record {
+  above = λ i ini ne.
+      let used = newest_used old at two h in
+      let same = l.kept at here in
+      elim (cases_lt i (length old)) [
+        | inl lt ↦ let is = l.kept i lt in let k = h.above i lt ne in omega (arith, is, k, same)
+        | inr ge ↦ let is = l.unused i ge (let n = l.count_is in omega (arith, n, ini)) in omega (arith, is, used, same)
+      ];
+}
+  where
+    here : at < length old
+    here = elim (cases_lt at (length old)) [
+      | inl lt ↦ lt
+      | inr out ↦ let used = newest_used old at two h in let none = past_end old at out in absurd (let q : ⊥ = omega (arith, used, none) in q)
+    ]

@@ -76,9 +76,9 @@ caching words cache = caching_of words cache.transfers cache.shape cache.slots.i
 abbrev pub held_by : {L : Type 0} → Cache L → ℕ → Option Slot
 held_by cache = held cache.slots.items.items
 
--- how many frames it has, in use or not
+-- how many frames it may have
 abbrev pub frame_count : {L : Type 0} → Cache L → ℕ
-frame_count cache = length cache.slots.items.items
+frame_count cache = cache.slots.uses.limit
 
 -- its link went on
 abbrev pub LinkGoesOn : {L : Type 0} → LinkWords L → Cache L → Cache L → Type 0

@@ -9,6 +9,7 @@ use Rattle.block_store.specs.declared.Cut.{Cut}
 use Rattle.cache.specs.Slots.{held, is_unclean_slot}
 use Rattle.cache.specs.Uses.{IsUsedLast}
 use Rattle.cache.specs.Order.{IsVictim}
+use Rattle.cache.specs.Growing.{IsGrown}
 use Rattle.cache.specs.Edits.{IsBlankedAt, IsSlotAt, OthersStay, StayBut}
 
 -- a slot is used now, and nothing else is changed: the link was told nothing, and no message was taken
@@ -50,17 +51,25 @@ StandsAt state (Ok frame) at old new =
     (frame.at ≡ at) × IsOfState new.items.items at state × IsUsedLast old.uses.numbers.items new.uses.numbers.items at
 StandsAt state (Err cut) at old new = new.uses.numbers.items ≡ old.uses.numbers.items
 
+-- more slots may be made once a block was given one; where the call was cut, none are
+abbrev pub MayGrow : Result Frame Cut → Slots → Slots → Type 0
+MayGrow (Ok frame) old new = IsGrown old new
+MayGrow (Err cut) old new = new ≡ old
+
 -- no frame was given to this block
 abbrev pub IsNotFor : Result Frame Cut → ℕ → Type 0
 IsNotFor (Ok frame) block = frame.block ≡ block → ⊥
 IsNotFor (Err cut) block = Unit {0}
 
--- A block that has no frame is given the slot that goes, in this state. The other slots stay, but for writes that were answered good since,
--- and no other block gets a frame.
+-- A block that has no frame is given the slot that goes, in this state; then more slots may be made. The other slots stay, but for writes
+-- that were answered good since, and no other block gets a frame.
 pub record Misses {L : Type 0} (state : State) (result : Result Frame Cut) (old new : Cache L) : Type 0 where
   pub at : ℕ
   pub goes : IsVictim old.slots.items.items old.slots.uses.numbers.items at
-  pub stands : StandsAt state result at old.slots new.slots
+  -- the slots before more were made
+  pub filled : Slots
+  pub stands : StandsAt state result at old.slots filled
+  pub grows : MayGrow result filled new.slots
   pub others : OthersStay at old.slots.items.items new.slots.items.items
   pub none : (b : ℕ) → IsNotFor result b → held old.slots.items.items b ≡ None → held new.slots.items.items b ≡ None
 

@@ -7,6 +7,7 @@ pub mod Edits
 pub mod Uses
 pub mod Winners
 pub mod Order
+pub mod Growing
 pub mod Refusals
 pub mod Settling
 pub mod Runs

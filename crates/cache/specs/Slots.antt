@@ -105,6 +105,11 @@ pub record AreOpenWithin (items : List Slot) (from to : ℕ) : Type 0 where
   pub bound : to ≤ length items
   pub each : (i t : ℕ) (s : Slot) → slice_get items i ≡ Some s → ticket_of s.state ≡ Some t → (from ≤ i) × (i < to)
 
+-- no slot holds a block, and no write is under way
+pub record AllFree (items : List Slot) : Type 0 where
+  pub each : (i : ℕ) (s : Slot) → slice_get items i ≡ Some s → s.block ≡ None
+  pub clean : (i : ℕ) (s : Slot) → slice_get items i ≡ Some s → s.state ≡ Clean
+
 -- no block has two slots
 pub record IsDistinct (items : List Slot) : Type 0 where
   pub same : (i j b : ℕ) (s t : Slot) → slice_get items i ≡ Some s → slice_get items j ≡ Some t

@@ -1,5 +1,5 @@
 -- The order in which places were used last, by numbers: a lower one was used longer ago.
-use Rattle.std.specs.Prelude.{◌≡◌, ◌≢◌, ℕ, ◌<◌, List, length, slice_index, nat_lt}
+use Rattle.std.specs.Prelude.{◌≡◌, ◌≢◌, ℕ, ◌<◌, ◌≤◌, List, length, slice_index, nat_lt}
 use Rattle.std.specs.List.{filter}
 
 -- each number is below this one
@@ -26,6 +26,12 @@ pub record IsUsedLast (old new : List ℕ) (at : ℕ) : Type 0 where
   pub last : (i : ℕ) → i < length old → (i ≡ at → ⊥) → slice_index new i < slice_index new at
   pub order : (i j : ℕ) → i < length old → j < length old → (i ≡ at → ⊥) → (j ≡ at → ⊥)
       → nat_lt (slice_index new i) (slice_index new j) ≡ nat_lt (slice_index old i) (slice_index old j)
+
+-- so many places: those that there were, and behind them others, which have the number 0
+pub record IsLonger (old new : List ℕ) (count : ℕ) : Type 0 where
+  pub count_is : length new ≡ count
+  pub kept : (i : ℕ) → i < length old → slice_index new i ≡ slice_index old i
+  pub unused : (i : ℕ) → length old ≤ i → i < count → slice_index new i ≡ 0
 
 -- the other places have the numbers that they had
 pub record OthersKeep (old new : List ℕ) (at : ℕ) : Type 0 where

@@ -35,8 +35,8 @@ struct Reading {
 ///
 /// A frame reads as its last change, or as the disk where it wasn't changed. A block without a frame is read when it is
 /// fetched. Where no slot is free, the frame used longest ago of those that are the disk's goes; where none is, the one
-/// used longest ago is written and awaited, and then goes. No memory is taken after making. What goes on in the link goes on through each
-/// call, and the number of frames stays.
+/// used longest ago is written and awaited, and then goes. Slots are made as they are wanted, up to a limit; where there is no memory for
+/// more, those that are there serve. What goes on in the link goes on through each call, and the limit stays.
 #[derive(Drop)]
 pub struct Cache<L> {
     transfers: Transfers<L>,
@@ -68,7 +68,7 @@ impl<L: Link> Cache<L> {
     ghost use Rattle.cache.specs.Takes.{Takes, ReadsStay, NoReadBegun, IsBlockRead, Reads, read_into};
     ghost use Rattle.cache.specs.Looking.{Looks};
 
-    /// A cache with so many frames, none of them in use, over transfers with nothing pending: 1 BadFrames unless they are 16 to
+    /// A cache that may have so many frames, none of them in use, over transfers with nothing pending: 1 BadFrames unless they are 16 to
     /// 4096, looked at first; 2 OutOfMemory.
     pub fn new(
         alloc: Global,
@@ -127,6 +127,28 @@ impl<L: Link> Cache<L> {
         ensures value { result.now ≡ link_of self.old.transfers }
     {
         self.transfers.link_mut()
+    }
+
+    /// The range of the media that its requests name.
+    pub fn minor(&self) -> u8
+        ensures { result ≡ self.now.shape.minor }
+    {
+        self.shape.minor
+    }
+
+    /// Lets the frames go: the requests that are pending, and their link.
+    pub fn into_transfers(self) -> Transfers<L>
+        ensures { result ≡ self.transfers }
+    {
+        let Cache {
+            transfers,
+            slots: _,
+            shape: _,
+            ended: _,
+            flush: _,
+            message: _,
+        } = self;
+        transfers
     }
 
     /// Whether a Flush was taken that isn't done; from now on it counts as done.
@@ -461,6 +483,7 @@ impl<L: Link> Cache<L> {
         let at = self.make_room()?;
         self.read(block)?;
         self.slots.fill(at, block, State::Clean);
+        self.slots.grow();
         Ok(Frame { block, at })
     }
 
@@ -506,6 +529,7 @@ impl<L: Link> Cache<L> {
         let at = self.make_room()?;
         self.slots.clear_spare();
         self.slots.fill(at, block, State::Dirty);
+        self.slots.grow();
         Ok(Frame { block, at })
     }
 

@@ -1,6 +1,6 @@
 //! An index of places by their blocks.
 
-ghost use Rattle.std.specs.Prelude.{◌≡◌, ◌≢◌, ◌<◌, ◌≤◌, ◌+◌, ◌^◌, ℕ, IfOk, IfErr, [], Some, None, length, slice_get};
+ghost use Rattle.std.specs.Prelude.{◌≡◌, ◌≢◌, ◌<◌, ◌≤◌, ◌+◌, ◌^◌, ℕ, IfOk, IfErr, OnOk, [], Some, None, length, slice_get};
 ghost use Rattle.std.specs.VecDeque.{deque_capacity};
 ghost use Rattle.cache.specs.Index.{place_in, place_there, IsRising, IsEntryOf, IsGapFor, IsStartOf};
 
@@ -15,7 +15,7 @@ pub(crate) struct Entry {
     place: u32,
 }
 
-/// The places of blocks, sorted by block. Their memory is taken when they are made. A step is an entry that is compared.
+/// The places of blocks, sorted by block. A step is an entry that is compared.
 #[derive(Drop)]
 pub(crate) struct Index {
     entries: VecDeque<Entry>,
@@ -31,6 +31,15 @@ impl Index {
         Ok(Index {
             entries: VecDeque::with_capacity(alloc, count)?,
         })
+    }
+
+    /// Sees to it that there is room for so many more blocks than it has.
+    pub(crate) fn reserve(&mut self, more: usize) -> Result<(), AllocError>
+        ensures entries { self.new.entries.items ≡ self.old.entries.items }
+        ensures room { deque_capacity self.old.entries ≤ deque_capacity self.new.entries }
+        ensures enough { OnOk result (length self.new.entries.items + more ≤ deque_capacity self.new.entries) }
+    {
+        self.entries.reserve(more)
     }
 
     /// Where the entry of a block stands, or else where it would.

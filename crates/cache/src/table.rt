@@ -1,9 +1,9 @@
 //! All slots of a cache.
 
-ghost use Rattle.std.specs.Prelude.{◌≡◌, ◌⊎◌, ◌<◌, ◌≤◌, ◌+◌, ◌*◌, ◌^◌, ℕ, true, IfOk, Some, None, slice_get, slice_index, length};
+ghost use Rattle.std.specs.Prelude.{◌≡◌, ◌⊎◌, ◌<◌, ◌≤◌, ◌+◌, ◌*◌, ◌^◌, ℕ, true, IfOk, OnOk, OnErr, Some, None, slice_get, slice_index, length};
 ghost use Rattle.std.specs.Bool.{OnTrue, OnFalse};
 ghost use Rattle.std.specs.VecDeque.{deque_capacity};
-ghost use Rattle.cache.specs.Slots.{held, is_dirty_held, lower_of, IsDistinct, NoneDirtyBelow, AreOpenWithin};
+ghost use Rattle.cache.specs.Slots.{held, is_dirty_held, lower_of, AllFree, IsDistinct, NoneDirtyBelow, AreOpenWithin};
 ghost use Rattle.cache.specs.Index.{IsIndexOf};
 ghost use Rattle.cache.specs.Uses.{IsUsedLast};
 ghost use Rattle.cache.specs.Order.{IsRanked, IsRankedBut};
@@ -17,7 +17,12 @@ use reissue::Ticket;
 use std::alloc::{AllocError, Global};
 use step_count::Steps;
 
-/// All slots, 4096 at most; no block has two. Their memory is taken when they are made.
+/// How many slots there are at first, if there may be so many.
+const FIRST: usize = 64;
+/// How many more slots are made at once, at most.
+const MOST_MORE: usize = 256;
+
+/// All slots; no block has two. They are made as they are wanted: there are 64 at first, and never more than a limit.
 #[derive(Drop)]
 pub struct Slots {
     items: Vec<Slot>,
@@ -35,7 +40,7 @@ pub struct Slots {
     /// Room for a block that is in no slot: a read's bytes come here, and go into a slot by its pointer.
     pub spare: Box<[u8; 4096]>,
     pub ghost distinct: { IsDistinct items.items },
-    pub ghost some: { 0 < length items.items },
+    pub ghost some: { 1 < length items.items },
     pub ghost few: { length items.items ≤ 4096 },
     pub ghost indexed: { IsIndexOf index.entries.items items.items },
     pub ghost room: { length items.items ≤ deque_capacity index.entries },
@@ -54,6 +59,18 @@ fn lowered(from: u32, block: Option<u32>) -> u32
         Some(block) => from.min(block),
         None => from,
     }
+}
+
+/// So many slots, all free.
+fn free_slots(alloc: Global, count: usize) -> Result<Vec<Slot>, AllocError>
+    ensures free { IfOk result (λ v. AllFree v.items) }
+    ensures count { IfOk result (λ v. length v.items ≡ count) }
+{
+    let mut items = Vec::new(alloc);
+    'free: for _ in 0..count {
+        items.push(Slot::free(alloc)?)?;
+    }
+    Ok(items)
 }
 
 /// Gives each slot the key of its eviction rank.
@@ -77,6 +94,7 @@ fn use_now(uses: &mut Uses, winners: &mut Tournament, items: &[Slot], at: usize)
     requires others { IsRankedBut at items.now uses.old.numbers.items winners.old.keys.items }
     ensures ranked { IsRanked items.now uses.new.numbers.items winners.new.keys.items }
     ensures used { IsUsedLast uses.old.numbers.items uses.new.numbers.items at }
+    ensures limit { uses.new.limit ≡ uses.old.limit }
 {
     if uses.touch(at) {
         rank_all(winners, items, uses);
@@ -87,23 +105,24 @@ fn use_now(uses: &mut Uses, winners: &mut Tournament, items: &[Slot], at: usize)
 }
 
 impl Slots {
-    ghost use Rattle.cache.specs.Order.{IsVictim, IsDue};
+    ghost use Rattle.std.specs.Prelude.{min};
+    ghost use Rattle.cache.specs.Order.{Free, IsNone, IsVictim, IsDue};
+    ghost use Rattle.cache.specs.Growing.{IsGrown};
     ghost use Rattle.cache.specs.Edits.{IsSetAt, IsFilledAt, IsBlankedAt, IsChangedAt, IsAt, IsPlaceOf, IsNextOf, IsWritten, AllStay, AllClean};
     ghost use Rattle.cache.specs.Edits.{SomeUnclean, IsLowestOf, IsLowestBlock, IsRunEnd, AreDirty, AreBegun, Leaves, after_write};
     ghost use Rattle.cache.specs.Runs.{IsCopied, AreGathered};
 
-    /// So many slots, all free.
-    pub fn new(alloc: Global, count: usize) -> Result<Slots, AllocError>
-        requires some { 0 < count }
-        requires few { count ≤ 4096 }
+    /// Slots, all free: the first of so many.
+    pub fn new(alloc: Global, limit: usize) -> Result<Slots, AllocError>
+        requires some { 1 < limit }
+        requires few { limit ≤ 4096 }
         ensures free { IfOk result (λ s. (b : ℕ) → held s.items.items b ≡ None) }
-        ensures count { IfOk result (λ s. length s.items.items ≡ count) }
+        ensures count { IfOk result (λ s. length s.items.items ≡ min limit 64) }
+        ensures limit { IfOk result (λ s. s.uses.limit ≡ limit) }
     {
-        let mut items = Vec::new(alloc);
-        'free: for _ in 0..count {
-            items.push(Slot::free(alloc)?)?;
-        }
-        let uses = Uses::new(alloc, count)?;
+        let count = limit.min(FIRST);
+        let items = free_slots(alloc, count)?;
+        let uses = Uses::new(alloc, count, limit)?;
         let mut winners = Tournament::new(alloc, count)?;
         rank_all(&mut winners, &items, &uses);
         Ok(Slots {
@@ -116,6 +135,47 @@ impl Slots {
             open_to: 0,
             spare: Box::new(alloc, zeros())?,
         })
+    }
+
+    /// Makes more slots, where each one holds a block and there may be more: as many as there are, 256 at most. False where there was no
+    /// memory for them; then those that are there serve.
+    pub fn grow(&mut self) -> bool
+        ensures grown { IsGrown self.old self.new }
+        ensures spare { self.new.spare ≡ self.old.spare }
+        ensures enough { OnTrue result (IsNone Free self.new.items.items self.new.uses.numbers.items
+            → length self.new.items.items ≡ self.new.uses.limit) }
+        ensures refused { OnFalse result (self.new.items.items ≡ self.old.items.items) }
+    {
+        let there = self.items.len();
+        if there == self.uses.limit || self.get(self.victim()).block.is_none() {
+            return true;
+        }
+        let more = there.min(MOST_MORE).min(self.uses.limit - there);
+        self.add(more).is_ok()
+    }
+
+    /// Makes so many more slots, all free. All memory is taken first.
+    fn add(&mut self, more: usize) -> Result<(), AllocError>
+        requires some { 0 < more }
+        requires few { length self.old.items.items + more ≤ self.old.uses.limit }
+        requires wanted { IsNone Free self.old.items.items self.old.uses.numbers.items }
+        ensures grown { IsGrown self.old self.new }
+        ensures spare { self.new.spare ≡ self.old.spare }
+        ensures count { OnOk result (length self.new.items.items ≡ length self.old.items.items + more) }
+        ensures longer { OnOk result (length self.old.items.items < length self.new.items.items) }
+        ensures refused { OnErr result (self.new.items.items ≡ self.old.items.items) }
+    {
+        let alloc = *self.items.allocator();
+        let count = self.items.len() + more;
+        let uses = self.uses.longer(alloc, count)?;
+        let mut winners = Tournament::new(alloc, count)?;
+        self.index.reserve(count)?;
+        let mut slots = free_slots(alloc, more)?;
+        self.items.append(&mut slots)?;
+        rank_all(&mut winners, &self.items, &uses);
+        self.uses = uses;
+        self.winners = winners;
+        Ok(())
     }
 
     /// Where this block stands. A step is an entry of the index that is compared.
@@ -291,6 +351,7 @@ impl Slots {
         requires { at < length self.old.items.items }
         ensures items { self.new.items.items ≡ self.old.items.items }
         ensures used { IsUsedLast self.old.uses.numbers.items self.new.uses.numbers.items at }
+        ensures limit { self.new.uses.limit ≡ self.old.uses.limit }
     {
         if !self.uses.is_newest(at) {
             use_now(&mut self.uses, &mut self.winners, &self.items, at);
@@ -384,6 +445,7 @@ impl Slots {
         ensures filled { IsFilledAt self.old.items.items self.new.items.items at block self.old.spare.value state }
         ensures used { IsUsedLast self.old.uses.numbers.items self.new.uses.numbers.items at }
         ensures count { length self.new.items.items ≡ length self.old.items.items }
+        ensures limit { self.new.uses.limit ≡ self.old.uses.limit }
     {
         self.vacate(at);
         self.index.insert(block, at as u32);
@@ -400,6 +462,7 @@ impl Slots {
         ensures blanked { IsBlankedAt self.old.items.items self.new.items.items at }
         ensures used { IsUsedLast self.old.uses.numbers.items self.new.uses.numbers.items at }
         ensures count { length self.new.items.items ≡ length self.old.items.items }
+        ensures limit { self.new.uses.limit ≡ self.old.uses.limit }
     {
         let slot = &mut self.items[at];
         // Of a change a clean slot alone becomes dirty.

@@ -10,8 +10,7 @@ use std::alloc::{AllocError, Global};
 const LATE: u64 = 0x8000_0000_0000_0000;
 
 /// Places that each have a key, and what comes of a tournament of them, where the lower key wins. With n places each node, from 1 on and
-/// below n, has two children, of twice its number and one more: a number from n on is the leaf of the place that is so many past n. Their
-/// memory is taken when they are made.
+/// below n, has two children, of twice its number and one more: a number from n on is the leaf of the place that is so many past n.
 #[derive(Drop)]
 pub(crate) struct Tournament {
     /// The key of each place.

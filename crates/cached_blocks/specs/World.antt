@@ -60,7 +60,7 @@ world_by f goes = record {
 abbrev pub stored_caching : {L : Type 0} → LinkWords L → Stored L → AbstractCache
 stored_caching words s = caching words s.cache
 
--- its link went on, and it has as many frames
+-- its link went on, and it may have as many frames
 pub record GoesOn {L : Type 0} (words : LinkWords L) (a b : Stored L) : Type 0 where
   pub link : LinkGoesOn words a.cache b.cache
   pub frames : frame_count b.cache ≡ frame_count a.cache

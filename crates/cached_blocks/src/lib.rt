@@ -14,7 +14,7 @@ use block_store::{Blocks, Cut};
 use cache::{Cache, Frame};
 use flusher::{flush_some, make_way};
 use message::Incoming;
-use reissue::Link;
+use reissue::{Link, Transfers};
 use step_count::Steps;
 
 /// Blocks in the frames of a cache. A block without a frame is read when it is fetched, and a changed one is written when a Flush asks for
@@ -60,6 +60,20 @@ impl<L: Link> Stored<L> {
     {
         self.cache.link_mut()
     }
+
+    /// The range of the media that its requests name.
+    pub fn minor(&self) -> u8
+        ensures { result ≡ self.now.cache.shape.minor }
+    {
+        self.cache.minor()
+    }
+
+    /// Lets the frames go: the requests that are pending, and their link.
+    pub fn into_transfers(self) -> Transfers<L>
+        ensures { result ≡ self.cache.transfers }
+    {
+        self.cache.into_transfers()
+    }
 }
 
 /// Blocks in the frames of a cache, with what a server asks of it besides.
@@ -77,13 +91,13 @@ pub trait Caches: Blocks {
     // what is said of its cache
     ghost caching: { Self → AbstractCache };
 
-    // how many frames it has, in use or not
+    // how many frames it may have
     ghost frame_count: { Self → ℕ };
 
     // a Flush was taken that isn't done
     ghost wanted: { Self → Bool };
 
-    // what goes on through every call: its link goes on, and it has as many frames
+    // what goes on through every call: its link goes on, and it may have as many frames
     ghost goes_on: { Self → Self → Type 0 };
 
     /// Begins the writes that a Flush asks for, where one was taken that isn't done: of the dirty frames with the lowest blocks, sixteen at

@@ -4,7 +4,7 @@ ghost use Rattle.std.specs.Prelude.{◌≡◌, [], IfOk};
 ghost use Rattle.std.specs.Arc.{arc_value};
 ghost use Rattle.records.specs.Opening.{Opening};
 ghost use Rattle.true_replies.specs.Events.{opening_media};
-ghost use Rattle.shared_media.specs.Confined.{IsImageOutside, KeepsOutside};
+ghost use Rattle.shared_media.specs.Confined.{IsImageOutside, KeepsBeyond, KeepsOutside};
 ghost use Rattle.shared_media.specs.Marking.{AreChangesOutside};
 
 use crate::alone::once_alone;
@@ -181,6 +181,14 @@ impl<N: ServiceParameters> Running<N> {
         (&*media).image(alloc)
     }
 
+    /// The volume's range of the media: its first sector, and how many it has. It waits for the step of a driver.
+    pub fn range<R: Wait>(&self, rt: &R) -> (u32, u32)
+        ensures { (result.0 ≡ N.opening.first) × (result.1 ≡ N.opening.count) }
+    {
+        let media = self.media.media.lock(rt);
+        (&*media).range()
+    }
+
     /// The media, of which other threads may have handles.
     pub fn media(&self) -> &MediaHandle<N> {
         &self.media
@@ -191,12 +199,14 @@ impl<N: ServiceParameters> Running<N> {
         Arc::strong_count(&self.media.handles) > 1
     }
 
-    /// Ends all drivers, joins all threads, and gives the media back: as many sectors as were handed in, and outside of the volume's range
-    /// each as it was handed in. The link has to be let go of before, since else a driver may wait for room in it.
+    /// Ends all drivers, joins all threads, and gives the media back, and how many sectors of the volume's range, from its first on,
+    /// drivers may have written: each other sector is as it was handed in, and there are as many. The link has to be let go of before,
+    /// since else a driver may wait for room in it.
     ///
     /// It waits until each `MediaHandle` was let go (`is_shared`).
-    pub fn stop<R: Threads + Wait>(self, rt: &R) -> Media
-        ensures { KeepsOutside N.opening result }
+    pub fn stop<R: Threads + Wait>(self, rt: &R) -> (Media, u32)
+        ensures beyond { KeepsBeyond N.opening result.1 result.0 }
+        ensures outside { KeepsOutside N.opening result.0 }
     {
         let Running {
             supervisor,

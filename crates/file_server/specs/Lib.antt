@@ -1,3 +1,4 @@
 pub mod Over
 pub mod Laws
 pub mod Leaving
+pub mod Back

@@ -1,11 +1,12 @@
 //! A file server over a link: what every one keeps, so that whoever moves its link needs to know nothing else of it.
 #![tactic(auto)]
 
-ghost use Rattle.std.specs.Prelude.{◌≡◌, ◌≢◌, ◌≤◌, ◌<◌, ◌+◌, ◌^◌, ℕ, min, false};
+ghost use Rattle.std.specs.Prelude.{◌≡◌, ◌≢◌, ◌≤◌, ◌<◌, ◌+◌, ◌^◌, ◌%◌, ℕ, length, min, false};
 ghost use Rattle.std.specs.Borrow.{Lends, sem};
 ghost use Rattle.tree.specs.declared.Call.{Call as TreeCall};
 ghost use Rattle.reissue.specs.Room.{room_needed};
 ghost use Rattle.file_server.specs.Over.{CallSpecification, AbsorbsOver, SameServing, outcome_in, outcome_of};
+ghost use Rattle.file_server.specs.Back.{ReadsBack};
 
 pub mod laws;
 
@@ -13,6 +14,7 @@ use message::Incoming;
 use records::legal::Serve;
 use reissue::Link;
 use tree::{Call, Outcome, Reply, Who};
+use volume_reading::ReadRoom;
 
 /// How a call ended.
 #[derive(Clone, Copy, Debug, PartialEq, Eq)]
@@ -33,6 +35,17 @@ impl Ending {
             Ending::Cut => Outcome::Cut,
         }
     }
+}
+
+/// How reading a volume back ended.
+#[derive(Clone, Copy, Debug, PartialEq, Eq)]
+pub enum ReadEnd {
+    /// All was read.
+    Read,
+    /// The device was given up.
+    GivenUp,
+    /// The link has ended.
+    Cut,
 }
 
 /// A file server over a link of this type.
@@ -92,6 +105,19 @@ pub trait FileServer<L: Link + Drop>: Serve + Drop {
     fn link_mut(&mut self) -> &mut L
         ensures* lends { sem 𝓛 (Lends Self.row L.row self.entry result (with_line self.entry.now)) }
         ensures value { result.now ≡ line self.old };
+
+    /// Lets the server go and reads its volume back: waits for all that is pending, and then reads the first bytes of the volume's range through
+    /// the link, as many as there is room for, a multiple of 512. It takes no memory. It ends early where the device is given up or the
+    /// link ends. Gives the link.
+    fn read_back(self, room: ReadRoom, into: &mut [u8]) -> (L, ReadEnd)
+        requires ready { is_ready self }
+        requires few { absorbed self ≤ 2 ^ 48 }
+        requires live { (Self.serving self).ended ≡ false }
+        requires whole { length into.old % 512 ≡ 0 }
+        requires most { length into.old ≤ 2 ^ 48 }
+        ensures back { ReadsBack (Self.serving self) result.1 into.new (L.history result.0) (L.truth (line self)) (L.truth result.0) }
+        ensures same_length { length into.new ≡ length into.old }
+        ensures goes { L.goes_on (line self) result.0 };
 
     // the link that was put there is the link
     ghost is_there: { (s : Self) (l : L) → line (with_line s l) ≡ l };

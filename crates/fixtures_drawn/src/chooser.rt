@@ -173,6 +173,8 @@ pub enum Note {
     Open,
     /// A request with this id was posted to a driver, which will come; or it was refused.
     Posted(u32, u64, bool),
+    /// A write is about to be posted.
+    Writes,
     /// A driver takes a request, and will come.
     Taken(u32),
     /// A driver is through with its request, and sends an answer or none. It comes if there is another one.
@@ -381,10 +383,14 @@ impl Chooser {
         self.drivers.get_mut(number_of(generation))
     }
 
+    // Behind a flusher that had nothing to write, a write is one that it left.
+    fn writes(&mut self) {
+        self.told.was_left = self.told.was_left || self.has_settled;
+    }
+
     fn posted(&mut self, generation: u32, id: u64, was_taken: bool) {
         self.told.mix(id.wrapping_add(u64::from(was_taken) << 32));
         self.posts = self.posts.saturating_add(1);
-        self.told.was_left = self.told.was_left || self.has_settled;
         if !was_taken {
             return;
         }
@@ -476,6 +482,7 @@ impl Chooser {
             Note::Close => self.close(),
             Note::Open => self.stage = Stage::Open,
             Note::Posted(generation, id, was_taken) => self.posted(generation, id, was_taken),
+            Note::Writes => self.writes(),
             Note::Taken(generation) => self.taken(generation),
             Note::Through(generation, answers) => self.through(generation, answers),
             Note::Answer(answer) => self.received(answer),

@@ -12,7 +12,7 @@ use fixtures_drawn::chooser::{Note, TAKER};
 use fixtures_drawn::drawn::Drawn;
 use media::Media;
 use message::endpoint::Endpoint;
-use message::{BlockReply, BlockRequest, Incoming};
+use message::{BlockReply, BlockRequest, Incoming, Kind};
 use modeldisk::ScriptedDriver;
 use reissue::link::{Link, LinkRefusal};
 use std::sync::{Arc, Wait};
@@ -80,6 +80,9 @@ impl<L: Link + Drop, R: Wait + Copy> Link for Watched<L, R> {
     ghost goes_on = { λ l m. L.goes_on l.link m.link };
 
     fn post(&mut self, to: Endpoint, request: &BlockRequest) -> Result<(), LinkRefusal> {
+        if request.kind == Kind::Write {
+            self.gate.tell(Note::Writes);
+        }
         let posted = self.link.post(to, request);
         self.gate
             .tell(Note::Posted(to.generation, request.id, posted.is_ok()));

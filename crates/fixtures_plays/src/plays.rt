@@ -198,7 +198,7 @@ fn play_into<
         status: came.status.number(),
         out,
         err,
-        image: came.image,
+        image: came.image.map(|left| left.bytes),
     };
     Ok((played, came.status))
 }

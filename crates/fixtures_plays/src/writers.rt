@@ -11,8 +11,8 @@ use std::sync::Wait;
 use std::test::Fail;
 use std::thread::Threads;
 use std::time::Clock;
-use tools::handing::hand_left;
-use tools::play::{Ended, PlayStatus};
+use tools::handing::{hand_left, let_go};
+use tools::play::{Ended, ImageLeft, LastSync, PlayStatus};
 
 /// Whether there is an image, a script, how many bytes are taken at a call, on standard output and on standard error, how the play ends,
 /// what is written, and what bytes the image has then, if it is there.
@@ -99,8 +99,13 @@ fn has_taken(shelf: &Shelf, image: &[u8], taken: bool) -> Result<(), Fail> {
     Err(Fail::from("another image"))
 }
 
-/// A row ends as it says.
-fn is_handed_on(alloc: Global, name: &str, row: &HandedOn) -> Result<(), Fail> {
+/// A row ends as it says, whose last sync went so.
+fn is_handed_on(
+    alloc: Global,
+    name: &str,
+    last_sync: LastSync,
+    row: &HandedOn,
+) -> Result<(), Fail> {
     let (played, (change, minor, (place, beside)), ended, line, (there, aside)) = *row;
     let image = match change {
         Some((at, byte)) => changed(alloc, at, byte)?,
@@ -108,7 +113,10 @@ fn is_handed_on(alloc: Global, name: &str, row: &HandedOn) -> Result<(), Fail> {
     };
     let left = Ended {
         status: played,
-        image: Some(Vec::from_slice(alloc, &image)?),
+        image: Some(ImageLeft {
+            last_sync,
+            bytes: Vec::from_slice(alloc, &image)?,
+        }),
     };
     let (mut place, mut beside) = (Shelf::new(alloc, place), Shelf::new(alloc, beside));
     let mut err = Vec::new(alloc);
@@ -118,10 +126,35 @@ fn is_handed_on(alloc: Global, name: &str, row: &HandedOn) -> Result<(), Fail> {
     has_taken(&beside, &image, aside)
 }
 
-/// Each row ends as it says, whose image's place is the file of this name.
-pub fn are_handed_on(alloc: Global, name: &str, rows: &[HandedOn]) -> Result<(), Fail> {
+/// Each row ends as it says, whose image's place is the file of this name, and whose last sync went so.
+pub fn are_handed_on(
+    alloc: Global,
+    name: &str,
+    last_sync: LastSync,
+    rows: &[HandedOn],
+) -> Result<(), Fail> {
     for row in rows {
-        is_handed_on(alloc, name, row)?;
+        is_handed_on(alloc, name, last_sync, row)?;
     }
     Ok(())
+}
+
+/// A play ended so, whose last sync went so; its image is handed on nowhere: it ends as it says, with this line.
+pub fn is_let_go(
+    alloc: Global,
+    played: PlayStatus,
+    last_sync: LastSync,
+    ended: PlayStatus,
+    line: &str,
+) -> Result<(), Fail> {
+    let left = Ended {
+        status: played,
+        image: Some(ImageLeft {
+            last_sync,
+            bytes: Vec::new(alloc),
+        }),
+    };
+    let mut err = Vec::new(alloc);
+    let status = let_go(alloc, left, &mut err);
+    has_ended(status, err.as_slice(), ended, line)
 }

@@ -99,11 +99,13 @@ fn still_open<S: Drop>(stopped: Result<Vec<u8>, StopRefusal<S>>) -> Option<S> {
     }
 }
 
-/// Whether the last sync of a service that was stopped was made, and the image.
+/// Whether the last sync of a service that was stopped was made, and its image is as it was read back; and the image.
 fn last_sync<S: Drop>(stopped: Result<Vec<u8>, StopRefusal<S>>) -> Option<(&'static str, Vec<u8>)> {
     match stopped {
         Ok(image) => Some(("synced", image)),
         Err(StopRefusal::GivenUp(image)) => Some(("given up", image)),
+        Err(StopRefusal::NotAsRead(image)) => Some(("not as read", image)),
+        Err(StopRefusal::NotRead(image)) => Some(("not read", image)),
         Err(_) => None,
     }
 }

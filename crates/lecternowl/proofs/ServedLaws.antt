@@ -39,7 +39,7 @@ all_opened link runs_on marks numbers policy supply g v uid gid (Err e) admitted
 module _ (E F : List Mark → Type 0) (over : (seen : List Mark) → E seen → F seen) where
   pub left_as : (g : Geometry) (v : Opening) (last : LastSync) (image : List ℕ) → IsLeft E g v last image → IsLeft F g v last image
   left_as g v last image h =
-      record { outside = h.outside; marks = h.marks; tells = h.tells; ended = λ is. over h.marks (h.ended is) }
+      record { outside = h.outside; marks = h.marks; tells = h.tells; range = h.range; ended = λ is. over h.marks (h.ended is) }
 
   pub done_as : {O T X : Type 0} (g : Geometry) (v : Opening) (tasks : List T) (result : Result (Result (Came O) ServeRefusal) X)
       → IfOk result (λ o. IfOk o (AreDone E g v tasks)) → IfOk result (λ o. IfOk o (AreDone F g v tasks))

@@ -18,7 +18,7 @@ use Rattle.shared_server.specs.declared.locked.LastSync.TheVariants as sync
 use Rattle.shared_server.specs.declared.refusal.SessionRefusal.{SessionRefusal}
 use Rattle.shared_server.specs.declared.refusal.SessionRefusal.TheVariants.{Stopped}
 use Rattle.shared_media.specs.Confined.{IsImageOutside}
-use Rattle.serve.specs.Stopping.{no_image_name}
+use Rattle.serve.specs.Stopping.{IsRange, no_image_name}
 use Rattle.service_start.specs.StartupRefusals.{start_refusal_text}
 use Rattle.service_start.specs.Servable.{IsNotServable}
 use Rattle.lecternowl.specs.declared.tasks.Came.{Came}
@@ -39,11 +39,13 @@ IsNotOpened link v Stopped = (seen : List Mark) × HasEnded link v seen
 IsNotOpened link v other = Unit {0}
 
 -- The image that a service left, whose media have as many sectors as were handed in, and outside of the volume each as it was handed in;
--- and a record that says how the last sync went, whichever tree the volume held. Where that was cut, the link had ended with this record.
+-- and a record that says how the last sync went, whichever tree the volume held, and what the volume's range of the image is beside what was
+-- read back. Where the sync was cut, the link had ended with this record.
 pub record IsLeft (Ended : List Mark → Type 0) (g : Geometry) (v : Opening) (last : LastSync) (image : List ℕ) : Type 0 where
   pub outside : IsImageOutside v image
   pub marks : List Mark
   pub tells : (tree : Tree) → IsAtFirst g (contents_at v) tree → SyncTells (sync_of last) g v tree marks
+  pub range : IsRange (sync_of last) v marks image
   pub ended : last ≡ sync.Cut → Ended marks
 
 -- Tasks were done, each of which gave one output, in their order; then the service was stopped.

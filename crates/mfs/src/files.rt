@@ -44,7 +44,7 @@ pub(crate) fn files<'n, 'b>(
 }
 
 /// Hands on the image that a play left: its place is that of the locked one, which has this name, and the one beside it that of an image
-/// whose volume isn't clean. How the play then ended.
+/// that isn't as it was read back, or whose volume isn't clean. How the play then ended.
 pub(crate) fn write_left(
     rt: HostRuntime,
     words: &MfsWords<'_>,

@@ -19,6 +19,7 @@ use std::io;
 use std::process::ExitCode;
 use std::sync::{Arc, Wait};
 use std::thread::Threads;
+use tools::handing::let_go;
 use tools::play::{Ended, ImageFile, PlayStatus, play};
 
 /// Plays the scripts that the words name on an image, whose bytes are none where it couldn't be read. The service has threads of its own,
@@ -65,7 +66,10 @@ fn play_only<W: Threads + Wait + Copy + Send + Sync + 'static>(
     words: &MfsWords<'_>,
 ) -> io::Result<PlayStatus> {
     match read_image(&rt, words.image) {
-        Ok(image) => Ok(play_files(rt, waits, words, image)?.status),
+        Ok(image) => {
+            let played = play_files(rt, waits, words, image)?;
+            Ok(let_go(rt.alloc(), played, &mut rt.stderr()))
+        }
         Err(refusal) => Ok(refused(rt, &refusal)),
     }
 }

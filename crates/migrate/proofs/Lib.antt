@@ -1,5 +1,3 @@
-pub mod Below
-pub mod Nodes
 pub mod Verdicts
 pub mod TreeSizes
 pub mod Names
@@ -14,6 +12,13 @@ pub mod WrittenZones
 pub mod Copies
 pub mod Framed
 pub mod Taking
+pub mod NodeZones
+pub mod NewInodes
+pub mod Marked
+pub mod Heads
+pub mod Put
+pub mod Zeros
+pub mod Assembled
 pub mod Listed
 pub mod WrittenFiles
 pub mod WrittenDirectories

@@ -6,10 +6,6 @@ use Rattle.tree.specs.Names.{with_name}
 use Rattle.volume.specs.Reading.{u32_in}
 use Rattle.volume.specs.Nodes as nodes_3
 use Rattle.volume.specs.Nodes.{text_in, file_byte}
-use Rattle.volume.specs.declared.Inode.{Inode}
-use Rattle.image.specs.declared.Image.{Image}
-use Rattle.image.specs.Contents.{contents}
-use Rattle.migrate.specs.Same.{SameNames, SameDirectory}
 use Rattle.image.proofs.Places.{four}
 use Rattle.fsck.specs.Form.{version_2}
 use Rattle.fsck.specs.Nodes as nodes_2
@@ -67,10 +63,3 @@ module _ (f h : ℕ → ℕ) (e d : ℕ) (bytes new : List ℕ) (wide : IsWidene
       ∙ ap (λ l. text_in (slice_index l) 60 4) same
       ∙ text_same (slice_index new) h 60 4 (64 * d + 4) (λ a l. let at : 64 * d + (4 + a) ≡ 64 * d + 4 + a = omega arith in
       read (4 + a) (omega arith) ∙ ap h at)
-
--- two directories with the same parent and the same names
-pub directory_from : (old new : Image) (x y : Inode)
-    → nodes_2.entry_inode version_2 (file_byte old.geometry (contents old) x) 1
-    ≡ nodes_3.entry_inode (file_byte new.geometry (contents new) y) 1
-    → SameNames old new x y → SameDirectory old new x y
-directory_from old new x y parent names = λ i. record { parent = parent i; names = names i }

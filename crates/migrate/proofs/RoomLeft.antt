@@ -1,5 +1,5 @@
 -- The sizes of a new volume, and whether it has room.
-use Rattle.std.proofs.Common.{◌≡◌, ◌<◌, ◌≤◌, ◌+◌, ◌-◌, ◌*◌, ◌/◌, ℕ, Bool, true, false, refl, sym, ap, subst, ◌∙◌, arith}
+use Rattle.std.proofs.Common.{◌≡◌, ◌<◌, ◌≤◌, ◌+◌, ◌-◌, ◌*◌, ◌/◌, ℕ, List, Bool, true, false, refl, sym, ap, subst, ◌∙◌, arith}
 use mathlib.Core.Logic.{inl, inr}
 use Rattle.std.specs.Prelude.{Option, None, Some, Result, Ok, Err, T, is_ok, ◌==◌, ◌||◌, nat_lt, nat_le, if◌then◌else◌}
 use Rattle.std.proofs.lemmas.Bool.{cases_Bool, cases_lt, cond-false, ne_eqb, and_left, and_right, and_from, le-ltb, lt-ltb, le-leb, lt-leb}
@@ -15,6 +15,13 @@ use Rattle.new_volume.specs.declared.MkfsRefusal.{MkfsRefusal}
 use Rattle.new_volume.specs.declared.MkfsRefusal.TheVariants.{BadInodes, TooManyBlocks, TooFewBlocks}
 use Rattle.fsck.specs.Form.{version_2}
 use Rattle.fsck.specs.Nodes.{nodes_of}
+use Rattle.layout.specs.declared.LayoutRefusal.{LayoutRefusal}
+use Rattle.volume.specs.Reading.{disk_of}
+use Rattle.volume.specs.Pieces.{pieces}
+use Rattle.new_volume.specs.Made.{IsOwnedVolume}
+use Rattle.new_volume.specs.Owned.{owned_pieces, user_0}
+use Rattle.new_volume.specs.Image.{filled_image}
+use Rattle.migrate.specs.Tables.{IsBegun}
 use Rattle.migrate.specs.Used.{zones_of_all, has_room}
 
 -- a refusal of a test
@@ -24,6 +31,10 @@ the_err refusal = Err refusal
 -- the sizes of a new volume
 abbrev the_new : Geometry → Result Geometry MkfsRefusal
 the_new g = Ok g
+
+-- the sizes of an image
+abbrev the_read : Geometry → Result Geometry LayoutRefusal
+the_read g = Ok g
 
 -- sizes are no refusal
 no_err : (g : Geometry) (refusal : MkfsRefusal) → the_new g ≡ the_err refusal → ⊥
@@ -59,6 +70,19 @@ pub sizes_known : (blocks inodes : ℕ) (g : Geometry) → sizes_of blocks 1024 
 sizes_known blocks inodes g h =
     let is = (sizes_are_new blocks inodes g h).0 in
     (ap (λ g. g.inodes) (sym is), ap (λ g. g.block_size) (sym is))
+
+-- the front of a new volume begins one of these sizes
+pub begun_so : (blocks inodes : ℕ) (h : Geometry) (front : List ℕ) → sizes_of blocks 1024 inodes ≡ Ok h
+    → IsOwnedVolume blocks 1024 inodes 0 user_0 (filled_image h front) → IsBegun h front
+begun_so blocks inodes h front sizes new =
+    let same : new.volume ≡ h = new_is new.volume h (sym new.sizes ∙ sizes) in
+    let zones : h.zones ≡ blocks = ap (λ g. g.zones) (sym (sizes_are_new blocks inodes h sizes).0) in
+    let block = (sizes_known blocks inodes h sizes).1 in
+    record {
+      whole = new.whole ∙ ap (λ b. blocks * b) (sym block) ∙ ap (λ z. z * h.block_size) (sym zones);
+      parsed = new.parsed ∙ ap the_read same;
+      pieces = subst (λ g. pieces g (disk_of g (filled_image h front)) ≡ owned_pieces g 0 user_0) same new.pieces;
+    }
 
 -- where no sizes are wrong by themselves, they are refused where no data zone is left
 sizes_by_room : (blocks inodes : ℕ) → blocks ≤ 65536 → 1 ≤ inodes → inodes ≤ 65535

@@ -38,28 +38,6 @@ next_fits f j n all b l m xs ys s h most room e =
     let same = s.limit in
     omega arith
 
--- what node 0 takes behind the tables, where there is none
-pub none_behind : (f : ℕ → ℕ) (first size : ℕ) → size ≡ 1024 * first → f 0 ≡ 0 → size ≡ 1024 * first + 1024 * sum_below f 1
-none_behind f first size e none =
-    let one = sum_next f 0 in
-    let before = no_sum f in
-    omega arith
-
--- and what one node more takes
-pub next_behind : (f : ℕ → ℕ) (n b first size size' : ℕ) → size ≡ 1024 * first + 1024 * sum_below f n → size' ≡ size + 1024 * b
-    → b ≡ f n → size' ≡ 1024 * first + 1024 * sum_below f (n + 1)
-next_behind f n b first size size' e more is =
-    let next = sum_next f n in
-    omega arith
-
--- where all nodes have room, the next has
-pub next_there : (f : ℕ → ℕ) (n most first zones size limit : ℕ) → size ≡ 1024 * first + 1024 * sum_below f n → limit ≡ 1024 * zones
-    → n < most → first + sum_below f most ≤ zones → size + 1024 * f n ≤ limit
-next_there f n most first zones size limit e l h room =
-    let next = sum_next f n in
-    let part = sum_front f (n + 1) most (omega arith) in
-    omega arith
-
 -- what holds of an answer holds of it in other words
 pub on_ok : {X E : Type 0} (r : Result X E) (P Q : Type 0) → (P → Q) → OnOk r P → OnOk r Q
 on_ok (Ok x) P Q f p = f p

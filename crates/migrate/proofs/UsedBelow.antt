@@ -1,11 +1,13 @@
 -- The zones at a number and below it.
 use Rattle.std.proofs.Common.{◌≡◌, ◌≢◌, ◌<◌, ◌≤◌, ◌+◌, ◌-◌, ◌*◌, ℕ, zero, suc, refl, sym, ap, ◌∙◌, arith}
-use Rattle.std.specs.Prelude.{not, ◌==◌}
-use Rattle.std.proofs.lemmas.Bool.{cond-true, eq-eqb, ne_eqb}
+use mathlib.Core.Logic.{inl, inr}
+use Rattle.std.specs.Prelude.{not, ◌==◌, nat_lt}
+use Rattle.std.proofs.lemmas.Bool.{cases_lt, cond-true, cond-false, eq-eqb, ne_eqb, lt-ltb, le-ltb}
 use Rattle.lemmas.specs.Sums.{sum_below, one_if}
 use Rattle.volume.specs.Pieces.{Pieces}
 use Rattle.volume.specs.Nodes.{number}
 use Rattle.volume.proofs.Swapped.{sum_none}
+use Rattle.image.specs.Entered.{level_of}
 use Rattle.migrate.specs.Used.{zones_below, most_below}
 
 -- at 0 and below it stand none
@@ -58,3 +60,10 @@ fits_below j most h few =
     let all : j + d ≡ 256 = omega arith in
     let whole : (j + d) * most ≡ 256 * most = ap (λ k. k * most) all in
     omega arith
+
+-- there are four levels
+pub level_low : (s : ℕ) → s < 10 → level_of s < 4
+level_low s h = elim (cases_lt s 7) [
+  | inl low ↦ let e : level_of s ≡ 0 = cond-true (nat_lt s 7) 0 (s - 6) (lt-ltb s 7 low) in omega arith
+  | inr far ↦ let e : level_of s ≡ s - 6 = cond-false (nat_lt s 7) 0 (s - 6) (le-ltb s 7 far) in omega arith
+]

@@ -1,17 +1,16 @@
--- What the check of a stamped volume says of the old image, and what a confirmed new image holds.
+-- What the check of a stamped volume says of the old image, and what a migrated one holds.
 use Rattle.std.proofs.Common.{◌≡◌, ◌<◌, ◌≤◌, ℕ, ◌*◌, List, length, true, false, sym, ap, subst, ◌∙◌, arith}
 use mathlib.Core.Logic.{inl, inr}
-use Rattle.std.specs.Prelude.{Option, None, Some, Result, Ok, Err, IsErr, IsErrAnd, IfErr, not, ◌&&◌, ◌==◌, nat_lt, if◌then◌else◌}
-use Rattle.std.proofs.lemmas.Bool.{cases_lt, and_left, and_parts, eqb-true, cond-true, cond-false, lt-ltb, le-ltb}
+use Rattle.std.specs.Prelude.{Option, None, Some, Result, Ok, Err, IsErr, IsErrAnd, IfErr, not, nat_lt, if◌then◌else◌}
+use Rattle.std.proofs.lemmas.Bool.{cases_lt, and_left, cond-true, cond-false, lt-ltb, le-ltb}
 use Rattle.layout.specs.declared.Geometry.{Geometry}
 use Rattle.layout.specs.declared.LayoutRefusal.{LayoutRefusal}
-use Rattle.layout.specs.Places.{geometry_of}
+use Rattle.layout.specs.Places.{IsGeometry, geometry_of}
 use Rattle.volume.specs.declared.Finding.{Finding}
 use Rattle.volume.specs.Reading.{disk_of}
 use Rattle.volume.specs.Pieces.{pieces}
-use Rattle.volume.specs.Nodes as nodes_3
 use Rattle.volume.specs.Nodes.{is_marked}
-use Rattle.volume.specs.Verdict.{Clean, place_limit, verdict_of, HoldsClosed}
+use Rattle.volume.specs.Verdict.{Clean, place_limit}
 use Rattle.volume.specs.Findings.{lacks_inode_bit, lacks_zone_bit, lacks_root, has_bad_mode}
 use Rattle.volume.proofs.Sums.{none_below}
 use Rattle.image.specs.declared.Image.{Image}
@@ -19,24 +18,25 @@ use Rattle.image.specs.Contents.{contents}
 use Rattle.image.proofs.Contents.{out_of_range, is_geometry}
 use Rattle.fsck.specs.Parts.{first_of}
 use Rattle.fsck.proofs.Firsts.{verdict_from, first_verdict, none_first}
-use Rattle.tree.specs.Tree.{Tree}
 use Rattle.fsck.specs.Form.{version_2}
 use Rattle.fsck.specs.Nodes as nodes_2
 use Rattle.fsck.specs.Findings.{has_bad_size}
+use Rattle.lemmas.proofs.Bools.{not_false}
 use Rattle.migrate.specs.Holds.{IsSound}
 use Rattle.fsck.specs.Verdict.{tests, verdict_of_pieces}
 use Rattle.migrate.specs.Verdict.{old_verdict_of}
 use Rattle.migrate.specs.Stamped.{IsStamped}
-use Rattle.migrate.specs.Same.{SameNodes}
+use Rattle.migrate.specs.Laws.{HasPlace}
 use Rattle.migrate.specs.Superblock.{old_geometry_of}
 use Rattle.migrate.proofs.SuperblockPut.{old_fits}
 use Rattle.migrate.proofs.SoundDirectories.{clean_is_sound as clean_sound}
 use Rattle.new_volume.specs.Sizes.{sizes_of}
-use Rattle.migrate.specs.Used.{has_room}
+use Rattle.migrate.specs.Used.{has_room, zones_of_all}
+use Rattle.tree.specs.Space.{data_zones}
+use Rattle.volume.specs.Entries.{is_directory_inode}
 use Rattle.migrate.specs.declared.refusal.MigrateRefusal.{MigrateRefusal}
 use Rattle.migrate.specs.declared.refusal.MigrateRefusal.TheVariants.{OldLayout, Found as FoundOld, TooManyBlocks, DoesNotFit, OutOfMemory}
-use Rattle.migrate.specs.declared.refusal.MigrateRefusal.TheVariants.{Mismatch}
-use Rattle.migrate.specs.Migrated.{IsConfirmed, IsCramped, IsLate, IsMigrated, IsRefused, refusal_from, refusal_of, refusal_past}
+use Rattle.migrate.specs.Migrated.{IsConfirmed, IsCramped, IsMigrated, IsRefused, refusal_from, refusal_of, refusal_past}
 use Rattle.migrate.proofs.RoomLeft.{sizes_known, sizes_are_new}
 use Rattle.migrate.proofs.TreeSizes.{tree_over}
 
@@ -75,7 +75,7 @@ module _ (i : Image) (g : Geometry) (old bytes : List ℕ) (same : i.bytes.now �
       ∙ ap (λ h. nodes_2.nodes_of version_2 h (pieces h (disk_of h old))) (sizes_are i g bytes same stamped.parsed)
 
 -- where nothing is found, the verdict is clean
-quiet : (i : Image) → None ≡ first_of (place_limit i.geometry) 2 (tests version_2 i.geometry (contents i))
+pub quiet : (i : Image) → None ≡ first_of (place_limit i.geometry) 2 (tests version_2 i.geometry (contents i))
     → verdict_of_pieces version_2 i.geometry (contents i) ≡ Clean
 quiet i none = sym (ap verdict_from none ∙ first_verdict (place_limit i.geometry) 2 (tests version_2 i.geometry (contents i)))
 
@@ -102,47 +102,34 @@ sizes_good i e n =
       | inr far ↦ and_left (is_marked g v n) _ (out_of_range i n (omega arith))
     ]
 
--- sizes that were found to be equal are
-pub same_sizes : (g h : Geometry)
-    → ((g.block_size == h.block_size) && ((g.inodes == h.inodes) && ((g.zones == h.zones) && ((g.inode_map_blocks == h.inode_map_blocks)
-    && ((g.zone_map_blocks == h.zone_map_blocks) && (g.first_zone == h.first_zone)))))) ≡ true → g ≡ h
-same_sizes g h is =
-    let a = and_parts (g.block_size == h.block_size) _ is in
-    let b = and_parts (g.inodes == h.inodes) _ a.1 in
-    let c = and_parts (g.zones == h.zones) _ b.1 in
-    let d = and_parts (g.inode_map_blocks == h.inode_map_blocks) _ c.1 in
-    let e = and_parts (g.zone_map_blocks == h.zone_map_blocks) _ d.1 in
-    let block_size = eqb-true _ _ a.0 in
-    let inodes = eqb-true _ _ b.0 in
-    let zones = eqb-true _ _ c.0 in
-    let inode_map = eqb-true _ _ d.0 in
-    let zone_map = eqb-true _ _ e.0 in
-    let first = eqb-true _ _ e.1 in
-    λ i. record {
-      block_size = block_size i;
-      inodes = inodes i;
-      zones = zones i;
-      inode_map_blocks = inode_map i;
-      zone_map_blocks = zone_map i;
-      first_zone = first i;
-    }
+-- and the root is there
+pub root_there : (i : Image) → None ≡ first_of (place_limit i.geometry) 2 (tests version_2 i.geometry (contents i))
+    → is_directory_inode i.geometry (contents i) 1 ≡ true
+root_there i e =
+    let g = i.geometry in
+    let v = contents i in
+    let l = place_limit g in
+    let a = none_first l 2 (lacks_inode_bit g v) _ e in
+    let b = none_first l 3 (lacks_zone_bit g v) _ a.1 in
+    let c = none_first l 4 (lacks_root g v) _ b.1 in
+    let some = (is_geometry i).some_inode in
+    not_false (is_directory_inode g v 1) (none_below (lacks_root g v) l c.0 1 (omega arith))
 
--- what a clean new image holds that says the old one's nodes
-pub confirmed : (old new : Image) (g : Geometry) (image : List ℕ) → new.bytes.now ≡ image → new.geometry ≡ g → verdict_of image ≡ Clean
-    → (t : Tree) × HoldsClosed image t → SameNodes old new → IsConfirmed old g image
-unfolding contents
-confirmed old new g image same sizes clean held nodes =
-    let h = held.1 in
-    let e : new.geometry ≡ h.geometry = sizes_are new h.geometry image same h.parsed in
-    let read : nodes_3.nodes_of h.geometry (pieces h.geometry (disk_of h.geometry image)) ≡ nodes_3.nodes_of new.geometry (contents new)
-    = ap (λ g. nodes_3.nodes_of g (pieces g (disk_of g image))) (sym e)
-    ∙ ap (λ b. nodes_3.nodes_of new.geometry (pieces new.geometry (disk_of new.geometry b))) (sym same) in
+-- all this is what the new volume is written from
+pub has_place : (i : Image) (blocks : ℕ) (h : Geometry)
+    → None ≡ first_of (place_limit i.geometry) 2 (tests version_2 i.geometry (contents i))
+    → i.geometry.block_size ≡ 1024 → sizes_of blocks 1024 i.geometry.inodes ≡ Ok h → IsGeometry h
+    → zones_of_all i.geometry (nodes_2.nodes_of version_2 i.geometry (contents i)) ≤ data_zones h → HasPlace i h
+has_place i blocks h none block sizes geometry fits =
+    let known = sizes_known blocks i.geometry.inodes h sizes in
     record {
-      read = h.parsed ∙ ap the_ok (sym e ∙ sizes);
-      tree = held.0;
-      held = h;
-      nodes = h.holds.nodes ∙ read ∙ sym nodes.nodes;
-      clean = clean;
+      sound = sound_from i none;
+      sizes = sizes_good i none;
+      old_block = block;
+      geometry = geometry;
+      block = known.1;
+      inodes = known.0;
+      room = fits;
     }
 
 -- what is said of an error is said of a result that has it
@@ -196,16 +183,6 @@ module _ (i : Image) (old bytes : List ℕ) (blocks : ℕ) (g : Geometry) (same 
       cramped_refused TooManyBlocks h = absurd h
       cramped_refused DoesNotFit h = room_refused h
       cramped_refused OutOfMemory h = (g, parsed)
-      cramped_refused Mismatch h = absurd h
-
-      -- what comes later is no refusal of these four
-      pub late_refused : has_room i.geometry (contents i) blocks ≡ true → (e : MigrateRefusal) → IsLate e → IsRefused old blocks e
-      late_refused is (OldLayout refusal) h = absurd h
-      late_refused is (FoundOld finding) h = absurd h
-      late_refused is TooManyBlocks h = absurd h
-      late_refused is DoesNotFit h = absurd h
-      late_refused is OutOfMemory h = (g, parsed)
-      late_refused is Mismatch h = none_refused is
 
 -- the migration of a clean old image whose new one is confirmed
 pub migrated : (i : Image) (old bytes image : List ℕ) (blocks : ℕ) (g h : Geometry) → i.bytes.now ≡ bytes → old_geometry_of old ≡ Ok g

@@ -37,7 +37,7 @@ use Rattle.fsck.specs.Entries as entries_2
 use Rattle.fsck.specs.Findings as findings_2
 use Rattle.migrate.specs.Holds.{IsSound}
 use Rattle.migrate.specs.Used.{SizesAreGood}
-use Rattle.migrate.specs.Same.{SameAttributes}
+use Rattle.migrate.specs.Written.{SameAttributes}
 use Rattle.migrate.specs.Written.{IsWritten, IsMovedDirectory, kept_of}
 use Rattle.migrate.proofs.Quiet.{Quiet}
 use Rattle.migrate.proofs.WrittenZones.{marked_is, mode_same, short}
@@ -84,17 +84,17 @@ module _ (i : Image) (h : Geometry) (w : Pieces) (sound : IsSound version_2 i.ge
     -- and the other attributes
     attributes : SameAttributes x y
     attributes = elim (cases_Bool (is_directory_mode x.mode)) [
-      | inl dir ↦ (written.directories n is dir).moved.attributes
-      | inr out ↦ (written.others n is out).attributes
+      | inl dir ↦ ((written.nodes n is).directory dir).moved.attributes
+      | inr out ↦ ((written.nodes n is).other out).attributes
     ]
 
     -- a file is the same
     file : is_directory_mode x.mode ≡ false → file_of g v x ≡ file_of h w y
-    file out = file_moved g h v w block new n (h.first_zone + sum_below takes n) (omega arith) (written.others n is out)
+    file out = file_moved g h v w block new n (h.first_zone + sum_below takes n) (omega arith) ((written.nodes n is).other out)
 
     module _ (dir : is_directory_mode x.mode ≡ true) where
       abbrev d : IsMovedDirectory g v w.zones (h.first_zone + sum_below takes n) x y
-      d = written.directories n is dir
+      d = (written.nodes n is).directory dir
 
       -- its bytes
       reading : (q : ℕ) → q < length d.bytes → file_byte h w y q ≡ slice_index d.bytes q

@@ -50,12 +50,12 @@ module _ (i : Image) (h : Geometry) (w : Pieces) (p : HasPlace i h) (written : I
       let there : is_marked g v n ≡ true = sym (marked_is i h w p.sound p.sizes p.old_block p.inodes front written n) ∙ is in
       elim (cases_Bool (is_directory_mode (v.inodes n).mode)) [
         | inl dir ↦
-            let d = written.directories n there dir in
+            let d = (written.nodes n there).directory dir in
             let size = d.moved.size in
             let few = directory_fits i h w p.sound p.sizes p.old_block p.inodes front written n there dir d p.room p.geometry.zones in
             omega arith
         | inr out ↦
-            let size = (written.others n there out).size in
+            let size = ((written.nodes n there).other out).size in
             let none = at_inode g v (λ n. nat_lt most_size (v.inodes n).size
             || (is_directory_inode g v n && is_bad_directory_size version_2 g v (v.inodes n).size)) n q.sizes there in
             let low = ltb-false most_size (v.inodes n).size (or_parts (nat_lt most_size (v.inodes n).size) _ none).0 in

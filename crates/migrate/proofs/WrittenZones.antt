@@ -1,7 +1,7 @@
 -- The zones of a written volume agree.
-use Rattle.std.proofs.Common.{◌≡◌, ◌≢◌, ◌<◌, ◌≤◌, ◌+◌, ◌-◌, ◌*◌, ℕ, length, true, false, refl, sym, ap, ◌∙◌, arith}
+use Rattle.std.proofs.Common.{◌≡◌, ◌≢◌, ◌<◌, ◌≤◌, ◌+◌, ℕ, length, true, false, refl, sym, ap, ◌∙◌, arith}
 use mathlib.Core.Logic.{inl, inr}
-use Rattle.std.specs.Prelude.{not, ◌||◌, ◌&&◌, nat_le, IsTrue}
+use Rattle.std.specs.Prelude.{◌||◌, ◌&&◌, nat_le, IsTrue}
 use Rattle.std.proofs.lemmas.Bool.{cases_Bool, and_from, and_parts, leb-true, ne_eqb}
 use Rattle.layout.specs.declared.Geometry.{Geometry}
 use Rattle.lemmas.specs.Sums.{sum_below, one_if}
@@ -9,25 +9,26 @@ use Rattle.tree.specs.Tree.{most_size}
 use Rattle.tree.specs.Space.{zones_of, data_zones}
 use Rattle.volume.specs.Pieces.{Pieces}
 use Rattle.volume.specs.Reading.{is_inode}
-use Rattle.volume.specs.Nodes.{slot, file_byte, is_marked, is_directory_mode}
+use Rattle.volume.specs.Nodes.{slot, is_marked, is_directory_mode}
 use Rattle.volume.specs.Entries.{is_directory_inode}
 use Rattle.volume.specs.Holds.{ZonesAgree, IsSoundInode, IsSoundDirectory}
-use Rattle.volume.proofs.Sums.{count_most, sum_at}
+use Rattle.volume.proofs.Sums.{sum_at}
 use Rattle.volume.proofs.Ranges.{marked_low}
 use Rattle.image.specs.declared.Image.{Image}
 use Rattle.image.specs.Contents.{contents}
 use Rattle.image.specs.Entered.{level_of}
 use Rattle.fsck.specs.declared.version.Version.TheVariants.{V2}
-use Rattle.fsck.proofs.EntryBytes.{small, two_entries}
+use Rattle.fsck.proofs.EntryBytes.{two_entries}
 use Rattle.fsck.specs.Form.{version_2}
-use Rattle.fsck.specs.Nodes.{nodes_of, entry_count_of, is_dropped}
+use Rattle.fsck.specs.Nodes.{nodes_of}
 use Rattle.migrate.specs.Holds.{IsSound}
 use Rattle.migrate.specs.Pages.{pages_in, pages_for, pages_from, first_page, zones_under}
-use Rattle.migrate.specs.Used.{SizesAreGood, name_count, zones_for, zones_of_all}
-use Rattle.migrate.specs.Written.{IsWritten, IsMovedDirectory, kept_of}
-use Rattle.migrate.proofs.Laid.{all_laid, two_first}
+use Rattle.migrate.specs.Used.{SizesAreGood, zones_of_all}
+use Rattle.migrate.specs.Written.{IsWritten, IsMovedDirectory}
+use Rattle.migrate.proofs.Laid.{all_laid}
 use Rattle.migrate.proofs.Under.{holes_in, holes_from}
-use Rattle.migrate.proofs.UsedNodes.{none_used, directory_used, file_used}
+use Rattle.migrate.proofs.UsedNodes.{none_used, file_used}
+use Rattle.migrate.proofs.NodeZones.{entries_short, entries_zones}
 use Rattle.migrate.proofs.Times.{within, moved_times, times_below}
 use Rattle.migrate.proofs.Agreed.{agreed}
 use Rattle.migrate.proofs.WrittenFiles.{file_sound}
@@ -66,31 +67,13 @@ module _ (i : Image) (h : Geometry) (w : Pieces) (sound : IsSound version_2 i.ge
   module _ (n : ℕ) (marked : is_marked g v n ≡ true) where
     module _ (mode : is_directory_mode (v.inodes n).mode ≡ true)
         (d : IsMovedDirectory g v w.zones (h.first_zone + sum_below takes n) (v.inodes n) (w.inodes n)) where
-      -- a directory isn't long
-      low : (v.inodes n).size ≤ most_size
-      low = small V2 i n (v.inodes n) refl (and_from (is_marked g v n) _ marked mode) (good n)
-
-      -- nor are its bytes
+      -- its bytes aren't long
       pub short : pages_for (length d.bytes) ≤ 16777216
-      short =
-          let most = low in
-          let size = d.entries.size in
-          let few : kept_of (file_byte g v (v.inodes n)) (entry_count_of version_2 (v.inodes n)) ≤ entry_count_of version_2 (v.inodes n)
-          = count_most (λ e. not (is_dropped version_2 (file_byte g v (v.inodes n)) e)) (entry_count_of version_2 (v.inodes n)) in
-          omega arith
+      short = entries_short i sound good block n marked mode d.bytes d.entries
 
       -- its zones are those of its bytes
       directory_zones : sum_below (λ q. zones_under (pages_from d.bytes) (level_of q) (first_page q)) 10 ≡ takes n
-      directory_zones =
-          let x = v.inodes n in
-          let is = and_from (is_marked g v n) _ marked mode in
-          let two = two_entries V2 i n x refl is (good n) 1 (omega arith) in
-          let bytes : ℕ → ℕ = file_byte g v x in
-          let all : entry_count_of version_2 x ≡ (entry_count_of version_2 x - 2) + 2 = omega arith in
-          let many : kept_of bytes (entry_count_of version_2 x) ≡ name_count g v x + 2
-          = ap (kept_of bytes) all ∙ two_first (λ e. not (is_dropped version_2 bytes e)) (entry_count_of version_2 x - 2) refl refl in
-          let size : length d.bytes ≡ 64 * (name_count g v x + 2) = d.entries.size ∙ ap (λ k. 64 * k) many in
-          all_laid d.bytes short ∙ ap (λ k. zones_for (pages_for k)) size ∙ sym (directory_used g v block n sound marked mode low)
+      directory_zones = entries_zones i sound good block n marked mode d.bytes d.entries
 
       -- they fit
       pub directory_fits : zones_of_all g (nodes_of version_2 g v) ≤ data_zones h → h.zones ≤ 65536 → length d.bytes ≤ most_size
@@ -110,11 +93,11 @@ module _ (i : Image) (h : Geometry) (w : Pieces) (sound : IsSound version_2 i.ge
           let e = h.first_zone + sum_below takes n in
           elim (cases_Bool (is_directory_mode (v.inodes n).mode)) [
             | inl mode ↦
-                let d = written.directories n marked mode in
+                let d = (written.nodes n marked).directory mode in
                 moved_times w t some (pages_from d.bytes) (holes_from d.bytes) first_page (length d.bytes) e (v.inodes n) (w.inodes n)
                 (omega arith) d.moved ∙ ap (λ c. one_if (within e c t)) (directory_zones mode d)
             | inr mode ↦
-                let m = written.others n marked mode in
+                let m = (written.nodes n marked).other mode in
                 moved_times w t some (pages_in v) (holes_in v) (slot (v.inodes n)) (v.inodes n).size e (v.inodes n) (w.inodes n)
                 (omega arith) m ∙ ap (λ c. one_if (within e c t)) (sym (file_used g v block n sound marked mode))
           ]
@@ -122,8 +105,8 @@ module _ (i : Image) (h : Geometry) (w : Pieces) (sound : IsSound version_2 i.ge
     -- the mode is the old one
     pub mode_same : (v.inodes n).mode ≡ (w.inodes n).mode
     mode_same = elim (cases_Bool (is_directory_mode (v.inodes n).mode)) [
-      | inl mode ↦ (written.directories n marked mode).moved.attributes.mode
-      | inr mode ↦ (written.others n marked mode).attributes.mode
+      | inl mode ↦ ((written.nodes n marked).directory mode).moved.attributes.mode
+      | inr mode ↦ ((written.nodes n marked).other mode).attributes.mode
     ]
 
     mode_is : is_directory_mode (w.inodes n).mode ≡ true → is_directory_mode (v.inodes n).mode ≡ true
@@ -133,11 +116,11 @@ module _ (i : Image) (h : Geometry) (w : Pieces) (sound : IsSound version_2 i.ge
     node_sound : h.block_size ≡ 1024 → IsSoundInode h w (w.inodes n)
     node_sound new = elim (cases_Bool (is_directory_mode (v.inodes n).mode)) [
       | inl mode ↦
-          let d = written.directories n marked mode in
+          let d = (written.nodes n marked).directory mode in
           directory_sound h w new n (h.first_zone + sum_below takes n) (omega arith) d.bytes (short mode d) (v.inodes n) d.moved
           (sound.inodes n marked).mode
       | inr mode ↦
-          file_sound g h v w block new n (h.first_zone + sum_below takes n) (omega arith) (written.others n marked mode)
+          file_sound g h v w block new n (h.first_zone + sum_below takes n) (omega arith) ((written.nodes n marked).other mode)
           (sound.inodes n marked)
     ]
 
@@ -145,7 +128,7 @@ module _ (i : Image) (h : Geometry) (w : Pieces) (sound : IsSound version_2 i.ge
     directory_keeps : h.block_size ≡ 1024 → is_directory_mode (w.inodes n).mode ≡ true → IsSoundDirectory h w n
     directory_keeps new dir =
         let mode = mode_is dir in
-        let d = written.directories n marked mode in
+        let d = (written.nodes n marked).directory mode in
         let is = and_from (is_marked g v n) _ marked mode in
         let e = h.first_zone + sum_below takes n in
         let two = two_entries V2 i n (v.inodes n) refl is (good n) 1 (omega arith) in

@@ -20,7 +20,6 @@ use Rattle.migrate.specs.Verdict.{old_verdict_of}
 use Rattle.migrate.specs.Used.{has_room}
 use Rattle.migrate.specs.declared.refusal.MigrateRefusal.{MigrateRefusal}
 use Rattle.migrate.specs.declared.refusal.MigrateRefusal.TheVariants.{OldLayout, Found as FoundOld, TooManyBlocks, DoesNotFit, OutOfMemory}
-use Rattle.migrate.specs.declared.refusal.MigrateRefusal.TheVariants.{Mismatch}
 
 -- why an old image with these sizes and this verdict isn't migrated
 abbrev pub refusal_past : Geometry → List ℕ → ℕ → Verdict → Option MigrateRefusal
@@ -63,11 +62,9 @@ pub record IsConfirmed (old : Image) (sizes : Geometry) (image : List ℕ) : Typ
   pub nodes : tree.nodes ≡ nodes_of version_2 old.geometry (contents old)
   pub clean : verdict_of image ≡ Clean
 
--- Why there is no new image: the first refusal that holds; or, with this superblock, no memory; or, though none holds, a fault of what was
--- written.
+-- why there is no new image: the first refusal that holds; or, with this superblock, no memory
 abbrev pub IsRefused : List ℕ → ℕ → MigrateRefusal → Type 0
 IsRefused old blocks OutOfMemory = (g : Geometry) × (old_geometry_of old ≡ Ok g)
-IsRefused old blocks Mismatch = refusal_of old blocks ≡ None
 IsRefused old blocks refusal = refusal_of old blocks ≡ Some refusal
 
 -- why a new volume isn't begun: it has no room for the old one's tree, or there is no memory
@@ -76,12 +73,6 @@ IsCramped g v blocks DoesNotFit = has_room g v blocks ≡ false
 IsCramped g v blocks OutOfMemory = Unit {0}
 IsCramped g v blocks _ = ⊥
 
--- a refusal that comes once the new volume was begun
-abbrev pub IsLate : MigrateRefusal → Type 0
-IsLate OutOfMemory = Unit {0}
-IsLate Mismatch = Unit {0}
-IsLate _ = ⊥
-
 -- the text of a refusal
 abbrev pub refusal_text : MigrateRefusal → List ℕ
 refusal_text (OldLayout refusal) = codes "migrate refusal 1 at " ++ decimal (old_refusal_number refusal)
@@ -89,4 +80,3 @@ refusal_text (FoundOld finding) = codes "migrate refusal 2 " ++ finding_text fin
 refusal_text TooManyBlocks = codes "migrate refusal 3"
 refusal_text DoesNotFit = codes "migrate refusal 4"
 refusal_text OutOfMemory = codes "migrate refusal 5"
-refusal_text Mismatch = codes "migrate refusal 6"

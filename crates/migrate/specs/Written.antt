@@ -14,7 +14,6 @@ use Rattle.fsck.specs.Nodes.{nodes_of, entry_count_of, is_dropped}
 use Rattle.fsck.specs.Widened.{IsWidened}
 use Rattle.migrate.specs.Pages.{Pages, pages_in, pages_from, first_page, zones_under}
 use Rattle.migrate.specs.Used.{zones_of_all}
-use Rattle.migrate.specs.Same.{SameAttributes}
 
 -- Number z is a copy of the number of a key, in the zones from e on, whose bytes are d's. A hole stays one. A page lies at e. A block lies
 -- behind all that it leads to; each of its numbers is a copy, in the zones behind those of the numbers before.
@@ -23,6 +22,16 @@ IsCopy s d zero e k z = (s.some k ≡ false → z ≡ 0) × (s.some k ≡ true �
 IsCopy s d (suc l) e k z = (s.some k ≡ false → z ≡ 0)
     × (s.some k ≡ true → (z ≡ e + sum_below (λ j. zones_under s l (s.below l k j)) 256)
     × ((j : ℕ) → j < 256 → IsCopy s d l (e + sum_below (λ i. zones_under s l (s.below l k i)) j) (s.below l k j) (u32_in (d z) (4 * j))))
+
+-- two inodes agree but for their sizes and zones
+pub record SameAttributes (x y : Inode) : Type 0 where
+  pub mode : x.mode ≡ y.mode
+  pub links : x.links ≡ y.links
+  pub uid : x.uid ≡ y.uid
+  pub gid : x.gid ≡ y.gid
+  pub atime : x.atime ≡ y.atime
+  pub mtime : x.mtime ≡ y.mtime
+  pub ctime : x.ctime ≡ y.ctime
 
 -- An inode as it is moved: its attributes stay, its size is given, and its ten numbers are copies, one behind the other, from zone e on.
 pub record IsMoved (s : Pages) (keys : ℕ → ℕ) (bytes : ℕ) (d : ℕ → ℕ → ℕ) (e : ℕ) (x y : Inode) : Type 0 where
@@ -45,6 +54,11 @@ pub record IsMovedDirectory (g : Geometry) (v : Pieces) (d : ℕ → ℕ → ℕ
   pub entries : AreEntries (file_byte g v x) (entry_count_of version_2 x) bytes
   pub moved : IsMoved (pages_from bytes) first_page (length bytes) d e x y
 
+-- a node's inode as it is moved
+pub record IsMovedNode (g : Geometry) (v : Pieces) (d : ℕ → ℕ → ℕ) (e : ℕ) (x y : Inode) : Type 0 where
+  pub directory : is_directory_mode x.mode ≡ true → IsMovedDirectory g v d e x y
+  pub other : is_directory_mode x.mode ≡ false → IsMoved (pages_in v) (slot x) x.size d e x y
+
 -- where the zones of node n of the old volume begin in the new one: behind those of the nodes before it
 abbrev pub zones_begin : Geometry → Pieces → Geometry → ℕ → ℕ
 zones_begin g v h n = h.first_zone + sum_below (λ m. zones_of g (nodes_of version_2 g v m)) n
@@ -54,10 +68,7 @@ zones_begin g v h n = h.first_zone + sum_below (λ m. zones_of g (nodes_of versi
 pub record IsWritten (g : Geometry) (v : Pieces) (h : Geometry) (w : Pieces) : Type 0 where
   pub inode_map : (n : ℕ) → n ≤ h.inodes → w.inode_map n ≡ ((n == 0) || is_marked g v n)
   pub zone_map : (k : ℕ) → k ≤ data_zones h → w.zone_map k ≡ nat_le k (zones_of_all g (nodes_of version_2 g v))
-  pub directories : (n : ℕ) → is_marked g v n ≡ true → is_directory_mode (v.inodes n).mode ≡ true
-      → IsMovedDirectory g v w.zones (zones_begin g v h n) (v.inodes n) (w.inodes n)
-  pub others : (n : ℕ) → is_marked g v n ≡ true → is_directory_mode (v.inodes n).mode ≡ false
-      → IsMoved (pages_in v) (slot (v.inodes n)) (v.inodes n).size w.zones (zones_begin g v h n) (v.inodes n) (w.inodes n)
+  pub nodes : (n : ℕ) → is_marked g v n ≡ true → IsMovedNode g v w.zones (zones_begin g v h n) (v.inodes n) (w.inodes n)
   pub blank_inodes : (n : ℕ) → 1 ≤ n → n ≤ h.inodes → is_marked g v n ≡ false → w.inodes n ≡ inode_in (λ p. 0) 0
   pub blank_zones : (z o : ℕ) → zones_begin g v h (g.inodes + 1) ≤ z → w.zones z o ≡ 0
 

@@ -24,8 +24,6 @@ pub enum MigrateRefusal {
     DoesNotFit,
     /// No memory was found.
     OutOfMemory,
-    /// What was written, read back, isn't clean or doesn't hold the old volume's nodes.
-    Mismatch,
 }
 
 /// Writes `migrate refusal 1 at N`, `migrate refusal 2 finding N at P`, or the number alone.
@@ -41,7 +39,6 @@ impl fmt::Display for MigrateRefusal {
             MigrateRefusal::TooManyBlocks => f.write_str("migrate refusal 3"),
             MigrateRefusal::DoesNotFit => f.write_str("migrate refusal 4"),
             MigrateRefusal::OutOfMemory => f.write_str("migrate refusal 5"),
-            MigrateRefusal::Mismatch => f.write_str("migrate refusal 6"),
         }
     }
 }

@@ -10,6 +10,7 @@ ghost use Rattle.fsck.specs.Nodes.{nodes_of};
 ghost use Rattle.migrate.specs.Holds.{IsSound};
 ghost use Rattle.migrate.specs.Used.{SizesAreGood, has_room, zones_of_all};
 ghost use Rattle.migrate.specs.Migrated.{IsCramped};
+ghost use Rattle.migrate.specs.Tables.{IsBegun};
 
 use crate::refusal::MigrateRefusal;
 use crate::used::zones_used;
@@ -29,6 +30,7 @@ pub(crate) fn empty_volume(
     requires blocks { blocks ≤ 65536 }
     ensures sizes { IfOk result (λ empty. sizes_of blocks 1024 old.now.image.geometry.inodes ≡ Ok empty.volume) }
     ensures geometry { IfOk result (λ empty. IsGeometry empty.volume) }
+    ensures begun { IfOk result (λ empty. IsBegun empty.volume empty.front.items) }
     ensures room { IfOk result (λ _. has_room old.now.image.geometry (contents old.now.image) blocks ≡ true) }
     ensures fits { IfOk result (λ empty. zones_of_all old.now.image.geometry
         (nodes_of version_2 old.now.image.geometry (contents old.now.image)) ≤ data_zones empty.volume) }

@@ -10,10 +10,10 @@ ghost use Rattle.migrate.specs.Holds.{IsSound};
 ghost use Rattle.fsck.specs.Nodes.{nodes_of};
 ghost use Rattle.migrate.specs.Used.{blocks_over, most_below, name_count, zones_below, zones_for, zones_in, zones_of_all, SizesAreGood};
 
+use crate::moving::level_of;
 use crate::new_zones::NUMBERS;
 use crate::old_volume::entries::{entry, entry_count, is_free};
 use crate::volume_blocks::{BLOCK, VolumeBlocks};
-use crate::write::level_of;
 use image::is_directory_mode;
 use volume::Inode;
 

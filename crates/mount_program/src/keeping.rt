@@ -141,7 +141,7 @@ fn is_served(rt: HostRuntime, words: &MountWords<'_>, image: &[u8]) -> Result<bo
 }
 
 /// How a mount ended that was to keep the image of this name, once the image that it left was handed on: the one beside it takes an image
-/// whose volume isn't clean, and the image of this name is then that of the last sync.
+/// that isn't as it was read back, or whose volume isn't clean, and the image of this name is then that of the last sync.
 pub(crate) fn finished<I: Drop, O: Drop, C: Drop, W: Drop, E: io::Write>(
     rt: HostRuntime,
     words: &MountWords<'_>,

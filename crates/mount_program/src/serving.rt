@@ -7,6 +7,7 @@ use host::frames::frames_for;
 use host::play_words::mount::{MountProgram, MountWords, read as read_words};
 use locked_image::locked::{LockedImage, open};
 use modeldisk::supply::table_in;
+use mount_service::handing::let_go;
 use mount_service::killed::Killing;
 use mount_service::mortal::{Mortality, mortal_drivers, mortal_setup};
 use mount_service::mount::{Ended, MountStatus, mount};
@@ -116,7 +117,10 @@ fn serve_only<
     err: &mut E,
 ) -> io::Result<MountStatus> {
     match begin(rt, words) {
-        Ok(begun) => Ok(mount_image(rt, waits, words, messages, begun, teller, err)?.status),
+        Ok(begun) => {
+            let mounted = mount_image(rt, waits, words, messages, begun, teller, err)?;
+            Ok(let_go(rt.alloc(), mounted, err))
+        }
         Err(status) => Ok(status),
     }
 }

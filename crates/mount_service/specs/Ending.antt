@@ -5,7 +5,7 @@ use Rattle.output.specs.declared.Told.{Told}
 use Rattle.volume_commands.specs.declared.handing.Handing.{Handing}
 use Rattle.volume_commands.specs.declared.handing.Handing.TheVariants.{Put, Beside}
 use Rattle.mount_service.specs.declared.mount.MountStatus.{MountStatus}
-use Rattle.mount_service.specs.declared.mount.MountStatus.TheVariants.{Done, Refused}
+use Rattle.mount_service.specs.declared.mount.MountStatus.TheVariants.{Done, Refused, NotAsRead}
 
 -- how an image may be put into an archive at the end: the state before, the image's bytes, what is answered, the state after
 abbrev pub Ends : Type 0 → Type 1
@@ -21,5 +21,6 @@ IsEndedIn {A} ends (Some s) image put t =
 abbrev pub status_after : MountStatus → Handing → Told → MountStatus
 status_after status Put told = status
 status_after Done (Beside why) told = Refused told
+status_after NotAsRead (Beside why) told = Refused told
 status_after status (Beside why) told = status
 status_after status _ told = Refused told

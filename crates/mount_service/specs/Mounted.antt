@@ -11,7 +11,7 @@ use Rattle.message_stream.specs.declared.answering.StreamRefusal.{StreamRefusal}
 use Rattle.mount_service.specs.Left.{IsLeftBy}
 use Rattle.mount_service.specs.Spoken.{Puts, Speaks}
 use Rattle.mount_service.specs.declared.mount.MountStatus.{MountStatus}
-use Rattle.mount_service.specs.declared.mount.MountStatus.TheVariants.{Done, Refused, GivenUp, Cut}
+use Rattle.mount_service.specs.declared.mount.MountStatus.TheVariants.{Done, Refused, GivenUp, Cut, NotAsRead}
 use Rattle.mount_service.specs.declared.mount.MountRefusal.{MountRefusal}
 use Rattle.mount_service.specs.declared.mount.MountRefusal.TheVariants as no
 
@@ -33,12 +33,14 @@ IsUnmounted image name setup supply (no.Stream refusal) = ⊥
 IsUnmounted image name setup supply no.GivenUp = ⊥
 IsUnmounted image name setup supply no.Cut = ⊥
 
--- how a mount ended that left an image: not all was answered, or the last sync wasn't made, or neither
+-- how a mount ended that left an image: not all was answered; or the last sync wasn't made, or the image isn't as it was read back, or it wasn't; or all went
 abbrev pub IsStatus : Result (Unit {0}) StreamRefusal → LastSync → MountStatus → Type 0
 IsStatus (Err refusal) last (Refused told) = ⊤
 IsStatus (Ok done) sync.Done Done = ⊤
 IsStatus (Ok done) sync.GivenUp GivenUp = ⊤
 IsStatus (Ok done) sync.Cut Cut = ⊤
+IsStatus (Ok done) sync.NotAsRead NotAsRead = ⊤
+IsStatus (Ok done) sync.NotRead NotAsRead = ⊤
 IsStatus _ _ _ = ⊥
 
 -- the status of the process
@@ -47,6 +49,7 @@ status_number Done = 0
 status_number (Refused told) = 1
 status_number GivenUp = 3
 status_number Cut = 3
+status_number NotAsRead = 1
 
 -- nothing was left, and a line was to say why
 abbrev pub IsRefused : MountStatus → Type 0

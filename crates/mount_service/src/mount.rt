@@ -4,7 +4,7 @@ ghost use Rattle.std.specs.Prelude.{◌≡◌, IfErr, IfNone, IfOk, IfSome, map}
 ghost use Rattle.mount_service.specs.Mounted.{IsMounted, IsRefused, IsStatus, IsUnmounted, status_number};
 
 use crate::archive::Archive;
-use crate::program::{Came, Streams};
+use crate::program::{Came, LastSync, Streams};
 use crate::starting::answer_messages;
 use bdev::BlockDriver;
 use gate::Gate;
@@ -13,7 +13,6 @@ use output::{Told, tell};
 use reincarnate::policy::Setup;
 use serve::stopping::NoImage;
 use service_start::volume_mount::StartRefusal;
-use shared_server::locked::LastSync;
 use std::alloc::Global;
 use std::fmt;
 use std::io::{BufRead, Write};
@@ -33,6 +32,8 @@ pub enum MountStatus {
     GivenUp,
     /// As `Done`, and the last sync was cut, since the link to the drivers had ended. A line was to say so.
     Cut,
+    /// As `Done`, and what was read back through the drivers isn't what the image has, or it wasn't read back. No line says so yet.
+    NotAsRead,
 }
 
 impl MountStatus {
@@ -44,6 +45,7 @@ impl MountStatus {
             MountStatus::Done => 0,
             MountStatus::Refused(_) => 1,
             MountStatus::GivenUp | MountStatus::Cut => 3,
+            MountStatus::NotAsRead => 1,
         }
     }
 }
@@ -91,7 +93,8 @@ impl fmt::Display for MountRefusal<'_> {
 /// stops it. The image's bytes are none where its file of this name couldn't be read; they become the media.
 ///
 /// Where no service starts, where messages are answered no further, where the device was given up, where the last sync was cut, or where no
-/// image is left, a line on `err` says so. But in the first case and the last the image is left all the same.
+/// image is left, a line on `err` says so. But in the first case and the last the image is left all the same. Of an image that isn't as it
+/// was read back no line speaks yet.
 pub fn mount<
     R: Threads + Wait + Copy + Send + Sync + 'static,
     D: BlockDriver + 'static,
@@ -169,7 +172,7 @@ fn run<
     }
 }
 
-/// How a mount ended whose service left an image; where not all went well, a line says so.
+/// How a mount ended whose service left an image; where not all went well, a line says so, but not of an image that isn't as it was read.
 fn shown<E: Write>(
     alloc: Global,
     answered: Result<(), StreamRefusal>,
@@ -191,5 +194,6 @@ fn shown<E: Write>(
             tell(alloc, err, &MountRefusal::Cut);
             MountStatus::Cut
         }
+        LastSync::NotAsRead | LastSync::NotRead => MountStatus::NotAsRead,
     }
 }

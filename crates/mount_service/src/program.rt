@@ -15,7 +15,6 @@ use file_server::FileServer;
 use message_stream::answering::{StreamRefusal, answer_all};
 use serve::service::Service;
 use serve::stopping::{NoImage, image_left};
-use shared_server::locked::LastSync;
 use shared_server::refusal::SessionRefusal;
 use std::alloc::{AllocError, Global};
 use std::io::{BufRead, Write};
@@ -24,6 +23,9 @@ use std::sync::{Arc, Wait};
 use std::thread::Threads;
 use std::time::Clock;
 use talks::answers::Answers;
+
+// passed on, for who hands an image on
+pub use shared_server::locked::LastSync;
 
 /// The streams of messages and answers, who answers, the clock that says when calls are made, and where changes are put.
 #[derive(Drop)]

@@ -99,6 +99,13 @@ impl Table {
         self.pending.meets(start, size)
     }
 
+    /// Whether nothing is pending.
+    pub fn is_idle(&self) -> bool
+        ensures { (result ≡ true) ↔ (self.now.pending ≡ []) }
+    {
+        self.pending.len() == 0
+    }
+
     /// Where the issued request with this id stands.
     pub fn find(&self, id: u64) -> Option<usize>
         ensures { result ≡ position (λ p. p.request.id == id) (take self.now.issued self.now.pending) }

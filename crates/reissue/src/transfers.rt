@@ -87,6 +87,13 @@ impl<L: Link> Transfers<L> {
         self.table.given_up
     }
 
+    /// Whether nothing is pending.
+    pub fn is_idle(&self) -> bool
+        ensures { (result ≡ true) ↔ ((table_of self.now).pending ≡ []) }
+    {
+        self.table.is_idle()
+    }
+
     /// The link.
     pub fn link(&self) -> &L
         ensures { result.now ≡ link_of self.now }
@@ -100,6 +107,14 @@ impl<L: Link> Transfers<L> {
         ensures value { result.now ≡ link_of self.old }
     {
         &mut self.link
+    }
+
+    /// The link. What is pending is let go.
+    pub fn into_link(self) -> L
+        ensures { result ≡ link_of self }
+    {
+        let Transfers { link, table: _ } = self;
+        link
     }
 
     /// Posts what isn't posted yet, in order, up to the first that is refused.

@@ -1,23 +1,30 @@
 -- What a service that is stopped leaves, by how its last sync went.
-use Rattle.std.proofs.Common.{◌≡◌, ◌∙◌, ℕ, List, Option, Result, Ok, Err, IfOk, IfErr, Bool, true, false, refl, subst, sym}
-use Rattle.std.specs.Prelude.{◌↔◌}
+use Rattle.std.proofs.Common.{◌≡◌, ◌*◌, ◌∙◌, ◌<◌, ap, length, ℕ, List, [], Option, Result, Ok, Err, IfOk, IfErr, Bool, true, false, refl, subst}
+use Rattle.std.proofs.Common.{sym, inl, inr, get_or-take}
+use Rattle.std.proofs.lemmas.Bool.{cases_lt, false≢true}
+use Rattle.std.specs.Prelude.{◌↔◌, slice_index}
 use Rattle.std.specs.Bool.{OnFalse, OnTrue}
 use Rattle.std.specs.Global.{Vec}
 use Rattle.layout.specs.declared.Geometry.{Geometry}
 use Rattle.records.specs.Marks.{Mark, IsBeginning}
-use Rattle.records.specs.Opening.{Opening}
+use Rattle.records.specs.Disk.{HasTrueReplies, disk_after}
+use Rattle.records.specs.Opening.{Opening, contents_at}
 use Rattle.reissue.specs.declared.link.Link.{Ghosts as LinkWords}
 use Rattle.board.specs.View.{is_used, without}
 use Rattle.board.specs.Keeper.{AreAllFree, IsOneUsed}
-use Rattle.shared_server.specs.Stopping.{IsFinished, IsLastLine, Went}
-use Rattle.shared_server.specs.Finishing.{sync_of}
+use Rattle.shared_server.specs.Stopping.{AreOnDisk, IsFinished, SyncEnd, Went, WasGivenUp, WasCut, WasNotAsRead, WasNotRead}
+use Rattle.shared_server.specs.Finishing.{bytes_back, finish_end, sync_of}
+use Rattle.shared_server.specs.declared.finishing.Finish.{Finish}
+use Rattle.shared_server.specs.declared.finishing.Finish.TheVariants.{Read, Unread, GivenUp, Cut}
 use Rattle.shared_server.specs.declared.locked.LastSync.{LastSync}
 use Rattle.shared_server.specs.declared.locked.LastSync.TheVariants as sync
-use Rattle.shared_server.proofs.StoppingLaws.{line_from}
+use Rattle.shared_server.proofs.BackLaws.{unread_line}
+use Rattle.shared_server.proofs.StoppingLaws.{finished_from}
 use Rattle.shared_media.specs.Confined.{IsImageOutside}
-use Rattle.serve.specs.Stopping.{IsImageOf, IsLastImage, IsLastOfAll, IsLeftAfter, WhoIsLeft, WhyNotSynced}
+use Rattle.serve.specs.Stopping.{Begins, IsAsRead, IsDisk, IsImageOf, IsLastImage, IsLastOfAll, IsLeftAfter, IsOther, IsRange, WhoIsLeft}
+use Rattle.serve.specs.Stopping.{WhyNotSynced, range_in, was_synced}
 use Rattle.serve.specs.declared.stopping.StopRefusal.{StopRefusal}
-use Rattle.serve.specs.declared.stopping.StopRefusal.TheVariants.{SessionsLeft, GivenUp, OutOfMemory, LinkEnded}
+use Rattle.serve.specs.declared.stopping.StopRefusal.TheVariants as stop
 
 -- where no number is in use each is free
 free_at : (b : Bool) → (b ≡ true → ⊥) → b ≡ false
@@ -50,65 +57,124 @@ pub none_told : {L : Type 0} (numbers : L → List ℕ) (but is : Option ℕ) (b
 none_told {L} numbers but is false same not_it h = subst (λ (o : Option ℕ). (line : L) × AreAllFree (without o (numbers line))) same h
 none_told numbers but is true same not_it h = cc
 
--- it goes on from less, too
-pub finished_after : {L : Type 0} (link : LinkWords L) (numbers : L → List ℕ) (g : Geometry) (v : Opening) (earlier seen : List Mark)
-    (used : List ℕ) (how : LastSync) → IsBeginning earlier seen
-    → IsFinished link numbers g v seen used (sync_of how) → IsFinished link numbers g v earlier used (sync_of how)
-finished_after link numbers g v earlier seen used how begins l = record {
-  line = l.line;
-  last = line_from link g v earlier seen (sync_of how) l.line begins l.last;
-  same = l.same;
-}
+-- what a server was let go with, by another name of the range's size, and beside what had been seen before
+pub finished_with : {L : Type 0} (link : LinkWords L) (numbers : L → List ℕ) (g : Geometry) (v : Opening) (earlier seen : List Mark)
+    (used : List ℕ) (how : SyncEnd) (size is : ℕ) (bytes : List ℕ) → size ≡ is → IsBeginning earlier seen
+    → IsFinished link numbers g v seen used how size bytes → IsFinished link numbers g v earlier used how is bytes
+finished_with link numbers g v earlier seen used how size is bytes same begins l =
+    subst (λ (n : ℕ). IsFinished link numbers g v earlier used how n bytes) same
+    (finished_from link numbers g v earlier seen used how size bytes begins l)
 
-last_image : {L : Type 0} (link : LinkWords L) (numbers : L → List ℕ) (g : Geometry) (v : Opening) (seen : List Mark) (used : List ℕ)
-    (how is : LastSync) (image : List ℕ) → how ≡ is → IsImageOutside v image → IsFinished link numbers g v seen used (sync_of how)
-    → IsLastImage link g v seen (sync_of is) image
-last_image link numbers g v seen used how is image same left l = record {
-  outside = left;
-  line = l.line;
-  last = subst (λ (h : LastSync). IsLastLine link g v seen (sync_of h) l.line) same l.last;
-}
+-- with which a server of a volume was let go, after a last sync that came to this
+abbrev pub Finished : {L : Type 0} → LinkWords L → (L → List ℕ) → Geometry → Opening → List Mark → List ℕ → Finish → Type 0
+Finished link numbers g v seen used finish =
+    IsFinished link numbers g v seen used (finish_end finish) (512 * v.count) (bytes_back finish)
 
--- the image that is given
-pub image_after : {L T : Type 0} (link : LinkWords L) (numbers : L → List ℕ) (g : Geometry) (v : Opening) (seen : List Mark) (used : List ℕ)
-    (how : LastSync) (result : Result (Vec ℕ) (StopRefusal T)) → IfOk result (λ image. (how ≡ sync.Done) × IsImageOutside v image.items)
-    → IsFinished link numbers g v seen used (sync_of how) → IfOk result (λ image. IsLastImage link g v seen Went image.items)
-image_after link numbers g v seen used how (Ok image) h l = last_image link numbers g v seen used how sync.Done image.items h.0 h.1 l
-image_after link numbers g v seen used how (Err e) h l = tt
+-- the range of an image is the disk, where it begins with what was read back
+is_disk_at : (v : Opening) (marks : List Mark) (bytes image : List ℕ) → AreOnDisk v (512 * v.count) marks bytes → Begins v bytes image
+    → HasTrueReplies (contents_at v) marks → (k : ℕ) → k < 512 * v.count → slice_index (range_in v image) k ≡ disk_after (contents_at v) marks k
+is_disk_at v marks bytes image back begins replies k low = elim (cases_lt k (length bytes)) [
+  | inl read ↦
+      sym (get_or-take (length bytes) (range_in v image) k 0 read)
+      ∙ ap (λ (l : List ℕ). slice_index l k) begins.first
+      ∙ back.is_disk replies k read
+  | inr past ↦ begins.rest k past low ∙ sym (back.beyond k past low)
+]
 
--- why there is none
-pub why_after : {L T : Type 0} (link : LinkWords L) (numbers : L → List ℕ) (g : Geometry) (v : Opening) (seen : List Mark) (used : List ℕ)
-    (how : LastSync) (is_back : T → Type 0) (result : Result (Vec ℕ) (StopRefusal T)) → IfErr result (IsLeftAfter v how)
-    → IsFinished link numbers g v seen used (sync_of how) → IfErr result (WhyNotSynced link g v seen is_back)
-why_after link numbers g v seen used how is_back (Ok image) h l = tt
-why_after link numbers g v seen used how is_back (Err (SessionsLeft left)) h l = absurd h
-why_after link numbers g v seen used how is_back (Err (GivenUp image)) h l =
-    last_image link numbers g v seen used how sync.GivenUp image.items h.0 h.1 l
-why_after link numbers g v seen used how is_back (Err (OutOfMemory left)) h l = absurd h
-why_after link numbers g v seen used how is_back (Err (LinkEnded image)) h l =
-    last_image link numbers g v seen used how sync.Cut image.items h.0 h.1 l
+is_disk : (v : Opening) (marks : List Mark) (bytes image : List ℕ) → AreOnDisk v (512 * v.count) marks bytes → Begins v bytes image
+    → IsDisk v marks image
+is_disk v marks bytes image back begins =
+    record { bytes = bytes; back = back; begins = begins; is_disk = is_disk_at v marks bytes image back begins }
 
--- and no session is left then
-last_of_all : {L : Type 0} (link : LinkWords L) (numbers : L → List ℕ) (g : Geometry) (v : Opening) (seen : List Mark) (used : List ℕ)
-    (how is : LastSync) (image : List ℕ) → how ≡ is → IsImageOutside v image → IsFinished link numbers g v seen used (sync_of how)
-    → AreAllFree used → IsLastOfAll link numbers g v seen (sync_of is) image
-unfolding last_image
-last_of_all link numbers g v seen used how is image same left l free = record {
-  image_is = last_image link numbers g v seen used how is image same left l;
+-- what is left of the media, and no session is left then
+left_of_all : {L : Type 0} (link : LinkWords L) (numbers : L → List ℕ) (g : Geometry) (v : Opening) (seen : List Mark) (used : List ℕ)
+    (how : SyncEnd) (size : ℕ) (bytes image : List ℕ) → IsImageOutside v image
+    → (l : IsFinished link numbers g v seen used how size bytes) → IsRange how v l.last.marks image → AreAllFree used
+    → IsLastOfAll link numbers g v seen how image
+left_of_all link numbers g v seen used how size bytes image left l range free = record {
+  image_is = record { outside = left; line = l.line; last = l.last; range = range };
   none_left = subst AreAllFree (sym l.same) free;
 }
 
+-- where it is as it was read
+as_read_of_all : {L : Type 0} (link : LinkWords L) (numbers : L → List ℕ) (g : Geometry) (v : Opening) (seen : List Mark) (used : List ℕ)
+    (finish : Finish) (image : List ℕ) → IsAsRead v finish image → Finished link numbers g v seen used finish → AreAllFree used
+    → IsLastOfAll link numbers g v seen Went image
+as_read_of_all link numbers g v seen used (Read bytes) image is l free =
+    left_of_all link numbers g v seen used Went (512 * v.count) bytes.items image is.0 l
+    (is_disk v l.last.marks bytes.items image l.back is.1) free
+as_read_of_all link numbers g v seen used Unread image is l free = absurd is
+as_read_of_all link numbers g v seen used GivenUp image is l free = absurd is
+as_read_of_all link numbers g v seen used Cut image is l free = absurd is
+
+-- where it isn't
+other_of_all : {L : Type 0} (link : LinkWords L) (numbers : L → List ℕ) (g : Geometry) (v : Opening) (seen : List Mark) (used : List ℕ)
+    (finish : Finish) (image : List ℕ) → IsOther v finish image → IsImageOutside v image → Finished link numbers g v seen used finish
+    → AreAllFree used → IsLastOfAll link numbers g v seen WasNotAsRead image
+other_of_all link numbers g v seen used (Read bytes) image other left l free = record {
+  image_is = record {
+    outside = left;
+    line = l.line;
+    last = record { ended = l.last.ended; marks = l.last.marks; guaranteed = l.last.guaranteed; goes_on = l.last.goes_on; tells = l.last.tells };
+    range = (bytes.items, l.back, other);
+  };
+  none_left = subst AreAllFree (sym l.same) free;
+}
+other_of_all link numbers g v seen used Unread image other left l free = absurd other
+other_of_all link numbers g v seen used GivenUp image other left l free = absurd other
+other_of_all link numbers g v seen used Cut image other left l free = absurd other
+
+-- where it wasn't read, or not all
+unread_of_all : {L : Type 0} (link : LinkWords L) (numbers : L → List ℕ) (g : Geometry) (v : Opening) (seen : List Mark) (used : List ℕ)
+    (finish : Finish) (image : List ℕ) → was_synced finish ≡ true → IsImageOutside v image → Finished link numbers g v seen used finish
+    → AreAllFree used → IsLastOfAll link numbers g v seen WasNotRead image
+unread_of_all link numbers g v seen used (Read bytes) image synced left l free = record {
+  image_is = record { outside = left; line = l.line; last = unread_line link g v seen l.line l.last; range = tt };
+  none_left = subst AreAllFree (sym l.same) free;
+}
+unread_of_all link numbers g v seen used Unread image synced left l free =
+    left_of_all link numbers g v seen used WasNotRead (512 * v.count) [] image left l tt free
+unread_of_all link numbers g v seen used GivenUp image synced left l free = absurd (false≢true synced)
+unread_of_all link numbers g v seen used Cut image synced left l free = absurd (false≢true synced)
+
+-- who is left, by what came of the last sync
 pub who_after : {L T : Type 0} (link : LinkWords L) (numbers : L → List ℕ) (g : Geometry) (v : Opening) (seen : List Mark) (used : List ℕ)
-    (but : Option ℕ) (how : LastSync) (result : Result (Vec ℕ) (StopRefusal T))
-    → IfOk result (λ image. (how ≡ sync.Done) × IsImageOutside v image.items) → IfErr result (IsLeftAfter v how)
-    → IsFinished link numbers g v seen used (sync_of how) → AreAllFree used → WhoIsLeft link numbers g v seen but result
-who_after link numbers g v seen used but how (Ok image) h k l free = last_of_all link numbers g v seen used how sync.Done image.items h.0 h.1 l free
-who_after link numbers g v seen used but how (Err (SessionsLeft left)) h k l free = absurd k
-who_after link numbers g v seen used but how (Err (GivenUp image)) h k l free =
-    last_of_all link numbers g v seen used how sync.GivenUp image.items k.0 k.1 l free
-who_after link numbers g v seen used but how (Err (OutOfMemory left)) h k l free = absurd k
-who_after link numbers g v seen used but how (Err (LinkEnded image)) h k l free =
-    last_of_all link numbers g v seen used how sync.Cut image.items k.0 k.1 l free
+    (but : Option ℕ) (finish : Finish) (result : Result (Vec ℕ) (StopRefusal T)) → IfOk result (λ image. IsAsRead v finish image.items)
+    → IfErr result (IsLeftAfter v finish) → Finished link numbers g v seen used finish → AreAllFree used
+    → WhoIsLeft link numbers g v seen but result
+who_after link numbers g v seen used but finish (Ok image) h k l free =
+    as_read_of_all link numbers g v seen used finish image.items h l free
+who_after link numbers g v seen used but finish (Err (stop.SessionsLeft left)) h k l free = absurd k
+who_after link numbers g v seen used but finish (Err (stop.GivenUp image)) h k l free =
+    left_of_all link numbers g v seen used WasGivenUp (512 * v.count) [] image.items k.1
+    (subst (λ (f : Finish). Finished link numbers g v seen used f) k.0 l) tt free
+who_after link numbers g v seen used but finish (Err (stop.OutOfMemory left)) h k l free = absurd k
+who_after link numbers g v seen used but finish (Err (stop.LinkEnded image)) h k l free =
+    left_of_all link numbers g v seen used WasCut (512 * v.count) [] image.items k.1
+    (subst (λ (f : Finish). Finished link numbers g v seen used f) k.0 l) tt free
+who_after link numbers g v seen used but finish (Err (stop.NotAsRead image)) h k l free =
+    other_of_all link numbers g v seen used finish image.items k.0 k.1 l free
+who_after link numbers g v seen used but finish (Err (stop.NotRead image)) h k l free =
+    unread_of_all link numbers g v seen used finish image.items k.0 k.1 l free
+
+-- so the image is known that is given
+pub image_after : {L T : Type 0} (link : LinkWords L) (numbers : L → List ℕ) (g : Geometry) (v : Opening) (seen : List Mark) (but : Option ℕ)
+    (result : Result (Vec ℕ) (StopRefusal T)) → WhoIsLeft link numbers g v seen but result
+    → IfOk result (λ image. IsLastImage link g v seen Went image.items)
+image_after link numbers g v seen but (Ok image) who = who.image_is
+image_after link numbers g v seen but (Err e) who = tt
+
+-- and why there is none
+pub why_after : {L T : Type 0} (link : LinkWords L) (numbers : L → List ℕ) (g : Geometry) (v : Opening) (seen : List Mark) (but : Option ℕ)
+    (finish : Finish) (is_back : T → Type 0) (result : Result (Vec ℕ) (StopRefusal T)) → IfErr result (IsLeftAfter v finish)
+    → WhoIsLeft link numbers g v seen but result → IfErr result (WhyNotSynced link g v seen is_back)
+why_after link numbers g v seen but finish is_back (Ok image) k who = tt
+why_after link numbers g v seen but finish is_back (Err (stop.SessionsLeft left)) k who = absurd k
+why_after link numbers g v seen but finish is_back (Err (stop.GivenUp image)) k who = who.image_is
+why_after link numbers g v seen but finish is_back (Err (stop.OutOfMemory left)) k who = absurd k
+why_after link numbers g v seen but finish is_back (Err (stop.LinkEnded image)) k who = who.image_is
+why_after link numbers g v seen but finish is_back (Err (stop.NotAsRead image)) k who = who.image_is
+why_after link numbers g v seen but finish is_back (Err (stop.NotRead image)) k who = who.image_is
 
 -- the image that stopping a service gave is that of the last sync, which went as is told
 pub image_given : {L T : Type 0} (link : LinkWords L) (g : Geometry) (v : Opening) (seen : List Mark) (is_back : T → Type 0)
@@ -118,14 +184,30 @@ pub image_given : {L T : Type 0} (link : LinkWords L) (g : Geometry) (v : Openin
 image_given link g v seen is_back (Ok i) sync.Done image is ok why = rw is ok
 image_given link g v seen is_back (Ok i) sync.GivenUp image is ok why = absurd is
 image_given link g v seen is_back (Ok i) sync.Cut image is ok why = absurd is
-image_given link g v seen is_back (Err (GivenUp i)) sync.GivenUp image is ok why = rw is why
-image_given link g v seen is_back (Err (LinkEnded i)) sync.Cut image is ok why = rw is why
-image_given link g v seen is_back (Err (GivenUp i)) sync.Done image is ok why = absurd is
-image_given link g v seen is_back (Err (GivenUp i)) sync.Cut image is ok why = absurd is
-image_given link g v seen is_back (Err (LinkEnded i)) sync.Done image is ok why = absurd is
-image_given link g v seen is_back (Err (LinkEnded i)) sync.GivenUp image is ok why = absurd is
-image_given link g v seen is_back (Err (SessionsLeft s)) last image is ok why = absurd is
-image_given link g v seen is_back (Err (OutOfMemory s)) last image is ok why = absurd is
+image_given link g v seen is_back (Err (stop.GivenUp i)) sync.GivenUp image is ok why = rw is why
+image_given link g v seen is_back (Err (stop.LinkEnded i)) sync.Cut image is ok why = rw is why
+image_given link g v seen is_back (Err (stop.NotAsRead i)) sync.NotAsRead image is ok why = rw is why
+image_given link g v seen is_back (Ok i) sync.NotAsRead image is ok why = absurd is
+image_given link g v seen is_back (Err (stop.GivenUp i)) sync.NotAsRead image is ok why = absurd is
+image_given link g v seen is_back (Err (stop.LinkEnded i)) sync.NotAsRead image is ok why = absurd is
+image_given link g v seen is_back (Err (stop.NotAsRead i)) sync.Done image is ok why = absurd is
+image_given link g v seen is_back (Err (stop.NotAsRead i)) sync.GivenUp image is ok why = absurd is
+image_given link g v seen is_back (Err (stop.NotAsRead i)) sync.Cut image is ok why = absurd is
+image_given link g v seen is_back (Err (stop.GivenUp i)) sync.Done image is ok why = absurd is
+image_given link g v seen is_back (Err (stop.GivenUp i)) sync.Cut image is ok why = absurd is
+image_given link g v seen is_back (Err (stop.LinkEnded i)) sync.Done image is ok why = absurd is
+image_given link g v seen is_back (Err (stop.LinkEnded i)) sync.GivenUp image is ok why = absurd is
+image_given link g v seen is_back (Err (stop.NotRead i)) sync.NotRead image is ok why = rw is why
+image_given link g v seen is_back (Ok i) sync.NotRead image is ok why = absurd is
+image_given link g v seen is_back (Err (stop.GivenUp i)) sync.NotRead image is ok why = absurd is
+image_given link g v seen is_back (Err (stop.LinkEnded i)) sync.NotRead image is ok why = absurd is
+image_given link g v seen is_back (Err (stop.NotAsRead i)) sync.NotRead image is ok why = absurd is
+image_given link g v seen is_back (Err (stop.NotRead i)) sync.Done image is ok why = absurd is
+image_given link g v seen is_back (Err (stop.NotRead i)) sync.GivenUp image is ok why = absurd is
+image_given link g v seen is_back (Err (stop.NotRead i)) sync.Cut image is ok why = absurd is
+image_given link g v seen is_back (Err (stop.NotRead i)) sync.NotAsRead image is ok why = absurd is
+image_given link g v seen is_back (Err (stop.SessionsLeft s)) last image is ok why = absurd is
+image_given link g v seen is_back (Err (stop.OutOfMemory s)) last image is ok why = absurd is
 
 -- and so of what is given out where it is given
 pub image_given_out : {L T E : Type 0} (link : LinkWords L) (g : Geometry) (v : Opening) (seen : List Mark) (is_back : T → Type 0)

@@ -1,27 +1,82 @@
 -- What a service that is stopped leaves.
-use Rattle.std.specs.Prelude.{◌≡◌, ℕ, List, Option, Result, Ok, Err, codes}
+use Rattle.std.specs.Prelude.{◌≡◌, ◌≢◌, ◌*◌, ◌<◌, ◌≤◌, ℕ, List, length, take, slice_index, Bool, true, false, Option, Result, Ok, Err, codes}
 use Rattle.std.specs.Global.{Vec}
 use Rattle.layout.specs.declared.Geometry.{Geometry}
 use Rattle.records.specs.Marks.{Mark}
-use Rattle.records.specs.Opening.{Opening}
+use Rattle.records.specs.Disk.{HasTrueReplies, disk_after}
+use Rattle.records.specs.Opening.{Opening, contents_at, opening_range, volume_bytes}
 use Rattle.reissue.specs.declared.link.Link.{Ghosts as LinkWords}
-use Rattle.shared_server.specs.Stopping.{IsLastLine, SyncEnd, Went, WasGivenUp, WasCut}
+use Rattle.shared_server.specs.Stopping.{AreOnDisk, IsLastLine, SyncEnd, Went, WasGivenUp, WasCut, WasNotAsRead, WasNotRead}
+use Rattle.shared_server.specs.declared.finishing.Finish.{Finish}
+use Rattle.shared_server.specs.declared.finishing.Finish.TheVariants.{Read, Unread, GivenUp, Cut}
 use Rattle.shared_server.specs.declared.locked.LastSync.{LastSync}
 use Rattle.shared_server.specs.declared.locked.LastSync.TheVariants as sync
 use Rattle.board.specs.View.{without}
 use Rattle.board.specs.Keeper.{AreAllFree, IsOneUsed}
 use Rattle.shared_media.specs.Confined.{IsImageOutside}
 use Rattle.serve.specs.declared.stopping.StopRefusal.{StopRefusal}
-use Rattle.serve.specs.declared.stopping.StopRefusal.TheVariants.{SessionsLeft, GivenUp, OutOfMemory, LinkEnded}
+use Rattle.serve.specs.declared.stopping.StopRefusal.TheVariants as stop
 use Rattle.serve.specs.declared.stopping.NoImage.{NoImage}
 use Rattle.serve.specs.declared.stopping.NoImage.TheVariants as none
 
--- why no image of a synced volume is left of the media, after a last sync that went so
-abbrev pub IsLeftAfter : {T : Type 0} → Opening → LastSync → StopRefusal T → Type 0
-IsLeftAfter v how (SessionsLeft left) = ⊥
-IsLeftAfter v how (GivenUp image) = (how ≡ sync.GivenUp) × IsImageOutside v image.items
-IsLeftAfter v how (OutOfMemory left) = ⊥
-IsLeftAfter v how (LinkEnded image) = (how ≡ sync.Cut) × IsImageOutside v image.items
+-- the volume's range of an image
+abbrev pub range_in : Opening → List ℕ → List ℕ
+range_in v image = volume_bytes (opening_range v) image
+
+-- The volume's range of an image begins with these bytes, and behind them it is as it was handed in.
+pub record Begins (v : Opening) (bytes image : List ℕ) : Type 0 where
+  pub size : length (range_in v image) ≡ 512 * v.count
+  pub first : take (length bytes) (range_in v image) ≡ bytes
+  pub rest : (k : ℕ) → length bytes ≤ k → k < 512 * v.count → slice_index (range_in v image) k ≡ contents_at v k
+
+-- an image that is as it was read back
+abbrev pub IsAsRead : Opening → Finish → List ℕ → Type 0
+IsAsRead v (Read bytes) image = IsImageOutside v image × Begins v bytes.items image
+IsAsRead v Unread image = ⊥
+IsAsRead v GivenUp image = ⊥
+IsAsRead v Cut image = ⊥
+
+-- whether a last sync was answered ok
+abbrev pub was_synced : Finish → Bool
+was_synced (Read bytes) = true
+was_synced Unread = true
+was_synced GivenUp = false
+was_synced Cut = false
+
+-- bytes were read back that the volume's range of an image doesn't begin with
+abbrev pub IsOther : Opening → Finish → List ℕ → Type 0
+IsOther v (Read bytes) image = take (length bytes.items) (range_in v image) ≢ bytes.items
+IsOther v Unread image = ⊥
+IsOther v GivenUp image = ⊥
+IsOther v Cut image = ⊥
+
+-- why no image of a synced volume is left of the media, after a last sync that came to this
+abbrev pub IsLeftAfter : {T : Type 0} → Opening → Finish → StopRefusal T → Type 0
+IsLeftAfter v finish (stop.SessionsLeft left) = ⊥
+IsLeftAfter v finish (stop.GivenUp image) = (finish ≡ GivenUp) × IsImageOutside v image.items
+IsLeftAfter v finish (stop.OutOfMemory left) = ⊥
+IsLeftAfter v finish (stop.LinkEnded image) = (finish ≡ Cut) × IsImageOutside v image.items
+IsLeftAfter v finish (stop.NotAsRead image) = IsOther v finish image.items × IsImageOutside v image.items
+IsLeftAfter v finish (stop.NotRead image) = (was_synced finish ≡ true) × IsImageOutside v image.items
+
+-- Bytes were read back, with which the volume's range of an image begins, and behind which both are as they were handed in: so over true replies
+-- the range is the disk, whole.
+pub record IsDisk (v : Opening) (marks : List Mark) (image : List ℕ) : Type 0 where
+  pub bytes : List ℕ
+  pub back : AreOnDisk v (512 * v.count) marks bytes
+  pub begins : Begins v bytes image
+  pub is_disk : HasTrueReplies (contents_at v) marks → (k : ℕ) → k < 512 * v.count
+      → slice_index (range_in v image) k ≡ disk_after (contents_at v) marks k
+
+-- What the volume's range of an image is beside what was read back: where all went, it is as read, and over true replies the disk. Where it isn't
+-- as read, some byte differs from the one that was.
+abbrev pub IsRange : SyncEnd → Opening → List Mark → List ℕ → Type 0
+IsRange Went v marks image = IsDisk v marks image
+IsRange WasGivenUp v marks image = Unit {0}
+IsRange WasCut v marks image = Unit {0}
+IsRange WasNotAsRead v marks image =
+    (bytes : List ℕ) × AreOnDisk v (512 * v.count) marks bytes × (take (length bytes) (range_in v image) ≢ bytes)
+IsRange WasNotRead v marks image = Unit {0}
 
 -- the image that a service leaves, and its link after a last sync that went so
 pub record IsLastImage {L : Type 0} (link : LinkWords L) (g : Geometry) (v : Opening) (seen : List Mark) (how : SyncEnd)
@@ -29,14 +84,18 @@ pub record IsLastImage {L : Type 0} (link : LinkWords L) (g : Geometry) (v : Ope
   pub outside : IsImageOutside v image
   pub line : L
   pub last : IsLastLine link g v seen how line
+  pub range : IsRange how v last.marks image
 
 -- Why a service that is stopped gives no image of a synced volume. While a session is left, or a handle of the media, it comes back, as it has
--- to; else a last sync was tried, which the device's giving up or the link's end kept from being made.
+-- to; else a last sync was tried, which the device's giving up or the link's end kept from being made, or the media aren't as they were read, or
+-- weren't read.
 abbrev pub WhyNotSynced : {L T : Type 0} → LinkWords L → Geometry → Opening → List Mark → (T → Type 0) → StopRefusal T → Type 0
-WhyNotSynced link g v seen is_back (SessionsLeft left) = is_back left
-WhyNotSynced link g v seen is_back (GivenUp image) = IsLastImage link g v seen WasGivenUp image.items
-WhyNotSynced link g v seen is_back (OutOfMemory left) = is_back left
-WhyNotSynced link g v seen is_back (LinkEnded image) = IsLastImage link g v seen WasCut image.items
+WhyNotSynced link g v seen is_back (stop.SessionsLeft left) = is_back left
+WhyNotSynced link g v seen is_back (stop.GivenUp image) = IsLastImage link g v seen WasGivenUp image.items
+WhyNotSynced link g v seen is_back (stop.OutOfMemory left) = is_back left
+WhyNotSynced link g v seen is_back (stop.LinkEnded image) = IsLastImage link g v seen WasCut image.items
+WhyNotSynced link g v seen is_back (stop.NotAsRead image) = IsLastImage link g v seen WasNotAsRead image.items
+WhyNotSynced link g v seen is_back (stop.NotRead image) = IsLastImage link g v seen WasNotRead image.items
 
 -- the image that a service leaves, at whose link no session has a number after the last sync
 pub record IsLastOfAll {L : Type 0} (link : LinkWords L) (numbers : L → List ℕ) (g : Geometry) (v : Opening) (seen : List Mark) (how : SyncEnd)
@@ -49,32 +108,44 @@ pub record IsLastOfAll {L : Type 0} (link : LinkWords L) (numbers : L → List �
 abbrev pub WhoIsLeft : {L T : Type 0} → LinkWords L → (L → List ℕ) → Geometry → Opening → List Mark → Option ℕ
     → Result (Vec ℕ) (StopRefusal T) → Type 0
 WhoIsLeft link numbers g v seen but (Ok image) = IsLastOfAll link numbers g v seen Went image.items
-WhoIsLeft {L} link numbers g v seen but (Err (SessionsLeft left)) = (line : L) × IsOneUsed (without but (numbers line))
-WhoIsLeft link numbers g v seen but (Err (GivenUp image)) = IsLastOfAll link numbers g v seen WasGivenUp image.items
-WhoIsLeft {L} link numbers g v seen but (Err (OutOfMemory left)) = (line : L) × AreAllFree (without but (numbers line))
-WhoIsLeft link numbers g v seen but (Err (LinkEnded image)) = IsLastOfAll link numbers g v seen WasCut image.items
+WhoIsLeft {L} link numbers g v seen but (Err (stop.SessionsLeft left)) = (line : L) × IsOneUsed (without but (numbers line))
+WhoIsLeft link numbers g v seen but (Err (stop.GivenUp image)) = IsLastOfAll link numbers g v seen WasGivenUp image.items
+WhoIsLeft {L} link numbers g v seen but (Err (stop.OutOfMemory left)) = (line : L) × AreAllFree (without but (numbers line))
+WhoIsLeft link numbers g v seen but (Err (stop.LinkEnded image)) = IsLastOfAll link numbers g v seen WasCut image.items
+WhoIsLeft link numbers g v seen but (Err (stop.NotAsRead image)) = IsLastOfAll link numbers g v seen WasNotAsRead image.items
+WhoIsLeft link numbers g v seen but (Err (stop.NotRead image)) = IsLastOfAll link numbers g v seen WasNotRead image.items
 
 -- the numbers of the refusals to stop
 abbrev pub stop_refusal_number : {S : Type 0} → StopRefusal S → ℕ
-stop_refusal_number (SessionsLeft service) = 1
-stop_refusal_number (GivenUp image) = 2
-stop_refusal_number (OutOfMemory left) = 3
-stop_refusal_number (LinkEnded image) = 4
+stop_refusal_number (stop.SessionsLeft service) = 1
+stop_refusal_number (stop.GivenUp image) = 2
+stop_refusal_number (stop.OutOfMemory left) = 3
+stop_refusal_number (stop.LinkEnded image) = 4
+stop_refusal_number (stop.NotAsRead image) = 5
+stop_refusal_number (stop.NotRead image) = 6
 
 -- what stopping a service gave: how the last sync went, and the image
 abbrev pub IsImageOf : {S : Type 0} → Result (Vec ℕ) (StopRefusal S) → LastSync → Vec ℕ → Type 0
 IsImageOf (Ok image) sync.Done left = left ≡ image
-IsImageOf (Err (GivenUp image)) sync.GivenUp left = left ≡ image
-IsImageOf (Err (LinkEnded image)) sync.Cut left = left ≡ image
+IsImageOf (Err (stop.GivenUp image)) sync.GivenUp left = left ≡ image
+IsImageOf (Err (stop.LinkEnded image)) sync.Cut left = left ≡ image
+IsImageOf (Err (stop.NotAsRead image)) sync.NotAsRead left = left ≡ image
+IsImageOf (Err (stop.NotRead image)) sync.NotRead left = left ≡ image
 IsImageOf _ _ _ = ⊥
 
 -- or why it gave none
 abbrev pub IsNoImageOf : {S : Type 0} → Result (Vec ℕ) (StopRefusal S) → NoImage → Type 0
-IsNoImageOf (Err (SessionsLeft service)) none.SessionsLeft = Unit {0}
-IsNoImageOf (Err (OutOfMemory left)) none.OutOfMemory = Unit {0}
+IsNoImageOf (Err (stop.SessionsLeft service)) none.SessionsLeft = Unit {0}
+IsNoImageOf (Err (stop.OutOfMemory left)) none.OutOfMemory = Unit {0}
 IsNoImageOf _ _ = ⊥
 
 -- the names of the reasons
 abbrev pub no_image_name : NoImage → List ℕ
 no_image_name none.SessionsLeft = codes "SessionsLeft"
 no_image_name none.OutOfMemory = codes "OutOfMemory"
+
+-- whether the media are as the volume was read back, for all that a last sync says
+abbrev pub is_as_read : LastSync → Bool
+is_as_read sync.NotAsRead = false
+is_as_read sync.NotRead = false
+is_as_read _ = true

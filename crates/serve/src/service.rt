@@ -81,6 +81,7 @@ impl<N: ServiceParameters, R: Wait + Copy, L: Recorder<N>, S: FileServer<L>> Sha
 /// needs a driver then waits for ever.
 #[derive(Drop)]
 pub struct Service<N: ServiceParameters, R: Wait + Copy, L: Recorder<N>, S: FileServer<L>> {
+    alloc: Global,
     rt: R,
     board: Arc<Board>,
     shared: Arc<Shared<N, R, L, S>>,
@@ -120,6 +121,7 @@ impl<
         };
         match shared_with_flusher(alloc, rt, server, gate) {
             Ok((shared, flusher)) => Ok(Service {
+                alloc,
                 rt,
                 board,
                 shared,
@@ -271,13 +273,14 @@ impl<N: ServiceParameters, R: Threads + Wait + Copy, L: Recorder<N>, S: FileServ
         self.shared.server.lock(&self.rt).has_sessions(but)
     }
 
-    /// Stops the service: sessions that were let go without `end` are ended, then the flusher; a last sync is made, the drivers are ended,
-    /// and the media are given back as an image: the bytes of all sectors, as they stand. The media become the image: it takes no memory.
-    /// At the last sync no session has a number.
+    /// Stops the service: sessions that were let go without `end` are ended, then the flusher; a last sync is made, and the volume's range read
+    /// back as far as it was written; the drivers are ended, and the media are given back as an image: the bytes of all sectors, as they stand.
+    /// The media become the image; as much memory as is read back is taken until then. At the last sync no session has a number.
     ///
-    /// It is refused: 1 SessionsLeft, where some session neither ended nor was let go; 3 OutOfMemory, where a handle of the media is left,
-    /// which both hand back the service as it was, its flusher and its drivers going on; 2 GivenUp and 4 LinkEnded, where the last sync
-    /// wasn't made, with the image as the media stand. The first of these that holds is answered.
+    /// It is refused: 1 SessionsLeft, where some session neither ended nor was let go, and 3 OutOfMemory, where a handle of the media is left,
+    /// which both hand back the service as it was, its flusher and its drivers going on; 2 GivenUp and 4 LinkEnded, where the last sync wasn't
+    /// made, or not all was read; 5 NotAsRead, where the media aren't as the range was read; 6 NotRead, where it wasn't read back for want of
+    /// memory, or a driver may have written behind what was: these four with the image as the media stand.
     pub fn stop(self) -> Result<Vec<u8>, StopRefusal<Service<N, R, L, S>>>
         ensures image { IfOk result (λ image. IsLastImage L.Link N.geometry N.opening [] Went image.items) }
         ensures refused { IfErr result (WhyNotSynced L.Link N.geometry N.opening [] (λ left. left ≡ self)) }
@@ -290,9 +293,12 @@ impl<N: ServiceParameters, R: Threads + Wait + Copy, L: Recorder<N>, S: FileServ
         if self.running.is_shared() {
             return Err(StopRefusal::OutOfMemory(self));
         }
+        let alloc = self.alloc;
         let (rt, locked, running) = self.alone(None);
-        let how = locked.finish();
-        image_of::<N, Service<N, R, L, S>>(how, running.stop(&rt))
+        let range = running.range(&rt);
+        let finish = locked.finish(alloc, range.1 as u64 * 512);
+        let (media, reach) = running.stop(&rt);
+        image_of::<N, Service<N, R, L, S>>(finish, media, reach, range)
     }
 
     /// What lies under the lock, and the threads of drivers, once the flusher has ended, nobody shares what lies there, and no session has
@@ -301,6 +307,7 @@ impl<N: ServiceParameters, R: Threads + Wait + Copy, L: Recorder<N>, S: FileServ
         ensures { AreAllFree (without but (L.numbers result.1)) }
     {
         let Service {
+            alloc: _,
             rt,
             board: _,
             shared,
@@ -344,9 +351,12 @@ impl<N: ServiceParameters, R: Threads + Wait + Copy, L: Recorder<N>, S: FileServ
             self.release(number, seat);
             return Err(StopRefusal::OutOfMemory(self));
         }
+        let alloc = self.alloc;
         let (rt, locked, running) = self.alone(Some(number));
-        let how = locked.finish_after(number, seat);
-        image_of::<N, Service<N, R, L, S>>(how, running.stop(&rt))
+        let range = running.range(&rt);
+        let finish = locked.finish_after(number, seat, alloc, range.1 as u64 * 512);
+        let (media, reach) = running.stop(&rt);
+        image_of::<N, Service<N, R, L, S>>(finish, media, reach, range)
     }
 
     /// The session of this seat has ended: its number is free again.

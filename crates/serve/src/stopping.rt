@@ -2,11 +2,13 @@
 
 ghost use Rattle.std.specs.Prelude.{◌≡◌, IfErr, IfOk, Some};
 ghost use Rattle.media.specs.Contents.{IsWhole};
-ghost use Rattle.shared_media.specs.Confined.{IsImageOutside, KeepsOutside};
-ghost use Rattle.serve.specs.Stopping.{IsImageOf, IsLeftAfter, IsNoImageOf, no_image_name, stop_refusal_number};
+ghost use Rattle.shared_media.specs.Confined.{KeepsBeyond, KeepsOutside};
+ghost use Rattle.serve.specs.Stopping.{IsAsRead, IsImageOf, IsLeftAfter, IsNoImageOf, is_as_read as as_read, no_image_name, stop_refusal_number};
 
+use crate::read_back::{has_range, is_at};
 use board::counting::parameters::ServiceParameters;
 use media::Media;
+use shared_server::finishing::Finish;
 use shared_server::locked::LastSync;
 use std::fmt;
 
@@ -17,15 +19,20 @@ pub enum StopRefusal<S> {
     SessionsLeft(S),
     /// The device was given up, so not all may have been written. With it comes the image, as the media stand.
     GivenUp(Vec<u8>),
-    /// A handle of the media is left: the service goes on, as with SessionsLeft. Once the handle was let go it can be stopped. (The image
-    /// takes no memory: the media become it.)
+    /// A handle of the media is left: the service goes on, as with SessionsLeft. Once the handle was let go it can be stopped.
     OutOfMemory(S),
     /// The link to the drivers has ended, so not all may have been written. With it comes the image, as the media stand.
     LinkEnded(Vec<u8>),
+    /// The volume was synced, and the media aren't as it was read back then: a driver lost writes, and didn't say so. With it comes the image,
+    /// as the media stand.
+    NotAsRead(Vec<u8>),
+    /// The volume was synced, and not read back: no memory was found for that, or a driver may have written where no request asked it to. With it
+    /// comes the image, as the media stand.
+    NotRead(Vec<u8>),
 }
 
 impl<S> StopRefusal<S> {
-    /// Its number: 1 to 4.
+    /// Its number: 1 to 6.
     pub fn number(&self) -> u32
         ensures { result ≡ stop_refusal_number self.now }
     {
@@ -34,8 +41,17 @@ impl<S> StopRefusal<S> {
             StopRefusal::GivenUp(_) => 2,
             StopRefusal::OutOfMemory(_) => 3,
             StopRefusal::LinkEnded(_) => 4,
+            StopRefusal::NotAsRead(_) => 5,
+            StopRefusal::NotRead(_) => 6,
         }
     }
+}
+
+/// Whether the media are as the volume was read back, for all that a last sync says: not where they differ, nor where it wasn't read back.
+pub fn is_as_read(last: LastSync) -> bool
+    ensures { result ≡ as_read last }
+{
+    !matches!(last, LastSync::NotAsRead | LastSync::NotRead)
 }
 
 /// Why no image is left of a service that was to be stopped.
@@ -71,6 +87,8 @@ pub fn image_left<S: Drop>(
         Ok(image) => Ok((LastSync::Done, image)),
         Err(StopRefusal::GivenUp(image)) => Ok((LastSync::GivenUp, image)),
         Err(StopRefusal::LinkEnded(image)) => Ok((LastSync::Cut, image)),
+        Err(StopRefusal::NotAsRead(image)) => Ok((LastSync::NotAsRead, image)),
+        Err(StopRefusal::NotRead(image)) => Ok((LastSync::NotRead, image)),
         Err(StopRefusal::SessionsLeft(_)) => Err(NoImage::SessionsLeft),
         Err(StopRefusal::OutOfMemory(_)) => Err(NoImage::OutOfMemory),
     }
@@ -83,22 +101,40 @@ fn has_whole_sectors(media: &Media)
     let _ = media.sectors();
 }
 
-/// The image of the media that a service leaves whose last sync went so, or why it is none of a synced volume.
+/// The image of the media that a service leaves whose last sync came to this, or why it is none of a synced volume. The volume's range of the
+/// media has this first sector and so many; drivers may have written as many of them, from the first on, as they reach. Where the media don't
+/// have the whole range, it wasn't read back.
 ///
 /// It takes no memory: the media become the image.
 pub(crate) fn image_of<N: ServiceParameters, S>(
-    how: LastSync,
+    finish: Finish,
     media: Media,
+    reach: u32,
+    range: (u32, u32),
 ) -> Result<Vec<u8>, StopRefusal<S>>
-    requires { KeepsOutside N.opening media }
-    ensures image { IfOk result (λ image. (how ≡ LastSync.Done) × IsImageOutside N.opening image.items) }
-    ensures refused { IfErr result (IsLeftAfter N.opening how) }
+    requires beyond { KeepsBeyond N.opening reach media }
+    requires outside { KeepsOutside N.opening media }
+    requires range { (range.0 ≡ N.opening.first) × (range.1 ≡ N.opening.count) }
+    ensures image { IfOk result (λ image. IsAsRead N.opening finish image.items) }
+    ensures refused { IfErr result (IsLeftAfter N.opening finish) }
 {
     has_whole_sectors(&media);
     let image = media.into_image();
-    match how {
-        LastSync::Done => Ok(image),
-        LastSync::GivenUp => Err(StopRefusal::GivenUp(image)),
-        LastSync::Cut => Err(StopRefusal::LinkEnded(image)),
+    let (first, count) = range;
+    match finish {
+        Finish::Read(read) => {
+            if !has_range(first, count, &image) {
+                Err(StopRefusal::NotRead(image))
+            } else if reach as usize > read.len() / 512 {
+                Err(StopRefusal::NotRead(image))
+            } else if is_at(first, count, &read, &image) {
+                Ok(image)
+            } else {
+                Err(StopRefusal::NotAsRead(image))
+            }
+        }
+        Finish::Unread => Err(StopRefusal::NotRead(image)),
+        Finish::GivenUp => Err(StopRefusal::GivenUp(image)),
+        Finish::Cut => Err(StopRefusal::LinkEnded(image)),
     }
 }

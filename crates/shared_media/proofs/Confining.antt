@@ -11,18 +11,43 @@ use Rattle.bdev.specs.declared.Run.{Run}
 use Rattle.bdev.specs.DriverState.{DriverState, Work, chunk}
 use Rattle.bdev.specs.Promises.{StepKeeps, StepsAt, MovesBytes, IsNext}
 use Rattle.true_replies.specs.Events.{opening_media}
-use Rattle.shared_media.specs.Confined.{KeepsOutside, IsInVolume, StaysInVolume}
+use Rattle.shared_media.specs.Confined.{KeepsOutside, KeepsBeyond, IsInVolume, StaysInVolume, reached_for}
+
+-- the first sectors of the volume, so many
+abbrev up_to : Opening → ℕ → Opening
+up_to v reach = record v { count = reach }
 
 -- the media as they were handed in
-pub keeps_given : (v : Opening) (m : MediaState) → m ≡ opening_media v → KeepsOutside v m
+pub keeps_given : (v : Opening) (m : MediaState) → m ≡ opening_media v → KeepsBeyond v 0 m
 keeps_given v m given =
-    subst (λ (x : MediaState). KeepsOutside v x) (sym given) (record { number = refl; outside = record { each = λ n out. refl } })
+    subst (λ (x : MediaState). KeepsBeyond v 0 x) (sym given)
+    (record { inside = omega arith; outside = record { number = refl; outside = record { each = λ n out. refl } } })
 
-pub keeps_same : (v : Opening) (old new : MediaState) → new ≡ old → KeepsOutside v old → KeepsOutside v new
+keeps_same : (v : Opening) (old new : MediaState) → new ≡ old → KeepsOutside v old → KeepsOutside v new
 keeps_same v old new same kept = subst (λ (m : MediaState). KeepsOutside v m) (sym same) kept
 
-pub keeps_adopted : (v : Opening) (m : MediaState) (g : ℕ) → KeepsOutside v m → KeepsOutside v (adopted m g)
-keeps_adopted v m g kept = record { number = kept.number; outside = record { each = λ n out. kept.outside.each n out } }
+pub keeps_adopted : (v : Opening) (reach : ℕ) (m : MediaState) (g : ℕ) → KeepsBeyond v reach m → KeepsBeyond v reach (adopted m g)
+keeps_adopted v reach m g kept = record {
+  inside = kept.inside;
+  outside = record { number = kept.outside.number; outside = record { each = λ n out. kept.outside.outside.each n out } };
+}
+
+-- a sector outside of more of the volume's is outside of fewer
+out_of_less : (v : Opening) (less more n : ℕ) → less ≤ more → (n < v.first) ⊎ (v.first + more ≤ n) → (n < v.first) ⊎ (v.first + less ≤ n)
+out_of_less v less more n grows out = elim out [
+  | inl l ↦ inl l
+  | inr r ↦ inr (omega (arith, grows, r))
+]
+
+wider : (v : Opening) (less more : ℕ) (m : MediaState) → less ≤ more → KeepsOutside (up_to v less) m → KeepsOutside (up_to v more) m
+wider v less more m grows kept = record {
+  number = kept.number;
+  outside = record { each = λ n out. kept.outside.each n (out_of_less v less more n grows out) };
+}
+
+-- who keeps what is beyond some of the volume's sectors keeps what is outside of the volume
+pub keeps_outside : (v : Opening) (reach : ℕ) (m : MediaState) → KeepsBeyond v reach m → KeepsOutside v m
+keeps_outside v reach m kept = wider v reach v.count m kept.inside kept.outside
 
 -- a sector of the volume isn't one outside
 elsewhere : (v : Opening) (s n : ℕ) → IsInVolume v s → (n < v.first) ⊎ (v.first + v.count ≤ n) → n ≢ s
@@ -56,6 +81,25 @@ stepped v b (Some w) m g step a m' s stays kept = elim s.1 [
   | inr p ↦ moved v b w s.0 p.run p.number m g m' w.request.kind refl p.next stays p.bytes kept
 ]
 
-pub keeps_stepped : (v : Opening) (b : DriverState) (m : MediaState) (g : ℕ) (step : Step) (a : DriverState) (m' : MediaState)
-    → StaysInVolume v b → StepKeeps b m g step a m' → KeepsOutside v m → KeepsOutside v m'
-keeps_stepped v b m g step a m' stays keeps kept = stepped v b b.work m g step a m' keeps.steps stays kept
+-- the sector that a step may write is one of those up to the new reach
+reaches : (v : Opening) (o : Option ℕ) (reach : ℕ) → IfSome o (IsInVolume v) → IfSome o (IsInVolume (up_to v (reached_for v.first o reach)))
+reaches v None reach stays = stays
+reaches v (Some s) reach stays = (stays.0, omega (arith, stays.0))
+
+grows : (v : Opening) (o : Option ℕ) (reach : ℕ) → reach ≤ reached_for v.first o reach
+grows v None reach = omega arith
+grows v (Some s) reach = omega arith
+
+fits : (v : Opening) (o : Option ℕ) (reach : ℕ) → IfSome o (IsInVolume v) → reach ≤ v.count → reached_for v.first o reach ≤ v.count
+fits v None reach stays inside = inside
+fits v (Some s) reach stays inside = omega (arith, stays.0, stays.1, inside)
+
+pub keeps_stepped : (v : Opening) (b : DriverState) (reach reach' : ℕ) (m : MediaState) (g : ℕ) (step : Step) (a : DriverState)
+    (m' : MediaState) → StaysInVolume v b → reach' ≡ reached_for v.first b.in_work reach → StepKeeps b m g step a m'
+    → KeepsBeyond v reach m → KeepsBeyond v reach' m'
+keeps_stepped v b reach reach' m g step a m' stays is keeps kept =
+    let next : ℕ = reached_for v.first b.in_work reach in
+    let before : KeepsOutside (up_to v next) m = wider v reach next m (grows v b.in_work reach) kept.outside in
+    let after : KeepsOutside (up_to v next) m' =
+    stepped (up_to v next) b b.work m g step a m' keeps.steps (reaches v b.in_work reach stays) before in
+    subst (λ (r : ℕ). KeepsBeyond v r m') (sym is) (record { inside = fits v b.in_work reach stays kept.inside; outside = after })

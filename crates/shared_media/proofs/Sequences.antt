@@ -1,6 +1,5 @@
 -- What holds after any number of steps between two takings.
-use Rattle.std.proofs.Common.{◌≡◌, ℕ, ◌+◌, ◌*◌, ◌/◌, ◌<◌, List, [], ◌∷◌, length, Bool, false, refl, sym, subst, ◌∙◌, ap, arith}
-use Rattle.stable.specs.Disk.{Contents}
+use Rattle.std.proofs.Common.{◌≡◌, ℕ, ◌+◌, ◌*◌, ◌/◌, List, [], ◌∷◌, length, false, sym, subst, ◌∙◌, ap, arith}
 use Rattle.media.specs.Contents.{IsWhole}
 use Rattle.changes.specs.Units.{is_marked, marked, with_marks}
 use Rattle.changes.proofs.Marking.{off_again, still_marks}
@@ -8,7 +7,7 @@ use Rattle.changes.proofs.Taking.{taken_is_all}
 use Rattle.changes.proofs.UnitBytes.{stays_unchanged}
 use Rattle.changes.specs.Units.{unit_of}
 use Rattle.std.specs.List.{concat}
-use Rattle.shared_media.specs.Marking.{ConfinedState, MarksChanges, EachMarks, AgreesWith, AgreesOn, TakenAfterSteps, MarkedAgain, unmarked, units_of}
+use Rattle.shared_media.specs.Marking.{ConfinedState, MarksChanges, EachMarks, AgreesOn, TakenAfterSteps, MarkedAgain, unmarked}
 
 joined : (a b c : ConfinedState) → MarksChanges a b → MarksChanges b c → MarksChanges a c
 joined a b c p q = record {
@@ -40,9 +39,9 @@ taken_after_steps first between last contents changes whole whole' each agrees t
 
 pub marked_again : MarkedAgain
 marked_again first between last contents changes whole whole' agrees taken long each long' n off =
-    let marks : MarksChanges (unmarked first.media) last = together (unmarked first.media) between last each in
+    let marks : MarksChanges (unmarked first) last = together (unmarked first) between last each in
     let now : is_marked (with_marks last.marks (marked first.marks)) n ≡ false =
     subst (λ (ns : List ℕ). is_marked (with_marks last.marks ns) n ≡ false) taken.numbers off in
     let here : is_marked last.marks n ≡ false = still_marks (marked first.marks) last.marks n now in
     let same : length first.marks ≡ length last.marks = long ∙ ap (λ k. (k + 7) / 8) (sym marks.number) ∙ sym long' in
-    agrees n (off_again first.marks last.marks n same now) ∙ sym (same_unit (unmarked first.media) last whole whole' marks n here)
+    agrees n (off_again first.marks last.marks n same now) ∙ sym (same_unit (unmarked first) last whole whole' marks n here)

@@ -8,18 +8,23 @@ use Rattle.changes.specs.declared.taken.Changes.{Changes}
 use Rattle.changes.specs.Units.{units_in, is_marked, with_mark, with_marks, AgreesBut, AreTaken, puts_of, unit_of}
 use Rattle.shared_media.specs.Confined.{IsImageOutside}
 
--- the media, and a mark for each unit of eight sectors
+-- the media, a mark for each unit of eight sectors, and how many of the volume's sectors, from its first on, steps may have written
 pub record ConfinedState : Type 0 where
   pub media : MediaState
   pub marks : List Bool
+  pub reach : ℕ
 
 -- how many units media have; the last one may have fewer than eight sectors
 abbrev pub units_of : MediaState → ℕ
 units_of media = (length media.sectors + 7) / 8
 
--- media of which no unit is marked
-abbrev pub unmarked : MediaState → ConfinedState
-unmarked media = record { media = media; marks = replicate (units_of media) false }
+-- media on which no step was taken
+abbrev pub fresh : MediaState → ConfinedState
+fresh media = record { media = media; marks = replicate (units_of media) false; reach = 0 }
+
+-- the same media, of which no unit is marked
+abbrev pub unmarked : ConfinedState → ConfinedState
+unmarked c = record c { marks = replicate (units_of c.media) false }
 
 -- the unit of the sector that a step may write is marked too, if it names one
 abbrev pub marked_for : Option ℕ → List Bool → List Bool
@@ -67,5 +72,5 @@ abbrev pub MarkedAgain : Type 0
 MarkedAgain = (first : ConfinedState) (between : List ConfinedState) (last : ConfinedState) (contents : Contents) (changes : Changes)
     → IsWhole first.media.sectors → IsWhole last.media.sectors → AgreesWith contents first
     → AreTaken first.marks (concat first.media.sectors) changes → length first.marks ≡ units_of first.media
-    → EachMarks (unmarked first.media) between last → length last.marks ≡ units_of last.media
+    → EachMarks (unmarked first) between last → length last.marks ≡ units_of last.media
     → AgreesWith contents (record last { marks = with_marks last.marks changes.numbers.items })

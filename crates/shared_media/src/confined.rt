@@ -1,14 +1,14 @@
 //! The media that drivers share, on which they write in the range of one volume alone.
 
-ghost use Rattle.std.specs.Prelude.{◌≡◌, ◌≤◌, ◌<◌, ◌+◌, ◌↔◌, IfOk, IsTrue, OnErr, OnOk};
+ghost use Rattle.std.specs.Prelude.{◌≡◌, ◌≤◌, ◌<◌, ◌+◌, ◌↔◌, IfOk, IfSome, IsTrue, OnErr, OnOk};
 ghost use Rattle.std.specs.List.{concat};
 ghost use Rattle.media.specs.Contents.{adopted};
 ghost use Rattle.true_replies.specs.Events.{opening_media};
 ghost use Rattle.bdev.specs.Promises.{StepKeeps};
 ghost use Rattle.bdev.specs.Stepping.{step_with};
 ghost use Rattle.changes.specs.Units.{AreTaken, with_marks};
-ghost use Rattle.shared_media.specs.Confined.{KeepsOutside, IsImageOutside, IsInVolume, StaysInVolume, step_of};
-ghost use Rattle.shared_media.specs.Marking.{AreChangesOutside, MarksChanges, marked_for, units_of, unmarked};
+ghost use Rattle.shared_media.specs.Confined.{KeepsBeyond, KeepsOutside, IsImageOutside, IsInVolume, StaysInVolume, reached_for, step_of};
+ghost use Rattle.shared_media.specs.Marking.{AreChangesOutside, MarksChanges, fresh, marked_for, units_of, unmarked};
 
 use bdev::{BlockDriver, Stepped};
 use board::counting::parameters::ServiceParameters;
@@ -23,7 +23,8 @@ const SECTORS: u32 = 8;
 
 /// Media on which drivers write in a volume's range alone: they have as many sectors as were handed in, and outside of the range each
 /// sector is as it was handed in. Beside them stands a mark for each unit of 4096 bytes: whether a sector of it may have changed since the
-/// changes were last taken. Contracts see the media and the marks.
+/// changes were last taken; and how many sectors of the range, from its first on, steps may have written at all. Contracts see the media,
+/// the marks and that number.
 #[derive(Drop)]
 pub struct Confined<N: ServiceParameters> {
     media: Media,
@@ -31,19 +32,21 @@ pub struct Confined<N: ServiceParameters> {
     // The volume's first sector, and how many it has.
     first: u32,
     count: u32,
+    // How many of them, from the first on, steps may have written.
+    reach: u32,
     of: PhantomData<N>,
 }
 
 impl<N: ServiceParameters> Model for Confined<N> {
     ghost use Rattle.std.specs.Prelude.{◌≡◌, length};
-    ghost use Rattle.shared_media.specs.Confined.{KeepsOutside};
+    ghost use Rattle.shared_media.specs.Confined.{KeepsBeyond};
     ghost use Rattle.shared_media.specs.Marking.{ConfinedState, units_of};
 
     ghost Value = { ConfinedState };
 
-    ghost view = { λ c. record { media = c.media; marks = c.marks } };
+    ghost view = { λ c. record { media = c.media; marks = c.marks; reach = c.reach } };
 
-    ghost invariant = { λ c. (c.first ≡ N.opening.first) × (c.count ≡ N.opening.count) × KeepsOutside N.opening c.media
+    ghost invariant = { λ c. (c.first ≡ N.opening.first) × (c.count ≡ N.opening.count) × KeepsBeyond N.opening c.reach c.media
         × (length c.marks ≡ units_of c.media) };
 }
 
@@ -60,6 +63,17 @@ fn mark_sector(marks: &mut Marks, sector: Option<u32>)
 {
     if let Some(sector) = sector {
         marks.mark(sector / SECTORS);
+    }
+}
+
+/// How many sectors of a range, from this first one on, steps may have written: so many before, and then one that may write this sector.
+fn reached_for(first: u32, sector: Option<u32>, reach: u32) -> u32
+    requires { IfSome sector (λ s. (first ≤ s) × (s < first + 4294967295)) }
+    ensures { result ≡ reached_for first sector reach }
+{
+    match sector {
+        Some(sector) => (sector - first + 1).max(reach),
+        None => reach,
     }
 }
 
@@ -81,7 +95,7 @@ impl<N: ServiceParameters> Confined<N> {
     pub fn new(alloc: Global, media: Media, range: (u32, u32)) -> Result<Confined<N>, AllocError>
         requires range { (range.0 ≡ N.opening.first) × (range.1 ≡ N.opening.count) }
         requires media { media ≡ opening_media N.opening }
-        ensures { IfOk result (λ confined. confined ≡ unmarked media) }
+        ensures { IfOk result (λ confined. confined ≡ fresh media) }
     {
         let (first, count) = range;
         let marks = Marks::new(alloc, units_of(&media))?;
@@ -90,6 +104,7 @@ impl<N: ServiceParameters> Confined<N> {
             marks,
             first,
             count,
+            reach: 0,
             of: PhantomData,
         })
     }
@@ -119,13 +134,17 @@ impl<N: ServiceParameters> Confined<N> {
             → (result ≡ Stepped.Failed) × (D.state driver.new ≡ D.state driver.old) × (self.new ≡ self.old) }
         ensures marks { StaysInVolume N.opening (D.state driver.old)
             → self.new.marks ≡ marked_for (D.state driver.old).in_work self.old.marks }
+        ensures reach { StaysInVolume N.opening (D.state driver.old)
+            → self.new.reach ≡ reached_for N.opening.first (D.state driver.old).in_work self.old.reach }
         ensures changed { MarksChanges self.old self.new }
         ensures from { reply.new.from ≡ reply.old.from }
     {
         if !self.admits(driver) {
             return Stepped::Failed;
         }
-        mark_sector(&mut self.marks, driver.in_work());
+        let sector = driver.in_work();
+        mark_sector(&mut self.marks, sector);
+        self.reach = reached_for(self.first, sector, self.reach);
         let stepped = driver.step_into(&mut self.media, generation, &mut reply.bytes);
         put_completion(reply, stepped);
         stepped
@@ -136,7 +155,7 @@ impl<N: ServiceParameters> Confined<N> {
     #[tactic(auto, using(crate::proofs::Marking::changes_outside))]
     pub fn take_changes(&mut self, alloc: Global) -> Result<Changes, AllocError>
         ensures taken { IfOk result (AreTaken self.old.marks (concat self.old.media.sectors)) }
-        ensures cleared { OnOk result (self.new ≡ unmarked self.old.media) }
+        ensures cleared { OnOk result (self.new ≡ unmarked self.old) }
         ensures refused { OnErr result (self.new ≡ self.old) }
         ensures outside { IfOk result (AreChangesOutside N.opening) }
     {
@@ -156,6 +175,7 @@ impl<N: ServiceParameters> Confined<N> {
     }
 
     /// The image of the media: the bytes of all sectors, in order, as they stand. Refused where no memory was found for it.
+    #[tactic(auto, using(crate::proofs::Confining::keeps_outside))]
     pub fn image(&self, alloc: Global) -> Result<Vec<u8>, AllocError>
         ensures bytes { IfOk result (λ image. image.items ≡ concat self.now.media.sectors) }
         ensures outside { IfOk result (λ image. IsImageOutside N.opening image.items) }
@@ -167,13 +187,24 @@ impl<N: ServiceParameters> Confined<N> {
         }
     }
 
-    /// The media, with no drivers on them.
-    pub fn into_media(self) -> Media
-        ensures same { result ≡ self.media }
-        ensures kept { KeepsOutside N.opening result }
+    /// The volume's range: its first sector, and how many it has.
+    pub fn range(&self) -> (u32, u32)
+        ensures { (result.0 ≡ N.opening.first) × (result.1 ≡ N.opening.count) }
     {
-        let Confined { media, .. } = self;
-        media
+        (self.first, self.count)
+    }
+
+    /// The media, with no drivers on them, and how many sectors of the range, from its first on, steps may have written: each other one is
+    /// as it was handed in.
+    #[tactic(auto, using(crate::proofs::Confining::keeps_outside))]
+    pub fn into_media(self) -> (Media, u32)
+        ensures same { result.0 ≡ self.media }
+        ensures reach { result.1 ≡ self.reach }
+        ensures kept { KeepsBeyond N.opening result.1 result.0 }
+        ensures outside { KeepsOutside N.opening result.0 }
+    {
+        let Confined { media, reach, .. } = self;
+        (media, reach)
     }
 
     // Whether a driver names no sector as the next to be written, or one of the volume's.

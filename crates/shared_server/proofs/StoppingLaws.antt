@@ -1,5 +1,5 @@
 -- How the last sync of a service went, and what its link then guarantees.
-use Rattle.std.proofs.Common.{◌≡◌, List, [], ◌∷◌, Bool, true, false, refl, sym, ◌∙◌, ap, subst, inl, inr, append-nil}
+use Rattle.std.proofs.Common.{◌≡◌, ℕ, List, [], ◌∷◌, Bool, true, false, refl, sym, ◌∙◌, ap, subst, inl, inr, append-nil}
 use Rattle.std.specs.Prelude.{◌⊎◌, Result, Ok, Err, IfErr, if◌then◌else◌}
 use Rattle.layout.specs.declared.Geometry.{Geometry}
 use Rattle.tree.specs.declared.Call.{Call}
@@ -28,7 +28,7 @@ use Rattle.board.specs.declared.counting.parameters.ServiceParameters.{Ghosts as
 use Rattle.board.specs.Keeper.{begins_itself, begins_before, begins_further}
 use Rattle.shared_server.specs.Descriptors.{is_done, was_cut, succeeded}
 use Rattle.shared_server.specs.Held.{IsHeld}
-use Rattle.shared_server.specs.Stopping.{syncer, SyncEnd, Went, WasGivenUp, WasCut, sync_end, has_ended, SyncTells, IsLastLine}
+use Rattle.shared_server.specs.Stopping.{syncer, SyncEnd, Went, WasGivenUp, WasCut, sync_end, has_ended, SyncTells, IsFinished, IsLastLine}
 use Rattle.shared_server.proofs.HeldLaws.{Kept, ends_called, kept_if_cut, legal_from, not_given_up, done_is, true_before, true_outcome}
 
 -- a record goes on with a message, and with each act
@@ -36,7 +36,7 @@ counted_goes_on : (b : Bool) (a : BlockReply) (marks : List Mark) → IsBeginnin
 counted_goes_on true a marks = begins_before (Answered a) marks _ refl
 counted_goes_on false a marks = begins_itself marks
 
-message_goes_on : (message : Incoming) (marks : List Mark) → IsBeginning marks (received message marks)
+pub message_goes_on : (message : Incoming) (marks : List Mark) → IsBeginning marks (received message marks)
 message_goes_on (incoming.Reply a) marks = counted_goes_on (counts marks a) a marks
 message_goes_on (incoming.Started e) marks = begins_before (Started e) marks _ refl
 message_goes_on incoming.GaveUp marks = begins_before GaveUp marks _ refl
@@ -92,7 +92,7 @@ answered_tells g v tree marks answer false is once legal = λ replies.
     sym (sync_is_done g (contents_at v) (tree_after g tree marks) marks (gave_up marks) answer live (legal replies).1) ∙ is)
 
 -- and of any
-outcome_tells : (g : Geometry) (v : Opening) (tree : Tree) (marks : List Mark) (outcome : Outcome)
+pub outcome_tells : (g : Geometry) (v : Opening) (tree : Tree) (marks : List Mark) (outcome : Outcome)
     → (gave_up marks ≡ true → (outcome ≡ Cut) ⊎ (outcome ≡ Replied (refused EIO)))
     → (outcome ≡ Cut → gave_up marks ≡ false)
     → (HasTrueReplies (contents_at v) (with_outcome syncer 0 Sync outcome marks)
@@ -185,6 +185,18 @@ line_from link g v earlier seen how line begins l = record {
   guaranteed = l.guaranteed;
   goes_on = begins_further earlier seen l.marks begins l.goes_on;
   tells = l.tells;
+}
+
+-- so does what is left of a server
+pub finished_from : {L : Type 0} (link : LinkWords L) (numbers : L → List ℕ) (g : Geometry) (v : Opening) (earlier seen : List Mark) (used : List ℕ)
+    (how : SyncEnd) (size : ℕ) (bytes : List ℕ) → IsBeginning earlier seen → IsFinished link numbers g v seen used how size bytes
+    → IsFinished link numbers g v earlier used how size bytes
+unfolding line_from
+finished_from link numbers g v earlier seen used how size bytes begins l = record {
+  line = l.line;
+  last = line_from link g v earlier seen how l.line begins l.last;
+  back = l.back;
+  same = l.same;
 }
 
 -- each record goes on from nothing

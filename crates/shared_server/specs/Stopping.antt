@@ -1,26 +1,30 @@
 -- What a service that is stopped leaves.
-use Rattle.std.specs.Prelude.{◌≡◌, ℕ, List, ◌∷◌, Bool, true, false, if◌then◌else◌}
+use Rattle.std.specs.Prelude.{◌≡◌, ◌<◌, ◌≤◌, ℕ, List, ◌∷◌, length, Bool, true, false, if◌then◌else◌, slice_index}
 use Rattle.layout.specs.declared.Geometry.{Geometry}
 use Rattle.tree.specs.declared.Who.{Who}
 use Rattle.tree.specs.declared.Call.TheVariants.{Sync}
 use Rattle.tree.specs.Tree.{Tree}
 use Rattle.tree.specs.Answers.{done}
 use Rattle.records.specs.Marks.{Mark, Took, gave_up, IsBeginning}
-use Rattle.records.specs.Disk.{HasTrueReplies}
+use Rattle.records.specs.Disk.{HasTrueReplies, disk_after}
 use Rattle.records.specs.Opening.{Opening, contents_at}
 use Rattle.records.specs.Told.{took_end}
 use Rattle.records.specs.Legal.{IsAtFirst, IsSynced, tree_after}
 use Rattle.reissue.specs.declared.link.Link.{Ghosts as LinkWords}
+use Rattle.reissue.specs.Moves.{WasRead}
 
 -- who syncs a service that is stopped
 abbrev pub syncer : Who
 syncer = record { session = 0; uid = 0; gid = 0 }
 
--- How the last sync of a service went: it was answered ok, or otherwise, or it was cut.
+-- How the last sync of a service went: it was answered ok, and the volume read back; the device was given up, or the link ended, in either; all
+-- that went, and the media then weren't as they had been read; or it was answered ok, and the volume not read back.
 pub data SyncEnd : Type 0 where
   Went : SyncEnd
   WasGivenUp : SyncEnd
   WasCut : SyncEnd
+  WasNotAsRead : SyncEnd
+  WasNotRead : SyncEnd
 
 -- by whether it was cut, and whether it was answered ok
 abbrev pub sync_end : Bool → Bool → SyncEnd
@@ -31,14 +35,33 @@ abbrev pub has_ended : SyncEnd → Bool
 has_ended WasCut = true
 has_ended _ = false
 
--- What the record says then. A sync that was answered ok: the device wasn't given up, and where the replies were true the disk alone holds
--- the tree. One that was answered otherwise: where they were true, the device was given up. One that was cut: it wasn't given up.
-abbrev pub SyncTells : SyncEnd → Geometry → Opening → Tree → List Mark → Type 0
-SyncTells Went g v tree marks =
+-- what the record says of a sync that was answered ok: the device wasn't given up, and where the replies were true the disk alone holds the tree
+abbrev pub IsOnDisk : Geometry → Opening → Tree → List Mark → Type 0
+IsOnDisk g v tree marks =
     (gave_up marks ≡ false)
     × (HasTrueReplies (contents_at v) marks → IsSynced g (contents_at v) marks (tree_after g tree (Took syncer 0 Sync done ∷ marks)))
+
+-- What it says then: that, also where the media aren't as read, or it wasn't read back; where the device was given up, over true replies, that it
+-- was; of a cut that it wasn't.
+abbrev pub SyncTells : SyncEnd → Geometry → Opening → Tree → List Mark → Type 0
+SyncTells Went g v tree marks = IsOnDisk g v tree marks
 SyncTells WasGivenUp g v tree marks = HasTrueReplies (contents_at v) marks → gave_up marks ≡ true
 SyncTells WasCut g v tree marks = gave_up marks ≡ false
+SyncTells WasNotAsRead g v tree marks = IsOnDisk g v tree marks
+SyncTells WasNotRead g v tree marks = IsOnDisk g v tree marks
+
+-- These are the first bytes of the volume's range, as far as it was written. Each place of them was read, and gave its byte; where the replies
+-- were true, it is the disk's. Behind them the disk is as it was handed in, whatever the replies.
+pub record AreOnDisk (v : Opening) (size : ℕ) (marks : List Mark) (bytes : List ℕ) : Type 0 where
+  pub within : length bytes ≤ size
+  pub read : (k : ℕ) → k < length bytes → WasRead marks k (slice_index bytes k)
+  pub is_disk : HasTrueReplies (contents_at v) marks → (k : ℕ) → k < length bytes → slice_index bytes k ≡ disk_after (contents_at v) marks k
+  pub beyond : (k : ℕ) → length bytes ≤ k → k < size → disk_after (contents_at v) marks k ≡ contents_at v k
+
+-- so it is of what was read back, where all went
+abbrev pub AreBack : SyncEnd → Opening → ℕ → List Mark → List ℕ → Type 0
+AreBack Went v size marks bytes = AreOnDisk v size marks bytes
+AreBack _ v size marks bytes = Unit {0}
 
 -- A service's link after the last sync, which went so: it has ended where the sync was cut, and guarantees a record that goes on from what was
 -- seen, and says how the sync went, whichever tree the volume held as it was handed in.
@@ -49,9 +72,11 @@ pub record IsLastLine {L : Type 0} (link : LinkWords L) (g : Geometry) (v : Open
   pub goes_on : IsBeginning seen marks
   pub tells : (tree : Tree) → IsAtFirst g (contents_at v) tree → SyncTells how g v tree marks
 
--- A server was let go after a last sync, which went so: its link then, at which sessions had these numbers.
+-- A server was let go after a last sync, which went so, with these first bytes of its range of this size read back: its link then, at which
+-- sessions had these numbers.
 pub record IsFinished {L : Type 0} (link : LinkWords L) (numbers : L → List ℕ) (g : Geometry) (v : Opening) (seen : List Mark) (used : List ℕ)
-    (how : SyncEnd) : Type 0 where
+    (how : SyncEnd) (size : ℕ) (bytes : List ℕ) : Type 0 where
   pub line : L
   pub last : IsLastLine link g v seen how line
+  pub back : AreBack how v size last.marks bytes
   pub same : numbers line ≡ used

@@ -1,6 +1,6 @@
 //! What lies under the lock of a service.
 
-ghost use Rattle.std.specs.Prelude.{◌≡◌, ◌↔◌, ◌∷◌, ◌<◌, true, Some, IsErrOf, IfErr, IfOk, OnErr};
+ghost use Rattle.std.specs.Prelude.{◌≡◌, ◌↔◌, ◌∷◌, ◌<◌, ◌≤◌, ◌^◌, ◌%◌, length, true, Some, IsErrOf, IfErr, IfOk, OnErr};
 ghost use Rattle.records.specs.Opening.{contents_at};
 ghost use Rattle.records.specs.Told.{took_end};
 ghost use Rattle.tree.specs.Tree.{Tree};
@@ -11,18 +11,21 @@ ghost use Rattle.board.specs.Steps.{SessionIsNew, SessionLearns};
 ghost use Rattle.file_server.specs.Over.{outcome_in, outcome_of};
 ghost use Rattle.shared_server.specs.Held.{AddsCall, HoldsIfTrue, IsEioOnceGivenUp, IsGood, IsGuaranteed, IsHeld, IsNotAdmitted, IsServedCall, IsSound};
 ghost use Rattle.shared_server.specs.Stopping.{IsFinished};
-ghost use Rattle.shared_server.specs.Finishing.{sync_of};
+ghost use Rattle.shared_server.specs.Finishing.{bytes_back, finish_end};
 ghost use Rattle.board.specs.Keeper.{AreAllUsed, IsLowestFree, IsOneFree, IsOneUsed};
 
 use crate::calling::make_call;
+use crate::finishing::{Finish, is_beyond, room_for};
 use crate::flushing::{take_aside, take_flush};
 use crate::left_open::{is_cut, was_done};
 use crate::refusal::SessionRefusal;
 use crate::sharing::{admit, release, show};
 use board::Seat;
 use board::counting::parameters::ServiceParameters;
+use board::counting::reach::disk_stays_beyond;
 use board::counting::recorder::Recorder;
-use file_server::{Ending, FileServer};
+use file_server::{Ending, FileServer, ReadEnd};
+use std::alloc::Global;
 use std::marker::{Model, PhantomData};
 use tree::{Call, Outcome, Reply, Who};
 
@@ -35,12 +38,16 @@ const MOST_ASIDE: u32 = 64;
 /// What came of the last sync of a service.
 #[derive(Clone, Copy, Debug, PartialEq, Eq)]
 pub enum LastSync {
-    /// It was answered ok.
+    /// It was answered ok, and the volume read back.
     Done,
     /// The device was given up.
     GivenUp,
     /// The link to the drivers had ended.
     Cut,
+    /// It was answered ok and the volume read back, but the media aren't as they were read: a driver lost writes, and didn't say so.
+    NotAsRead,
+    /// It was answered ok, and the volume wasn't read back, or not all that drivers may have written.
+    NotRead,
 }
 
 /// What lies under the lock of a service: its server, whose link keeps the record. Contracts see the link.
@@ -54,7 +61,7 @@ pub struct Locked<N: ServiceParameters, L: Recorder<N>, S: FileServer<L>> {
 }
 
 impl<N: ServiceParameters, L: Recorder<N>, S: FileServer<L>> Model for Locked<N, L, S> {
-    ghost use Rattle.std.specs.Prelude.{◌≤◌};
+    ghost use Rattle.std.specs.Prelude.{◌≤◌, ◌^◌};
     ghost use Rattle.shared_server.specs.Held.{IsHeld as IsHeldFor};
 
     ghost Value = { L };
@@ -62,7 +69,7 @@ impl<N: ServiceParameters, L: Recorder<N>, S: FileServer<L>> Model for Locked<N,
     ghost view = { λ d. S.line d.server };
 
     ghost invariant = { λ d. IsHeldFor N.ServiceParameters L.Link S.Serve.serving S.line S.is_ready S.knows L.runs_on L.marks d.server
-        × (S.absorbed d.server ≤ d.absorbed) };
+        × (S.absorbed d.server ≤ d.absorbed) × (d.absorbed ≤ 2 ^ 48) };
 }
 
 impl<N: ServiceParameters, L: Recorder<N>, S: FileServer<L>> Locked<N, L, S> {
@@ -143,9 +150,15 @@ impl<N: ServiceParameters, L: Recorder<N>, S: FileServer<L>> Locked<N, L, S> {
         self.server.link().has_sessions(but)
     }
 
-    /// A last sync, after which the server is let go with its link: how it went. The numbers of sessions stay.
-    pub fn finish(self) -> LastSync
-        ensures { IsFinished L.Link L.numbers N.geometry N.opening (L.marks self) (L.numbers self) (sync_of result) }
+    /// A last sync, after which the server is let go with its link. Where it was answered ok, the first bytes of the volume's range, whose
+    /// size in bytes is given, are read back through the link, as many as writes reach: `Read` where all that went, `Unread` where no memory
+    /// was found for them; none is asked for where nothing was written. `GivenUp` or `Cut` where the device was given up or the link ended
+    /// in either. The numbers of sessions stay.
+    pub fn finish(self, alloc: Global, size: u64) -> Finish
+        requires whole { size % 512 ≡ 0 }
+        requires most { size ≤ 2 ^ 48 }
+        ensures finished { IsFinished L.Link L.numbers N.geometry N.opening (L.marks self) (L.numbers self) (finish_end result) size
+            (bytes_back result) }
     {
         let Locked {
             mut server,
@@ -157,22 +170,40 @@ impl<N: ServiceParameters, L: Recorder<N>, S: FileServer<L>> Locked<N, L, S> {
         let ending = server.call(SYNCER, 0, &Call::Sync, &mut reply);
         let outcome = ending.with(reply);
         if is_cut(&outcome) {
-            return LastSync::Cut;
+            return Finish::Cut;
         }
         if !was_done(&outcome) {
-            return LastSync::GivenUp;
+            return Finish::GivenUp;
         }
-        LastSync::Done
+        disk_stays_beyond();
+        let reach = server.link().reach();
+        if reach == 0 {
+            return Finish::Read(Vec::new(alloc));
+        }
+        let Ok((room, mut bytes)) = room_for(alloc, reach, size) else {
+            return Finish::Unread;
+        };
+        let (link, end) = server.read_back(room, &mut bytes);
+        let reached = link.reach();
+        match end {
+            ReadEnd::GivenUp => Finish::GivenUp,
+            ReadEnd::Cut => Finish::Cut,
+            ReadEnd::Read if is_beyond(reached, bytes.len(), size) => Finish::Unread,
+            ReadEnd::Read => Finish::Read(bytes),
+        }
     }
 
     /// The same once this session has ended, whose number is free then: the record goes on from what it had seen.
-    pub fn finish_after(mut self, number: u8, mut seat: Seat) -> LastSync
-        requires { (seat.table ≡ N.table) × (seat.view.number ≡ Some number) × (number < 64) }
-        ensures { IsFinished L.Link L.numbers N.geometry N.opening seat.view.seen (without (Some number) (L.numbers self)) (sync_of result) }
+    pub fn finish_after(mut self, number: u8, mut seat: Seat, alloc: Global, size: u64) -> Finish
+        requires seat { (seat.table ≡ N.table) × (seat.view.number ≡ Some number) × (number < 64) }
+        requires whole { size % 512 ≡ 0 }
+        requires most { size ≤ 2 ^ 48 }
+        ensures finished { IsFinished L.Link L.numbers N.geometry N.opening seat.view.seen (without (Some number) (L.numbers self))
+            (finish_end result) size (bytes_back result) }
     {
         self.show(&mut seat);
         self.release(number, seat);
-        self.finish()
+        self.finish(alloc, size)
     }
 
     /// A seat for a new session, with the lowest number that is free: 1 TooMany where 64 are in use, 2 Stopped where a take gave End.

@@ -89,7 +89,10 @@ fn ended<N: ServiceParameters, R: Threads + Wait + Copy>(
 ) -> Option<Vec<u8>> {
     match ending {
         Ending::LetGo => Some(Vec::new(alloc)),
-        Ending::Stopped => running.stop(&rt).image(alloc).ok(),
+        Ending::Stopped => {
+            let (media, _) = running.stop(&rt);
+            media.image(alloc).ok()
+        }
     }
 }
 

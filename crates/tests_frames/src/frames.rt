@@ -74,7 +74,7 @@ type Row = (
     &'static str,
 );
 
-static ROWS: [Row; 4] = [
+static ROWS: [Row; 5] = [
     // the frame used longest ago goes
     (
         16,
@@ -180,6 +180,19 @@ write 20 118784 4096 0
         ],
         0,
         "read 1 20480 4096\nwrite 2 20480 4096 49\nwrite 3 20480 4096 50\n",
+    ),
+    // no frame goes while there are fewer than there may be
+    (
+        300,
+        false,
+        (true, &[Some(0)]),
+        &[
+            (Step::Fresh(5, 305), 300),
+            (Step::Fetch(&[5, 68, 69, 304]), 4),
+            (Step::Fresh(305, 306), 1),
+        ],
+        0,
+        "write 1 24576 4096 0\n",
     ),
 ];
 

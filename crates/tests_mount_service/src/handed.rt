@@ -6,8 +6,9 @@ use crate::mounted::mounted;
 use changes::Changes;
 use errno::Errno;
 use mount_service::archive::Archive;
-use mount_service::handing::{HandedOn, hand_left};
+use mount_service::handing::{HandedOn, hand_left, let_go};
 use mount_service::mount::{Ended, MountStatus};
+use mount_service::program::LastSync;
 use output::Told;
 use std::alloc::Global;
 use std::sync::Wait;
@@ -97,7 +98,11 @@ const LOST: &str = "NotClean finding 16 at 1\ncannot write v.img.given-up\n";
 
 const UNWRITTEN: &str = "cannot write v.img\n";
 
-static ROWS: [Row; 7] = [
+const UNREAD: &str = "NotAsRead\nimage left in v.img.given-up\n";
+
+const LOST_UNREAD: &str = "NotAsRead\ncannot write v.img.given-up\n";
+
+static ROWS: [Row; 10] = [
     (
         MountStatus::Done,
         2,
@@ -154,12 +159,44 @@ static ROWS: [Row; 7] = [
         LOST,
         (false, false),
     ),
+    (
+        MountStatus::NotAsRead,
+        2,
+        (true, true),
+        REFUSED,
+        UNREAD,
+        (false, true),
+    ),
+    (
+        MountStatus::NotAsRead,
+        3,
+        (true, true),
+        REFUSED,
+        UNREAD,
+        (false, true),
+    ),
+    (
+        MountStatus::NotAsRead,
+        2,
+        (true, false),
+        REFUSED,
+        LOST_UNREAD,
+        (false, false),
+    ),
 ];
 
 /// Whether a place has this image, or none.
 fn has_taken(shelf: &Shelf, image: &[u8], taken: bool) -> bool {
     let wanted = if taken { image } else { &[] };
     shelf.image.as_slice() == wanted
+}
+
+/// How the last sync of a mount went that ended so.
+fn last_sync_of(mount: MountStatus) -> LastSync {
+    match mount {
+        MountStatus::NotAsRead => LastSync::NotAsRead,
+        _ => LastSync::Done,
+    }
 }
 
 /// A mount leaves an image, in which the root gets so many links, and which is handed on as a row says.
@@ -172,6 +209,7 @@ fn is_handed_on<R: Threads + Wait + Clock + Copy + Send + Sync + 'static>(
     let mut left = mounted(alloc, rt, &[], Some(Shelf::new(alloc, archive)))?;
     let mut image = Vec::new(alloc);
     if let Some(came) = &mut left.came {
+        came.last_sync = last_sync_of(mount);
         for byte in came.image.iter_mut().skip(4098).take(1) {
             *byte = links;
         }
@@ -193,11 +231,40 @@ fn is_handed_on<R: Threads + Wait + Clock + Copy + Send + Sync + 'static>(
     Err(Fail::new(format_args!("{status:?} {told}")))
 }
 
-/// Only an image of a clean volume goes into the archive at the end; another one goes beside, and that is told, whatever came before.
+/// Only an image of a clean volume that is as it was read back goes into the archive at the end; another one goes beside, and that is told,
+/// whatever came before.
 #[test]
 fn clean_images_alone_are_handed_on(rt: HostRuntime) -> Result<(), Fail> {
     for row in &ROWS {
         is_handed_on(rt.alloc(), rt, row)?;
+    }
+    Ok(())
+}
+
+/// How a mount ends that ended so, and leaves an image which is handed on nowhere; and what is told.
+static LET_GO: [(MountStatus, MountStatus, &str); 3] = [
+    (MountStatus::Done, MountStatus::Done, ""),
+    (MountStatus::GivenUp, MountStatus::GivenUp, ""),
+    (MountStatus::NotAsRead, REFUSED, "NotAsRead\n"),
+];
+
+/// An image that isn't as it was read back is told of where none is kept, too.
+#[test]
+fn unread_images_are_told_of(rt: HostRuntime) -> Result<(), Fail> {
+    for (mount, ended, line) in &LET_GO {
+        let mut left = mounted(rt.alloc(), rt, &[], None::<Shelf>)?;
+        if let Some(came) = &mut left.came {
+            came.last_sync = last_sync_of(*mount);
+        }
+        let left = Ended {
+            status: *mount,
+            came: left.came,
+        };
+        let mut err = Vec::new(rt.alloc());
+        let status = let_go(rt.alloc(), left, &mut err);
+        if status != *ended || err.as_slice() != line.as_bytes() {
+            return Err(Fail::new(format_args!("{status:?} and not {ended:?}")));
+        }
     }
     Ok(())
 }

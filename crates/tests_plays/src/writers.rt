@@ -1,8 +1,8 @@
 //! Writers that fail, and writers that take little at a time; plays whose answers are lost, or whose image isn't clean or can't be written.
-use fixtures_plays::writers::{HandedOn, Narrow, all_come_out, are_handed_on};
+use fixtures_plays::writers::{HandedOn, Narrow, all_come_out, are_handed_on, is_let_go};
 use output::Told;
 use std::test::Fail;
-use tools::play::PlayStatus;
+use tools::play::{LastSync, PlayStatus};
 
 /// A script, and what is printed of it on a new volume.
 pub(crate) const STAT: &[u8] = b"user 0 0\n100 stat /\n";
@@ -178,5 +178,55 @@ static ROWS: [HandedOn; 11] = [
 /// Only an image of a clean volume is handed on; another one goes beside, and that is told, whatever came before.
 #[test]
 fn clean_images_alone_are_handed_on(rt: HostRuntime) -> Result<(), Fail> {
-    are_handed_on(rt.alloc(), "w.img", &ROWS)
+    are_handed_on(rt.alloc(), "w.img", LastSync::Done, &ROWS)
+}
+
+/// A play whose text was all written.
+const UNREAD: PlayStatus = PlayStatus::NotAsRead;
+
+const LEFT_UNREAD: &str = "NotAsRead\nimage left in w.img.given-up\n";
+
+const LOST_UNREAD: &str = "NotAsRead\ncannot write w.img.given-up\n";
+
+/// Plays whose image isn't as it was read back, whatever its volume is.
+static UNREAD_ROWS: [HandedOn; 5] = [
+    (
+        UNREAD,
+        (SOUND, 0, BOTH),
+        CUT_OFF,
+        LEFT_UNREAD,
+        (false, true),
+    ),
+    (
+        UNREAD,
+        (THREE, 0, BOTH),
+        CUT_OFF,
+        LEFT_UNREAD,
+        (false, true),
+    ),
+    (
+        UNREAD,
+        (SOUND, 1, BOTH),
+        CUT_OFF,
+        LEFT_UNREAD,
+        (false, true),
+    ),
+    (PARTLY, (SOUND, 0, BOTH), PARTLY, LEFT_UNREAD, (false, true)),
+    (
+        UNREAD,
+        (SOUND, 0, PLACE),
+        CUT_OFF,
+        LOST_UNREAD,
+        (false, false),
+    ),
+];
+
+/// An image that isn't as it was read back goes beside, and is told of where no image is written.
+#[test]
+fn unread_images_are_refused(rt: HostRuntime) -> Result<(), Fail> {
+    let alloc = rt.alloc();
+    are_handed_on(alloc, "w.img", LastSync::NotAsRead, &UNREAD_ROWS)?;
+    is_let_go(alloc, UNREAD, LastSync::NotAsRead, CUT_OFF, "NotAsRead\n")?;
+    is_let_go(alloc, PARTLY, LastSync::NotAsRead, CUT_OFF, "NotAsRead\n")?;
+    is_let_go(alloc, GIVEN_UP, LastSync::GivenUp, GIVEN_UP, "")
 }

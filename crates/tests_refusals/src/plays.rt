@@ -96,7 +96,7 @@ pub(crate) fn play_script<
         out,
         err,
     );
-    Ok((played.status.number(), played.image))
+    Ok((played.status.number(), played.image.map(|left| left.bytes)))
 }
 
 /// Plays it with its first request refused, then with its second, until none is refused. It comes out right each time.
@@ -506,7 +506,7 @@ impl Trial for HandingOn {
 
     fn run(&self, alloc: Global) -> (Handing, bool, bool) {
         let (mut place, mut beside) = (Taking(false), Taking(false));
-        let handing = hand_on(alloc, &self.0, 0, &mut place, &mut beside);
+        let handing = hand_on(alloc, &self.0, 0, true, &mut place, &mut beside);
         (handing, place.0, beside.0)
     }
 
@@ -522,6 +522,18 @@ impl Trial for HandingOn {
         let wanted = if refused { unchecked } else { Handing::Put };
         Ok(handing == wanted && place != refused && beside == refused)
     }
+}
+
+/// The image of a new volume goes beside where the media aren't as it was read back.
+#[test]
+fn image_not_as_read(rt: HostRuntime) -> Result<(), Fail> {
+    let alloc = rt.alloc();
+    let image = new_volume(alloc, 1024)?;
+    let (mut place, mut beside) = (Taking(false), Taking(false));
+    let handing = hand_on(alloc, &image, 0, false, &mut place, &mut beside);
+    assert!(rt; handing == Handing::Beside(NotHanded::NotAsRead));
+    assert!(rt; !place.0 && beside.0);
+    Ok(())
 }
 
 #[test]

@@ -8,6 +8,7 @@ use fixtures::{new_volume, patient};
 use gate::paced_gate::Paced;
 use modeldisk::supply::{drivers_for, table_in};
 use serve::service::Service;
+use serve::stopping::image_left;
 use service_start::program::Program;
 use service_start::start::serve;
 use shared_server::refusal::SessionRefusal;
@@ -94,7 +95,7 @@ fn sessions_that_are_asked_for(rt: HostRuntime) -> Result<(), Fail> {
 struct Stops(Global);
 
 impl<R: Threads + Wait + Copy + Send + Sync + 'static> Program<R> for Stops {
-    /// The image; none where the stop was refused.
+    /// The image; none where there is none.
     type Output = Option<Vec<u8>>;
 
     ghost gives = { λ program geometry opening output. Unit {0} };
@@ -108,11 +109,12 @@ impl<R: Threads + Wait + Copy + Send + Sync + 'static> Program<R> for Stops {
         refuse(self.0, 26, 0);
         let stopped = service.stop();
         was_refused(self.0);
-        stopped.ok()
+        let (_, image) = image_left(stopped).ok()?;
+        Some(image)
     }
 }
 
-/// A stop takes no memory for the image: it leaves what was handed in, since no call was made.
+/// A stop without memory leaves an image all the same: what was handed in, since no call was made.
 #[test]
 fn a_service_that_is_stopped(rt: HostRuntime) -> Result<(), Fail> {
     let image = new_volume(rt.alloc(), 1024)?;

@@ -12,6 +12,7 @@ use fixtures::{new_volume, patient};
 use modeldisk::supply::{drivers_for, table_in};
 use serve::service::{Service, Shared};
 use serve::session::Session;
+use serve::stopping::image_left;
 use service_start::program::Program;
 use service_start::start::serve;
 use std::alloc::{AllocError, Global};
@@ -150,7 +151,7 @@ impl<R: Threads + Wait + Copy + Send + Sync + 'static> Program<R> for Calls<'_, 
     {
         let mut outcomes = Vec::with_capacity(self.alloc, 128).ok()?;
         let made = self.make_in(&service, &mut outcomes);
-        service.stop().ok()?;
+        image_left(service.stop()).ok()?;
         made?;
         Some(outcomes)
     }

@@ -127,3 +127,22 @@ fn sessions_are_served_and_services_stopped(rt: HostRuntime) -> Result<(), Fail>
     come_out(rt.alloc(), rt, &left, &AGAIN)?;
     Ok(())
 }
+
+/// A call and a last sync on a new volume, whose image isn't looked at.
+static MADE: What = What::Stops(
+    Call::Mkdir {
+        path: DIRECTORY,
+        mode: 0o755,
+    },
+    true,
+);
+
+/// What was written is read back when the service is stopped, and is what the media have.
+#[test]
+fn stopped_services_are_read_back(rt: HostRuntime) -> Result<(), Fail> {
+    let image = new_volume(rt.alloc(), 1024)?;
+    let Some(came) = served(rt.alloc(), rt, &image, None, &MADE)? else {
+        return Err(Fail::from("not served"));
+    };
+    is_told(came.lines.as_str(), "ok\nsynced\n")
+}

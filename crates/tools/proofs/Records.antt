@@ -65,6 +65,7 @@ are_served link g v scripts played seen last image turns shown = record {
     marks = shown.last.marks;
     goes_on = shown.last.goes_on;
     tells = shown.last.tells;
+    range = shown.range;
     ended = λ is. record {
       line = shown.line;
       guaranteed = shown.last.guaranteed;
@@ -86,6 +87,7 @@ module _ (E F : List Mark → Type 0) (over : (seen : List Mark) → E seen → 
       marks = h.left.marks;
       goes_on = h.left.goes_on;
       tells = h.left.tells;
+      range = h.left.range;
       ended = λ is. over h.left.marks (h.left.ended is);
     };
   }

@@ -19,9 +19,12 @@ use Rattle.reply_text.specs.declared.answers.Played.{Played}
 use Rattle.reply_text.specs.Answers.{sessions_text}
 use Rattle.tools.specs.Made.{has_eio}
 use Rattle.tools.specs.Served.{AreServed, IsUnserved, service_text}
-use Rattle.tools.specs.Status.{is_given_up}
+use Rattle.tools.specs.Status.{is_given_up, status_when}
 use Rattle.shared_server.specs.declared.locked.LastSync.{LastSync}
+use Rattle.serve.specs.Stopping.{is_as_read}
 use Rattle.tools.specs.declared.play.ImageFile.{ImageFile}
+use Rattle.tools.specs.declared.play.ImageLeft.{ImageLeft}
+use Rattle.tools.specs.declared.play.PlayStatus.{PlayStatus}
 use Rattle.tools.specs.declared.play.PlayRefusal.{PlayRefusal}
 use Rattle.tools.specs.declared.play.PlayRefusal.TheVariants.{Files, Start, Service, OutOfMemory, NotWritten}
 
@@ -40,19 +43,21 @@ IsStartedFor image setup supply =
 abbrev pub gave_up : List Played → LastSync → Bool
 gave_up played last = list_any has_eio played || is_given_up last
 
+-- how a play ends whose text all goes out
+abbrev pub status_by : List Played → LastSync → PlayStatus
+status_by played last = status_when (is_as_read last) (gave_up played last)
+
 -- The files' scripts were played on the volume in the image, for which a service starts, each in a session of its own; then the service was
--- stopped, which left this image. (What is said of cuts, `IsSpent`, holds of every record.)
-pub record IsPlayed (image : ImageFile) (scripts : List File) (setup : Setup) (supply : List DriverState) (played : List Played) (gave : Bool)
-    (left : List ℕ) : Type 0 where
+-- stopped: how its last sync went, and the image. (What is said of cuts, `IsSpent`, holds of every record.)
+pub record IsPlayed (image : ImageFile) (scripts : List File) (setup : Setup) (supply : List DriverState) (played : List Played)
+    (last : LastSync) (left : List ℕ) : Type 0 where
   pub bytes : Vec ℕ
   pub sizes : Geometry
   pub range : ℕ × ℕ
   pub started : IsStarted image setup supply bytes sizes range
   pub calls : List (ℕ × ℕ × List TimedCall)
   pub scripted : files.AreScripts scripts calls
-  pub last : LastSync
   pub served : AreServed IsSpent sizes (opening_of bytes.items setup.minor range) calls played last left
-  pub given_up : gave ≡ gave_up played last
 
 -- why files aren't read: the image's, or else those of the scripts
 abbrev pub AreUnread : Option (Vec ℕ) → Bor (List ℕ) → List File → FileRefusal → Type 0
@@ -72,11 +77,11 @@ IsUnplayed image scripts setup supply (Service refusal) =
 IsUnplayed image scripts setup supply OutOfMemory = ⊥
 IsUnplayed image scripts setup supply NotWritten = ⊥
 
--- the scripts were played, of the text of their sessions this went out, and this image was left
-abbrev pub IsShown : ImageFile → List File → Setup → List DriverState → Bool → (List ℕ → Type 0) → Option (List ℕ) → Type 0
-IsShown image scripts setup supply gave WentOut left =
-    (played : List Played) × (bytes : List ℕ) × IsPlayed image scripts setup supply played gave bytes × WentOut (sessions_text played)
-    × (left ≡ Some bytes)
+-- the scripts were played, so that a play ends whose text all goes out; of the text of their sessions this went out, and this image was left
+abbrev pub IsShown : ImageFile → List File → Setup → List DriverState → PlayStatus → (List ℕ → Type 0) → Option ImageLeft → Type 0
+IsShown image scripts setup supply ended WentOut left =
+    (played : List Played) × (it : ImageLeft) × IsPlayed image scripts setup supply played it.last_sync it.bytes.items
+    × (ended ≡ status_by played it.last_sync) × WentOut (sessions_text played) × (left ≡ Some it)
 
 -- whether it is about writing
 abbrev pub is_of_output : PlayRefusal → Bool
@@ -86,10 +91,11 @@ is_of_output _ = false
 
 -- nothing went out, and no image was left: nothing was played, or memory ended once calls were made; or the scripts were played, a part of
 -- their sessions' text went out, and the image was left
-abbrev pub IsCutShort : ImageFile → List File → Setup → List DriverState → PlayRefusal → Type 0 → (List ℕ → Type 0) → Option (List ℕ) → Type 0
+abbrev pub IsCutShort : ImageFile → List File → Setup → List DriverState → PlayRefusal → Type 0 → (List ℕ → Type 0) → Option ImageLeft
+    → Type 0
 IsCutShort image scripts setup supply refusal Nothing Part left =
     (Nothing × (left ≡ None) × IsUnplayed image scripts setup supply refusal)
-    ⊎ ((is_of_output refusal ≡ true) × ((gave : Bool) × IsShown image scripts setup supply gave Part left))
+    ⊎ ((is_of_output refusal ≡ true) × ((ended : PlayStatus) × IsShown image scripts setup supply ended Part left))
 
 -- the text of a refusal
 abbrev pub refusal_text : PlayRefusal → List ℕ

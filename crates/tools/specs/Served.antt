@@ -14,7 +14,7 @@ use Rattle.shared_server.specs.declared.locked.LastSync.{LastSync}
 use Rattle.shared_server.specs.declared.locked.LastSync.TheVariants as sync
 use Rattle.shared_server.specs.declared.refusal.SessionRefusal.TheVariants.{Stopped}
 use Rattle.shared_media.specs.Confined.{IsImageOutside}
-use Rattle.serve.specs.Stopping.{no_image_name}
+use Rattle.serve.specs.Stopping.{IsRange, no_image_name}
 use Rattle.call_text.specs.declared.scripts.timed.TimedCall.{TimedCall}
 use Rattle.reply_text.specs.declared.answers.Played.{Played}
 use Rattle.tools.specs.Turns.{ArePlayed}
@@ -23,13 +23,14 @@ use Rattle.tools.specs.declared.scripts.players.ServiceRefusal.{ServiceRefusal}
 use Rattle.tools.specs.declared.scripts.players.ServiceRefusal.TheVariants.{NoSession, NoImage}
 
 -- The image that a service left, whose media have as many sectors as were handed in, and outside of the volume each as it was handed in;
--- and a record that goes on from what its sessions had seen, and says how the last sync went, whichever tree the volume held. Where that was
--- cut, the link had ended with this record.
+-- and a record that goes on from what its sessions had seen, and says how the last sync went, whichever tree the volume held, and what the
+-- volume's range of the image is beside what was read back. Where the sync was cut, the link had ended with this record.
 pub record IsLeft (Ended : List Mark → Type 0) (g : Geometry) (v : Opening) (seen : List Mark) (last : LastSync) (image : List ℕ) : Type 0 where
   pub outside : IsImageOutside v image
   pub marks : List Mark
   pub goes_on : IsBeginning seen marks
   pub tells : (tree : Tree) → IsAtFirst g (contents_at v) tree → SyncTells (sync_of last) g v tree marks
+  pub range : IsRange (sync_of last) v marks image
   pub ended : last ≡ sync.Cut → Ended marks
 
 -- These scripts were played in sessions of one service for the volume, of whose record this was seen in the end; then the service was

@@ -1,13 +1,12 @@
 //! Playing scripts against a server of their own, from the bytes of their files to the lines of their answers and the image that is left.
 
-ghost use Rattle.std.specs.Prelude.{◌≡◌, true, IfOk, IfErr, IfSome, OnOk, OnErr, map, Some, None, if◌then◌else◌};
-ghost use Rattle.std.specs.Option.{option_map};
+ghost use Rattle.std.specs.Prelude.{◌≡◌, true, IfOk, IfErr, IfSome, OnOk, OnErr, map, Some, None};
 ghost use Rattle.std.specs.Io.KnownBytes.{Appends};
 ghost use Rattle.reply_text.specs.Answers.{sessions_text};
 ghost use Rattle.output.specs.Output.{AppendsPart, Tells};
-ghost use Rattle.tools.specs.Played.{AreUnread, IsPlayed, IsUnplayed, IsShown, IsCutShort, gave_up, is_of_output, refusal_text};
+ghost use Rattle.tools.specs.Played.{AreUnread, IsPlayed, IsUnplayed, IsShown, IsCutShort, gave_up, is_of_output, refusal_text, status_by};
 ghost use Rattle.tools.specs.Refusals.{refusal_of};
-ghost use Rattle.tools.specs.Status.{status_number, gave_of, is_given_up, IsWhole};
+ghost use Rattle.tools.specs.Status.{status_number, is_given_up, status_when, IsWhole};
 ghost use Rattle.call_text.specs.Said.{said};
 ghost use Rattle.call_text.specs.Files.{AreScripts};
 
@@ -20,13 +19,16 @@ use gate::Gate;
 use output::{OutputRefusal, Told, tell, write_text};
 use reincarnate::policy::Setup;
 use reply_text::answers::{Played, write_sessions};
+use serve::stopping::is_as_read;
 use service_start::volume_mount::StartRefusal;
-use shared_server::locked::LastSync;
 use std::alloc::Global;
 use std::fmt;
 use std::io::Write;
 use std::sync::{Arc, Wait};
 use std::thread::Threads;
+
+// passed on, for who hands an image on
+pub use shared_server::locked::LastSync;
 
 /// The file of an image, and its bytes if it could be read.
 #[derive(Drop)]
@@ -46,6 +48,8 @@ pub enum PlayStatus {
     Refused(Told),
     /// As `Done`, and the device was given up.
     GivenUp,
+    /// As `Done`, and what was read back through the drivers isn't what the image has, or it wasn't read back. No line says so yet.
+    NotAsRead,
 }
 
 impl PlayStatus {
@@ -57,8 +61,18 @@ impl PlayStatus {
             PlayStatus::Done => 0,
             PlayStatus::Refused(_) => 1,
             PlayStatus::GivenUp => 3,
+            PlayStatus::NotAsRead => 1,
         }
     }
+}
+
+/// The image that a play left.
+#[derive(Debug, PartialEq, Eq, Drop)]
+pub struct ImageLeft {
+    /// How the last sync went.
+    pub last_sync: LastSync,
+    /// Its bytes, as the media stand after the last sync.
+    pub bytes: Vec<u8>,
 }
 
 /// What came of a play.
@@ -66,9 +80,8 @@ impl PlayStatus {
 pub struct Ended {
     /// How it ended.
     pub status: PlayStatus,
-    /// The bytes of the image as the media stand after the last sync, also where not all of the text was written; none where nothing is
-    /// told of what came of the scripts.
-    pub image: Option<Vec<u8>>,
+    /// The image, also where not all of the text was written; none where nothing is told of what came of the scripts.
+    pub image: Option<ImageLeft>,
 }
 
 /// Why nothing is told of what came of scripts, or not all of their answers were written.
@@ -125,12 +138,12 @@ pub fn play<
     out: &mut W,
     err: &mut E,
 ) -> Ended
-    ensures whole { IsWhole result.status → IsShown image.entry scripts.now setup.now (map D.state supply.items) (gave_of result.status)
-        (Appends (W.contents out.old) (W.contents out.new)) (option_map (λ bytes. bytes.items) result.image) × (err.new ≡ err.old) }
+    ensures whole { IsWhole result.status → IsShown image.entry scripts.now setup.now (map D.state supply.items) result.status
+        (Appends (W.contents out.old) (W.contents out.new)) result.image × (err.new ≡ err.old) }
     ensures refused { (told : Told) → result.status ≡ PlayStatus.Refused told → (refusal : PlayRefusal)
         × Tells (Some (refusal_text refusal)) told (E.contents err.old) (E.contents err.new)
         × IsCutShort image.entry scripts.now setup.now (map D.state supply.items) refusal (out.new ≡ out.old)
-        (AppendsPart (W.contents out.old) (W.contents out.new)) (option_map (λ bytes. bytes.items) result.image) }
+        (AppendsPart (W.contents out.old) (W.contents out.new)) result.image }
 {
     let came = match run(alloc, rt, image, scripts, setup, supply, gate) {
         Ok(came) => came,
@@ -144,7 +157,10 @@ pub fn play<
     let status = show(alloc, &came, out, err);
     Ended {
         status,
-        image: Some(came.image),
+        image: Some(ImageLeft {
+            last_sync: came.last_sync,
+            bytes: came.image,
+        }),
     }
 }
 
@@ -164,7 +180,7 @@ fn run<
     gate: Arc<G>,
 ) -> Result<Came, PlayRefusal<'n>>
     ensures played { IfOk result (λ came. IsPlayed image.entry scripts.now setup.now (map D.state supply.items) came.sessions.items
-        (gave_up came.sessions.items came.last_sync) came.image.items) }
+        came.last_sync came.image.items) }
     ensures unplayed { IfErr result (IsUnplayed image.entry scripts.now setup.now (map D.state supply.items)) }
 {
     let (image, scripts) = match read(alloc, image, scripts) {
@@ -199,14 +215,14 @@ fn read<'n, 'b>(
 
 /// Writes the answers. How the play ended.
 fn show<W: Write, E: Write>(alloc: Global, came: &Came, out: &mut W, err: &mut E) -> PlayStatus
-    ensures whole { IsWhole result → (gave_of result ≡ gave_up came.now.sessions.items came.now.last_sync)
+    ensures whole { IsWhole result → (result ≡ status_by came.now.sessions.items came.now.last_sync)
         × Appends (W.contents out.old) (W.contents out.new) (sessions_text came.now.sessions.items) × (err.new ≡ err.old) }
     ensures refused { (told : Told) → result ≡ PlayStatus.Refused told → (refusal : PlayRefusal)
         × Tells (Some (refusal_text refusal)) told (E.contents err.old) (E.contents err.new) × (is_of_output refusal ≡ true)
         × AppendsPart (W.contents out.old) (W.contents out.new) (sessions_text came.now.sessions.items) }
 {
     match write_answers(alloc, out, came.sessions.as_slice()) {
-        Ok(()) => status_of(was_given_up(came)),
+        Ok(()) => status_of(is_as_read(came.last_sync), was_given_up(came)),
         Err(refusal) => PlayStatus::Refused(tell(alloc, err, &told_as(refusal))),
     }
 }
@@ -263,13 +279,12 @@ fn told_as<'n>(refusal: OutputRefusal) -> PlayRefusal<'n>
 }
 
 /// The status of a play that was written whole.
-fn status_of(given_up: bool) -> PlayStatus
-    ensures status { result ≡ (if given_up then PlayStatus.GivenUp else PlayStatus.Done) }
-    ensures given_up { gave_of result ≡ given_up }
+fn status_of(as_read: bool, given_up: bool) -> PlayStatus
+    ensures { result ≡ status_when as_read given_up }
 {
-    if given_up {
-        PlayStatus::GivenUp
-    } else {
-        PlayStatus::Done
+    match (as_read, given_up) {
+        (false, _) => PlayStatus::NotAsRead,
+        (true, true) => PlayStatus::GivenUp,
+        (true, false) => PlayStatus::Done,
     }
 }

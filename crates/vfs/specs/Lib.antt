@@ -9,3 +9,4 @@ pub mod Server
 pub mod OverLink
 pub mod LineLaws
 pub mod Unmounting
+pub mod Back

@@ -3,6 +3,7 @@
 
 mod calls;
 pub mod over_link;
+pub mod reading_back;
 pub mod server;
 pub mod server_laws;
 pub mod unmounting;

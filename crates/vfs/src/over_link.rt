@@ -4,10 +4,11 @@ ghost use Rattle.vfs.specs.OverLink.{IsIdleOver, IsReadyOver, line_of as link_th
 
 use crate::server::Server;
 use cached_blocks::Stored;
-use file_server::{Ending, FileServer};
+use file_server::{Ending, FileServer, ReadEnd};
 use message::Incoming;
 use reissue::Link;
 use tree::{Call, Reply, Who};
+use volume_reading::ReadRoom;
 
 impl<L: Link + Drop> FileServer<L> for Server<Stored<L>> {
     ghost use Rattle.std.specs.Prelude.{refl};
@@ -31,6 +32,10 @@ impl<L: Link + Drop> FileServer<L> for Server<Stored<L>> {
 
     fn absorb(&mut self, message: Incoming) {
         self.absorb(message);
+    }
+
+    fn read_back(self, room: ReadRoom, into: &mut [u8]) -> (L, ReadEnd) {
+        self.read_back(room, into)
     }
 
     fn link(&self) -> &L {

@@ -8,7 +8,7 @@ use Rattle.output.specs.declared.Told.TheVariants.{Whole}
 use Rattle.output.specs.Output.{Tells}
 use Rattle.volume_commands.specs.Verifying.{missing_text, volume_at}
 use Rattle.volume_commands.specs.declared.handing.NotHanded.{NotHanded}
-use Rattle.volume_commands.specs.declared.handing.NotHanded.TheVariants.{NotClean, Missing, Unchecked}
+use Rattle.volume_commands.specs.declared.handing.NotHanded.TheVariants.{NotClean, Missing, Unchecked, NotAsRead}
 use Rattle.volume_commands.specs.declared.handing.Handing.{Handing}
 use Rattle.volume_commands.specs.declared.handing.Handing.TheVariants.{Put, NotPut, Beside, Nowhere}
 
@@ -24,31 +24,39 @@ pub record HoldsTreeIn (image : List ℕ) (minor : ℕ) : Type 0 where
   pub tree : Tree
   pub holds : HoldsClosed volume tree
 
--- why an image isn't handed on: its volume breaks a rule, it has none, or no memory was found for the check
-abbrev pub IsWhyNot : List ℕ → ℕ → NotHanded → Type 0
-IsWhyNot image minor (NotClean finding) = (volume : List ℕ) × (volume_at image minor ≡ Ok volume) × (verdict_of volume ≡ Found finding)
-IsWhyNot image minor (Missing refusal) = volume_at image minor ≡ Err refusal
-IsWhyNot image minor Unchecked = (volume : List ℕ) × (volume_at image minor ≡ Ok volume)
+-- why an image isn't handed on that is as it was read back: its volume breaks a rule, it has none, or no memory was found for the check
+abbrev pub IsUnfit : List ℕ → ℕ → NotHanded → Type 0
+IsUnfit image minor (NotClean finding) = (volume : List ℕ) × (volume_at image minor ≡ Ok volume) × (verdict_of volume ≡ Found finding)
+IsUnfit image minor (Missing refusal) = volume_at image minor ≡ Err refusal
+IsUnfit image minor Unchecked = (volume : List ℕ) × (volume_at image minor ≡ Ok volume)
+IsUnfit image minor NotAsRead = ⊥
 
--- An image of a clean volume was put in its place, or was refused there, and nothing went beside; any other was put beside, or was refused
--- there, and its place stays.
-abbrev pub IsHandedOn : {P B : Type 0} → Putting P → Putting B → List ℕ → ℕ → P → B → Handing → P → B → Type 0
-IsHandedOn puts leaves image minor p b Put q c = HoldsTreeIn image minor × puts p image true q × (c ≡ b)
-IsHandedOn puts leaves image minor p b NotPut q c = HoldsTreeIn image minor × puts p image false q × (c ≡ b)
-IsHandedOn puts leaves image minor p b (Beside why) q c = IsWhyNot image minor why × (q ≡ p) × leaves b image true c
-IsHandedOn puts leaves image minor p b (Nowhere why) q c = IsWhyNot image minor why × (q ≡ p) × leaves b image false c
+-- or, first of all, it isn't as it was read back
+abbrev pub IsWhyNot : List ℕ → ℕ → Bool → NotHanded → Type 0
+IsWhyNot image minor as_read NotAsRead = as_read ≡ false
+IsWhyNot image minor as_read why = (as_read ≡ true) × IsUnfit image minor why
+
+-- An image that is as it was read back, and has a clean volume, was put in its place, or was refused there, and nothing went beside; any other
+-- was put beside, or was refused there, and its place stays.
+abbrev pub IsHandedOn : {P B : Type 0} → Putting P → Putting B → List ℕ → ℕ → Bool → P → B → Handing → P → B → Type 0
+IsHandedOn puts leaves image minor as_read p b Put q c = (as_read ≡ true) × HoldsTreeIn image minor × puts p image true q × (c ≡ b)
+IsHandedOn puts leaves image minor as_read p b NotPut q c = (as_read ≡ true) × HoldsTreeIn image minor × puts p image false q × (c ≡ b)
+IsHandedOn puts leaves image minor as_read p b (Beside why) q c = IsWhyNot image minor as_read why × (q ≡ p) × leaves b image true c
+IsHandedOn puts leaves image minor as_read p b (Nowhere why) q c = IsWhyNot image minor as_read why × (q ≡ p) × leaves b image false c
 
 -- the numbers of the reasons
 abbrev pub not_handed_number : NotHanded → ℕ
 not_handed_number (NotClean finding) = 1
 not_handed_number (Missing refusal) = 2
 not_handed_number Unchecked = 3
+not_handed_number NotAsRead = 4
 
 -- their texts
 abbrev pub not_handed_text : NotHanded → List ℕ
 not_handed_text (NotClean finding) = codes "NotClean " ++ finding_text finding
 not_handed_text (Missing refusal) = missing_text refusal
 not_handed_text Unchecked = codes "Unchecked OutOfMemory"
+not_handed_text NotAsRead = codes "NotAsRead"
 
 -- what is told of an image whose place is the file of this name: a line, or two
 abbrev pub handing_text : List ℕ → Handing → List ℕ

@@ -1,6 +1,6 @@
-//! Handing an image on: it goes to its place only where the check finds its volume clean.
+//! Handing an image on: it goes to its place only where it is as it was read back, and the check finds its volume clean.
 
-ghost use Rattle.std.specs.Prelude.{⊤, ◌≡◌, ℕ, Bool, List, Some, IfErr, OnOk};
+ghost use Rattle.std.specs.Prelude.{⊤, ◌≡◌, ℕ, Bool, true, List, Some, IfErr, OnOk};
 ghost use Rattle.volume_commands.specs.Handing.{HoldsTreeIn, IsHandedOn, IsWhyNot, TellsHanding, handing_text, not_handed_number, not_handed_text};
 
 use crate::verify::{NoVolume, text_of_missing, volume_in};
@@ -31,6 +31,8 @@ pub enum NotHanded {
     Missing(NoVolume),
     /// 3: no memory was found for the check, so nothing is known of the volume.
     Unchecked,
+    /// 4: what was read back through the drivers isn't what it has.
+    NotAsRead,
 }
 
 impl NotHanded {
@@ -42,6 +44,7 @@ impl NotHanded {
             NotHanded::NotClean(_) => 1,
             NotHanded::Missing(_) => 2,
             NotHanded::Unchecked => 3,
+            NotHanded::NotAsRead => 4,
         }
     }
 }
@@ -54,6 +57,7 @@ impl fmt::Display for NotHanded {
             NotHanded::NotClean(finding) => write!(f, "NotClean {finding}"),
             NotHanded::Missing(refusal) => f.write_str(text_of_missing(*refusal)),
             NotHanded::Unchecked => f.write_str("Unchecked OutOfMemory"),
+            NotHanded::NotAsRead => f.write_str("NotAsRead"),
         }
     }
 }
@@ -61,9 +65,9 @@ impl fmt::Display for NotHanded {
 /// What came of an image that was to be handed on.
 #[derive(Clone, Copy, Debug, PartialEq, Eq)]
 pub enum Handing {
-    /// Its volume is clean, and it is in its place.
+    /// It is as it was read back, its volume is clean, and it is in its place.
     Put,
-    /// Its volume is clean, and its place didn't take it.
+    /// It is as it was read back, its volume is clean, and its place didn't take it.
     NotPut,
     /// It isn't handed on, and is beside. Its place is as it was.
     Beside(NotHanded),
@@ -71,11 +75,14 @@ pub enum Handing {
     Nowhere(NotHanded),
 }
 
-/// Whether an image may be handed on: the check finds the volume of this minor in it clean. Else why not.
-fn looked_at(alloc: Global, image: &[u8], minor: u8) -> Result<(), NotHanded>
-    ensures clean { OnOk result (HoldsTreeIn image.now minor) }
-    ensures refused { IfErr result (IsWhyNot image.now minor) }
+/// Whether an image may be handed on: it is as it was read back, and the check finds the volume of this minor in it clean. Else why not.
+fn looked_at(alloc: Global, image: &[u8], minor: u8, as_read: bool) -> Result<(), NotHanded>
+    ensures clean { OnOk result ((as_read ≡ true) × HoldsTreeIn image.now minor) }
+    ensures refused { IfErr result (IsWhyNot image.now minor as_read) }
 {
+    if !as_read {
+        return Err(NotHanded::NotAsRead);
+    }
     let volume = match volume_in(image, minor) {
         Ok(volume) => volume,
         Err(refusal) => return Err(NotHanded::Missing(refusal)),
@@ -87,18 +94,20 @@ fn looked_at(alloc: Global, image: &[u8], minor: u8) -> Result<(), NotHanded>
     }
 }
 
-/// Puts an image in its place if the check finds the volume of this minor in it clean, these bytes and no others; nothing goes beside
-/// then. Else the place stays as it is, and the image goes beside. So what is put in the place holds a file tree.
+/// Puts an image in its place if it is as it was read back through the drivers, and the check finds the volume of this minor in it clean,
+/// these bytes and no others; nothing goes beside then. Else the place stays as it is, and the image goes beside. So what is put in the
+/// place holds a file tree.
 pub fn hand_on<P: ImagePlace, B: ImagePlace>(
     alloc: Global,
     image: &[u8],
     minor: u8,
+    as_read: bool,
     place: &mut P,
     beside: &mut B,
 ) -> Handing
-    ensures { IsHandedOn P.puts B.puts image.now minor place.old beside.old result place.new beside.new }
+    ensures { IsHandedOn P.puts B.puts image.now minor as_read place.old beside.old result place.new beside.new }
 {
-    match looked_at(alloc, image, minor) {
+    match looked_at(alloc, image, minor, as_read) {
         Ok(()) => {
             if place.put(image) {
                 Handing::Put

@@ -14,14 +14,14 @@ use Rattle.reissue.specs.Calls.{Truth}
 use Rattle.fsck.specs.declared.verdict.Clean.{Clean}
 use Rattle.reissue.specs.declared.link.Link.{Ghosts as LinkWords}
 use Rattle.reissue.specs.declared.transfers.Transfers.{Transfers}
-use Rattle.volume_mount.specs.declared.reading.Stop.{Stop}
-use Rattle.volume_mount.specs.declared.reading.Stop.TheVariants.{OutOfMemory, GaveUp, Ended}
+use Rattle.volume_reading.specs.declared.reading.Stop.{Stop}
+use Rattle.volume_reading.specs.declared.reading.Stop.TheVariants.{OutOfMemory, GaveUp, Ended}
 use Rattle.volume_mount.specs.declared.whole.MountRefusal.{MountRefusal}
 use Rattle.volume_mount.specs.declared.whole.MountRefusal.TheVariants as refusal
 use Rattle.volume_mount.specs.Whole.{IsHeadFit, refusal_by}
-use Rattle.volume_mount.specs.Reading.{ReadsRange}
+use Rattle.volume_reading.specs.Reading.{ReadsRange}
 use Rattle.volume_mount.specs.Mounts.{IsChecked, ReadsRest, ReadsVolume, StandsIdle}
-use Rattle.volume_mount.proofs.Parts.{index_before, index_inside, length_kept}
+use Rattle.volume_reading.proofs.Parts.{index_before, index_inside, length_kept}
 use Rattle.volume_mount.proofs.Ending.{went_both, head_refused, head_stopped, rest_stopped, volume_clean, volume_refused}
 
 -- a refusal for want of memory is one of a reading that stopped so

@@ -26,12 +26,12 @@ use Rattle.reissue.specs.declared.table.Table.{Table}
 use Rattle.reissue.specs.Agrees.{Agrees}
 use Rattle.reissue.specs.Calls.{Truth}
 use Rattle.fsck.specs.declared.verdict.Clean.{Clean}
-use Rattle.volume_mount.specs.declared.reading.Stop.{Stop}
-use Rattle.volume_mount.specs.declared.reading.Stop.TheVariants.{OutOfMemory, GaveUp, Ended}
+use Rattle.volume_reading.specs.declared.reading.Stop.{Stop}
+use Rattle.volume_reading.specs.declared.reading.Stop.TheVariants.{OutOfMemory, GaveUp, Ended}
 use Rattle.volume_mount.specs.Whole.{IsHeadFit, refusal_by}
-use Rattle.volume_mount.specs.Reading.{Went, IsCutShort, IsFilled, IsUnread, KeepsBelow, ReadsRange}
+use Rattle.volume_reading.specs.Reading.{Went, IsCutShort, IsFilled, IsUnread, KeepsBelow, ReadsRange}
 use Rattle.volume_mount.specs.Mounts.{IsVolumeEnd}
-use Rattle.volume_mount.proofs.Going.{Further, went_on, grows_on, true_before}
+use Rattle.volume_reading.proofs.Going.{Further, went_on, grows_on, true_before}
 use Rattle.volume_mount.proofs.Volumes.{first_same, same_pieces, same_block, byte_at}
 
 -- ---- one after the other

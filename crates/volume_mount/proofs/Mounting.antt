@@ -27,7 +27,7 @@ use Rattle.cached_blocks.specs.declared.Stored.{Stored}
 use Rattle.fsck.specs.declared.verdict.Clean.{Clean}
 use Rattle.volume_mount.specs.declared.whole.MountRefusal.{MountRefusal}
 use Rattle.volume_mount.specs.declared.whole.MountRefusal.TheVariants as refusal
-use Rattle.volume_mount.specs.Reading.{Went}
+use Rattle.volume_reading.specs.Reading.{Went}
 use Rattle.volume_mount.specs.Mounts.{ReadsVolume, in_words}
 use Rattle.vfs.specs.declared.server.Server.{Server}
 use Rattle.vfs.specs.Serving.{server_of}

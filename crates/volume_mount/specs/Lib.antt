@@ -2,8 +2,6 @@
 -- How a file server over the frames of a cache is opened and mounted.
 pub mod StartupRefusals
 pub mod Starting
-pub mod Sought
-pub mod Reading
 pub mod Whole
 pub mod Refusals
 pub mod Mounts

@@ -21,8 +21,8 @@ use Rattle.reissue.specs.Calls.{Truth}
 use Rattle.fsck.specs.declared.verdict.Clean.{Clean}
 use Rattle.volume_mount.specs.declared.whole.MountRefusal.{MountRefusal}
 use Rattle.volume_mount.specs.declared.whole.MountRefusal.TheVariants as refusal
-use Rattle.volume_mount.specs.declared.reading.Stop.{Stop}
-use Rattle.volume_mount.specs.Reading.{Went, ReadsRange}
+use Rattle.volume_reading.specs.declared.reading.Stop.{Stop}
+use Rattle.volume_reading.specs.Reading.{Went, ReadsRange}
 
 -- the refusal in the words of the definitions
 abbrev pub in_words : MountRefusal → words.MountRefusal

@@ -4,8 +4,8 @@ use Rattle.layout.specs.declared.Geometry.{Geometry}
 use Rattle.layout.specs.declared.LayoutRefusal.{LayoutRefusal}
 use Rattle.layout.specs.declared.LayoutRefusal.TheVariants.{DoesNotFit}
 use Rattle.layout.specs.Places.{geometry_of, is_block_size}
-use Rattle.volume_mount.specs.declared.reading.Stop.{Stop}
-use Rattle.volume_mount.specs.declared.reading.Stop.TheVariants.{OutOfMemory, GaveUp, Ended}
+use Rattle.volume_reading.specs.declared.reading.Stop.{Stop}
+use Rattle.volume_reading.specs.declared.reading.Stop.TheVariants.{OutOfMemory, GaveUp, Ended}
 use Rattle.volume_mount.specs.declared.whole.MountRefusal.{MountRefusal}
 use Rattle.volume_mount.specs.declared.whole.MountRefusal.TheVariants as refusal
 

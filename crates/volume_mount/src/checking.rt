@@ -7,12 +7,12 @@ ghost use Rattle.reissue.specs.Transfers.{link_of, table_of};
 ghost use Rattle.volume_mount.specs.Whole.{HasSizes};
 ghost use Rattle.volume_mount.specs.Mounts.{IsChecked, ReadsRest, ReadsVolume, StandsIdle};
 
-use crate::reading::{Stop, read_range};
 use crate::whole::{MountRefusal, sizes};
 use fsck::{Clean, Verdict, check};
 use layout::Geometry;
 use reissue::{Link, Transfers};
 use std::alloc::Global;
+use volume_reading::{Stop, read_range};
 
 /// Checks the bytes of a volume.
 pub(crate) fn checked(alloc: Global, bytes: &[u8]) -> Result<Clean, MountRefusal>

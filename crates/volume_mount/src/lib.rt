@@ -8,15 +8,12 @@ pub mod laws;
 pub mod mounted;
 pub mod opening;
 pub mod prepared;
-pub mod reading;
 pub mod refusal;
-pub mod sought;
 pub mod whole;
 
 pub use checking::read_volume;
 pub use in_place::check_volume;
 pub use prepared::{Prepared, prepare};
-pub use reading::{Stop, read_range};
 pub use refusal::StartRefusal;
 pub use whole::{MountRefusal, sizes};
 

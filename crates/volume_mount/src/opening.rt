@@ -18,8 +18,8 @@ use std::alloc::Global;
 use vfs::Server;
 
 /// A server with so many frames, over transfers with nothing pending, for a volume of these sizes in a range of the media. It does
-/// nothing at the link. All memory that it needs, but for the bytes that a read gives and the names of a readdir, is taken here:
-/// BadFrames unless the frames are 16 to 4096, looked at first; OutOfMemory. The transfers are let go then.
+/// nothing at the link. All memory that it needs, but for frames past the first 64, the bytes that a read gives and the names of a
+/// readdir, is taken here: BadFrames unless the frames are 16 to 4096, looked at first; OutOfMemory. The transfers are let go then.
 pub fn over<L: Link>(
     alloc: Global,
     transfers: Transfers<L>,

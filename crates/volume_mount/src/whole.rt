@@ -5,10 +5,10 @@ ghost use Rattle.layout.specs.Places.{geometry_of, superblock_geometry};
 ghost use Rattle.volume_mount.specs.Refusals.{mount_refusal_number, mount_refusal_text};
 ghost use Rattle.volume_mount.specs.Whole.{HasSizes, IsHeadFit};
 
-use crate::reading::Stop;
 use layout::{Geometry, LayoutRefusal, u16_at, u32_at};
 use std::{error, fmt};
 use volume::Finding;
+use volume_reading::Stop;
 
 /// Why nothing is mounted. Nothing is left due at the link; where several hold the least is answered, but BadFrames, which is looked at
 /// first, and want of memory, which may be answered whenever some is needed.

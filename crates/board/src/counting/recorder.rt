@@ -10,6 +10,7 @@ ghost use Rattle.board.specs.View.{without};
 ghost use Rattle.board.specs.Steady.{IsAside};
 ghost use Rattle.board.specs.Steps.{SessionLearns, SessionIsNew};
 ghost use Rattle.board.specs.Keeper.{AreAllUsed, IsLowestFree, IsOneUsed};
+ghost use Rattle.board.specs.Reach.{reach_of};
 ghost use Rattle.board.specs.Recorder.{SameLink};
 ghost use Rattle.file_server.specs.Leaving.{IsEndLast};
 
@@ -82,6 +83,10 @@ pub trait Recorder<N: ServiceParameters>: Supplied + Drop {
     /// Whether a take gave End. Nothing is taken then any more.
     fn has_ended(&self) -> bool
         ensures { result ≡ took_end (Self.Link.history self.now) };
+
+    /// How far the writes reach that were issued: the place in the volume's range behind the last byte of one; 0 with none.
+    fn reach(&self) -> u128
+        ensures { result ≡ reach_of (marks self.now) };
 
     /// Whether each of the 64 numbers is that of a session.
     fn is_full(&self) -> bool

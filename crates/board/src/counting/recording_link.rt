@@ -11,9 +11,11 @@ ghost use Rattle.board.specs.Steps.{SessionLearns};
 ghost use Rattle.file_server.specs.Leaving.{IsEndLast};
 ghost use Rattle.trace_digest.specs.Heard.{IsHeard};
 ghost use Rattle.board.specs.Keeper.{record_of, numbers_of, begins_itself, begins_further, stays_further};
+ghost use Rattle.board.specs.Reach.{reach_of};
 
 use crate::counting::keeper::Keeper;
 use crate::counting::parameters::ServiceParameters;
+use crate::counting::reach::reach_with;
 use crate::counting::recorder::Recorder;
 use crate::counting::steady::{Steady, Supplied};
 use crate::{Board, Seat};
@@ -38,7 +40,10 @@ pub struct RecordingLink<N: ServiceParameters, L: Link> {
     pub(crate) heard: TraceDigest,
     // A take gave End.
     pub(crate) ended: bool,
+    // How far the writes reach that were issued.
+    pub(crate) reach: u128,
     ghost told: { ended ≡ took_end (L.history link) },
+    ghost reaches: { reach ≡ reach_of (record_of keeper) },
 }
 
 impl<N: ServiceParameters, L: Link> RecordingLink<N, L> {
@@ -68,6 +73,7 @@ impl<N: ServiceParameters, L: Link> RecordingLink<N, L> {
             keeper: Keeper::new(board, seat),
             heard: TraceDigest::new(alloc)?,
             ended: false,
+            reach: 0,
         })
     }
 }
@@ -91,6 +97,7 @@ impl<N: ServiceParameters, L: Link> Link for RecordingLink<N, L> {
         if posted.is_ok() {
             self.keeper.issue(request, to);
             self.heard.issued(request);
+            self.reach = reach_with(self.reach, request);
         }
         posted
     }
@@ -177,6 +184,10 @@ impl<N: ServiceParameters, L: Steady + Supplied + Drop> Recorder<N> for Recordin
 
     fn has_ended(&self) -> bool {
         self.ended
+    }
+
+    fn reach(&self) -> u128 {
+        self.reach
     }
 
     fn is_full(&self) -> bool {

@@ -15,10 +15,10 @@ returns-then-not-last-clause-hands_over g c =
 
 pub returns-then-not-last-clause-goes : goal.returns-then-not-last-clause-goes
 returns-then-not-last-clause-goes g c =
-    goes_joins g.L.Link g.met.L.Link.joins _ _ _ (record { link = c.absorb.ensures.goes; frames = c.absorb.ensures.leaves.count }) c.flush_wanted.ensures.goes
+    goes_joins g.L.Link g.met.L.Link.joins _ _ _ (record { link = c.absorb.ensures.goes; frames = ap (λ u. u.limit) c.absorb.ensures.stay.uses }) c.flush_wanted.ensures.goes
 
 pub returns-else-not-last-clause-goes : goal.returns-else-not-last-clause-goes
-returns-else-not-last-clause-goes g c = record { link = c.absorb.ensures.goes; frames = c.absorb.ensures.leaves.count }
+returns-else-not-last-clause-goes g c = record { link = c.absorb.ensures.goes; frames = ap (λ u. u.limit) c.absorb.ensures.stay.uses }
 
 pub returns-then-not-last-clause-silent : goal.returns-then-not-last-clause-silent
 returns-then-not-last-clause-silent g c = λ other unwanted idle.

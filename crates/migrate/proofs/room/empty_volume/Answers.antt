@@ -4,7 +4,7 @@ use Rattle.image.proofs.Contents.{is_geometry}
 use Rattle.new_volume.specs.Sizes.{sizes_of}
 use Rattle.new_volume.specs.Made.{IsRefused}
 use Rattle.new_volume.specs.declared.MkfsRefusal.TheVariants.{TooFewBlocks}
-use Rattle.migrate.proofs.RoomLeft.{none_left, room_left, none_enough}
+use Rattle.migrate.proofs.RoomLeft.{begun_so, none_left, room_left, none_enough}
 use Rattle.migrate.proofs.room.empty_volume.Goals as goal
 
 pub returns-in-Err-TooFewBlocks-clause-refused : goal.returns-in-Err-TooFewBlocks-clause-refused
@@ -34,3 +34,8 @@ returns-clause-room c =
     room_left i.geometry (contents i) c.args.old.now.sized c.args.blocks c.zones_used.result (new.zones - new.first_zone)
     c.zones_used.ensures
     new (ap (sizes_of c.args.blocks 1024) (sym same) ∙ c.in-Ok.ensures.sizes) refl c.if-zones_used-zones.false
+
+pub returns-clause-begun : goal.returns-clause-begun
+returns-clause-begun c =
+    begun_so c.args.blocks c.geometry-inodes.result.inodes c.in-Ok.empty.volume c.in-Ok.empty.front.items c.in-Ok.ensures.sizes
+    c.in-Ok.ensures.made

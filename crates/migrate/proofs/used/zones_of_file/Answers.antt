@@ -5,8 +5,7 @@ use Rattle.image.specs.Contents.{contents}
 use Rattle.image.specs.Entered.{level_of}
 use Rattle.fsck.proofs.Counts.{sum_more, no_sum}
 use Rattle.migrate.specs.Used.{zones_below}
-use Rattle.migrate.proofs.Below.{level_low}
-use Rattle.migrate.proofs.UsedBelow.{most_low}
+use Rattle.migrate.proofs.UsedBelow.{level_low, most_low}
 use Rattle.migrate.proofs.used.zones_of_file.Goals as goal
 
 pub loop-slot-init : goal.loop-slot-init

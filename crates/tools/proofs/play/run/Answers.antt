@@ -1,4 +1,3 @@
-use Rattle.std.proofs.Common.{refl}
 use Rattle.tools.proofs.play.run.Goals as goal
 
 pub returns-in-Ok-Ok-clause-played : goal.returns-in-Ok-Ok-clause-played
@@ -11,9 +10,7 @@ returns-in-Ok-Ok-clause-played g c =
       started = record { read = c.in-Ok.ensures.ok.0; servable = ran.2 };
       calls = _;
       scripted = c.in-Ok.ensures.ok.1;
-      last = c.in-Ok-Ok.came.last_sync;
       served = rw c.in-Ok-Ok.field-0-is at ran.3;
-      given_up = refl;
     }
 
 pub returns-in-Ok-Err-clause-unplayed : goal.returns-in-Ok-Err-clause-unplayed

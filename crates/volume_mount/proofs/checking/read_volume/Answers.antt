@@ -1,7 +1,7 @@
 use Rattle.std.proofs.Common.{◌≡◌, ℕ, List, length, subst, ap, ◌∙◌, rules, arith}
 use Rattle.std.specs.Prelude.{Err}
 use Rattle.reissue.specs.Transfers.{table_of}
-use Rattle.volume_mount.specs.declared.reading.Stop.{Stop}
+use Rattle.volume_reading.specs.declared.reading.Stop.{Stop}
 use Rattle.volume_mount.specs.Mounts.{IsChecked}
 use Rattle.volume_mount.proofs.Checked.{stops_at_head, refuses_head, stops_behind, checks, rest_as, written_back, wanting, stands_same}
 use Rattle.volume_mount.proofs.checking.read_volume.Goals as goal

@@ -16,12 +16,14 @@ invariant_of-self-2 c =
     let y : c.swap.new.y.items ≡ old = ap (λ v. v.items) c.swap.ensures.y_after ∙ same in
     let count : length c.swap.new.x.items ≡ length old = ap (λ (l : List ℕ). length l) x ∙ h.count in
     let is : c.len.result ≡ length old = omega (arith, c.len.ensures, c.swap.new.x.ok, count) in
-    let few : length old ≤ 4096 = c.args.self.now.few in
+    let few : length old ≤ s.limit = let n = ap (λ (l : List ℕ). length l) same in let k = s.few in omega (arith, n, k) in
+    let most : s.limit ≤ 4096 = s.most in
     record {
       below = subst (λ (n : ℕ). AllBelow c.swap.new.x.items (n + 1)) (sym is)
           (subst (λ (l : List ℕ). AllBelow l (length old + 1)) (sym x) (numbered_below old new h));
-      bound = omega (arith, is, few);
+      bound = omega (arith, is, few, most);
       few = omega (arith, count, few);
+      most = most;
       paired = ap (λ (l : List ℕ). length l) y ∙ sym count;
       last = subst (λ (l : List ℕ). IsNewest l s.newest) (sym x)
           (newest_keeps old new s.newest (numbered_order old new h) (subst (λ (l : List ℕ). IsNewest l s.newest) same s.last));

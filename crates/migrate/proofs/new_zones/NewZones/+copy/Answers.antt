@@ -9,7 +9,7 @@ use Rattle.migrate.specs.Pages.{pages_in, zones_under}
 use Rattle.migrate.specs.Zones.{IsTaken}
 use Rattle.migrate.proofs.Under.{block_under, holes_in}
 use Rattle.migrate.proofs.Taken.{next_fits}
-use Rattle.migrate.proofs.Taking.{CopiesTo, taken_hole, taken_page, taken_block, copies_none, copies_next, if_ok}
+use Rattle.migrate.proofs.Taking.{BlockTo, taken_hole, taken_page, taken_block, copies_none, copies_next, if_ok}
 use Rattle.migrate.proofs.new_zones.NewZones.+copy.Goals as goal
 
 -- a number but 0 is some
@@ -30,8 +30,8 @@ returns-then-level-eq0 t c =
     (λ o h. c.block.ensures.bytes o h)) c.append.ensures
 
 pub loop-j-init : goal.loop-j-init
-loop-j-init t c = copies_none (pages_in (contents c.args.old.now.image)) (c.args.level - 1) c.args.zone _ _ _
-    (length-replicate {A = ℕ} 256 0)
+loop-j-init t c = copies_none (pages_in (contents c.args.old.now.image)) (λ _. c.args.level - 1)
+    (number (contents c.args.old.now.image) c.args.zone) 256 _ _ _ (length-replicate {A = ℕ} 256 0)
 
 pub copy-requires : goal.copy-requires
 copy-requires t c =
@@ -51,7 +51,8 @@ loop-j-preserved t c =
     let s = pages_in (contents c.args.old.now.image) in
     let l : ℕ = c.args.level - 1 in
     let whole = c.args.self.now.whole in
-    copies_next s l c.args.zone c.loop-j.j c.in_ok-numbers.field-0 _ _ _ c.loop-j.numbers _ _ _ whole c.loop-j-test.true c.loop-j.invariant
+    copies_next s (λ _. l) (number (contents c.args.old.now.image) c.args.zone) 256 c.loop-j.j c.in_ok-numbers.field-0 _ _ _
+    c.loop-j.numbers _ _ _ whole c.loop-j-test.true c.loop-j.invariant
     (subst (λ k. IsTaken s l k c.in_ok-numbers.field-0 c.loop-j.self.limit c.copy.new.self.limit c.loop-j.self.image.items
     c.copy.new.self.image.items) c.number.ensures c.in_ok-numbers.ensures)
 
@@ -73,9 +74,9 @@ returns t c =
     let s = pages_in (contents c.args.old.now.image) in
     let is = some_is c.args.zone c.if-zone-eq0.false in
     let whole = c.args.self.now.whole in
-    let all : CopiesTo s (c.args.level - 1) c.args.zone 256 c.args.self.now.limit c.loop-j.self.limit c.loop-j.numbers
+    let all : BlockTo s (c.args.level - 1) c.args.zone 256 c.args.self.now.limit c.loop-j.self.limit c.loop-j.numbers
     c.args.self.now.image.items c.loop-j.self.image.items
-    = subst (λ j. CopiesTo s (c.args.level - 1) c.args.zone j c.args.self.now.limit c.loop-j.self.limit c.loop-j.numbers
+    = subst (λ j. BlockTo s (c.args.level - 1) c.args.zone j c.args.self.now.limit c.loop-j.self.limit c.loop-j.numbers
     c.args.self.now.image.items c.loop-j.self.image.items) (let e : c.loop-j.j ≡ 256 = omega arith in e) c.loop-j.invariant in
     if_ok c.append-2.result _ _ (λ z a. taken_block s c.args.level c.args.zone z _ _ _ c.loop-j.numbers c.block_of.result _ _ _
     c.if-level-eq0.false is whole all a c.block_of.ensures) c.append-2.ensures

@@ -7,7 +7,7 @@ use Rattle.migrate.specs.Zones.{IsTaken}
 use Rattle.migrate.proofs.Laid.{near_below}
 use Rattle.migrate.proofs.Under.{block_under, holes_from}
 use Rattle.migrate.proofs.Taken.{next_fits}
-use Rattle.migrate.proofs.Taking.{CopiesTo, taken_hole, taken_page, taken_block, copies_none, copies_next, if_ok}
+use Rattle.migrate.proofs.Taking.{BlockTo, taken_hole, taken_page, taken_block, copies_none, copies_next, if_ok}
 use Rattle.migrate.proofs.new_zones.NewZones.+lay.Goals as goal
 
 pub returns-then-page-bytes : goal.returns-then-page-bytes
@@ -25,7 +25,9 @@ returns-then-level-eq0 t c =
     c.if-level-eq0.true is whole a c.page_of.ensures) c.append.ensures
 
 pub loop-j-init : goal.loop-j-init
-loop-j-init t c = copies_none (pages_from c.args.bytes.now) (c.args.level - 1) c.args.page _ _ _ (length-replicate {A = ℕ} 256 0)
+loop-j-init t c =
+    let s = pages_from c.args.bytes.now in
+    copies_none s (λ _. c.args.level - 1) (s.below (c.args.level - 1) c.args.page) 256 _ _ _ (length-replicate {A = ℕ} 256 0)
 
 pub lay-requires : goal.lay-requires
 lay-requires t c =
@@ -50,7 +52,8 @@ loop-j-preserved t c =
     let s = pages_from c.args.bytes.now in
     let l : ℕ = c.args.level - 1 in
     let whole = c.args.self.now.whole in
-    copies_next s l c.args.page c.loop-j.j c.in_ok-numbers.field-0 _ _ _ c.loop-j.numbers _ _ _ whole c.loop-j-test.true c.loop-j.invariant
+    copies_next s (λ _. l) (s.below l c.args.page) 256 c.loop-j.j c.in_ok-numbers.field-0 _ _ _ c.loop-j.numbers _ _ _ whole
+    c.loop-j-test.true c.loop-j.invariant
     (subst (λ w. IsTaken s l (c.args.page + c.loop-j.j * w) c.in_ok-numbers.field-0 c.loop-j.self.limit c.lay.new.self.limit
     c.loop-j.self.image.items c.lay.new.self.image.items) c.pages_below.ensures.value c.in_ok-numbers.ensures)
 
@@ -74,9 +77,9 @@ returns t c =
     let there = c.if-page-bytes.false in
     let is = lt-ltb c.args.page (pages_for (length c.args.bytes.now)) (omega arith) in
     let whole = c.args.self.now.whole in
-    let all : CopiesTo s (c.args.level - 1) c.args.page 256 c.args.self.now.limit c.loop-j.self.limit c.loop-j.numbers
+    let all : BlockTo s (c.args.level - 1) c.args.page 256 c.args.self.now.limit c.loop-j.self.limit c.loop-j.numbers
     c.args.self.now.image.items c.loop-j.self.image.items
-    = subst (λ j. CopiesTo s (c.args.level - 1) c.args.page j c.args.self.now.limit c.loop-j.self.limit c.loop-j.numbers
+    = subst (λ j. BlockTo s (c.args.level - 1) c.args.page j c.args.self.now.limit c.loop-j.self.limit c.loop-j.numbers
     c.args.self.now.image.items c.loop-j.self.image.items) (let e : c.loop-j.j ≡ 256 = omega arith in e) c.loop-j.invariant in
     if_ok c.append-2.result _ _ (λ z a. taken_block s c.args.level c.args.page z _ _ _ c.loop-j.numbers c.block_of.result _ _ _
     c.if-level-eq0.false is whole all a c.block_of.ensures) c.append-2.ensures

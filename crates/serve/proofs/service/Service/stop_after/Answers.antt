@@ -1,38 +1,54 @@
-use Rattle.std.proofs.Common.{◌∙◌, ap, sym, subst, ℕ, List, Some}
+use Rattle.std.proofs.Common.{◌∙◌, ap, arith, sym, subst, ℕ, List, Some}
 use Rattle.tree.specs.declared.Who.{Who}
 use Rattle.records.specs.Marks.{Mark, IsBeginning}
 use Rattle.board.specs.Keeper.{begins_itself}
+use Rattle.board.specs.View.{without}
+use Rattle.serve.specs.Stopping.{WhoIsLeft}
 use Rattle.serve.proofs.ClosingLaws.{closed_all}
-use Rattle.serve.proofs.StoppingLaws.{finished_after, image_after, left_told, none_told, who_after, why_after}
+use Rattle.serve.proofs.StoppingLaws.{Finished, finished_with, image_after, left_told, none_told, who_after, why_after}
+use Rattle.serve.proofs.service.Service.stop_after.Given.{Over}
 use Rattle.serve.proofs.service.Service.stop_after.Goals as goal
+
+-- with which the server was let go, beside what had been seen
+left_so : (g : Over) (c : goal.After-image_of g) (earlier : List Mark) → IsBeginning earlier c.into_seat-number.result.1.view.seen
+    → Finished g.L.Link g.L.Recorder.numbers g.N.ServiceParameters.geometry g.N.ServiceParameters.opening earlier
+    (without (Some c.into_seat-number.result.0) (g.L.Recorder.numbers c.alone-rt.result.1)) c.finish_after-finish.result
+left_so g c earlier begins =
+    let count = c.range-range.ensures.1 in
+    finished_with g.L.Link g.L.Recorder.numbers g.N.ServiceParameters.geometry g.N.ServiceParameters.opening earlier
+    c.into_seat-number.result.1.view.seen _ _ _ _ _ (omega (arith, count)) begins c.finish_after-finish.ensures.finished
+
+who : (g : Over) (c : goal.After-image_of g) (earlier : List Mark) → IsBeginning earlier c.into_seat-number.result.1.view.seen
+    → WhoIsLeft g.L.Link g.L.Recorder.numbers g.N.ServiceParameters.geometry g.N.ServiceParameters.opening earlier
+    (Some c.args.last.knows.number) c.image_of.result
+who g c earlier begins =
+    who_after g.L.Link g.L.Recorder.numbers g.N.ServiceParameters.geometry g.N.ServiceParameters.opening earlier _
+    (Some c.args.last.knows.number) c.finish_after-finish.result c.image_of.result c.image_of.ensures.image c.image_of.ensures.refused
+    (left_so g c earlier begins) c.alone-rt.ensures
+
+-- what the session had seen first, and once it had closed all
+seen_first : (g : Over) (c : goal.After-image_of g) → IsBeginning c.args.last.knows.seen c.into_seat-number.result.1.view.seen
+seen_first g c =
+    subst (λ (ms : List Mark). IsBeginning c.args.last.knows.seen ms) (sym c.into_seat-number.ensures.seen) c.close_all.ensures.seen
+
+seen_closed : (g : Over) (c : goal.After-image_of g) → IsBeginning c.close_all.new.self.knows.seen c.into_seat-number.result.1.view.seen
+seen_closed g c =
+    subst (λ (ms : List Mark). IsBeginning ms c.into_seat-number.result.1.view.seen) c.into_seat-number.ensures.seen
+    (begins_itself c.into_seat-number.result.1.view.seen)
 
 pub returns-clause-image : goal.returns-clause-image
 returns-clause-image g c =
-    image_after g.L.Link g.L.Recorder.numbers g.N.ServiceParameters.geometry g.N.ServiceParameters.opening c.args.last.knows.seen _
-    c.finish_after-how.result c.image_of.result c.image_of.ensures.image
-    (finished_after g.L.Link g.L.Recorder.numbers g.N.ServiceParameters.geometry g.N.ServiceParameters.opening c.args.last.knows.seen
-    c.into_seat-number.result.1.view.seen _ c.finish_after-how.result
-    (subst (λ (ms : List Mark). IsBeginning c.args.last.knows.seen ms) (sym c.into_seat-number.ensures.seen) c.close_all.ensures.seen)
-    c.finish_after-how.ensures)
+    image_after g.L.Link g.L.Recorder.numbers g.N.ServiceParameters.geometry g.N.ServiceParameters.opening c.args.last.knows.seen
+    (Some c.args.last.knows.number) c.image_of.result (who g c c.args.last.knows.seen (seen_first g c))
 
 pub returns-clause-refused : goal.returns-clause-refused
 returns-clause-refused g c =
-    why_after g.L.Link g.L.Recorder.numbers g.N.ServiceParameters.geometry g.N.ServiceParameters.opening c.args.last.knows.seen _
-    c.finish_after-how.result _ c.image_of.result c.image_of.ensures.refused
-    (finished_after g.L.Link g.L.Recorder.numbers g.N.ServiceParameters.geometry g.N.ServiceParameters.opening c.args.last.knows.seen
-    c.into_seat-number.result.1.view.seen _ c.finish_after-how.result
-    (subst (λ (ms : List Mark). IsBeginning c.args.last.knows.seen ms) (sym c.into_seat-number.ensures.seen) c.close_all.ensures.seen)
-    c.finish_after-how.ensures)
+    why_after g.L.Link g.L.Recorder.numbers g.N.ServiceParameters.geometry g.N.ServiceParameters.opening c.args.last.knows.seen
+    (Some c.args.last.knows.number) c.finish_after-finish.result _ c.image_of.result c.image_of.ensures.refused
+    (who g c c.args.last.knows.seen (seen_first g c))
 
 pub returns-clause-sessions : goal.returns-clause-sessions
-returns-clause-sessions g c =
-    who_after g.L.Link g.L.Recorder.numbers g.N.ServiceParameters.geometry g.N.ServiceParameters.opening c.args.last.knows.seen _
-    (Some c.args.last.knows.number) c.finish_after-how.result c.image_of.result c.image_of.ensures.image c.image_of.ensures.refused
-    (finished_after g.L.Link g.L.Recorder.numbers g.N.ServiceParameters.geometry g.N.ServiceParameters.opening c.args.last.knows.seen
-    c.into_seat-number.result.1.view.seen _ c.finish_after-how.result
-    (subst (λ (ms : List Mark). IsBeginning c.args.last.knows.seen ms) (sym c.into_seat-number.ensures.seen) c.close_all.ensures.seen)
-    c.finish_after-how.ensures)
-    c.alone-rt.ensures
+returns-clause-sessions g c = who g c c.args.last.knows.seen (seen_first g c)
 
 pub returns-then-has_sessions-clause-sessions : goal.returns-then-has_sessions-clause-sessions
 returns-then-has_sessions-clause-sessions g c =
@@ -69,11 +85,6 @@ returns-clause-closed g c = (
   c.close_all.new.self,
   closed_all g.L.Link g.N.ServiceParameters.opening _ _ c.close_all.result c.close_all.ensures.later c.close_all.ensures.bound
       c.close_all.ensures.closed c.close_all.ensures.cut,
-  image_after g.L.Link g.L.Recorder.numbers g.N.ServiceParameters.geometry g.N.ServiceParameters.opening c.close_all.new.self.knows.seen _
-      c.finish_after-how.result c.image_of.result c.image_of.ensures.image
-      (finished_after g.L.Link g.L.Recorder.numbers g.N.ServiceParameters.geometry g.N.ServiceParameters.opening
-      c.close_all.new.self.knows.seen c.into_seat-number.result.1.view.seen _ c.finish_after-how.result
-      (subst (λ (ms : List Mark). IsBeginning ms c.into_seat-number.result.1.view.seen) c.into_seat-number.ensures.seen
-      (begins_itself c.into_seat-number.result.1.view.seen))
-      c.finish_after-how.ensures),
+  image_after g.L.Link g.L.Recorder.numbers g.N.ServiceParameters.geometry g.N.ServiceParameters.opening c.close_all.new.self.knows.seen
+      (Some c.args.last.knows.number) c.image_of.result (who g c c.close_all.new.self.knows.seen (seen_closed g c)),
 )

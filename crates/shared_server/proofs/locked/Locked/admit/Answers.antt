@@ -16,6 +16,7 @@ invariant_of-self g c = (
       })
       c.admit.ensures.same (λ older truth. c.admit.ensures.truth g.N.ServiceParameters.opening older truth) c.admit.ensures.marks c.self.invariant.0,
   subst (λ (n : ℕ). n ≤ c.self.inside.absorbed) (sym c.admit.ensures.absorbed) c.self.invariant.1,
+  c.self.invariant.2,
 )
 
 pub returns-clause-refusal : goal.returns-clause-refusal

@@ -16,4 +16,5 @@ invariant_of-self g c = (
       })
       c.release.ensures.same (λ older truth. c.release.ensures.truth g.N.ServiceParameters.opening older truth) c.release.ensures.marks c.self.invariant.0,
   subst (λ (n : ℕ). n ≤ c.self.inside.absorbed) (sym c.release.ensures.absorbed) c.self.invariant.1,
+  c.self.invariant.2,
 )

@@ -16,4 +16,5 @@ invariant_of-self g c = (
       })
       c.show.ensures.same (λ older truth. c.show.ensures.truth g.N.ServiceParameters.opening older truth) c.show.ensures.marks c.self.invariant.0,
   subst (λ (n : ℕ). n ≤ c.self.inside.absorbed) (sym c.show.ensures.absorbed) c.self.invariant.1,
+  c.self.invariant.2,
 )

@@ -1,9 +1,0 @@
-use Rattle.std.proofs.Common.{◌≡◌, length}
-use Rattle.cache.proofs.Making.{AllFree}
-use Rattle.cache.proofs.table.Slots.new.Given as goal
-
-abbrev pub invariant-free : goal.invariant-free
-invariant-free l = record {
-  free : AllFree l.items.items;
-  count : length l.items.items ≡ l.counter;
-}

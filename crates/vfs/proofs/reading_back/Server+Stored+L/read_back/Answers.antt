@@ -1,0 +1,13 @@
+use Rattle.vfs.proofs.Back.{are_for_so, back_so}
+use Rattle.vfs.proofs.reading_back.Server+Stored+L.read_back.Goals as goal
+
+pub read_back-requires-clause-minor : goal.read_back-requires-clause-minor
+read_back-requires-clause-minor g c =
+    are_for_so g.L.Link c.args.self c.minor-minor.result c.into_transfers-transfers.result c.minor-minor.ensures c.into_transfers-transfers.ensures
+    c.requires.ready
+
+pub returns-clause-back : goal.returns-clause-back
+returns-clause-back g c =
+    back_so g.L.Link c.args.self c.minor-minor.result c.into_transfers-transfers.result c.read_back.new.transfers c.into_link.result c.read_back.result
+    c.end_of-end.result c.read_back.new.into c.minor-minor.ensures c.into_transfers-transfers.ensures c.read_back.ensures.back c.end_of-end.ensures
+    c.into_link.ensures

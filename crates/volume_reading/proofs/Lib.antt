@@ -1,0 +1,5 @@
+pub mod Searching
+pub mod Going
+pub mod Parts
+pub mod Steps
+pub mod Waiting
