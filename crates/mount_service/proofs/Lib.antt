@@ -1,5 +1,6 @@
 mod Answering
 mod Keeping
+mod Meeting
 mod Owning
 mod Putting
 mod Speaking

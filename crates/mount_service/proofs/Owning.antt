@@ -4,6 +4,7 @@ use Rattle.std.specs.Prelude.{⊤, Option, Some, None, slice_get, slice_index_or
 use Rattle.layout.specs.declared.Geometry.{Geometry}
 use Rattle.tree.specs.declared.Call.{Call}
 use Rattle.tree.specs.declared.Outcome.{Outcome}
+use Rattle.records.specs.Marks.{Mark}
 use Rattle.records.specs.Opening.{Opening}
 use Rattle.records.specs.Session.{SessionState}
 use Rattle.mount_service.specs.Spoken.{Puts, IsAnswered, IsOwnAnswer, Users, users}
@@ -24,12 +25,12 @@ found (x ∷ xs) zero d it same value = sym (ap (or_else d) same) ∙ sym value
 found (x ∷ xs) (suc i) d it same value = found xs i d it same value
 
 -- the session at this place, which an index leads to, made the call
-pub own_answer : {A : Type 0} (puts : Puts A) (g : Geometry) (v : Opening) (sessions : List SessionState) (kept : Bool) (session now : ℕ)
-    (call : Call) (outcome : Outcome) (place : ℕ) (given after : SessionState)
+pub own_answer : {A : Type 0} (puts : Puts A) (g : Geometry) (v : Opening) (sessions : List SessionState) (met : List Mark) (kept : Bool)
+    (session now : ℕ) (call : Call) (outcome : Outcome) (place : ℕ) (given after : SessionState)
     → (it : SessionState) × (slice_get sessions place ≡ Some it) × (it.knows.number ≡ session)
     → given ≡ slice_index_or sessions place given → IsAnswered puts g v kept given now call outcome after
-    → IsOwnAnswer puts g v (users sessions kept) session now call outcome (users (slice_set sessions place after) kept)
-own_answer puts g v sessions kept session now call outcome place given after (it, is, number) value answered = record {
+    → IsOwnAnswer puts g v (users sessions met kept) session now call outcome (users (slice_set sessions place after) met kept)
+own_answer puts g v sessions met kept session now call outcome place given after (it, is, number) value answered = record {
   place = place;
   before = it;
   after = after;

@@ -118,7 +118,7 @@ pub fn mount<
 ) -> Ended<I, O, C, A, W>
     ensures mounted { IfSome result.came (λ came. IsMounted A.puts W.fewest W.answers streams.answerer image setup.now
         (map D.state supply.items) (I.Read.remaining streams.input) (O.contents streams.output) (O.contents came.streams.output)
-        streams.archive came.streams.archive came.answered came.image.items) }
+        streams.archive came.streams.archive came.answered came.last_sync came.image.items) }
     ensures status { IfSome result.came (λ came. IsStatus came.answered came.last_sync result.status) }
     ensures unmounted { IfNone result.came ((refusal : MountRefusal)
         × IsUnmounted image name.entry setup.now (map D.state supply.items) refusal) }
@@ -159,7 +159,7 @@ fn run<
 ) -> Result<Came<I, O, C, A, W>, MountRefusal<'n>>
     ensures mounted { IfOk result (λ came. IsMounted A.puts W.fewest W.answers streams.answerer image setup.now
         (map D.state supply.items) (I.Read.remaining streams.input) (O.contents streams.output) (O.contents came.streams.output)
-        streams.archive came.streams.archive came.answered came.image.items) }
+        streams.archive came.streams.archive came.answered came.last_sync came.image.items) }
     ensures unmounted { IfErr result (IsUnmounted image name.entry setup.now (map D.state supply.items)) }
 {
     let Some(bytes) = image else {

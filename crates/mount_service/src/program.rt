@@ -1,7 +1,8 @@
 //! What is done with a service: its sessions answer the messages of a stream until that ends; then the service is stopped.
 
 ghost use Rattle.std.specs.Prelude.{◌≡◌, IfOk, OnOk, Some, is_some};
-ghost use Rattle.shared_media.specs.Confined.{IsImageOutside};
+ghost use Rattle.serve.specs.Stopping.{IsLastImage};
+ghost use Rattle.shared_server.specs.Finishing.{sync_of};
 ghost use Rattle.mount_service.specs.Left.{IsLeftBy};
 ghost use Rattle.mount_service.specs.Spoken.{IsSpoken};
 
@@ -13,7 +14,8 @@ use board::counting::parameters::ServiceParameters;
 use board::counting::recorder::Recorder;
 use file_server::FileServer;
 use message_stream::answering::{StreamRefusal, answer_all};
-use serve::service::Service;
+use serve::service::{Service, Shared};
+use serve::session::Session;
 use serve::stopping::{NoImage, image_left};
 use shared_server::refusal::SessionRefusal;
 use std::alloc::{AllocError, Global};
@@ -58,8 +60,8 @@ pub struct Came<I, O, C, A, W> {
 }
 
 /// Answers the messages of a stream by sessions of this service, and stops it. What came of it. Where there is an archive, changes go into
-/// it behind each sync, and behind those of a keeper, if there is to be one. Refused where no memory or no thread was found: then nothing
-/// is answered.
+/// it behind each sync, and behind those of a keeper, if there is to be one. Refused where no memory or no thread was found, or the service
+/// makes no session (a new one does while its link goes on): then nothing is answered.
 pub(crate) fn answer_on<
     N: ServiceParameters + Send + Sync + 'static,
     R: Threads + Wait + Copy + Send + Sync + 'static,
@@ -78,24 +80,41 @@ pub(crate) fn answer_on<
 ) -> Result<Result<Came<I, O, C, A, W>, NoImage>, AllocError>
     ensures { IfOk result (λ o. IfOk o (λ came. IsLeftBy A.puts W.fewest W.answers streams.answerer N.geometry N.opening
         (I.Read.remaining streams.input) (O.contents streams.output) (O.contents came.streams.output) streams.archive
-        came.streams.archive came.answered came.image.items)) }
+        came.streams.archive came.answered came.last_sync came.image.items)) }
 {
     let mut streams = streams;
+    let own = own_session(&service)?;
     match streams.archive.take() {
         Some(archive) => {
             answer_and_keep::<N, R, L, S, Brand, I, O, C, A, W>(
-                alloc, rt, service, streams, archive,
+                alloc, rt, service, own, streams, archive,
             )
         }
         None => {
-            let answered = answer_by::<N, R, L, S, Brand, I, O, C, A, W>(
+            let (answered, own) = answer_by::<N, R, L, S, Brand, I, O, C, A, W>(
                 alloc,
                 &service,
+                own,
                 &mut streams,
                 None,
             );
-            Ok(came_of(service, streams, answered))
+            Ok(came_of(service, own, streams, answered))
         }
+    }
+}
+
+/// The mount's own session, which makes no call.
+fn own_session<
+    N: ServiceParameters + Send + Sync + 'static,
+    R: Threads + Wait + Copy + Send + Sync + 'static,
+    L: Recorder<N> + Send + 'static,
+    S: FileServer<L> + Send + 'static,
+>(
+    service: &Service<N, R, L, S>,
+) -> Result<Session<N, Shared<N, R, L, S>>, AllocError> {
+    match service.session(0, 0) {
+        Ok(session) => Ok(session),
+        Err(_) => Err(AllocError),
     }
 }
 
@@ -115,25 +134,26 @@ fn answer_and_keep<
     alloc: Global,
     rt: R,
     service: Service<N, R, L, S>,
+    own: Session<N, Shared<N, R, L, S>>,
     streams: Streams<I, O, C, A, W>,
     archive: A,
 ) -> Result<Result<Came<I, O, C, A, W>, NoImage>, AllocError>
     requires { F.first ≡ Some archive }
     ensures { IfOk result (λ o. IfOk o (λ came. IsLeftBy A.puts W.fewest W.answers streams.answerer N.geometry N.opening
         (I.Read.remaining streams.input) (O.contents streams.output) (O.contents came.streams.output) (Some archive)
-        came.streams.archive came.answered came.image.items)) }
+        came.streams.archive came.answered came.last_sync came.image.items)) }
 {
     let mut streams = streams;
     let shared = SharedArchive::<N, R, F, A>::new(alloc, rt, service.media()?, archive);
     let shared = Arc::new(alloc, shared)?;
     let asked = Arc::try_clone(&shared)?;
     let keeper = keeper_of(alloc, &rt, &service, &shared, streams.sync_every)?;
-    let answered = answer_by(alloc, &service, &mut streams, Some(asked));
+    let (answered, own) = answer_by(alloc, &service, own, &mut streams, Some(asked));
     if let Some(keeper) = keeper {
         keeper.end(&rt);
     }
     streams.archive = SharedArchive::into_archive(shared);
-    Ok(came_of(service, streams, answered))
+    Ok(came_of(service, own, streams, answered))
 }
 
 /// The keeper of an archive, which makes a sync every so many seconds; none where that is 0, or where the link to the drivers has ended.
@@ -164,7 +184,7 @@ fn keeper_of<
     }
 }
 
-/// Answers the messages of a stream by sessions of this service, which end then.
+/// Answers the messages of a stream by sessions of this service, which end then; the mount's own goes on, and has seen all that they had.
 fn answer_by<
     N: ServiceParameters + Send + Sync + 'static,
     R: Threads + Wait + Copy + Send + Sync + 'static,
@@ -179,14 +199,16 @@ fn answer_by<
 >(
     alloc: Global,
     service: &Service<N, R, L, S>,
+    own: Session<N, Shared<N, R, L, S>>,
     streams: &mut Streams<I, O, C, A, W>,
     shared: Option<Arc<SharedArchive<N, R, F, A>>>,
-) -> Result<(), StreamRefusal>
-    ensures spoken { OnOk result (IsSpoken A.puts W.fewest W.answers streams.old.answerer N.geometry N.opening
-        (I.Read.remaining streams.old.input) (O.contents streams.old.output) (O.contents streams.new.output) (is_some shared)) }
+) -> (Result<(), StreamRefusal>, Session<N, Shared<N, R, L, S>>)
+    ensures spoken { OnOk result.0 (IsSpoken A.puts W.fewest W.answers streams.old.answerer N.geometry N.opening
+        (I.Read.remaining streams.old.input) (O.contents streams.old.output) (O.contents streams.new.output) (is_some shared)
+        result.1.knows.seen) }
     ensures archive { streams.new.archive ≡ streams.old.archive }
 {
-    let mut sessions = ServiceSessions::new(alloc, service, shared);
+    let mut sessions = ServiceSessions::new(alloc, service, own, shared);
     let answered = answer_all(
         alloc,
         &mut streams.input,
@@ -195,11 +217,10 @@ fn answer_by<
         &mut sessions,
         &mut streams.answerer,
     );
-    sessions.end();
-    answered
+    (answered, sessions.end())
 }
 
-/// Stops the service, and gives what came of the messages of its streams.
+/// Stops the service, whose only session is the mount's own, and gives what came of the messages of its streams.
 fn came_of<
     N: ServiceParameters + Send + Sync + 'static,
     R: Threads + Wait + Copy + Send + Sync + 'static,
@@ -212,13 +233,15 @@ fn came_of<
     W: Answers + Drop,
 >(
     service: Service<N, R, L, S>,
+    own: Session<N, Shared<N, R, L, S>>,
     streams: Streams<I, O, C, A, W>,
     answered: Result<(), StreamRefusal>,
 ) -> Result<Came<I, O, C, A, W>, NoImage>
     ensures came { IfOk result (λ came. (came.streams ≡ streams) × (came.answered ≡ answered)) }
-    ensures outside { IfOk result (λ came. IsImageOutside N.opening came.image.items) }
+    ensures image { IfOk result (λ came.
+        IsLastImage L.Link N.geometry N.opening own.knows.seen (sync_of came.last_sync) came.image.items) }
 {
-    let (last_sync, image) = image_left(service.stop())?;
+    let (last_sync, image) = image_left(service.stop_after(own))?;
     Ok(Came {
         streams,
         answered,

@@ -1,9 +1,10 @@
 //! The sessions of a service by which messages are answered, one for each user who is attached, and the changes behind each sync.
 
 ghost use Rattle.std.specs.Prelude.{◌≡◌, ◌≢◌, ◌↔◌, ℕ, [], IfNone, IfSome, IsTrue, Some, is_some, slice_get};
+ghost use Rattle.records.specs.Marks.{IsBeginning};
 ghost use Rattle.records.specs.Session.{SessionState};
 ghost use Rattle.tree.specs.declared.Call.TheVariants.{Sync};
-ghost use Rattle.mount_service.specs.Spoken.{IsAnswered};
+ghost use Rattle.mount_service.specs.Spoken.{HaveSeen, IsAnswered};
 ghost use Rattle.talks.specs.declared.ask.Leaving.{Leaving};
 
 use crate::archive::Archive;
@@ -23,7 +24,8 @@ use talks::ask::Leaving;
 use talks::sessions::{EnterRefusal, Sessions};
 use tree::{Call, Outcome, Reply};
 
-/// Sessions of a service, which were made one after the other, and the archive into which changes are put behind a sync, if there is one.
+/// Sessions of a service, which were made one after the other, one of the mount's own, and the archive into which changes are put behind a
+/// sync, if there is one.
 #[derive(Drop)]
 pub struct ServiceSessions<
     's,
@@ -36,6 +38,8 @@ pub struct ServiceSessions<
 > {
     service: &'s Service<N, R, L, S>,
     sessions: Vec<Session<N, Shared<N, R, L, S>>>,
+    // It makes no call, and meets each session that ends: so what any of them had seen, it has.
+    own: Session<N, Shared<N, R, L, S>>,
     shared: Option<Arc<SharedArchive<N, R, F, A>>>,
 }
 
@@ -53,7 +57,7 @@ impl<
 
     ghost Value = { Users };
 
-    ghost view = { λ s. users s.sessions.items (is_some s.shared) };
+    ghost view = { λ s. users s.sessions.items s.own.knows.seen (is_some s.shared) };
 }
 
 impl<
@@ -66,26 +70,34 @@ impl<
     A: Archive + Drop,
 > ServiceSessions<'s, N, R, L, S, F, A> {
     ghost use Rattle.std.specs.Prelude.{is_some};
-    ghost use Rattle.mount_service.specs.Spoken.{users, HaveLeft};
+    ghost use Rattle.records.specs.Marks.{IsBeginning};
+    ghost use Rattle.mount_service.specs.Spoken.{users, AreAllGone, HaveLeft, HaveSeen};
 
-    /// None of this service. Its changes go to this archive.
+    /// None of this service but the mount's own. Its changes go to this archive.
     pub(crate) fn new(
         alloc: Global,
         service: &'s Service<N, R, L, S>,
+        own: Session<N, Shared<N, R, L, S>>,
         shared: Option<Arc<SharedArchive<N, R, F, A>>>,
     ) -> ServiceSessions<'s, N, R, L, S, F, A>
-        ensures { result ≡ users [] (is_some shared) }
+        ensures { result ≡ users [] own.knows.seen (is_some shared) }
     {
         ServiceSessions {
             service,
             sessions: Vec::new(alloc),
+            own,
             shared,
         }
     }
 
-    /// Ends all sessions.
-    pub(crate) fn end(mut self) {
+    /// Ends all sessions but the mount's own, which has then seen all that they had.
+    pub(crate) fn end(mut self) -> Session<N, Shared<N, R, L, S>>
+        ensures more { IsBeginning self.entry.met result.knows.seen }
+        ensures met { HaveSeen self.entry.sessions result.knows.seen }
+    {
         self.end_in_turn();
+        let ServiceSessions { own, .. } = self;
+        own
     }
 
     /// Ends the session of this number, if there is one, between syncs of the keeper.
@@ -95,7 +107,8 @@ impl<
         let Some(place) = place_of(self.sessions.as_slice(), number) else {
             return;
         };
-        let session = self.sessions.remove(place);
+        let mut session = self.sessions.remove(place);
+        self.own.meet(&mut session);
         match &self.shared {
             Some(shared) => {
                 let _turn = shared.turn();
@@ -107,14 +120,14 @@ impl<
 
     /// Ends all sessions, between syncs of the keeper: what they left open is closed, which changes the volume.
     fn end_in_turn(&mut self)
-        ensures { self.new ≡ users [] self.old.kept }
+        ensures { AreAllGone self.old self.new }
     {
         match &self.shared {
             Some(shared) => {
                 let _turn = shared.turn();
-                end_all(&mut self.sessions);
+                end_all(&mut self.sessions, &mut self.own);
             }
-            None => end_all(&mut self.sessions),
+            None => end_all(&mut self.sessions, &mut self.own),
         }
     }
 }
@@ -208,13 +221,17 @@ fn place_of<N: ServiceParameters, S>(sessions: &[Session<N, S>], number: u8) -> 
     None
 }
 
-/// Ends all sessions, the last one first.
+/// Ends all sessions, the last one first, once the mount's own has met each.
 fn end_all<N: ServiceParameters, R: Wait + Copy, L: Recorder<N>, S: FileServer<L>>(
     sessions: &mut Vec<Session<N, Shared<N, R, L, S>>>,
+    own: &mut Session<N, Shared<N, R, L, S>>,
 )
-    ensures { sessions.new.items ≡ [] }
+    ensures none { sessions.new.items ≡ [] }
+    ensures more { IsBeginning own.old.knows.seen own.new.knows.seen }
+    ensures met { HaveSeen sessions.old.items own.new.knows.seen }
 {
-    while let Some(session) = sessions.pop() {
+    while let Some(mut session) = sessions.pop() {
+        own.meet(&mut session);
         session.end();
     }
 }

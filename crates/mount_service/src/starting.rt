@@ -59,7 +59,7 @@ fn open_and_answer<
     requires clean { IsClean N.ServiceParameters clean.geometry }
     ensures played { IfOk result (λ o. IfOk o (λ came.
         IsLeftBy A.puts W.fewest W.answers streams.answerer N.geometry N.opening (I.Read.remaining streams.input) (O.contents streams.output)
-        (O.contents came.streams.output) streams.archive came.streams.archive came.answered came.image.items)) }
+        (O.contents came.streams.output) streams.archive came.streams.archive came.answered came.last_sync came.image.items)) }
 {
     match opened_server::<N, L>(alloc, link, minor, clean, frames) {
         Ok(server) => {
@@ -100,7 +100,7 @@ fn start_and_answer<
     requires clean { IsClean N.ServiceParameters checked.clean.geometry }
     ensures played { IfOk result (λ o. HasServed N.opening.media setup.now (map D.state supply.items) (λ g v. IfOk o (λ came.
         IsLeftBy A.puts W.fewest W.answers streams.answerer g v (I.Read.remaining streams.input) (O.contents streams.output)
-        (O.contents came.streams.output) streams.archive came.streams.archive came.answered came.image.items))) }
+        (O.contents came.streams.output) streams.archive came.streams.archive came.answered came.last_sync came.image.items))) }
 {
     let CheckedImage { prepared, clean } = checked;
     let asked = Arc::try_clone(&gate)?;
@@ -147,7 +147,7 @@ pub fn answer_messages<
     ensures refusal { IfErr result (IsNotServable image.items setup.now (map D.state supply.items)) }
     ensures played { IfOk result (λ o. HasServed image.items setup.now (map D.state supply.items) (λ g v. IfOk o (λ came.
         IsLeftBy A.puts W.fewest W.answers streams.answerer g v (I.Read.remaining streams.input) (O.contents streams.output)
-        (O.contents came.streams.output) streams.archive came.streams.archive came.answered came.image.items))) }
+        (O.contents came.streams.output) streams.archive came.streams.archive came.answered came.last_sync came.image.items))) }
 {
     let checked = prepare_checked(alloc, image, setup, &supply)?;
     let (board, seat) = Board::new(alloc)?;

@@ -11,5 +11,5 @@ returns-clause-played g c =
     IfOk c.in_ok-start_and_answer.field-0 (λ came.
     IsLeftBy g.A.Archive.puts g.W.Answers.fewest g.W.Answers.answers c.args.streams.answerer h v
     (g.I.Read.remaining c.args.streams.input) (g.O.Write.contents c.args.streams.output) (g.O.Write.contents came.streams.output)
-    c.args.streams.archive came.streams.archive came.answered came.image.items)))
+    c.args.streams.archive came.streams.archive came.answered came.last_sync came.image.items)))
     c.in_ok-checked.ensures.bytes c.in_ok-start_and_answer.ensures.played
