@@ -158,16 +158,23 @@ def repository_of(room):
     return made
 
 
-def projects(at, room, tell):
-    """A repository is cloned, and a small project made."""
-    first = repository_of(room)
-    took, _ = timed(run, "git", "clone", "-q", "--no-local", first, at / "clone")
-    tell("`git clone` of this repository's pages and scripts", took)
+def cloned_and_made(at, room):
+    """The seconds in which a repository is cloned, and those in which a small project is made."""
+    cloned, _ = timed(run, "git", "clone", "-q", "--no-local", repository_of(room), at / "clone")
     project_in(at / "made")
-    took, _ = timed(run, "make", "-s", "-C", at / "made")
-    tell("`make` of a project of five files", took)
+    made, _ = timed(run, "make", "-s", "-C", at / "made")
     for it in ("clone", "made"):
         shutil.rmtree(at / it)
+    return cloned, made
+
+
+def projects(at, room, tell):
+    """A repository is cloned, and a small project made. Both are done beside the volumes first: the page cache then has git and the compiler,
+    whoever's turn it is."""
+    cloned_and_made(room, room)
+    cloned, made = cloned_and_made(at, room)
+    tell("`git clone` of this repository's pages and scripts", cloned)
+    tell("`make` of a project of five files", made)
 
 
 def mounts(peer, tell):

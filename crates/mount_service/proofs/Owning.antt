@@ -18,7 +18,7 @@ is_there None = ⊥
 is_there (Some x) = ⊤
 
 -- the item at a place is the one that an index leads to
-found : {X : Type 0} (xs : List X) (i : ℕ) (d it : X) → slice_get xs i ≡ Some it → d ≡ slice_index_or xs i d → it ≡ d
+pub found : {X : Type 0} (xs : List X) (i : ℕ) (d it : X) → slice_get xs i ≡ Some it → d ≡ slice_index_or xs i d → it ≡ d
 unfolding is_there or_else
 found [] i d it same value = absurd (subst is_there (sym same) tt)
 found (x ∷ xs) zero d it same value = sym (ap (or_else d) same) ∙ sym value

@@ -13,9 +13,12 @@ returns-in-None g c =
     let answered = c.answer_by-answered in
     let fewest = g.W.Answers.fewest in
     let first = c.args.streams.answerer in
-    left_by g.O.Write.contents puts fewest g.W.Answers.answers first at v (g.I.Read.remaining c.args.streams.input) (g.O.Write.contents c.args.streams.output)
-    c.args.streams.archive answered.new.streams answered.result c.came_of.result c.came_of.ensures.came c.came_of.ensures.outside
-    (subst (λ o. OnOk answered.result (IsSpoken puts fewest g.W.Answers.answers first at v (g.I.Read.remaining c.args.streams.input)
-    (g.O.Write.contents c.args.streams.output) (g.O.Write.contents answered.new.streams.output) (is_some o)))
+    let came = answered.result.0 in
+    let seen = answered.result.1.knows.seen in
+    left_by g.L.Link g.O.Write.contents puts fewest g.W.Answers.answers first at v (g.I.Read.remaining c.args.streams.input)
+    (g.O.Write.contents c.args.streams.output) c.args.streams.archive seen answered.new.streams came c.came_of.result
+    c.came_of.ensures.came c.came_of.ensures.image
+    (subst (λ o. OnOk came (IsSpoken puts fewest g.W.Answers.answers first at v (g.I.Read.remaining c.args.streams.input)
+    (g.O.Write.contents c.args.streams.output) (g.O.Write.contents answered.new.streams.output) (is_some o) seen))
     (sym (sym c.take.ensures.value ∙ c.in-None.is)) answered.ensures.spoken)
     (subst (λ o. IsKeptAfter puts at v c.args.streams.archive o) (sym (answered.ensures.archive ∙ c.take.ensures.after)) tt)
