@@ -16,8 +16,8 @@ seen_last : (sessions : List SessionState) (s : SessionState) (marks : List Mark
 seen_last [] s marks h own = (own, tt)
 seen_last (it ∷ sessions) s marks h own = (h.0, seen_last sessions s marks h.1 own)
 
--- Of these sessions some were met, and the others are left: a record that goes on from what the own session has then seen, and from what those
--- have that are left, goes on from what all had.
+-- Of these sessions some were met, and the others are left: a record that goes on from what the own session has then seen, and from what
+-- those have that are left, goes on from what all had.
 pub record IsMeeting (sessions : List SessionState) (before : List Mark) (left : List SessionState) (seen : List Mark) : Type 0 where
   pub more : IsBeginning before seen
   pub rest : (marks : List Mark) → IsBeginning seen marks → HaveSeen left marks → HaveSeen sessions marks

@@ -15,8 +15,8 @@ use Rattle.mount_service.specs.Spoken.{Puts, Speaks, IsSpoken}
 use Rattle.mount_service.specs.Kept.{IsKeptAfter}
 
 -- A service on this volume answered the messages of a stream, all of it where it says so, and left an image, whose media have as many
--- sectors as were handed in, and outside of the volume each as it was handed in. One record goes on from what each of its sessions had seen,
--- and says how the last sync went, whichever tree the volume held, and what the volume's range of the image is beside what was read back.
+-- sectors as were handed in, and outside of the volume each as it was handed in. One record goes on from what each session had seen, and
+-- says how the last sync went, whichever tree the volume held, and what the volume's range of the image is beside what was read back.
 -- Nothing was put into the archive but behind syncs.
 pub record IsLeftBy {A W : Type 0} (puts : Puts A) (fewest : ℕ) (speaks : Speaks W) (first : W) (g : Geometry) (v : Opening)
     (stream old new : Option (List ℕ)) (before after : Option A) (answered : Result (Unit {0}) StreamRefusal) (last : LastSync)

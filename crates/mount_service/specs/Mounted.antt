@@ -15,8 +15,8 @@ use Rattle.mount_service.specs.declared.mount.MountStatus.TheVariants.{Done, Ref
 use Rattle.mount_service.specs.declared.mount.MountRefusal.{MountRefusal}
 use Rattle.mount_service.specs.declared.mount.MountRefusal.TheVariants as no
 
--- A service started on the volume in the image, which holds a tree, answered the messages of a stream, all of it where it says so, and left an
--- image.
+-- A service started on the volume in the image, which holds a tree, answered the messages of a stream, all of it where it says so, and left
+-- an image.
 pub record IsMounted {A W : Type 0} (puts : Puts A) (fewest : ℕ) (speaks : Speaks W) (first : W) (image : Option (Vec ℕ))
     (setup : Setup) (supply : List DriverState) (stream old new : Option (List ℕ)) (before after : Option A)
     (answered : Result (Unit {0}) StreamRefusal) (last : LastSync) (left : List ℕ) : Type 0 where
@@ -36,8 +36,8 @@ IsUnmounted image name setup supply (no.Stream refusal) = ⊥
 IsUnmounted image name setup supply no.GivenUp = ⊥
 IsUnmounted image name setup supply no.Cut = ⊥
 
--- how a mount ended that left an image: not all was answered; or the last sync wasn't made, or the image isn't as it was read back, or it wasn't
--- read back; or all went
+-- how a mount ended that left an image: not all was answered; or the last sync wasn't made, or the image isn't as it was read back, or it
+-- wasn't read back; or all went
 abbrev pub IsStatus : Result (Unit {0}) StreamRefusal → LastSync → MountStatus → Type 0
 IsStatus (Err refusal) last (Refused told) = ⊤
 IsStatus (Ok done) sync.Done Done = ⊤

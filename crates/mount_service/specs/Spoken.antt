@@ -156,14 +156,14 @@ abbrev pub HaveLeft : Users → Leaving → Users → Type 0
 HaveLeft s leaving.All t = AreAllGone s t
 HaveLeft s (leaving.One session) t = IsOneGone s session t ⊎ (IsNone s session × (t ≡ s))
 
--- how a message may be answered, by what sessions may answer: the message, its answer, and the sessions and the answerer before and after it
+-- how a message may be answered, by what sessions may answer: the message, its answer, and the sessions and the answerer before and after
 abbrev pub Speaks : Type 0 → Type 1
 Speaks W = (S : Type 0) → (S → ℕ → ℕ → Call → Outcome → S → Type 0) → (S → ℕ → ℕ → Result ℕ EnterRefusal → S → Type 0)
     → (S → Leaving → S → Type 0) → List ℕ → List ℕ → S → W → S → W → Type 0
 
 -- A stream was messages, one after the other, and an answer to each went out, in the same order: as the answerer answers it by what was
--- asked of the mount's sessions, from none on, and by what the answerer knows, from its first state on. What each session has seen, whether it
--- ended or not, is a beginning of this record.
+-- asked of the mount's sessions, from none on, and by what the answerer knows, from its first state on. What each session has seen, whether
+-- it ended or not, is a beginning of this record.
 abbrev pub IsSpoken : {A W : Type 0} → Puts A → ℕ → Speaks W → W → Geometry → Opening → Option (List ℕ) → Option (List ℕ)
     → Option (List ℕ) → Bool → List Mark → Type 0
 IsSpoken puts fewest speaks first g v stream old new kept marks = (begun : List Mark) × (last : Users)

@@ -18,7 +18,8 @@ pub struct FileArchive<S> {
     kept: Kept<S>,
 }
 
-/// What a sync is answered for a put: ENOMEM where no memory was found, ENOSPC where no room was left for the files, EIO where they refused.
+/// What a sync is answered for a put: ENOMEM where no memory was found, ENOSPC where no room was left for the files, EIO where they
+/// refused.
 fn answer(put: io::Result<()>) -> Result<(), Errno>
     ensures ok { OnOk put (result ≡ Ok tt) }
     ensures refused { IfErr put (λ error. result ≡ Err (errno_of (error_kind error))) }

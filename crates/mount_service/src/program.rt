@@ -109,9 +109,7 @@ fn own_session<
     R: Threads + Wait + Copy + Send + Sync + 'static,
     L: Recorder<N> + Send + 'static,
     S: FileServer<L> + Send + 'static,
->(
-    service: &Service<N, R, L, S>,
-) -> Result<Session<N, Shared<N, R, L, S>>, AllocError> {
+>(service: &Service<N, R, L, S>) -> Result<Session<N, Shared<N, R, L, S>>, AllocError> {
     match service.session(0, 0) {
         Ok(session) => Ok(session),
         Err(_) => Err(AllocError),

@@ -115,8 +115,8 @@ impl<N: ServiceParameters, R: Wait + Copy, F: Begins<A>, A: Archive + Drop> Shar
         session.call(now, call)
     }
 
-    /// A sync by a session. Where it was done, the changes of the media are put into the archive, and where that is refused, so is the sync:
-    /// the next changes have them again. ENOMEM where no memory was found for them.
+    /// A sync by a session. Where it was done, the changes of the media are put into the archive, and where that is refused, so is the
+    /// sync: the next changes have them again. ENOMEM where no memory was found for them.
     pub(crate) fn sync<L: Recorder<N>, S: FileServer<L>>(
         &self,
         session: &mut Session<N, Shared<N, R, L, S>>,

@@ -58,8 +58,9 @@ fn open_and_answer<
     requires started { IsStarted N.ServiceParameters L.Link L.runs_on L.marks (arc_value board) link minor frames }
     requires clean { IsClean N.ServiceParameters clean.geometry }
     ensures played { IfOk result (λ o. IfOk o (λ came.
-        IsLeftBy A.puts W.fewest W.answers streams.answerer N.geometry N.opening (I.Read.remaining streams.input) (O.contents streams.output)
-        (O.contents came.streams.output) streams.archive came.streams.archive came.answered came.last_sync came.image.items)) }
+        IsLeftBy A.puts W.fewest W.answers streams.answerer N.geometry N.opening (I.Read.remaining streams.input)
+        (O.contents streams.output) (O.contents came.streams.output) streams.archive came.streams.archive came.answered came.last_sync
+        came.image.items)) }
 {
     match opened_server::<N, L>(alloc, link, minor, clean, frames) {
         Ok(server) => {

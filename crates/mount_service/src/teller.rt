@@ -126,7 +126,7 @@ impl Teller {
         Ok(Telling::new(gate, Arc::try_clone(&self.news)?))
     }
 
-    /// Waits until all drivers that were noted are told. Where no line goes out for a second, the thread is let go of: it may still wait for
+    /// Waits until all drivers that were noted are told. Where no line goes out for a second, the thread is let go: it may still wait for
     /// standard error, and then ends with the program.
     pub fn end<R: Threads + Wait>(self, rt: &R) {
         let Teller { news, thread } = self;
