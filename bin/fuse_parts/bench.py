@@ -23,6 +23,11 @@ def run(*words, **how):
     return done.stdout
 
 
+def run_script(name, *words):
+    """Runs bin/NAME by this interpreter: a `python3` of the path may be a script that looks for one, which takes longer than a mount."""
+    run(sys.executable, "-SEs", BIN / name, *words)
+
+
 def drop_caches():
     os.sync()
     pathlib.Path("/proc/sys/vm/drop_caches").write_text("3")
@@ -39,10 +44,10 @@ class Ours:
         self.mount()
 
     def mount(self):
-        run(BIN / "mount", "--program", self.program, self.image, self.folder)
+        run_script("mount", "--program", self.program, self.image, self.folder)
 
     def end(self):
-        run(BIN / "umount", self.folder)
+        run_script("umount", self.folder)
 
 
 class Theirs:
