@@ -16,7 +16,7 @@ chroot --userspec="$2:$2" "$1" sh -ec "$3" sh
 WORK = f"""cd /work
 mfs-new mounted.img 8 > /dev/null
 mkdir mnt
-mfs-mount --die-every 200 --log mounted.log mounted.img mnt
+mfs-mount --die-every 50 --log mounted.log mounted.img mnt
 cp -r /{DOC} mnt/pages
 echo hello > mnt/file
 cat mnt/file
