@@ -49,11 +49,14 @@ impl Played {
         match came {
             None => refused,
             Some((said, image)) => {
-                let is_left = match image {
-                    Some(image) => image.as_slice() == self.left.as_slice(),
-                    None => said.status == 1,
-                };
-                is_left && said.is_right(&self.whole, refused)
+                let is_said = said.is_right(&self.whole, refused);
+                match image {
+                    Some(image) if image.as_slice() == self.left.as_slice() => {
+                        is_said || (refused && said.is_unread(&self.whole))
+                    }
+                    Some(_) => false,
+                    None => said.status == 1 && is_said,
+                }
             }
         }
     }

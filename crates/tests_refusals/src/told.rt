@@ -45,4 +45,12 @@ impl Said {
             && text.starts_with(out);
         is_cut_short || (self.status == 0 && self.err.is_empty() && are_lines(out, text))
     }
+
+    /// Whether all was said, but for reads that had no memory, by a play whose volume wasn't read back for want of memory: of that no line
+    /// speaks yet.
+    pub(crate) fn is_unread(&self, whole: &[u8]) -> bool {
+        let out = str::from_utf8(self.out.as_slice()).unwrap_or("no text");
+        let text = str::from_utf8(whole).unwrap_or("no text either");
+        self.status == 1 && self.err.is_empty() && are_lines(out, text)
+    }
 }
