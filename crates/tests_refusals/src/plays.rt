@@ -46,19 +46,15 @@ impl Played {
 
     /// Whether what came is right, where a request was refused or none was.
     fn is_right(&self, came: &Option<(Said, Option<Vec<u8>>)>, refused: bool) -> bool {
-        match came {
-            None => refused,
-            Some((said, image)) => {
-                let is_said = said.is_right(&self.whole, refused);
-                match image {
-                    Some(image) if image.as_slice() == self.left.as_slice() => {
-                        is_said || (refused && said.is_unread(&self.whole))
-                    }
-                    Some(_) => false,
-                    None => said.status == 1 && is_said,
-                }
-            }
-        }
+        let Some((said, image)) = came else {
+            return refused;
+        };
+        let is_said = said.is_right(&self.whole, refused);
+        let Some(image) = image else {
+            return said.status == 1 && is_said;
+        };
+        let is_left = image.as_slice() == self.left.as_slice();
+        is_left && (is_said || (refused && said.is_unread(&self.whole)))
     }
 }
 

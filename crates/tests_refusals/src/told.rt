@@ -34,23 +34,26 @@ impl Said {
     /// Whether this is what an undisturbed run says, or what a run may say of which a request for memory was refused: that there was none,
     /// behind a beginning of the text; or all, but for reads that had no memory.
     pub(crate) fn is_right(&self, whole: &[u8], refused: bool) -> bool {
+        self.is_right_by(0, whole, refused)
+    }
+
+    /// Whether it is what a run may say of which a request was refused, where all is said with status 1: as by a play whose volume wasn't
+    /// read back for want of memory, of which no line speaks yet.
+    pub(crate) fn is_unread(&self, whole: &[u8]) -> bool {
+        self.is_right_by(1, whole, true)
+    }
+
+    /// The same, by the status with which all is said.
+    fn is_right_by(&self, status: u8, whole: &[u8], refused: bool) -> bool {
         let out = str::from_utf8(self.out.as_slice()).unwrap_or("no text");
         let text = str::from_utf8(whole).unwrap_or("no text either");
-        let is_whole = self.status == 0 && self.err.is_empty() && out == text;
+        let is_whole = self.status == status && self.err.is_empty() && out == text;
         if !refused {
             return is_whole;
         }
         let is_cut_short = self.status == 1
             && self.err.as_slice() == b"OutOfMemory\n".as_slice()
             && text.starts_with(out);
-        is_cut_short || (self.status == 0 && self.err.is_empty() && are_lines(out, text))
-    }
-
-    /// Whether all was said, but for reads that had no memory, by a play whose volume wasn't read back for want of memory: of that no line
-    /// speaks yet.
-    pub(crate) fn is_unread(&self, whole: &[u8]) -> bool {
-        let out = str::from_utf8(self.out.as_slice()).unwrap_or("no text");
-        let text = str::from_utf8(whole).unwrap_or("no text either");
-        self.status == 1 && self.err.is_empty() && are_lines(out, text)
+        is_cut_short || (self.status == status && self.err.is_empty() && are_lines(out, text))
     }
 }
