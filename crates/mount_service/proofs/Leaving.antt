@@ -1,33 +1,22 @@
 -- The image that a service leaves.
 use Rattle.std.proofs.Common.{◌≡◌, ℕ, List, subst, sym}
-use Rattle.std.specs.Prelude.{Bool, Option, Result, Ok, Err, IfOk, IfErr, OnOk, is_some}
-use Rattle.std.specs.Global.{Vec}
+use Rattle.std.specs.Prelude.{Bool, Option, Result, Ok, Err, IfOk, OnOk, is_some}
 use Rattle.layout.specs.declared.Geometry.{Geometry}
 use Rattle.records.specs.Marks.{Mark, IsBeginning}
 use Rattle.records.specs.Opening.{Opening}
 use Rattle.reissue.specs.declared.link.Link.{Ghosts as LinkWords}
 use Rattle.board.proofs.Records.{begins_through}
-use Rattle.shared_server.specs.Stopping.{Went}
 use Rattle.shared_server.specs.Finishing.{sync_of}
 use Rattle.shared_server.specs.declared.locked.LastSync.{LastSync}
 use Rattle.message_stream.specs.declared.answering.StreamRefusal.{StreamRefusal}
 use Rattle.serve.specs.declared.stopping.NoImage.{NoImage}
-use Rattle.serve.specs.Stopping.{IsImageOf, IsLastImage, WhyNotSynced}
-use Rattle.serve.specs.declared.stopping.StopRefusal.{StopRefusal}
-use Rattle.serve.proofs.StoppingLaws.{image_given}
+use Rattle.serve.specs.Stopping.{IsLastImage}
 use Rattle.mount_service.specs.Spoken.{Puts, Speaks, IsSpoken}
 use Rattle.mount_service.specs.Kept.{IsKeptAfter}
 use Rattle.mount_service.specs.Left.{IsLeftBy}
 use Rattle.mount_service.specs.declared.program.Came.{Came}
 use Rattle.mount_service.specs.declared.program.Streams.{Streams}
 use Rattle.mount_service.proofs.Meeting.{seen_on}
-
--- by how its last sync went
-pub left_image : {L T : Type 0} (link : LinkWords L) (g : Geometry) (v : Opening) (seen : List Mark) (back : T → Type 0)
-    (stopped : Result (Vec ℕ) (StopRefusal T)) (last : LastSync) (image : Vec ℕ) → IsImageOf stopped last image
-    → IfOk stopped (λ i. IsLastImage link g v seen Went i.items) → IfErr stopped (WhyNotSynced link g v seen back)
-    → IsLastImage link g v seen (sync_of last) image.items
-left_image link g v seen back stopped last image same ok err = image_given link g v seen back stopped last image same ok err
 
 module _ {A W : Type 0} (puts : Puts A) (fewest : ℕ) (speaks : Speaks W) (first : W) (g : Geometry) (v : Opening)
     (stream old new : Option (List ℕ)) (kept : Bool) (seen marks : List Mark) (on : IsBeginning seen marks) where
