@@ -342,26 +342,44 @@ def replaced(trial):
         volume.umount()
 
 
+def fill_disk(volume, data, first=0):
+    """Writes files, each with an fsync, from this number on, until one finds no room: its number."""
+    done = first
+    try:
+        for done in range(first, first + 15):
+            with open(volume.folder / f"f{done}", "wb") as file:
+                file.write(data)
+                file.flush()
+                os.fsync(file.fileno())
+    except OSError as error:
+        same("the error", errno.errorcode[error.errno], "ENOSPC")
+    return done
+
+
 @end("no-room")
 def no_room(trial):
-    """On a disk that gets full an fsync is refused, all that was synced stays, and the next start has it once there is room."""
+    """On a disk that gets full an fsync is refused, and the volume stays mounted until there is room: then all is kept. Unmounted by force
+    it keeps all that was synced, and the next start has it once there is room."""
     need_root("mounts a tmpfs")
     with Volume(trial, "no-room") as volume, small_disk(volume, "700k"):
         volume.mount("--sync-every", "0")
-        done, data = 0, random.Random(f"{trial.seed} no-room").randbytes(150_000)
-        try:
-            for done in range(10):
-                with open(volume.folder / f"f{done}", "wb") as file:
-                    file.write(data)
-                    file.flush()
-                    os.fsync(file.fileno())
-        except OSError as error:
-            same("the error", errno.errorcode[error.errno], "ENOSPC")
-        refused(volume.try_umount(), b"no room is left there")
+        data = random.Random(f"{trial.seed} no-room").randbytes(150_000)
+        done = fill_disk(volume, data)
         holds(f"some files were synced, {done}", 1 <= done < 6)
+        refused(volume.try_umount(), b"it stays mounted; make room")
+        ran("mount", "-o", "remount,size=1500k", volume.home)
+        volume.umount()
+        volume.mount("--sync-every", "0")
+        for it in range(done + 1):
+            same(f"the bytes of file {it}", (volume.folder / f"f{it}").read_bytes() == data, True)
+        more = fill_disk(volume, data, done + 1)
+        holds(f"more files were synced, {more}", done + 1 < more < 12)
+        forced = volume.try_umount("--force")
+        if forced.returncode != 1 or b"no room is left there" not in forced.stderr:
+            raise Wrong(f"bin/umount --force: {said(forced)}")
         ran("mount", "-o", "remount,size=8m", volume.home)
         volume.mount()
-        for it in range(done):
+        for it in range(more):
             same(f"the bytes of file {it}", (volume.folder / f"f{it}").read_bytes() == data, True)
         volume.umount()
 

@@ -70,7 +70,7 @@ def is_full(folder):
 
 def explained(line):
     """A line of the program, with what it means where it doesn't say so itself."""
-    if line.startswith("cannot write ") and is_full(os.path.dirname(line[13:])):
+    if line.startswith("cannot write ") and not line.endswith(".given-up") and is_full(os.path.dirname(line[13:])):
         return f"{line} (no room is left there; what was synced is in it and its log: make room and mount it again)"
     return next((f"{line} ({meaning})" for start, meaning in MEANINGS if start in line), line)
 

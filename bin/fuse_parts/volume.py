@@ -45,8 +45,8 @@ class Volume:
             raise Wrong(f"bin/mount: {said(done)}")
         return self
 
-    def try_umount(self, **how):
-        return run(BIN / "umount", self.folder, **self.as_user(), **how)
+    def try_umount(self, *words, **how):
+        return run(BIN / "umount", *words, self.folder, **self.as_user(), **how)
 
     def umount(self):
         """Unmounts it, and looks at the image."""

@@ -3,7 +3,7 @@ use Rattle.std.proofs.Common.{◌≡◌, ℕ, List, ap, subst, sym}
 use Rattle.std.specs.Prelude.{Bool, Option, Some, IfSome}
 use Rattle.volume_commands.specs.Handing.{Putting, IsHandedOn}
 use Rattle.volume_commands.specs.declared.handing.Handing.{Handing}
-use Rattle.volume_commands.specs.declared.handing.Handing.TheVariants.{Put, NotPut, Beside, Nowhere}
+use Rattle.volume_commands.specs.declared.handing.Handing.TheVariants.{Put, TakenBeside, NotPut, Beside, Nowhere}
 use Rattle.mount_service.specs.declared.handing.Ending.{Ending}
 use Rattle.mount_service.specs.Ending.{Ends, IsEndedIn}
 
@@ -17,6 +17,7 @@ module _ {A B : Type 0} (ends : Ends A) (leaves : Putting B) (minor : ℕ) (p : 
   of_archive : (image : List ℕ) (as_read : Bool) (handing : Handing) → IsEnded image as_read handing
       → IsHandedOn (IsEndedIn ends) leaves image minor as_read p.archive b handing q.archive c
   of_archive image as_read Put it = it
+  of_archive image as_read TakenBeside it = it
   of_archive image as_read NotPut it = it
   of_archive image as_read (Beside why) it = (it.0, ap (λ (e : Ending A). e.archive) it.1, it.2)
   of_archive image as_read (Nowhere why) it = (it.0, ap (λ (e : Ending A). e.archive) it.1, it.2)

@@ -96,13 +96,15 @@ const LINKS: &str = "NotClean finding 16 at 1\nimage left in v.img.given-up\n";
 
 const LOST: &str = "NotClean finding 16 at 1\ncannot write v.img.given-up\n";
 
-const UNWRITTEN: &str = "cannot write v.img\n";
+const UNWRITTEN: &str = "cannot write v.img\nimage left in v.img.given-up\n";
+
+const LOST_UNWRITTEN: &str = "cannot write v.img\ncannot write v.img.given-up\n";
 
 const UNREAD: &str = "NotAsRead\nimage left in v.img.given-up\n";
 
 const LOST_UNREAD: &str = "NotAsRead\ncannot write v.img.given-up\n";
 
-static ROWS: [Row; 10] = [
+static ROWS: [Row; 11] = [
     (
         MountStatus::Done,
         2,
@@ -125,6 +127,14 @@ static ROWS: [Row; 10] = [
         (false, true),
         REFUSED,
         UNWRITTEN,
+        (false, true),
+    ),
+    (
+        MountStatus::Done,
+        2,
+        (false, false),
+        REFUSED,
+        LOST_UNWRITTEN,
         (false, false),
     ),
     (

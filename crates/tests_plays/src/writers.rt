@@ -30,6 +30,8 @@ const PLACE: (bool, bool) = (true, false);
 
 const ASIDE: (bool, bool) = (false, true);
 
+const NOWHERE: (bool, bool) = (false, false);
+
 /// What is said of a script whose first line is bad.
 const BAD_LINE: &str = "bad line 1 of s.txt\n";
 
@@ -123,8 +125,10 @@ fn writers_take_some(rt: HostRuntime) -> Result<(), Fail> {
     all_come_out(rt.alloc(), rt, &ROOMS)
 }
 
-/// That the file can't be written.
-const UNWRITTEN: &str = "cannot write w.img\n";
+/// That the file can't be written, and that the one beside it is, or isn't.
+const UNWRITTEN: &str = "cannot write w.img\nimage left in w.img.given-up\n";
+
+const LOST_UNWRITTEN: &str = "cannot write w.img\ncannot write w.img.given-up\n";
 
 /// That the links of the root, one byte behind its mode, are wrong.
 const LINKS: &str = "NotClean finding 16 at 1\nimage left in w.img.given-up\n";
@@ -137,16 +141,23 @@ const NO_MAGIC: Option<(usize, u8)> = Some((1048, 0x5b));
 const SOUND: Option<(usize, u8)> = None;
 
 /// Plays that ended in each way, and left a volume that is clean or not.
-static ROWS: [HandedOn; 11] = [
+static ROWS: [HandedOn; 12] = [
     (DONE, (SOUND, 0, BOTH), DONE, "", (true, false)),
     (GIVEN_UP, (SOUND, 0, BOTH), GIVEN_UP, "", (true, false)),
     (CUT_OFF, (SOUND, 0, BOTH), CUT_OFF, "", (true, false)),
-    (DONE, (SOUND, 0, ASIDE), CUT_OFF, UNWRITTEN, (false, false)),
+    (DONE, (SOUND, 0, ASIDE), CUT_OFF, UNWRITTEN, (false, true)),
     (
         GIVEN_UP,
         (SOUND, 0, ASIDE),
         CUT_OFF,
         UNWRITTEN,
+        (false, true),
+    ),
+    (
+        DONE,
+        (SOUND, 0, NOWHERE),
+        CUT_OFF,
+        LOST_UNWRITTEN,
         (false, false),
     ),
     (DONE, (THREE, 0, BOTH), CUT_OFF, LINKS, (false, true)),

@@ -10,7 +10,7 @@ use Rattle.volume_commands.specs.Verifying.{missing_text, volume_at}
 use Rattle.volume_commands.specs.declared.handing.NotHanded.{NotHanded}
 use Rattle.volume_commands.specs.declared.handing.NotHanded.TheVariants.{NotClean, Missing, Unchecked, NotAsRead}
 use Rattle.volume_commands.specs.declared.handing.Handing.{Handing}
-use Rattle.volume_commands.specs.declared.handing.Handing.TheVariants.{Put, NotPut, Beside, Nowhere}
+use Rattle.volume_commands.specs.declared.handing.Handing.TheVariants.{Put, TakenBeside, NotPut, Beside, Nowhere}
 
 -- how an image may be put in a place: the place before, the image's bytes, whether they are there then, and the place after
 abbrev pub Putting : Type 0 → Type 1
@@ -36,11 +36,14 @@ abbrev pub IsWhyNot : List ℕ → ℕ → Bool → NotHanded → Type 0
 IsWhyNot image minor as_read NotAsRead = as_read ≡ false
 IsWhyNot image minor as_read why = (as_read ≡ true) × IsUnfit image minor why
 
--- An image that is as it was read back, and has a clean volume, was put in its place, or was refused there, and nothing went beside; any other
--- was put beside, or was refused there, and its place stays.
+-- An image that is as it was read back, and has a clean volume, was put in its place, and nothing went beside; or its place refused it, and it
+-- was put beside, or refused there too. Any other was put beside, or was refused there, and its place stays.
 abbrev pub IsHandedOn : {P B : Type 0} → Putting P → Putting B → List ℕ → ℕ → Bool → P → B → Handing → P → B → Type 0
 IsHandedOn puts leaves image minor as_read p b Put q c = (as_read ≡ true) × HoldsTreeIn image minor × puts p image true q × (c ≡ b)
-IsHandedOn puts leaves image minor as_read p b NotPut q c = (as_read ≡ true) × HoldsTreeIn image minor × puts p image false q × (c ≡ b)
+IsHandedOn puts leaves image minor as_read p b TakenBeside q c =
+    (as_read ≡ true) × HoldsTreeIn image minor × puts p image false q × leaves b image true c
+IsHandedOn puts leaves image minor as_read p b NotPut q c =
+    (as_read ≡ true) × HoldsTreeIn image minor × puts p image false q × leaves b image false c
 IsHandedOn puts leaves image minor as_read p b (Beside why) q c = IsWhyNot image minor as_read why × (q ≡ p) × leaves b image true c
 IsHandedOn puts leaves image minor as_read p b (Nowhere why) q c = IsWhyNot image minor as_read why × (q ≡ p) × leaves b image false c
 
@@ -58,12 +61,20 @@ not_handed_text (Missing refusal) = missing_text refusal
 not_handed_text Unchecked = codes "Unchecked OutOfMemory"
 not_handed_text NotAsRead = codes "NotAsRead"
 
--- what is told of an image whose place is the file of this name: a line, or two
+-- that an image is beside the file of this name, or that it couldn't be put there either
+abbrev pub left_text : List ℕ → List ℕ
+left_text name = codes "\nimage left in " ++ (name ++ codes ".given-up")
+
+abbrev pub lost_text : List ℕ → List ℕ
+lost_text name = codes "\ncannot write " ++ (name ++ codes ".given-up")
+
+-- what is told of an image whose place is the file of this name: two lines
 abbrev pub handing_text : List ℕ → Handing → List ℕ
 handing_text name Put = []
-handing_text name NotPut = codes "cannot write " ++ name
-handing_text name (Beside why) = not_handed_text why ++ (codes "\nimage left in " ++ (name ++ codes ".given-up"))
-handing_text name (Nowhere why) = not_handed_text why ++ (codes "\ncannot write " ++ (name ++ codes ".given-up"))
+handing_text name TakenBeside = codes "cannot write " ++ (name ++ left_text name)
+handing_text name NotPut = codes "cannot write " ++ (name ++ lost_text name)
+handing_text name (Beside why) = not_handed_text why ++ left_text name
+handing_text name (Nowhere why) = not_handed_text why ++ lost_text name
 
 -- that goes out where it isn't in its place, and else nothing
 abbrev pub TellsHanding : {E : Type 0} → (E → Option (List ℕ)) → List ℕ → Handing → Told → E → E → Type 0

@@ -67,7 +67,9 @@ impl fmt::Display for NotHanded {
 pub enum Handing {
     /// It is as it was read back, its volume is clean, and it is in its place.
     Put,
-    /// It is as it was read back, its volume is clean, and its place didn't take it.
+    /// It is as it was read back, its volume is clean, its place didn't take it, and it is beside.
+    TakenBeside,
+    /// It is as it was read back, its volume is clean, and neither its place nor the one beside took it.
     NotPut,
     /// It isn't handed on, and is beside. Its place is as it was.
     Beside(NotHanded),
@@ -95,8 +97,8 @@ fn looked_at(alloc: Global, image: &[u8], minor: u8, as_read: bool) -> Result<()
 }
 
 /// Puts an image in its place if it is as it was read back through the drivers, and the check finds the volume of this minor in it clean,
-/// these bytes and no others; nothing goes beside then. Else the place stays as it is, and the image goes beside. So what is put in the
-/// place holds a file tree.
+/// these bytes and no others; it goes beside where its place doesn't take it, and nothing does where it does. Else the place stays as it
+/// is, and the image goes beside. So what is put in the place holds a file tree.
 pub fn hand_on<P: ImagePlace, B: ImagePlace>(
     alloc: Global,
     image: &[u8],
@@ -111,6 +113,8 @@ pub fn hand_on<P: ImagePlace, B: ImagePlace>(
         Ok(()) => {
             if place.put(image) {
                 Handing::Put
+            } else if beside.put(image) {
+                Handing::TakenBeside
             } else {
                 Handing::NotPut
             }
@@ -139,7 +143,8 @@ impl fmt::Display for ToldOf<'_> {
         let name = self.name;
         match self.handing {
             Handing::Put => Ok(()),
-            Handing::NotPut => write!(f, "cannot write {name}"),
+            Handing::TakenBeside => write!(f, "cannot write {name}\nimage left in {name}.given-up"),
+            Handing::NotPut => write!(f, "cannot write {name}\ncannot write {name}.given-up"),
             Handing::Beside(why) => write!(f, "{why}\nimage left in {name}.given-up"),
             Handing::Nowhere(why) => write!(f, "{why}\ncannot write {name}.given-up"),
         }
@@ -147,8 +152,8 @@ impl fmt::Display for ToldOf<'_> {
 }
 
 /// Says on `err` what came of an image whose place is the file of this name: nothing where it is there; else that the file can't be
-/// written, or why the image isn't handed on, and that it is in the file of this name and `.given-up`, or that this can't be written. How
-/// that went out.
+/// written, or why the image isn't handed on, and then that it is in the file of this name and `.given-up`, or that this can't be written
+/// either. How that went out.
 pub fn tell_handing<E: Write>(alloc: Global, name: &str, handing: Handing, err: &mut E) -> Told
     ensures { TellsHanding E.contents name.now handing result err.old err.new }
 {
