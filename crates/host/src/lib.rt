@@ -8,3 +8,4 @@ pub mod sparse;
 mod version;
 pub mod volume_words;
 pub mod whole_file;
+mod words;

@@ -55,9 +55,9 @@ fn ended_with(mounted: MountStatus, handing: Handing, told: Told) -> MountStatus
 }
 
 /// Hands on the image that a mount left, whose place is the archive, the file of this name: it goes there only where it is as it was read
-/// back, and the check finds the volume of this minor in it clean, and beside where not (`hand_on`): the archive then stays that of the
-/// last sync that was put. How the mount ended then: `Done` only where the image is in the archive. Where it isn't, a line on `err` says so,
-/// or two.
+/// back, and the check finds the volume of this minor in it clean, and beside where not, or where the archive doesn't take it (`hand_on`):
+/// the archive then stays that of the last sync that was put. How the mount ended then: `Done` only where the image is in the archive. Where
+/// it isn't, two lines on `err` say so.
 pub fn hand_left<I: Drop, O: Drop, C: Drop, A: Archive + Drop, W: Drop, B: ImagePlace, E: Write>(
     alloc: Global,
     mounted: Ended<I, O, C, A, W>,

@@ -27,8 +27,8 @@ fn ended_with(played: PlayStatus, handing: Handing, told: Told) -> PlayStatus
 }
 
 /// Hands on the image that a play left, whose place is the file of this name: it goes there only where it is as it was read back, and the
-/// check finds the volume of this minor in it clean, and beside where not (`hand_on`). How the play ended then: `Done` only where it is in
-/// its place. Where it isn't, a line on `err` says so, or two.
+/// check finds the volume of this minor in it clean, and beside where not, or where its place doesn't take it (`hand_on`). How the play
+/// ended then: `Done` only where it is in its place. Where it isn't, two lines on `err` say so.
 pub fn hand_left<P: ImagePlace, B: ImagePlace, E: Write>(
     alloc: Global,
     played: Ended,

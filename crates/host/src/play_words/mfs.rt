@@ -1,8 +1,7 @@
 //! The words that `mfs` takes, and what they say.
 
-use crate::play_words::{frames, image, minor, model, out, spares};
-use crate::version;
-use clap::{Arg, ArgAction, ArgMatches, Command, Error};
+use crate::words::{FRAMES, MINOR, MODEL, SERVED, SPARES, Word, command_of};
+use clap::{ArgMatches, Error};
 use std::alloc::{AllocError, Global};
 
 /// What the help says of scripts: their lines, and each call.
@@ -36,36 +35,26 @@ const SCRIPTS: &str =
 
 Modes are octal, bytes lower-case hexadecimal, other numbers decimal. One space stands between two words, and a newline ends each line.";
 
-/// The words that `mfs` knows.
-fn command<'a>(alloc: Global) -> Result<Command<'a>, AllocError> {
-    let file = "The file of a MINIX 3 volume; it is read only, unless --out names it";
-    Command::new(alloc, "mfs")
-        .version(version::SHORT)
-        .long_version(version::LONG)
-        .about(
-            "Plays scripts of client calls against a file server over the image of a volume, and prints the replies",
-        )
-        .after_help(SCRIPTS)
-        .arg(image(alloc, file))?
-        .arg(scripts(alloc))?
-        .arg(out(
-            alloc,
-            "Writes the image as it is after the calls to this file",
-        ))?
-        .arg(minor(alloc))?
-        .arg(spares(alloc))?
-        .arg(frames(alloc))?
-        .arg(model(alloc))
-}
+/// What the help says that it is for.
+const ABOUT: &str =
+    "Plays scripts of client calls against a file server over the image of a volume, and prints the replies";
 
-/// The word that names the scripts' files.
-fn scripts<'a>(alloc: Global) -> Arg<'a> {
-    Arg::new(alloc, "SCRIPT")
-        .required(true)
-        .num_args(1..)
-        .action(ArgAction::Append)
-        .help("The files of scripts, 64 at most; all are played at one time")
-}
+/// The words that `mfs` knows.
+static WORDS: [(Word, &str); 7] = [
+    SERVED,
+    (
+        Word::Files("SCRIPT"),
+        "The files of scripts, 64 at most; all are played at one time",
+    ),
+    (
+        Word::Out("out"),
+        "Writes the image as it is after the calls to this file",
+    ),
+    MINOR,
+    SPARES,
+    FRAMES,
+    MODEL,
+];
 
 /// What the words say.
 #[derive(Drop)]
@@ -103,6 +92,7 @@ impl<'a> MfsWords<'a> {
 
 /// What the words of a line say, or why they aren't taken.
 pub fn read<'a>(alloc: Global, line: &'a [String]) -> Result<MfsWords<'a>, Error> {
-    let matches = command(alloc)?.try_get_matches_from(line)?;
+    let command = command_of(alloc, "mfs", ABOUT, &WORDS)?.after_help(SCRIPTS);
+    let matches = command.try_get_matches_from(line)?;
     Ok(MfsWords::of(alloc, &matches)?)
 }

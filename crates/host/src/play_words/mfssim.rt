@@ -1,30 +1,23 @@
 //! The words that `mfssim` takes, and what they say.
 
-use crate::play_words::{image, minor, spares};
-use crate::version;
-use clap::{Arg, ArgMatches, Command, Error};
-use std::alloc::{AllocError, Global};
+use crate::words::{MINOR, SPARES, VOLUME, Word, command_of};
+use clap::{ArgMatches, Error};
+use std::alloc::Global;
+
+/// What the help says that it is for.
+const ABOUT: &str =
+    "Runs a file server over the image of a volume while a schedule moves its drivers, and prints the transcript";
 
 /// The words that `mfssim` knows.
-fn command<'a>(alloc: Global) -> Result<Command<'a>, AllocError> {
-    Command::new(alloc, "mfssim")
-        .version(version::SHORT)
-        .long_version(version::LONG)
-        .about(
-            "Runs a file server over the image of a volume while a schedule moves its drivers, and prints the transcript",
-        )
-        .arg(image(alloc, "The file of a MINIX 3 volume; it is read only"))?
-        .arg(schedule(alloc))?
-        .arg(minor(alloc))?
-        .arg(spares(alloc))
-}
-
-/// The word that names the schedule's file.
-fn schedule<'a>(alloc: Global) -> Arg<'a> {
-    Arg::new(alloc, "SCHEDULE").required(true).help(
+static WORDS: [(Word, &str); 4] = [
+    VOLUME,
+    (
+        Word::File("SCHEDULE"),
         "The file of a schedule: a line for each event, as a call, a driver's step, its death, a tick",
-    )
-}
+    ),
+    MINOR,
+    SPARES,
+];
 
 /// What the words say.
 #[derive(Clone, Copy)]
@@ -53,6 +46,7 @@ impl<'a> MfssimWords<'a> {
 
 /// What the words of a line say, or why they aren't taken.
 pub fn read<'a>(alloc: Global, line: &'a [String]) -> Result<MfssimWords<'a>, Error> {
-    let matches = command(alloc)?.try_get_matches_from(line)?;
+    let command = command_of(alloc, "mfssim", ABOUT, &WORDS)?;
+    let matches = command.try_get_matches_from(line)?;
     Ok(MfssimWords::of(&matches))
 }

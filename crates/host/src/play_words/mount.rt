@@ -1,10 +1,8 @@
 //! The words that `mfs9p` and `mfsfuse` take, and what they say.
 
-use crate::play_words::{frames, image, minor, model, number, out};
-use crate::version;
-use clap::builder::ValueParser;
-use clap::{Arg, ArgMatches, Command, Error};
-use std::alloc::{AllocError, Global};
+use crate::words::{Absent, FRAMES, MINOR, MODEL, SERVED, Word, command_of};
+use clap::{ArgMatches, Error};
+use std::alloc::Global;
 
 /// The most drivers that stand by (own).
 const MOST_SPARES: u64 = 4095;
@@ -78,68 +76,47 @@ impl MountProgram {
     }
 }
 
-/// The words that the program knows.
-fn command<'a>(alloc: Global, program: MountProgram) -> Result<Command<'a>, AllocError> {
-    let file = "The file of a MINIX 3 volume; it is read only, unless --out names it";
-    Command::new(alloc, program.name())
-        .version(version::SHORT)
-        .long_version(version::LONG)
-        .about(program.about())
-        .after_help(program.mounting())
-        .arg(image(alloc, file))?
-        .arg(out(
-            alloc,
-            "Writes the image to this file at each fsync, and once the input has ended",
-        ))?
-        .arg(minor(alloc))?
-        .arg(spares(alloc))?
-        .arg(frames(alloc))?
-        .arg(model(alloc))?
-        .arg(die_every(alloc))?
-        .arg(kill_every(alloc))?
-        .arg(sync_every(alloc))?
-        .arg(tick(alloc))
-}
-
-/// The word that says how many drivers stand by.
-fn spares<'a>(alloc: Global) -> Arg<'a> {
-    number(alloc, "spares", "K", MOST_SPARES)
-        .default_value("5")
-        .help("How many drivers stand by to take the place of one that fails")
-}
-
-/// The word by which drivers die.
-fn die_every<'a>(alloc: Global) -> Arg<'a> {
-    number(alloc, "die-every", "N", 4294967295)
-        .default_value("0")
-        .help("Each driver dies in the N-th request that it takes; 0: none does")
-}
-
-/// The word by which drivers are killed.
-fn kill_every<'a>(alloc: Global) -> Arg<'a> {
-    number(alloc, "kill-every", "MILLISECONDS", MOST_MILLISECONDS)
-        .default_value("0")
-        .help("Kills the driver that works, every so many milliseconds; 0: never")
-}
-
-/// The word by which changes are written without an fsync.
-fn sync_every<'a>(alloc: Global) -> Arg<'a> {
-    number(alloc, "sync-every", "SECONDS", MOST_SECONDS)
-        .default_value("5")
-        .help("How often changes are written to --out's file without an fsync; 0: never")
-}
-
-/// The word that says how long a tick is.
-fn tick<'a>(alloc: Global) -> Arg<'a> {
-    Arg::new(alloc, "tick")
-        .long("tick")
-        .value_name("MILLISECONDS")
-        .value_parser(ValueParser::Unsigned(LEAST_TICK, MOST_TICK))
-        .default_value("100")
-        .help(
-            "How long a tick of the restarts is, 10 to 1000: a driver that ended is seen at the next, one that is silent for three has failed",
-        )
-}
+/// The words that both programs know.
+static WORDS: [(Word, &str); 10] = [
+    SERVED,
+    (
+        Word::Out("out"),
+        "Writes the image to this file at each fsync, and once the input has ended",
+    ),
+    MINOR,
+    (
+        Word::Number("spares", "K", (0, MOST_SPARES), Absent::Is("5")),
+        "How many drivers stand by to take the place of one that fails",
+    ),
+    FRAMES,
+    MODEL,
+    (
+        Word::Number("die-every", "N", (0, 4294967295), Absent::Is("0")),
+        "Each driver dies in the N-th request that it takes; 0: none does",
+    ),
+    (
+        Word::Number(
+            "kill-every",
+            "MILLISECONDS",
+            (0, MOST_MILLISECONDS),
+            Absent::Is("0"),
+        ),
+        "Kills the driver that works, every so many milliseconds; 0: never",
+    ),
+    (
+        Word::Number("sync-every", "SECONDS", (0, MOST_SECONDS), Absent::Is("5")),
+        "How often changes are written to --out's file without an fsync; 0: never",
+    ),
+    (
+        Word::Number(
+            "tick",
+            "MILLISECONDS",
+            (LEAST_TICK, MOST_TICK),
+            Absent::Is("100"),
+        ),
+        "How long a tick of the restarts is, 10 to 1000: a driver that ended is seen at the next, one that is silent for three has failed",
+    ),
+];
 
 /// What the words say.
 #[derive(Drop)]
@@ -190,6 +167,9 @@ pub fn read<'a>(
     program: MountProgram,
     line: &'a [String],
 ) -> Result<MountWords<'a>, Error> {
-    let matches = command(alloc, program)?.try_get_matches_from(line)?;
+    let command = command_of(alloc, program.name(), program.about(), &WORDS)?;
+    let matches = command
+        .after_help(program.mounting())
+        .try_get_matches_from(line)?;
     Ok(MountWords::of(&matches))
 }

@@ -1,30 +1,30 @@
 //! The words that `mfmig` takes, and what they say.
 
-use crate::version;
-use crate::volume_words::{file, number};
-use clap::{ArgMatches, Command, Error};
-use std::alloc::{AllocError, Global};
+use crate::words::{Absent, Word, command_of};
+use clap::{ArgMatches, Error};
+use std::alloc::Global;
 
 /// The most that a number of the command line may be.
 const MOST: u64 = 4294967295;
 
+/// What the help says that it is for.
+const ABOUT: &str = "Makes the image of a new MINIX 3 volume with the tree of a MINIX 2 volume";
+
 /// The words that `mfmig` knows.
-fn command<'a>(alloc: Global) -> Result<Command<'a>, AllocError> {
-    let old = "The file of a MINIX 2 volume; it is read only";
-    let new = "The file of the new volume; a file that is there is replaced";
-    let blocks = "How many blocks of 1024 bytes the new volume has, at most 65536";
-    Command::new(alloc, "mfmig")
-        .version(version::SHORT)
-        .long_version(version::LONG)
-        .about("Makes the image of a new MINIX 3 volume with the tree of a MINIX 2 volume")
-        .arg(file(alloc, "OLD", old))?
-        .arg(file(alloc, "NEW", new))?
-        .arg(
-            number(alloc, "blocks", "N", MOST)
-                .required(true)
-                .help(blocks),
-        )
-}
+static WORDS: [(Word, &str); 3] = [
+    (
+        Word::File("OLD"),
+        "The file of a MINIX 2 volume; it is read only",
+    ),
+    (
+        Word::File("NEW"),
+        "The file of the new volume; a file that is there is replaced",
+    ),
+    (
+        Word::Number("blocks", "N", (0, MOST), Absent::Refused),
+        "How many blocks of 1024 bytes the new volume has, at most 65536",
+    ),
+];
 
 /// What the words say.
 #[derive(Clone, Copy)]
@@ -50,6 +50,7 @@ impl<'a> MfmigWords<'a> {
 
 /// What the words of a line say, or why they aren't taken.
 pub fn read<'a>(alloc: Global, line: &'a [String]) -> Result<MfmigWords<'a>, Error> {
-    let matches = command(alloc)?.try_get_matches_from(line)?;
+    let command = command_of(alloc, "mfmig", ABOUT, &WORDS)?;
+    let matches = command.try_get_matches_from(line)?;
     Ok(MfmigWords::of(&matches))
 }

@@ -1,9 +1,8 @@
 //! The words that `mkmfs` takes, and what they say.
 
-use crate::version;
-use crate::volume_words::{image, number};
-use clap::{Arg, ArgMatches, Command, Error};
-use std::alloc::{AllocError, Global};
+use crate::words::{Absent, Word, command_of};
+use clap::{ArgMatches, Error};
+use std::alloc::Global;
 
 /// The most that a number of the command line may be.
 const MOST: u64 = 4294967295;
@@ -11,42 +10,40 @@ const MOST: u64 = 4294967295;
 /// The most that the number of a user or a group may be.
 const MOST_OWNER: u64 = 65535;
 
+/// What the help says that it is for.
+const ABOUT: &str = "Makes the image of a new MINIX 3 volume, which holds an empty root alone";
+
 /// The words that `mkmfs` knows.
-fn command<'a>(alloc: Global) -> Result<Command<'a>, AllocError> {
-    let file = "The file of the new volume; a file that is there is replaced";
-    let blocks = "How many blocks the volume has, at most 65536, and at most 64 MiB of them";
-    let inodes = "How many inodes it has, for as many files and directories: 1 to 65535";
-    let block_size = "How many bytes a block has: 1024, 2048 or 4096";
-    let now = "The times of its root, in seconds since 1970";
-    let uid = "The user that its root belongs to, 0 to 65535";
-    let gid = "The group that its root belongs to, 0 to 65535";
-    Command::new(alloc, "mkmfs")
-        .version(version::SHORT)
-        .long_version(version::LONG)
-        .about("Makes the image of a new MINIX 3 volume, which holds an empty root alone")
-        .arg(image(alloc, file))?
-        .arg(needed(alloc, "blocks", "N", blocks))?
-        .arg(needed(alloc, "inodes", "I", inodes))?
-        .arg(with_default(number(alloc, "block-size", "B", MOST), "4096", block_size))?
-        .arg(with_default(number(alloc, "now", "T", MOST), "0", now))?
-        .arg(with_default(number(alloc, "uid", "U", MOST_OWNER), "0", uid))?
-        .arg(with_default(number(alloc, "gid", "G", MOST_OWNER), "0", gid))
-}
-
-/// A number of 32 bits that has to be there.
-fn needed<'a>(
-    alloc: Global,
-    name: &'static str,
-    value: &'static str,
-    help: &'static str,
-) -> Arg<'a> {
-    number(alloc, name, value, MOST).required(true).help(help)
-}
-
-/// A number that may be left out.
-fn with_default<'a>(number: Arg<'a>, default: &'static str, help: &'static str) -> Arg<'a> {
-    number.default_value(default).help(help)
-}
+static WORDS: [(Word, &str); 7] = [
+    (
+        Word::File("IMAGE"),
+        "The file of the new volume; a file that is there is replaced",
+    ),
+    (
+        Word::Number("blocks", "N", (0, MOST), Absent::Refused),
+        "How many blocks the volume has, at most 65536, and at most 64 MiB of them",
+    ),
+    (
+        Word::Number("inodes", "I", (0, MOST), Absent::Refused),
+        "How many inodes it has, for as many files and directories: 1 to 65535",
+    ),
+    (
+        Word::Number("block-size", "B", (0, MOST), Absent::Is("4096")),
+        "How many bytes a block has: 1024, 2048 or 4096",
+    ),
+    (
+        Word::Number("now", "T", (0, MOST), Absent::Is("0")),
+        "The times of its root, in seconds since 1970",
+    ),
+    (
+        Word::Number("uid", "U", (0, MOST_OWNER), Absent::Is("0")),
+        "The user that its root belongs to, 0 to 65535",
+    ),
+    (
+        Word::Number("gid", "G", (0, MOST_OWNER), Absent::Is("0")),
+        "The group that its root belongs to, 0 to 65535",
+    ),
+];
 
 /// What the words say.
 #[derive(Clone, Copy)]
@@ -85,6 +82,7 @@ impl<'a> MkmfsWords<'a> {
 
 /// What the words of a line say, or why they aren't taken.
 pub fn read<'a>(alloc: Global, line: &'a [String]) -> Result<MkmfsWords<'a>, Error> {
-    let matches = command(alloc)?.try_get_matches_from(line)?;
+    let command = command_of(alloc, "mkmfs", ABOUT, &WORDS)?;
+    let matches = command.try_get_matches_from(line)?;
     Ok(MkmfsWords::of(&matches))
 }
