@@ -60,6 +60,80 @@ def twice(trial):
         volume.umount()
 
 
+@end("linked")
+def linked(trial):
+    """An image that is mounted is refused by another name of the file too, and where its log was removed; no file is left beside it then."""
+    with Volume(trial, "linked") as volume:
+        volume.mount()
+        link, log, other = volume.home / "link.img", volume.home / "v.img.log", volume.home / "other"
+        other.mkdir()
+        link.hardlink_to(volume.image)
+        for name in (link, volume.image):
+            refused(run(BIN / "mount", "--program", trial.program, name, other), b"is being served")
+            refused(run(trial.ours["mfsck"], name), b"is being served")
+            log.unlink(missing_ok=True)
+        same("files beside it", sorted(os.listdir(volume.home)), ["link.img", "log", "mnt", "other", "v.img"])
+        (volume.folder / "file").write_text("x")
+        volume.umount()
+        volume.mount()
+        same("the file", (volume.folder / "file").read_text(), "x")
+        volume.umount()
+
+
+@end("words")
+def words_refused(trial):
+    """Names that are empty, an image in the folder, and options that would keep fusermount3 waiting: refused, and nothing is mounted."""
+    with Volume(trial, "words") as volume:
+        mount, program = BIN / "mount", ("--program", trial.program)
+        for status, why, words in ((2, b"a name is empty", ("", volume.folder)), (2, b"a name is empty", (volume.image, "")),
+                                   (1, b"couldn't be reached there", (volume.image, volume.home)),
+                                   *((2, b"isn't taken", ("-o", it, volume.image, volume.folder))
+                                     for it in ("auto_unmount", "subtype=x", "ro,fsname=y"))):
+            done = run(mount, *program, *words)
+            if done.returncode != status or why not in done.stderr or done.stderr.count(b"\n") != 1:
+                raise Wrong(f"{words}: {said(done)}")
+        nothing_mounted(volume.folder)
+        holds("nothing is mounted at the image's folder", not mount_at(str(volume.home)))
+
+
+@end("bound")
+def bound(trial):
+    """A volume that is mounted at two folders stays mounted until one of them was taken away."""
+    need_root("mounts by --bind")
+    with Volume(trial, "bound") as volume:
+        volume.mount()
+        other = volume.home / "other"
+        other.mkdir()
+        ran("mount", "--bind", volume.folder, other)
+        try:
+            refused(volume.try_umount(), b"mounted at")
+            refused(run(BIN / "umount", other), b"mounted at")
+        finally:
+            ran("umount", other)
+        volume.umount()
+
+
+@end("file-limit")
+def file_limit(trial):
+    """Where a limit of the size of files stops a write of the image an fsync is EIO, and the mount goes on."""
+    with Volume(trial, "file-limit") as volume:
+        words = ("--program", trial.program, "--sync-every", "0", volume.image, volume.folder)
+        ran("sh", "-c", 'ulimit -f 1024; exec "$0" "$@"', BIN / "mount", *words)
+        (volume.folder / "small").write_text("x")
+        file = os.open(volume.folder / "file", os.O_WRONLY | os.O_CREAT)
+        os.write(file, random.Random(trial.seed).randbytes(700_000))
+        try:
+            os.fsync(file)
+            raise Wrong("an fsync past the limit is answered ok")
+        except OSError as error:
+            same("the error", errno.errorcode[error.errno], "EIO")
+        os.close(file)
+        same("the small file", (volume.folder / "small").read_text(), "x")
+        done = volume.try_umount()
+        if done.returncode != 1 or b"cannot write" not in done.stderr:
+            raise Wrong(f"bin/umount: {said(done)}")
+
+
 @end("busy")
 def busy(trial):
     """A volume in which somebody works stays mounted, and nothing is lost."""
@@ -356,6 +430,27 @@ def fill_disk(volume, data, first=0):
     return done
 
 
+@end("no-room-for-log")
+def no_room_for_log(trial):
+    """An image with holes, for which the disk has no room though all was synced, stays mounted until there is room."""
+    need_root("mounts a tmpfs")
+    with Volume(trial, "no-room-for-log") as volume, small_disk(volume, "1500k"):
+        volume.mount("--sync-every", "0")
+        data, taken = random.Random(f"{trial.seed} log").randbytes(400_000), volume.home / "taken"
+        with open(volume.folder / "synced", "wb") as file:
+            file.write(data)
+            file.flush()
+            os.fsync(file.fileno())
+        disk = os.statvfs(volume.home)
+        taken.write_bytes(bytes(disk.f_bavail * disk.f_frsize - 100_000))
+        refused(volume.try_umount(), b"bytes more; it stays mounted")
+        taken.unlink()
+        volume.umount()
+        volume.mount()
+        same("the synced file", (volume.folder / "synced").read_bytes() == data, True)
+        volume.umount()
+
+
 @end("no-room")
 def no_room(trial):
     """On a disk that gets full an fsync is refused, and the volume stays mounted until there is room: then all is kept. Unmounted by force
@@ -366,7 +461,7 @@ def no_room(trial):
         data = random.Random(f"{trial.seed} no-room").randbytes(150_000)
         done = fill_disk(volume, data)
         holds(f"some files were synced, {done}", 1 <= done < 6)
-        refused(volume.try_umount(), b"it stays mounted; make room")
+        refused(volume.try_umount(), b"it stays mounted: make room")
         ran("mount", "-o", "remount,size=1500k", volume.home)
         volume.umount()
         volume.mount("--sync-every", "0")

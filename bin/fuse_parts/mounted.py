@@ -1,5 +1,6 @@
 """The mounts of this machine that are volumes, and how the one who serves a volume tells in the end what came of it."""
-import collections, fcntl, hashlib, os, re, socket, struct, subprocess
+import collections, errno, fcntl, hashlib, os, re, socket, struct, subprocess
+from .image_log import room_wanted
 
 KIND = "fuse.mfs"
 TOOL = "fusermount3"
@@ -35,12 +36,20 @@ def mount_at(folder):
 
 
 def let_go(mount, *how):
-    """Unmounts a volume, where it is mounted still. What the tool said where it couldn't, else nothing."""
-    if mount not in mounts():
+    """Unmounts a volume, where it is mounted still, by the name that its folder has now. Why it couldn't, else nothing."""
+    now = next((it for it in mounts() if (it.number, it.device) == (mount.number, mount.device)), None)
+    if now is None:
         return ""
-    done = subprocess.run([TOOL, "-u", *how, "--", mount.folder], stdin=subprocess.DEVNULL, capture_output=True, text=True,
-                          errors="replace")
-    return "" if done.returncode == 0 else one_line(done.stderr) or f"{TOOL} has the status {done.returncode}"
+    done = subprocess.run([TOOL, "-u", *how, "--", now.folder], stdin=subprocess.DEVNULL, capture_output=True, text=True, errors="replace")
+    if done.returncode == 0:
+        return ""
+    why = one_line(done.stderr) or f"{TOOL} has the status {done.returncode}"
+    return "somebody works in it; it stays mounted" if "busy" in why else why
+
+
+def elsewhere(mount):
+    """Another folder at which the same volume is mounted, as by `mount --bind`; None where there is none."""
+    return next((it.folder for it in mounts() if it.device == mount.device and it.number != mount.number), None)
 
 
 def one_line(text):
@@ -60,12 +69,40 @@ MEANINGS = (
 )
 
 
+def room_at(path):
+    """How many bytes an ordinary user may still write to the disk of a file or folder; as many as one likes where that isn't known."""
+    try:
+        told = os.statvfs(path)
+    except OSError:
+        return 1 << 62
+    return told.f_bavail * told.f_frsize
+
+
 def is_full(folder):
     """Whether the disk below a folder has no room for an ordinary user."""
+    return room_at(folder) < 1 << 20
+
+
+def lacks_room(mount):
+    """Why what changed in a volume finds no room on the disk of its image, or nothing. An fsync says whether what wasn't synced does. What
+    was synced goes from the log to the image, whose holes it may fill."""
+    least = 0
     try:
-        return os.statvfs(folder).f_bavail < 256
-    except OSError:
-        return False
+        root = os.open(mount.folder, os.O_RDONLY | os.O_DIRECTORY)
+    except OSError:  # as where the user may not list it: then there has to be room for all that may have changed
+        least = os.path.getsize(mount.image) if os.path.exists(mount.image) else 0
+    else:
+        try:
+            os.fsync(root)
+        except OSError as error:
+            if error.errno == errno.ENOSPC:
+                return f"no room is left for what changed beside {mount.image}"
+        finally:
+            os.close(root)
+    wanted = max(least, room_wanted(mount.image))
+    if room_at(mount.image) < wanted:
+        return f"no room is left for what changed: {mount.image} may take {wanted} bytes more"
+    return ""
 
 
 def explained(line):
@@ -91,9 +128,10 @@ def same_file(image):
 
 
 def place_of(mount):
-    """Its name. The numbers of a mount are soon another's, while a program still writes; no image is written by two."""
+    """Its name: that of the device, wherever it is mounted. A device's number is soon another's, while a program still writes; no image is
+    written by two."""
     image = hashlib.sha256(os.fsencode(mount.image)).hexdigest()[:32]
-    return f"\0lecternowl {mount.device} {mount.number} {image}"
+    return f"\0lecternowl {mount.device} {image}"
 
 
 def listen(mount):
@@ -133,14 +171,22 @@ def ask(mount):
     return asked if user in (0, mount.user) else None
 
 
-def answer(asked):
-    """The status and the lines that were told, once they are; no status where the other end is gone."""
+def answer(asked, tell_of_waiting):
+    """The status and the lines that were told, once they are, and after two seconds that this waits; no status where the other end is gone."""
     told = b""
-    try:
-        while more := asked.recv(65536):
-            told += more
-    except OSError:
-        pass
+    asked.settimeout(2)
+    while True:
+        try:
+            more = asked.recv(65536)
+        except socket.timeout:
+            asked.settimeout(None)
+            tell_of_waiting()
+            continue
+        except OSError:
+            break
+        if not more:
+            break
+        told += more
     status, *lines = told.decode("utf-8", "surrogateescape").split("\n")
     return (int(status) if re.fullmatch(r"-?\d+", status) else None), lines
 

@@ -36,11 +36,19 @@ def content_of(release):
     return files
 
 
+# A line that imports from bin/fuse_parts, with the one before it, which a single file doesn't need.
+IMPORT = re.compile(r"^(?:sys\.dont_write_bytecode = True\n)?from (?:fuse_parts)?\.(\w+) import [\w, ]+\n", re.M)
+
+
+def with_parts(text):
+    """A script, with each module of bin/fuse_parts in the place of the line that imports it."""
+    part = lambda it: (ROOT / f"bin/fuse_parts/{it[1]}.py").read_text(encoding="utf-8").split('"""\n', 1)[1]
+    return IMPORT.sub(lambda it: with_parts(part(it)), text)
+
+
 def script(name):
     """A script of bin/ as one file, under the names that it and its program have in a package."""
-    text = (ROOT / "bin" / name).read_text(encoding="utf-8")
-    part = (ROOT / "bin/fuse_parts/mounted.py").read_text(encoding="utf-8").split('"""\n', 1)[1]
-    text = re.sub(r"^sys\.dont_write_bytecode = True\nfrom fuse_parts\.mounted import [\w, ]+\n", lambda _: part, text, flags=re.M)
+    text = with_parts((ROOT / "bin" / name).read_text(encoding="utf-8"))
     for packed, ours in SCRIPTS.items():
         text = re.sub(rf"\bbin/{ours}\b", packed, text)
     return re.sub(r"^#!/usr/bin/env (?:-S )?python3", "#!/usr/bin/python3", text).encode()

@@ -25,7 +25,7 @@ const MOST_TRIES: u32 = 16;
 pub enum FilesRefusal<'n> {
     /// 1: it can't be opened for reading and writing, or its log can't, or it can't be written.
     CannotWrite(&'n str),
-    /// 2: another program has the lock of its log.
+    /// 2: another program has a lock of it, or of its log.
     Served(&'n str),
     /// 3: its log is open for another image, or the file of that name is no log. It is as it was.
     Foreign(&'n str),

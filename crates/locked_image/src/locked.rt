@@ -1,4 +1,4 @@
-//! An image that one program alone may write: it holds the lock of the image's log.
+//! An image that one program alone may write: it holds the locks of the image and of its log.
 
 use crate::copied_over::is_copied_over;
 use crate::storing::{ImageFiles, is_log, is_shut};
@@ -13,7 +13,7 @@ use std::path::PathBuf;
 use std::rt::Files;
 use std::time::Clock;
 
-/// An image, or the name of one that is to be made, and its log, which is locked until `close` or the end of the process.
+/// An image, or the name of one that is to be made, and its log, both locked until `close` or the end of the process.
 #[derive(Drop)]
 pub struct LockedImage {
     place: PathBuf,
@@ -24,11 +24,11 @@ pub struct LockedImage {
     is_new: bool,
 }
 
-/// Opens the image of this name, or none where there is none, and its log, which is made where there is none; and locks the log. A symbolic
+/// Opens the image of this name, or none where there is none, and its log, which is made where there is none; and locks both. A symbolic
 /// link is followed: the log lies beside the file that it leads to.
 ///
-/// Refused are what is no file or can't be opened for reading and writing (`CannotWrite`), an image whose log another program has locked
-/// (`Served`), and a log that is none (`Foreign`).
+/// Refused are what is no file or can't be opened for reading and writing (`CannotWrite`), an image that another program has locked by this
+/// name or another one, or whose log it has (`Served`), and a log that is none (`Foreign`).
 pub fn open<'n, R: Files<File = File> + AllocGlobal>(
     rt: &R,
     name: &'n str,
@@ -44,18 +44,25 @@ pub fn open<'n, R: Files<File = File> + AllocGlobal>(
     }
 }
 
-/// The same; none where another program has the lock. Somebody may take the log away before it is locked, or replace the image: then both
-/// are opened again.
+/// The same; none where another program has a lock. Somebody may take the log away before it is locked, or replace the image: then both are
+/// opened again.
 fn try_open<R: Files<File = File> + AllocGlobal>(
     rt: &R,
     name: &str,
 ) -> io::Result<Option<LockedImage>> {
+    if name.is_empty() {
+        return Err(io::Error::from(ErrorKind::InvalidInput));
+    }
     for _ in 0..MOST_TRIES {
         let place = place_of(rt, name)?;
         let image = image_at(rt, place.as_path().as_str())?;
         let log_name = log_name(rt.alloc(), place.as_path().as_str())?;
         let (log, is_new) = log_at(rt, &log_name, image.as_ref())?;
         if !is_taken(log.try_lock())? {
+            return Ok(None);
+        }
+        if !is_locked(image.as_ref())? {
+            take_away(rt, &log_name, is_new);
             return Ok(None);
         }
         let is_image = is_at(rt, image.as_ref(), place.as_path().as_str())?;
@@ -70,6 +77,21 @@ fn try_open<R: Files<File = File> + AllocGlobal>(
         }
     }
     Ok(None)
+}
+
+/// Locks an image, if there is one: a program that serves it by another name of the file has another log. Whether none does.
+fn is_locked(image: Option<&File>) -> io::Result<bool> {
+    match image {
+        Some(image) => is_taken(image.try_lock()),
+        None => Ok(true),
+    }
+}
+
+/// Takes a log away that was made.
+fn take_away<R: Files<File = File>>(rt: &R, log_name: &str, is_new: bool) {
+    if is_new {
+        let _ = fs::remove_file(rt, log_name);
+    }
 }
 
 /// The log of this name, and whether it was made: then it has the permissions of the image, and its owner where this process may give it
@@ -178,6 +200,7 @@ impl LockedImage {
         let place = self.place.as_path().as_str();
         replace_filled(rt, place, bytes, length)?;
         self.image = image_at(rt, place)?;
+        is_locked(self.image.as_ref())?;
         Ok(())
     }
 

@@ -42,10 +42,14 @@ fn try_read<'n, R: Files<File = File> + AllocGlobal + Clock + Copy>(
                 return Ok(Err(FilesRefusal::Served(name)));
             }
         }
+        let image = File::open(rt, place)?;
+        if !is_taken(image.try_lock_shared())? {
+            return Ok(Err(FilesRefusal::Served(name)));
+        }
         let bytes = read(rt, place)?;
         if is_at(rt, log.as_ref(), &log_name)? {
             return match log {
-                Some(log) => read_behind(rt, name, place, log, bytes),
+                Some(log) => read_behind(rt, name, image, log, bytes),
                 None => Ok(Ok(bytes)),
             };
         }
@@ -62,18 +66,17 @@ fn log_at<R: Files<File = File>>(rt: &R, name: &str) -> io::Result<Option<File>>
     }
 }
 
-/// The bytes of the image at a place, with what its log asks for.
+/// The bytes of an image, with what its log asks for.
 fn read_behind<'n, R: Files<File = File> + AllocGlobal + Clock + Copy>(
     rt: &R,
     name: &'n str,
-    place: &str,
+    image: File,
     log: File,
     bytes: Vec<u8>,
 ) -> io::Result<Result<Vec<u8>, FilesRefusal<'n>>> {
     if !is_log(&log)? {
         return Ok(Err(FilesRefusal::Foreign(name)));
     }
-    let image = File::open(rt, place)?;
     if is_copied_over(&image, &log)? {
         return Ok(Err(FilesRefusal::CopiedOver(name)));
     }

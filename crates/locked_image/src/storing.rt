@@ -34,6 +34,8 @@ pub struct ImageFiles<C> {
     length: u64,
     // How many bytes the log counts as having: no write within them makes it longer.
     room: u64,
+    // How many bytes the log had when it was synced last, or opened.
+    synced: u64,
     // The unit of the log that was written last. A gate is the one write that doesn't go behind it: a record is written upward, and then its
     // gate, in front of it; and the first gate is closed.
     last: u64,
@@ -172,6 +174,7 @@ impl<C: Clock + Drop> ImageFiles<C> {
             },
             length,
             room,
+            synced: room,
             last: 0,
             is_doubtful: false,
             clock,
@@ -223,17 +226,25 @@ impl<C: Clock + Drop> ImageFiles<C> {
         }
     }
 
+    /// Cuts off what was written behind the end of the log since it was synced, as of a record for which the disk has no room: the room is
+    /// there again then. What is cut off counts as nothing, since its gate is closed.
+    fn cut_back(&mut self) {
+        if self.log.set_len(self.synced).is_ok() {
+            self.room = self.synced;
+        }
+    }
+
     /// Writes bytes at a place of the log.
     fn write_log(&mut self, first: u64, bytes: &[u8]) -> io::Result<()> {
         let at = place_of(first)?;
         let written = self.file(Which::Log)?.write_all_at(bytes, at);
         self.log_ahead.bytes.truncate(0);
-        if written.is_err() && first <= self.last {
-            self.is_doubtful = true;
-        }
+        let is_gate = first <= self.last;
         self.last = first;
-        if written.is_ok() {
-            self.make_room(at.saturating_add(bytes.len() as u64));
+        match &written {
+            Ok(()) => self.make_room(at.saturating_add(bytes.len() as u64)),
+            Err(_) if is_gate => self.is_doubtful = true,
+            Err(_) => self.cut_back(),
         }
         written
     }
@@ -303,6 +314,9 @@ impl<C: Clock + Drop> Storage for ImageFiles<C> {
         }
         let synced = self.file(file)?.sync_data();
         self.is_doubtful = synced.is_err();
+        if matches!(file, Which::Log) {
+            self.synced = self.room;
+        }
         synced
     }
 }
