@@ -5,7 +5,7 @@ use crate::storing::{ImageFiles, is_log};
 use crate::{FilesRefusal, MOST_TRIES, is_at, is_taken, log_name};
 use host::whole_file::{place_of, read};
 use image_file::{OpenRefusal, read_through};
-use std::fs::File;
+use std::fs::{File, TryLockError};
 use std::io::{self, ErrorKind};
 use std::os::unix::fs::MetadataExt;
 use std::rt::Files;
@@ -36,25 +36,42 @@ fn try_read<'n, R: Files<File = File> + AllocGlobal + Clock + Copy>(
         let place = place_of(rt, name)?;
         let place = place.as_path().as_str();
         let log_name = log_name(rt.alloc(), place)?;
-        let log = log_at(rt, &log_name)?;
-        if let Some(log) = &log {
-            if !is_taken(log.try_lock_shared())? {
-                return Ok(Err(FilesRefusal::Served(name)));
-            }
-        }
-        let image = File::open(rt, place)?;
-        if !is_taken(image.try_lock_shared())? {
-            return Ok(Err(FilesRefusal::Served(name)));
-        }
+        let Some(shared) = shared_at(rt, place, &log_name)? else {
+            break;
+        };
         let bytes = read(rt, place)?;
-        if is_at(rt, log.as_ref(), &log_name)? {
-            return match log {
-                Some(log) => read_behind(rt, name, image, log, bytes),
-                None => Ok(Ok(bytes)),
-            };
+        if is_at(rt, shared.log.as_ref(), &log_name)? {
+            return read_behind(rt, name, shared, bytes);
         }
     }
     Ok(Err(FilesRefusal::Served(name)))
+}
+
+/// An image and its log, if it has one. No program writes them while they are open here, since both are locked.
+#[derive(Drop)]
+struct SharedFiles {
+    image: File,
+    log: Option<File>,
+}
+
+/// The image at a place and the log of this name; none where a program may be writing them. An image that can't be locked for another
+/// reason, as by a file system without locks, is read all the same.
+fn shared_at<R: Files<File = File>>(
+    rt: &R,
+    place: &str,
+    log_name: &str,
+) -> io::Result<Option<SharedFiles>> {
+    let log = log_at(rt, log_name)?;
+    if let Some(log) = &log {
+        if !is_taken(log.try_lock_shared())? {
+            return Ok(None);
+        }
+    }
+    let image = File::open(rt, place)?;
+    match image.try_lock_shared() {
+        Err(TryLockError::WouldBlock) => Ok(None),
+        _ => Ok(Some(SharedFiles { image, log })),
+    }
 }
 
 /// The log of this name, if there is one.
@@ -70,10 +87,13 @@ fn log_at<R: Files<File = File>>(rt: &R, name: &str) -> io::Result<Option<File>>
 fn read_behind<'n, R: Files<File = File> + AllocGlobal + Clock + Copy>(
     rt: &R,
     name: &'n str,
-    image: File,
-    log: File,
+    shared: SharedFiles,
     bytes: Vec<u8>,
 ) -> io::Result<Result<Vec<u8>, FilesRefusal<'n>>> {
+    let SharedFiles { image, log } = shared;
+    let Some(log) = log else {
+        return Ok(Ok(bytes));
+    };
     if !is_log(&log)? {
         return Ok(Err(FilesRefusal::Foreign(name)));
     }
