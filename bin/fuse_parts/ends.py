@@ -1,6 +1,6 @@
 """How a mount begins and ends: refusals, a busy folder, an image that is being written, a full volume, kills, drivers that are used up."""
 import contextlib, errno, os, random, signal, subprocess, time
-from .mounted import let_go, mount_at
+from .mounted import let_go, mount_at, room_at
 from .rows import Skip, Wrong, holds, need_root, ran, row, run, said, same
 from .volume import BIN, LARGE, SMALL, Volume, differ, tree_of
 from .users import refused
@@ -417,16 +417,19 @@ def replaced(trial):
 
 
 def fill_disk(volume, data, first=0):
-    """Writes files, each with an fsync, from this number on, until one finds no room: its number."""
+    """Writes files, each with an fsync, from this number on, until one finds no room: its number. What was written of it to the log is gone
+    then, so that others have room."""
     done = first
     try:
         for done in range(first, first + 15):
+            before = room_at(volume.home)
             with open(volume.folder / f"f{done}", "wb") as file:
                 file.write(data)
                 file.flush()
                 os.fsync(file.fileno())
     except OSError as error:
         same("the error", errno.errorcode[error.errno], "ENOSPC")
+    holds("the room is there again that the log took", room_at(volume.home) > before - 50_000)
     return done
 
 
