@@ -62,16 +62,20 @@ const SETTLED: InitReply = InitReply {
     more_flags: 6,
 };
 
+/// Whether the bytes behind a 9 are those wanted.
+fn stands_behind(out: &[u8], wanted: &[u8]) -> bool {
+    out.split_first() == Some((&9, wanted))
+}
+
 /// The answer to the request 0x102030405060708 is written as these bytes, behind what stands there.
 fn is_written(alloc: Global, reply: &Reply<'_>, wanted: &[u8]) -> Result<(), Fail>
     requires { IsReply reply.now }
 {
-    let mut out = Vec::new(alloc);
-    out.push(9)?;
+    let mut out = vec![in alloc; 9]?;
     if write(&mut out, 0x0102030405060708, reply).is_err() {
         return Err(Fail::new(format_args!("{reply:?} isn't written")));
     }
-    if out.split_first() != Some((&9, wanted)) {
+    if !stands_behind(&out, wanted) {
         return Err(Fail::new(format_args!("{reply:?} is written as {out:?}")));
     }
     Ok(())
@@ -217,25 +221,30 @@ static ENTRIES: [(&[u8], &[u8]); 10] = [
     ),
 ];
 
-/// Each entry is pushed as its bytes behind what stands there, and has so many bytes.
+/// The entry of a row's name is pushed as its bytes behind what stands there, and has so many bytes.
+fn entry_is_written(alloc: Global, row: usize, name: &[u8], wanted: &[u8]) -> Result<(), Fail> {
+    let entry = ReaddirEntry {
+        inode: 51,
+        next: 52,
+        kind: 8,
+        name,
+    };
+    if name.len() > 9 {
+        return Err(Fail::from("a long row"));
+    }
+    let mut out = vec![in alloc; 9]?;
+    push_entry(&mut out, &entry)?;
+    if !stands_behind(&out, wanted) || entry.len() != wanted.len() {
+        return Err(Fail::new(format_args!("row {row} is written as {out:?}")));
+    }
+    Ok(())
+}
+
+/// Each entry is pushed as its bytes.
 #[test]
 fn directories_are_written(rt: HostRuntime) -> Result<(), Fail> {
     for (row, (name, wanted)) in ENTRIES.iter().enumerate() {
-        let entry = ReaddirEntry {
-            inode: 51,
-            next: 52,
-            kind: 8,
-            name,
-        };
-        let mut out = Vec::new(rt.alloc());
-        out.push(9)?;
-        if name.len() > 9 {
-            return Err(Fail::from("a long row"));
-        }
-        push_entry(&mut out, &entry)?;
-        if out.split_first() != Some((&9, wanted)) || entry.len() != wanted.len() {
-            return Err(Fail::new(format_args!("row {row} is written as {out:?}")));
-        }
+        entry_is_written(rt.alloc(), row, name, wanted)?;
     }
     Ok(())
 }

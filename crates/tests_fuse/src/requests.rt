@@ -1,5 +1,6 @@
 //! Requests: each by its bytes, as C lays out the structs of linux/fuse.h; and bytes that are no request. In unused fields stands 0xee.
 use fields::fault::MalformedMessage;
+use fuse::forgets::Forgets;
 use fuse::reading::read;
 use fuse::request::{Message, Request};
 use std::alloc::Global;
@@ -287,11 +288,15 @@ static FAULTS: [(&[u8], MalformedMessage); 19] = [
     ),
 ];
 
-/// Each request is read as its bytes say, with its number, its node and who asks.
-#[test]
-fn requests_are_read(rt: HostRuntime) -> Result<(), Fail> {
-    for (row, (bytes, wanted)) in REQUESTS.iter().enumerate() {
-        let Ok(
+/// The rows of `REQUESTS`. No other function names the table, since the check goes over all of it for each that does.
+fn requests() -> &'static [(&'static [u8], &'static str)] {
+    &REQUESTS
+}
+
+/// The request of a message with the number, the node and who asks of the rows.
+fn request_of(bytes: &[u8]) -> Option<Request<'_>> {
+    match read(bytes) {
+        Ok(
             Message {
                 unique: 0x0102030405060708,
                 node: 2,
@@ -300,12 +305,46 @@ fn requests_are_read(rt: HostRuntime) -> Result<(), Fail> {
                 pid: 4711,
                 request,
             },
-        ) = read(bytes)
-        else {
-            return Err(Fail::new(format_args!("row {row} isn't read")));
+        ) => Some(request),
+        _ => None,
+    }
+}
+
+/// It is an error where a row's bytes aren't read as this request.
+fn is_read(alloc: Global, row: usize, bytes: &[u8], wanted: &str) -> Result<(), Fail> {
+    let Some(request) = request_of(bytes) else {
+        return Err(Fail::new(format_args!("row {row} isn't read")));
+    };
+    let shown = format!(in alloc; "{request:?}")?;
+    row_is_told(row, shown.as_str(), wanted)
+}
+
+/// Each request is read as its bytes say, with its number, its node and who asks.
+#[test]
+fn requests_are_read(rt: HostRuntime) -> Result<(), Fail> {
+    for (row, (bytes, wanted)) in requests().iter().enumerate() {
+        is_read(rt.alloc(), row, bytes, wanted)?;
+    }
+    Ok(())
+}
+
+/// It is an error where bytes aren't refused by this fault.
+fn is_refused(row: usize, bytes: &[u8], wanted: MalformedMessage) -> Result<(), Fail> {
+    match read(bytes) {
+        Err(fault) if fault == wanted => Ok(()),
+        _ => Err(Fail::new(format_args!("row {row}, {} bytes", bytes.len()))),
+    }
+}
+
+/// The beginnings of a row's bytes are refused.
+fn beginnings_are_refused(row: usize, bytes: &[u8]) -> Result<(), Fail> {
+    for end in 0..bytes.len() {
+        let wanted = if end < 4 {
+            MalformedMessage::Short
+        } else {
+            MalformedMessage::Size
         };
-        let shown = format!(in rt.alloc(); "{request:?}")?;
-        row_is_told(row, shown.as_str(), wanted)?;
+        is_refused(row, &bytes[..end], wanted)?;
     }
     Ok(())
 }
@@ -313,25 +352,17 @@ fn requests_are_read(rt: HostRuntime) -> Result<(), Fail> {
 /// A request whose last bytes are gone has another length.
 #[test]
 fn no_beginning_is_a_request() -> Result<(), Fail> {
-    for (row, (bytes, _)) in REQUESTS.iter().enumerate() {
-        for end in 0..bytes.len() {
-            let wanted = if end < 4 {
-                MalformedMessage::Short
-            } else {
-                MalformedMessage::Size
-            };
-            if !matches!(read(&bytes[..end]), Err(fault) if fault == wanted) {
-                return Err(Fail::new(format_args!("row {row}, {end} bytes")));
-            }
-        }
+    for (row, (bytes, _)) in requests().iter().enumerate() {
+        beginnings_are_refused(row, bytes)?;
     }
     Ok(())
 }
 
-/// A request with its length put right.
-fn put_right(alloc: Global, bytes: &[u8]) -> Result<Vec<u8>, Fail> {
+/// Bytes with others behind them, and with their length put right.
+fn put_right(alloc: Global, bytes: &[u8], more: &[u8]) -> Result<Vec<u8>, Fail> {
     let mut message = bytes.to_vec(alloc)?;
-    let Ok(length) = u8::try_from(bytes.len()) else {
+    message.extend_from_slice(more)?;
+    let Ok(length) = u8::try_from(message.len()) else {
         return Err(Fail::from("a long row"));
     };
     if let Some(first) = message.first_mut() {
@@ -340,31 +371,40 @@ fn put_right(alloc: Global, bytes: &[u8]) -> Result<Vec<u8>, Fail> {
     Ok(message)
 }
 
+/// The beginnings of a row's bytes are short where their length is put right.
+fn beginnings_are_short(alloc: Global, row: usize, bytes: &[u8]) -> Result<(), Fail> {
+    for end in 4..bytes.len() {
+        let message = put_right(alloc, &bytes[..end], &[])?;
+        is_refused(row, &message, MalformedMessage::Short)?;
+    }
+    Ok(())
+}
+
+/// A row's bytes have one behind them where there is one more, and their length is put right.
+fn a_byte_more_is_refused(alloc: Global, row: usize, bytes: &[u8]) -> Result<(), Fail> {
+    let message = put_right(alloc, bytes, &[0])?;
+    is_refused(row, &message, MalformedMessage::Trailing)
+}
+
+/// Whether these bytes are a request that may have more of them.
+fn may_have_more(bytes: &[u8]) -> bool {
+    matches!(
+        read(bytes),
+        Ok(Message {
+            request: Request::Unknown { .. } | Request::Init { .. },
+            ..
+        })
+    )
+}
+
 /// A request whose last bytes are gone is short where its length is put right, and one with a byte more has a byte behind it; but for
 /// one that isn't known, which has any bytes.
 #[test]
 fn lengths_are_put_right(rt: HostRuntime) -> Result<(), Fail> {
-    for (row, (bytes, _)) in REQUESTS.iter().enumerate() {
-        if matches!(
-            read(bytes),
-            Ok(Message {
-                request: Request::Unknown { .. } | Request::Init { .. },
-                ..
-            })
-        ) {
-            continue;
-        }
-        for end in 4..bytes.len() {
-            let message = put_right(rt.alloc(), &bytes[..end])?;
-            if !matches!(read(&message), Err(MalformedMessage::Short)) {
-                return Err(Fail::new(format_args!("row {row}, {end} bytes")));
-            }
-        }
-        let mut more = bytes.to_vec(rt.alloc())?;
-        more.push(0)?;
-        let message = put_right(rt.alloc(), &more)?;
-        if !matches!(read(&message), Err(MalformedMessage::Trailing)) {
-            return Err(Fail::new(format_args!("row {row}, a byte more")));
+    for (row, (bytes, _)) in requests().iter().enumerate() {
+        if !may_have_more(bytes) {
+            beginnings_are_short(rt.alloc(), row, bytes)?;
+            a_byte_more_is_refused(rt.alloc(), row, bytes)?;
         }
     }
     Ok(())
@@ -374,62 +414,70 @@ fn lengths_are_put_right(rt: HostRuntime) -> Result<(), Fail> {
 #[test]
 fn faults_are_named() -> Result<(), Fail> {
     for (row, (bytes, wanted)) in FAULTS.iter().enumerate() {
-        if !matches!(read(bytes), Err(fault) if fault == *wanted) {
-            return Err(Fail::new(format_args!("row {row}")));
-        }
+        is_refused(row, bytes, *wanted)?;
     }
     Ok(())
 }
 
-/// INIT as kernels since 7.36 send it.
+/// INIT as kernels since 7.36 send it: 104 bytes, of which the last 48 are `MORE`.
+const LONG_INIT: &[u8] =
+    b"h\0\0\0\x1a\0\0\0\0\0\0\0\0\0\0\0\0\0\0\0\0\0\0\0\0\0\0\0\0\0\0\0\0\0\0\0\0\0\0\0\x07\0\0\0&\0\0\0\
+      \0\0\0\0\0\0\0@\x01\0\0\0\0\0\0\0\0\0\0\0\0\0\0\0\0\0\0\0\0\0\0\0\0\0\0\0\0\0\0\0\0\0\0\0\0\0\0\0\
+      \0\0\0\0\0\0\0\0";
+
+const MORE: &[u8] =
+    b"\x01\0\0\0\0\0\0\0\0\0\0\0\0\0\0\0\0\0\0\0\0\0\0\0\0\0\0\0\0\0\0\0\0\0\0\0\0\0\0\0\0\0\0\0\0\0\0\0";
+
+/// What stands behind the flags of an INIT with the numbers of `LONG_INIT`.
+fn more_of(bytes: &[u8]) -> Option<&[u8]> {
+    match read(bytes) {
+        Ok(
+            Message {
+                request: Request::Init {
+                    major: 7,
+                    minor: 38,
+                    readahead: 0,
+                    flags: 0x4000_0000,
+                    more,
+                },
+                ..
+            },
+        ) => Some(more),
+        _ => None,
+    }
+}
+
+/// `LONG_INIT` is read with all that stands behind its flags.
 #[test]
 fn a_long_init_is_read() -> Result<(), Fail> {
-    let mut bytes = [0; 104];
-    bytes[0] = 104;
-    bytes[4] = 26;
-    bytes[40] = 7;
-    bytes[44] = 38;
-    bytes[55] = 0x40;
-    bytes[56] = 1;
-    let Ok(
-        Message {
-            request: Request::Init {
-                major: 7,
-                minor: 38,
-                readahead: 0,
-                flags: 0x4000_0000,
-                more,
+    match more_of(LONG_INIT) {
+        Some(more) if more == MORE => Ok(()),
+        other => Err(Fail::new(format_args!("{other:?} stands behind it"))),
+    }
+}
+
+/// A BATCH_FORGET of node 2, three times, and node 256, once.
+const TWO_FORGETS: &[u8] =
+    b"P\0\0\0*\0\0\0\0\0\0\0\0\0\0\0\0\0\0\0\0\0\0\0\0\0\0\0\0\0\0\0\0\0\0\0\0\0\0\0\x02\0\0\0\0\0\0\0\
+      \x02\0\0\0\0\0\0\0\x03\0\0\0\0\0\0\0\0\x01\0\0\0\0\0\0\x01\0\0\0\0\0\0\0";
+
+/// The nodes that bytes say are forgotten.
+fn nodes_of(bytes: &[u8]) -> Option<Forgets<'_>> {
+    match read(bytes) {
+        Ok(
+            Message {
+                request: Request::BatchForget { nodes },
+                ..
             },
-            ..
-        },
-    ) = read(&bytes)
-    else {
-        return Err(Fail::from("not read"));
-    };
-    match more {
-        [1, others @ ..] if others == [0; 47].as_slice() => Ok(()),
-        _ => Err(Fail::new(format_args!("{more:?} stands behind it"))),
+        ) => Some(nodes),
+        _ => None,
     }
 }
 
 /// The nodes of a BATCH_FORGET are taken one by one.
 #[test]
 fn nodes_are_taken_apart() -> Result<(), Fail> {
-    let mut bytes = [0; 80];
-    bytes[0] = 80;
-    bytes[4] = 42;
-    bytes[40] = 2;
-    bytes[48] = 2;
-    bytes[56] = 3;
-    bytes[65] = 1;
-    bytes[72] = 1;
-    let Ok(
-        Message {
-            request: Request::BatchForget { nodes },
-            ..
-        },
-    ) = read(&bytes)
-    else {
+    let Some(nodes) = nodes_of(TWO_FORGETS) else {
         return Err(Fail::from("not read"));
     };
     let Some(((2, 3), rest)) = nodes.split_first() else {
