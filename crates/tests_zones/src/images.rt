@@ -105,9 +105,9 @@ pub static MIDDLE_PAGES: [(u32, u32); 7] = [
     (1048575, 4),
 ];
 
-/// Sets bytes from a place on.
-fn put_bytes(image: &mut Vec<u8>, from: usize, bytes: &[u8]) {
-    for (place, byte) in image.iter_mut().skip(from).zip(bytes.iter()) {
+/// Puts bytes at a place of an image.
+pub fn put(image: &mut [u8], from: usize, bytes: &[u8]) {
+    for (place, byte) in image.iter_mut().skip(from).zip(bytes) {
         *place = *byte;
     }
 }
@@ -117,9 +117,9 @@ fn put_bytes(image: &mut Vec<u8>, from: usize, bytes: &[u8]) {
 pub fn image(alloc: Global, size: Size, parts: &[Part]) -> Result<Vec<u8>, AllocError> {
     let mut image = vec![in alloc; 0u8; size.zones]?;
     image.resize(size.length, 0x5a)?;
-    put_bytes(&mut image, 1024, size.superblock);
+    put(&mut image, 1024, size.superblock);
     for (from, bytes) in parts {
-        put_bytes(&mut image, *from, bytes);
+        put(&mut image, *from, bytes);
     }
     Ok(image)
 }

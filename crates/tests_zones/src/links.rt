@@ -1,12 +1,13 @@
 //! Rows over a link that answers from a list: what is free in the maps, a file that is written, cut and grown again, and the zones that
 //! pages need.
 
-ghost use Rattle.std.specs.Prelude.{◌≡◌, IfOk};
+ghost use Rattle.std.specs.Prelude.{◌≡◌, ◌<◌, IfOk};
 ghost use Rattle.layout.specs.Places.{IsGeometry};
 ghost use Rattle.block_store.specs.Volume.{IsOn};
 ghost use Rattle.cache.specs.Calls.{IsReady, AreWritable};
 ghost use Rattle.cached_blocks.specs.World.{stored_caching};
 
+use crate::images::{SMALL, image, sizes};
 use bitmap::{Map, count_free, lowest_free};
 use block_store::{Blocks, Halt};
 use cache::{Cache, CacheRefusal};
@@ -16,36 +17,14 @@ use file::file_pages::reading::read_at;
 use file::file_room::need;
 use file::write_at;
 use inode::inode_table::load;
-use layout::{Geometry, LayoutRefusal};
+use layout::Geometry;
 use message::endpoint::{DISK_DRIVER, Endpoint};
 use message::{BlockReply, Incoming};
 use reissue::list_link::ListLink;
 use reissue::{Link, Transfers};
 use std::alloc::{AllocError, Global};
 use std::test::Fail;
-
-/// The superblock of a volume of 64 blocks of 1024 bytes with 32 inodes.
-const SUPERBLOCK: &[u8] =
-    b"\x20\0\0\0\0\0\x01\0\x01\0\x06\0\0\0\0\0\xff\xff\xff\x7f\x40\0\0\0\x5a\x4d\0\0\0\x04\0";
-
-/// An image with this superblock, of zeros else.
-fn image(alloc: Global) -> Result<Vec<u8>, AllocError> {
-    let mut image = vec![in alloc; 0u8; 65536]?;
-    for (place, byte) in image.iter_mut().skip(1024).zip(SUPERBLOCK.iter()) {
-        *place = *byte;
-    }
-    Ok(image)
-}
-
-/// The sizes that an image's superblock has.
-fn sizes(image: &[u8]) -> Result<Geometry, LayoutRefusal>
-    ensures { IfOk result (λ geometry. IsGeometry geometry) }
-{
-    match Geometry::parse(image) {
-        Ok(geometry) => Ok(geometry),
-        Err(refusal) => Err(refusal),
-    }
-}
+use volume::Inode;
 
 /// The only driver.
 const DRIVER: Endpoint = Endpoint {
@@ -74,36 +53,94 @@ static ROWS: [(Act, &[&[u8]], [u32; 4]); 3] = [
     (Act::Needs, &[&[0xa4, 0x81, 1]], [1, 2, 2, 3]),
 ];
 
-/// The lowest free number of each map, 0 where there is none, and how many are free.
+/// The lowest free number of a map, 0 where there is none, and how many are free.
+fn map_of<B: Blocks>(blocks: &mut B, geometry: &Geometry, map: Map) -> Result<[u32; 2], Halt>
+    requires { IsOn B.world geometry.now blocks.old }
+    ensures { IsOn B.world geometry.now blocks.new }
+{
+    let number = lowest_free(blocks, geometry, map)?;
+    let free = count_free(blocks, geometry, map)?;
+    Ok([number.unwrap_or(0), free])
+}
+
+/// The same of both maps.
 fn maps<B: Blocks>(blocks: &mut B, geometry: &Geometry) -> Result<[u32; 4], Halt>
     requires { IsOn B.world geometry.now blocks.old }
 {
-    let inode = lowest_free(blocks, geometry, Map::Inodes)?;
-    let inodes = count_free(blocks, geometry, Map::Inodes)?;
-    let zone = lowest_free(blocks, geometry, Map::Zones)?;
-    let zones = count_free(blocks, geometry, Map::Zones)?;
+    let [inode, inodes] = map_of(blocks, geometry, Map::Inodes)?;
+    let [zone, zones] = map_of(blocks, geometry, Map::Zones)?;
     blocks.live()?;
-    Ok([inode.unwrap_or(0), inodes, zone.unwrap_or(0), zones])
+    Ok([inode, inodes, zone, zones])
+}
+
+/// How many zones are free.
+fn free_zones<B: Blocks>(blocks: &mut B, geometry: &Geometry) -> Result<u32, Halt>
+    requires { IsOn B.world geometry.now blocks.old }
+    ensures { IsOn B.world geometry.now blocks.new }
+{
+    Ok(count_free(blocks, geometry, Map::Zones)?)
+}
+
+/// Writes inode 1, cuts it and makes it grow again.
+fn change<B: Blocks>(blocks: &mut B, geometry: &Geometry) -> Result<(), Halt>
+    requires { IsOn B.world geometry.now blocks.old }
+    ensures { IsOn B.world geometry.now blocks.new }
+{
+    write_at(blocks, geometry, 1, 0, b"abc")?;
+    set_size(blocks, geometry, 1, 1)?;
+    set_size(blocks, geometry, 1, 3)
+}
+
+/// Reads from the first byte of inode 1 on: how many bytes came.
+fn read_first<B: Blocks>(
+    blocks: &mut B,
+    geometry: &Geometry,
+    into: &mut [u8],
+) -> Result<usize, Halt>
+    requires { IsOn B.world geometry.now blocks.old }
+    ensures { IsOn B.world geometry.now blocks.new }
+{
+    let inode = load(blocks, geometry, 1)?;
+    Ok(read_at(blocks, geometry, &inode, 0, into)?)
+}
+
+/// How many bytes of inode 1 are read, if they are what was left of it.
+fn come_back<B: Blocks>(blocks: &mut B, geometry: &Geometry) -> Result<u32, Halt>
+    requires { IsOn B.world geometry.now blocks.old }
+    ensures { IsOn B.world geometry.now blocks.new }
+{
+    let mut into = [0x2e; 5];
+    let count = read_first(blocks, geometry, &mut into)?;
+    Ok(if count == 3 && &into == b"a\0\0.." {
+        3
+    } else {
+        0
+    })
 }
 
 /// Writes inode 1, cuts it and makes it grow again, and reads it.
 fn cut_and_grow<B: Blocks>(blocks: &mut B, geometry: &Geometry) -> Result<[u32; 4], Halt>
     requires { IsOn B.world geometry.now blocks.old }
 {
-    let before = count_free(blocks, geometry, Map::Zones)?;
-    write_at(blocks, geometry, 1, 0, b"abc")?;
-    set_size(blocks, geometry, 1, 1)?;
-    set_size(blocks, geometry, 1, 3)?;
-    let inode = load(blocks, geometry, 1)?;
-    let mut into = [0x2e; 5];
-    let count = read_at(blocks, geometry, &inode, 0, &mut into)?;
-    let after = count_free(blocks, geometry, Map::Zones)?;
-    let come = if count == 3 && &into == b"a\0\0.." {
-        3
-    } else {
-        0
-    };
+    let before = free_zones(blocks, geometry)?;
+    change(blocks, geometry)?;
+    let come = come_back(blocks, geometry)?;
+    let after = free_zones(blocks, geometry)?;
     Ok([before, come, after, 0])
+}
+
+/// How many zones an inode needs to hold one page.
+fn needed<B: Blocks>(
+    blocks: &mut B,
+    geometry: &Geometry,
+    inode: &Inode,
+    page: u32,
+) -> Result<u32, Halt>
+    requires on { IsOn B.world geometry.now blocks.old }
+    requires page { page < 1000 }
+    ensures { IsOn B.world geometry.now blocks.new }
+{
+    Ok(need(blocks, geometry, inode, page, 1)?)
 }
 
 /// How many zones inode 1 needs to hold one page.
@@ -112,10 +149,10 @@ fn needs<B: Blocks>(blocks: &mut B, geometry: &Geometry) -> Result<[u32; 4], Hal
 {
     let inode = load(blocks, geometry, 1)?;
     Ok([
-        need(blocks, geometry, &inode, 0, 1)?,
-        need(blocks, geometry, &inode, 7, 1)?,
-        need(blocks, geometry, &inode, 262, 1)?,
-        need(blocks, geometry, &inode, 263, 1)?,
+        needed(blocks, geometry, &inode, 0)?,
+        needed(blocks, geometry, &inode, 7)?,
+        needed(blocks, geometry, &inode, 262)?,
+        needed(blocks, geometry, &inode, 263)?,
     ])
 }
 
@@ -171,10 +208,20 @@ fn blocks_over(
     })
 }
 
+/// The same, of the volume over a link that gives these answers.
+fn opened(alloc: Global, answers: &[&[u8]], geometry: &Geometry) -> Result<Stored<ListLink>, Fail>
+    requires { IsGeometry geometry.now }
+    ensures ready { IfOk result (λ s. IsReady (stored_caching ⟦<ListLink as Link>⟧ s)) }
+    ensures size { IfOk result (λ s. s.cache.shape.block_size ≡ geometry.now.block_size) }
+    ensures inside { IfOk result (λ s. AreWritable geometry.now.zones (stored_caching ⟦<ListLink as Link>⟧ s)) }
+{
+    Ok(blocks_over(alloc, messages(alloc, answers)?, geometry)??)
+}
+
 /// What comes out over the small volume's blocks.
 fn done(alloc: Global, act: Act, answers: &[&[u8]]) -> Result<[u32; 4], Fail> {
-    let geometry = sizes(&image(alloc)?)?;
-    let mut blocks = blocks_over(alloc, messages(alloc, answers)?, &geometry)??;
+    let geometry = sizes(&image(alloc, SMALL, &[])?)?;
+    let mut blocks = opened(alloc, answers, &geometry)?;
     Ok(act_on(&mut blocks, &geometry, act)?)
 }
 

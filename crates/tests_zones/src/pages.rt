@@ -36,23 +36,28 @@ static LARGE_PAGES: [(u32, u32); 7] = [
     (524287, 3),
 ];
 
+/// Pages take so many zones.
+fn are_taken(alloc: Global, number: u32, pages: &[u32], zones: u32) -> Result<(), Fail> {
+    let left = Ok(58u32.saturating_sub(zones));
+    let steps = [
+        (Call::Free, Ok(58)),
+        (Call::Attach(1, pages), DONE),
+        (Call::Free, left),
+        // once more, and nothing is taken
+        (Call::Attach(1, pages), DONE),
+        (Call::Free, left),
+        (Call::Blank(pages), DONE),
+        (Call::Detach(1, 0), DONE),
+        (Call::Free, Ok(58)),
+        (Call::Holes(pages), DONE),
+    ];
+    volume(alloc, SMALL, &HOLE)?.gives("pages", number, &steps)
+}
+
 #[test]
 fn pages_take_zones(rt: HostRuntime) -> Result<(), Fail> {
     for (number, (pages, zones)) in (0..).zip(&TAKEN) {
-        let left = Ok(58u32.saturating_sub(*zones));
-        let steps = [
-            (Call::Free, Ok(58)),
-            (Call::Attach(1, pages), DONE),
-            (Call::Free, left),
-            // once more, and nothing is taken
-            (Call::Attach(1, pages), DONE),
-            (Call::Free, left),
-            (Call::Blank(pages), DONE),
-            (Call::Detach(1, 0), DONE),
-            (Call::Free, Ok(58)),
-            (Call::Holes(pages), DONE),
-        ];
-        volume(rt.alloc(), SMALL, &HOLE)?.gives("pages", number, &steps)?;
+        are_taken(rt.alloc(), number, pages, *zones)?;
     }
     Ok(())
 }

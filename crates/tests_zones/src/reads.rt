@@ -2,6 +2,7 @@
 
 use crate::calls::{Call, Step};
 use crate::images::{Part, SMALL, volume};
+use std::alloc::Global;
 use std::test::Fail;
 
 /// The first bytes of inode 1: a file, one link, its size.
@@ -23,7 +24,8 @@ const WITH_A_HOLE: [Part; 5] = [
     (8190, b"yz"),
 ];
 
-static ROWS: [Row; 7] = [
+/// Files in the direct range.
+static DIRECT: [Row; 4] = [
     Row {
         // its page lies in zone 6, whose bytes behind the file's are other ones
         name: "a short file",
@@ -52,6 +54,20 @@ static ROWS: [Row; 7] = [
             (Call::Read(2050, 6, b"c....."), Ok(1)),
         ],
     },
+    Row {
+        name: "a number of a map's block names no zone",
+        parts: &[(4096, &FILE_OF_3), (4120, &[3])],
+        steps: &[(Call::Read(0, 5, b"\0\0\0.."), Ok(3))],
+    },
+    Row {
+        name: "a number past the last names no zone",
+        parts: &[(4096, &FILE_OF_3), (4120, &[64])],
+        steps: &[(Call::Read(0, 5, b"\0\0\0.."), Ok(3))],
+    },
+];
+
+/// Files over the ends of the ranges.
+static ENDS: [Row; 3] = [
     Row {
         // 7171 bytes: page 6 in zone 8, page 7 in zone 6, whose number is the first of block 9
         name: "over the end of the direct range",
@@ -107,27 +123,28 @@ static ROWS: [Row; 7] = [
             (Call::Read(269310, 5, b"\0\0abc"), Ok(5)),
         ],
     },
-    Row {
-        name: "a number of a map's block names no zone",
-        parts: &[(4096, &FILE_OF_3), (4120, &[3])],
-        steps: &[(Call::Read(0, 5, b"\0\0\0.."), Ok(3))],
-    },
-    Row {
-        name: "a number past the last names no zone",
-        parts: &[(4096, &FILE_OF_3), (4120, &[64])],
-        steps: &[(Call::Read(0, 5, b"\0\0\0.."), Ok(3))],
-    },
 ];
 
-#[test]
-fn files_are_read(rt: HostRuntime) -> Result<(), Fail> {
-    for row in &ROWS {
-        volume(rt.alloc(), SMALL, row.parts)?.gives(row.name, 1, row.steps)?;
+/// Reads what rows say.
+fn are_read(alloc: Global, rows: &[Row]) -> Result<(), Fail> {
+    for row in rows {
+        volume(alloc, SMALL, row.parts)?.gives(row.name, 1, row.steps)?;
     }
-    // over three pages at once
+    Ok(())
+}
+
+/// A read over three pages at once.
+fn three_pages_are_read(alloc: Global) -> Result<(), Fail> {
     let mut bytes = [0; 1030];
     bytes[..2].copy_from_slice(b"yz");
     bytes[1026..].copy_from_slice(b"abc.");
     let steps = [(Call::Read(1022, 1030, &bytes), Ok(1029))];
-    volume(rt.alloc(), SMALL, &WITH_A_HOLE)?.gives("over three pages", 1, &steps)
+    volume(alloc, SMALL, &WITH_A_HOLE)?.gives("over three pages", 1, &steps)
+}
+
+#[test]
+fn files_are_read(rt: HostRuntime) -> Result<(), Fail> {
+    are_read(rt.alloc(), &DIRECT)?;
+    are_read(rt.alloc(), &ENDS)?;
+    three_pages_are_read(rt.alloc())
 }

@@ -1,15 +1,9 @@
 //! Images, byte by byte.
+use crate::images::put;
 use std::alloc::{AllocError, Global};
 
 /// An image: how many bytes it has, and what isn't zero: from a place on these bytes, and behind them all bits up to another place.
 pub(crate) type Image = (usize, &'static [(usize, &'static [u8], usize)]);
-
-/// Puts bytes at a place of an image.
-pub(crate) fn put(image: &mut [u8], at: usize, bytes: &[u8]) {
-    for (place, byte) in image.iter_mut().skip(at).zip(bytes) {
-        *place = *byte;
-    }
-}
 
 /// Sets all bits of the bytes from a place up to another one.
 fn fill(image: &mut [u8], from: usize, end: usize) {

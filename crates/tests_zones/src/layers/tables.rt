@@ -1,6 +1,7 @@
 //! The maps and the inode table.
 
-use crate::layers::images::{Image, image_of, put};
+use crate::images::put;
+use crate::layers::images::{Image, image_of};
 use crate::layers::steps::Step;
 use crate::layers::volumes::{Sizes, Volume};
 use bitmap::Map;
@@ -61,8 +62,10 @@ type Steps = &'static [(Step, Result<u32, Halt>, usize, &'static [u8])];
 
 /// A volume's sizes and image, and what is done with it. A fresh volume of 64 blocks with 32 inodes is made at time 50: the root is inode
 /// 1, its zone the first.
-static ROWS: [(Sizes, Image, Steps); 13] = [
-    // a fresh volume has free numbers
+type Row = (Sizes, Image, Steps);
+
+/// A fresh volume has free numbers.
+static FRESH: [Row; 3] = [
     (
         Sizes::Small,
         (
@@ -114,7 +117,11 @@ static ROWS: [(Sizes, Image, Steps); 13] = [
             (Step::Count(Map::Zones), Ok(58), 0, b""),
         ],
     ),
-    // numbers change one bit, in and out
+];
+
+/// Numbers of the maps.
+static NUMBERS: [Row; 6] = [
+    // they change one bit, in and out
     (
         Sizes::Small,
         (
@@ -205,7 +212,11 @@ static ROWS: [(Sizes, Image, Steps); 13] = [
             (Step::Mark(Map::Zones, 0, true), Ok(1), 4096, b"\x01"),
         ],
     ),
-    // inodes leave their neighbours
+];
+
+/// Inodes.
+static INODES: [Row; 4] = [
+    // they leave their neighbours
     (
         Sizes::Small,
         (
@@ -286,29 +297,31 @@ static ROWS: [(Sizes, Image, Steps); 13] = [
     ),
 ];
 
-/// Does these things with a volume: it is an error where something else comes of one, or the volume has other bytes then.
-fn are_done(
-    alloc: Global,
-    row: usize,
-    sizes: &Sizes,
-    image: &Image,
-    steps: Steps,
-) -> Result<(), Fail> {
+/// Does the things of a row: it is an error where something else comes of one, or the volume has other bytes then.
+fn is_done(alloc: Global, table: &str, number: usize, row: &Row) -> Result<(), Fail> {
+    let (sizes, image, steps) = row;
     let mut volume = Volume::new(sizes, image_of(alloc, image)?);
     let mut wanted = image_of(alloc, image)?;
-    for (number, (step, came, at, bytes)) in steps.iter().enumerate() {
+    for (step, (act, came, at, bytes)) in steps.iter().enumerate() {
         put(&mut wanted, *at, bytes);
-        if volume.does(step) != *came || volume.bytes() != wanted.as_slice() {
-            return Err(Fail::new(format_args!("step {number} of row {row}")));
+        if !volume.gives(act, *came, &wanted) {
+            return Err(Fail::new(format_args!("{table}, row {number}, step {step}")));
         }
+    }
+    Ok(())
+}
+
+/// Does the things of these rows.
+fn are_done(alloc: Global, table: &str, rows: &[Row]) -> Result<(), Fail> {
+    for (number, row) in rows.iter().enumerate() {
+        is_done(alloc, table, number, row)?;
     }
     Ok(())
 }
 
 #[test]
 fn maps_and_inodes_are_changed(rt: HostRuntime) -> Result<(), Fail> {
-    for (row, (sizes, image, steps)) in ROWS.iter().enumerate() {
-        are_done(rt.alloc(), row, sizes, image, steps)?;
-    }
-    Ok(())
+    are_done(rt.alloc(), "a fresh volume", &FRESH)?;
+    are_done(rt.alloc(), "numbers", &NUMBERS)?;
+    are_done(rt.alloc(), "inodes", &INODES)
 }

@@ -3,10 +3,15 @@
 ghost use Rattle.std.specs.Prelude.{◌≡◌};
 ghost use Rattle.layout.specs.Places.{IsGeometry};
 
-use crate::layers::steps::{Step, does};
+use crate::layers::steps::Step;
+use crate::layers::tables::{OTHER, ROOT};
+use bitmap::{Map, clear, count_free, lowest_free, search, set};
 use block_store::Halt;
 use block_store::memory::Memory;
+use inode::inode_table::{load, store};
 use layout::Geometry;
+use step_count::Steps;
+use volume::Inode;
 
 /// The sizes of a volume.
 pub(crate) enum Sizes {
@@ -46,6 +51,14 @@ fn geometry(sizes: &Sizes) -> Geometry
     }
 }
 
+/// Which inode it is: 1 is the root, 2 the other; 0 is another one.
+fn which(inode: &Inode) -> u32 {
+    if *inode == ROOT {
+        return 1;
+    }
+    if *inode == OTHER { 2 } else { 0 }
+}
+
 /// A volume in memory.
 #[derive(Drop)]
 pub(crate) struct Volume {
@@ -65,13 +78,72 @@ impl Volume {
         }
     }
 
-    /// Its bytes.
-    pub(crate) fn bytes(&self) -> &[u8] {
-        self.blocks.image()
+    /// Whether this comes of a step, and the volume has these bytes then.
+    pub(crate) fn gives(&mut self, step: &Step, came: Result<u32, Halt>, bytes: &[u8]) -> bool {
+        self.does(step) == came && self.blocks.image() == bytes
     }
 
-    /// Does a step, and tells what comes of it.
-    pub(crate) fn does(&mut self, step: &Step) -> Result<u32, Halt> {
-        does(&mut self.blocks, &self.geometry, step)
+    /// Does a step; the number that comes of it, the greatest where a number was looked for and there is none, 0 where it says of none.
+    fn does(&mut self, step: &Step) -> Result<u32, Halt> {
+        match step {
+            Step::Lowest(map) => self.lowest(*map),
+            Step::Count(map) => self.count(*map),
+            Step::LowestWords(map) => self.lowest_words(*map),
+            Step::CountWords(map) => self.count_words(*map),
+            Step::Mark(map, number, inside) => self.mark(*map, *number, *inside),
+            Step::Load(number) => self.load(*number),
+            Step::StoreRoot(number) => self.store(*number, &ROOT),
+            Step::StoreOther(number) => self.store(*number, &OTHER),
+        }
+    }
+
+    /// The lowest free number of a map.
+    fn lowest(&mut self, map: Map) -> Result<u32, Halt> {
+        let number = lowest_free(&mut self.blocks, &self.geometry, map)?;
+        Ok(number.unwrap_or(u32::MAX))
+    }
+
+    /// How many numbers of a map are free.
+    fn count(&mut self, map: Map) -> Result<u32, Halt> {
+        Ok(count_free(&mut self.blocks, &self.geometry, map)?)
+    }
+
+    /// How many words are looked at for the lowest free number of a map.
+    fn lowest_words(&mut self, map: Map) -> Result<u32, Halt> {
+        let mut words = Steps::new();
+        search::lowest_free(&mut self.blocks, &self.geometry, map, &mut words)?;
+        Ok(words.count() as u32)
+    }
+
+    /// How many are looked at to count the free ones.
+    fn count_words(&mut self, map: Map) -> Result<u32, Halt> {
+        let mut words = Steps::new();
+        search::count_free(&mut self.blocks, &self.geometry, map, &mut words)?;
+        Ok(words.count() as u32)
+    }
+
+    /// Puts a number into a map, or takes it out; 1 where that was done, 0 past the last.
+    fn mark(&mut self, map: Map, number: u32, inside: bool) -> Result<u32, Halt> {
+        if number > map.last(&self.geometry) {
+            return Ok(0);
+        }
+        if inside {
+            set(&mut self.blocks, &self.geometry, map, number)?;
+        } else {
+            clear(&mut self.blocks, &self.geometry, map, number)?;
+        }
+        Ok(1)
+    }
+
+    /// Which inode has this number.
+    fn load(&mut self, number: u32) -> Result<u32, Halt> {
+        let inode = load(&mut self.blocks, &self.geometry, number)?;
+        Ok(which(&inode))
+    }
+
+    /// Makes this the inode of a number.
+    fn store(&mut self, number: u32, inode: &Inode) -> Result<u32, Halt> {
+        store(&mut self.blocks, &self.geometry, number, inode)?;
+        Ok(0)
     }
 }

@@ -9,21 +9,27 @@ use block_store::{Blocks, Cut};
 use std::alloc::{AllocError, Global};
 use std::test::Fail;
 
-/// Reads and writes in block 1, and clears it: a byte, a number that was written, half of it, and five bytes.
-fn words<B: Blocks>(blocks: &mut B) -> Result<(u8, u32, u32, [u8; 5]), Cut>
-    requires ready { B.world.ready blocks.old }
-    requires size { B.world.size blocks.old ≡ 1024 }
-    requires writable { B.world.writable blocks.old 1 }
+/// A byte of block 1, a number that was written into it, and half of that.
+fn numbers(blocks: &mut Memory) -> Result<(u8, u32, u32), Cut>
+    requires { blocks.old.block_size ≡ 1024 }
+    ensures { blocks.new.block_size ≡ 1024 }
 {
     let byte = read_byte(blocks, 1, 1023)?;
     write_u32(blocks, 1, 4, 0x0403_0201)?;
     let whole = read_u32(blocks, 1, 4)?;
     let half = read_u32(blocks, 1, 2)?;
-    write_bytes(blocks, 1, 1020, &[1, 2, 3])?;
+    Ok((byte, whole, half))
+}
+
+/// Five bytes of block 1, three of which were written; then the block is cleared.
+fn row(blocks: &mut Memory) -> Result<[u8; 5], Cut>
+    requires { blocks.old.block_size ≡ 1024 }
+{
     let mut into = [0u8; 5];
+    write_bytes(blocks, 1, 1020, &[1, 2, 3])?;
     read_bytes(blocks, 1, 1019, &mut into)?;
     clear(blocks, 1)?;
-    Ok((byte, whole, half, into))
+    Ok(into)
 }
 
 /// Whether bytes come and go so.
@@ -31,9 +37,9 @@ fn come_and_go(alloc: Global) -> Result<bool, AllocError> {
     let parts: &[(usize, &[u8], usize)] = &[(1024, b"\x09", 0), (2047, b"\x07\x05", 0)];
     let mut blocks = Memory::new(1024, image_of(alloc, &(3072, parts))?);
     let left = image_of(alloc, &(3072, &[(2048, b"\x05", 0)]))?;
-    let came = words(&mut blocks);
     Ok(
-        came == Ok((7, 0x0403_0201, 0x0201_0000, [0, 1, 2, 3, 7]))
+        numbers(&mut blocks) == Ok((7, 0x0403_0201, 0x0201_0000))
+            && row(&mut blocks) == Ok([0, 1, 2, 3, 7])
             && blocks.image() == left.as_slice(),
     )
 }
@@ -44,10 +50,8 @@ fn is_cut(came: Result<(), Cut>) -> bool {
 }
 
 /// Whether past the last block nothing is given, and calls go on.
-fn ends_with_the_last<B: Blocks>(blocks: &mut B, into: &mut [u8; 3]) -> bool
-    requires ready { B.world.ready blocks.old }
-    requires size { B.world.size blocks.old ≡ 1024 }
-    requires writable { B.world.writable blocks.old 3 }
+fn ends_with_the_last(blocks: &mut Memory, into: &mut [u8; 3]) -> bool
+    requires { blocks.old.block_size ≡ 1024 }
 {
     is_cut(read_bytes(blocks, 3, 0, into))
         && is_cut(clear(blocks, 3))
