@@ -1,6 +1,6 @@
 """How a mount begins and ends: refusals, a busy folder, an image that is being written, a full volume, kills, drivers that are used up."""
 import contextlib, errno, os, random, signal, subprocess, time
-from .mounted import let_go, mount_at, room_at
+from .mounted import TOOL, answer, ask, let_go, mount_at, room_at
 from .rows import Skip, Wrong, holds, need_root, ran, row, run, said, same
 from .volume import BIN, LARGE, SMALL, Volume, differ, tree_of
 from .users import refused
@@ -65,7 +65,7 @@ def linked(trial):
     """An image that is mounted is refused by another name of the file too, and where its log was removed; no file is left beside it then."""
     with Volume(trial, "linked") as volume:
         volume.mount()
-        link, log, other = volume.home / "link.img", volume.home / "v.img.log", volume.home / "other"
+        link, log, other = volume.home / "link.img", volume.home / "v.img.redo", volume.home / "other"
         other.mkdir()
         link.hardlink_to(volume.image)
         for name in (link, volume.image):
@@ -82,11 +82,16 @@ def linked(trial):
 
 @end("words")
 def words_refused(trial):
-    """Names that are empty, an image in the folder, and options that would keep fusermount3 waiting: refused, and nothing is mounted."""
+    """Names that are empty, an image in the folder, the image or its redo log as the file of --log, and options that would keep fusermount3
+    waiting: refused, nothing is mounted, and the image is as it was."""
     with Volume(trial, "words") as volume:
+        before, hard = volume.image.read_bytes(), volume.home / "hard"
+        os.link(volume.image, hard)
         mount, program = BIN / "mount", ("--program", trial.program)
         for status, why, words in ((2, b"a name is empty", ("", volume.folder)), (2, b"a name is empty", (volume.image, "")),
                                    (1, b"couldn't be reached there", (volume.image, volume.home)),
+                                   *((2, b"is the image or its redo log", ("--log", it, volume.image, volume.folder))
+                                     for it in (volume.image, hard, f"{volume.image}.redo")),
                                    *((2, b"isn't taken", ("-o", it, volume.image, volume.folder))
                                      for it in ("auto_unmount", "subtype=x", "ro,fsname=y"))):
             done = run(mount, *program, *words)
@@ -94,6 +99,8 @@ def words_refused(trial):
                 raise Wrong(f"{words}: {said(done)}")
         nothing_mounted(volume.folder)
         holds("nothing is mounted at the image's folder", not mount_at(str(volume.home)))
+        same("the image", volume.image.read_bytes() == before, True)
+        same("files beside it", sorted(os.listdir(volume.home)), ["hard", "mnt", "v.img"])
 
 
 @end("bound")
@@ -111,6 +118,29 @@ def bound(trial):
         finally:
             ran("umount", other)
         volume.umount()
+
+
+@end("numbers-again")
+def numbers_again(trial):
+    """A volume is mounted while the program of one that was unmounted before still writes its image. It gets that one's numbers, and stays."""
+    with Volume(trial, "numbers", LARGE) as first, Volume(trial, "again") as second:
+        first.mount("--sync-every", "0")
+        (first.folder / "big").write_bytes(os.urandom(48 << 20))
+        was = mount_at(str(first.folder))
+        asked = ask(was)
+        ran(TOOL, "-u", first.folder)
+        second.mount()
+        now = mount_at(str(second.folder))
+        if first.process() is None or (was.number, was.device) != (now.number, now.device):
+            raise Skip("the numbers aren't the first one's, or its program has ended")
+        same("how the first one ended", answer(asked, lambda: None), (0, []))
+        same("the second one", mount_at(str(second.folder)), now)
+        (second.folder / "late").write_bytes(b"late")
+        second.umount()
+        second.mount()
+        same("its file", (second.folder / "late").read_bytes(), b"late")
+        second.umount()
+        first.check()
 
 
 @end("file-limit")
@@ -351,7 +381,7 @@ def synced_and_killed(volume, name):
 def restored(trial):
     """Where a copy takes the place of an image that a kill left with a log, nothing is mounted until the user says which of both counts."""
     with Volume(trial, "restored") as volume:
-        log, copy = volume.home / "v.img.log", volume.image.read_bytes()
+        log, copy = volume.home / "v.img.redo", volume.image.read_bytes()
         for keeps_log in True, False:
             volume.mount("--sync-every", "0")
             synced_and_killed(volume, f"kept {keeps_log}")
@@ -371,7 +401,7 @@ def restored(trial):
 def copied(trial):
     """Copies of an image and of the log that a kill left aren't mounted; bin/settle makes an image of them, and nothing of other logs."""
     with Volume(trial, "copied") as volume:
-        image, log = volume.image, volume.home / "v.img.log"
+        image, log = volume.image, volume.home / "v.img.redo"
         settle = lambda: run(BIN / "settle", "--program", trial.ours["mfsck"], volume.home / "c.img", image)
         for count in range(3):
             volume.mount("--sync-every", "0")
@@ -383,10 +413,10 @@ def copied(trial):
             refused(settle(), b"File exists")
             image.unlink()
             (volume.home / "c.img").rename(image)
-            (volume.home / "c.img.log").rename(log)
+            (volume.home / "c.img.redo").rename(log)
             refused(volume.try_mount(), b"both are copies")
             image.rename(volume.home / "c.img")
-            log.rename(volume.home / "c.img.log")
+            log.rename(volume.home / "c.img.redo")
             same("the status", said(settle()), "status 0: ")
         (volume.home / "c.img").write_bytes(bytes(1 << 20))
         image.rename(volume.home / "good")

@@ -28,7 +28,7 @@ def is_hole(file, unit):
 def room_wanted(image):
     """How many bytes an image takes more on its disk once what its log asks for is put into it."""
     try:
-        with open(f"{image}.log", "rb") as log, open(image, "rb") as file:
+        with open(f"{image}.redo", "rb") as log, open(image, "rb") as file:
             told = os.fstat(file.fileno())
             if told.st_blocks * 512 >= told.st_size:
                 return 0

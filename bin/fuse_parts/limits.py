@@ -28,11 +28,16 @@ def made(path, data=b""):
 
 @limit("long-names")
 def long_names(at, trial):
-    """60 bytes a name."""
+    """60 bytes a name; none that is longer is there."""
     made(at / ("n" * 60))
     refused("ENAMETOOLONG", (at / ("n" * 61)).touch)
     refused("ENAMETOOLONG", os.mkdir, at / ("n" * 61))
     refused("ENAMETOOLONG", os.rename, at / ("n" * 60), at / ("m" * 61))
+    refused("ENAMETOOLONG", os.symlink, "n", at / ("n" * 61))
+    for length in (61, 255):
+        refused("ENOENT", os.lstat, at / ("n" * length))
+        refused("ENOENT", os.unlink, at / ("n" * length))
+    same("the names", os.listdir(at), ["n" * 60])
 
 
 @limit("long-paths")

@@ -35,9 +35,15 @@ def mount_at(folder):
     return next((it for it in reversed(mounts()) if it.folder == folder), None)
 
 
+def mounted_still(mount):
+    """A volume as it is mounted now, since its folder may have another name; None where it isn't. Linux gives the numbers of a mount that is
+    gone to the next one, so its image counts, too."""
+    return next((it for it in mounts() if (it.number, it.device, it.image) == (mount.number, mount.device, mount.image)), None)
+
+
 def let_go(mount, *how):
     """Unmounts a volume, where it is mounted still, by the name that its folder has now. Why it couldn't, else nothing."""
-    now = next((it for it in mounts() if (it.number, it.device) == (mount.number, mount.device)), None)
+    now = mounted_still(mount)
     if now is None:
         return ""
     done = subprocess.run([TOOL, "-u", *how, "--", now.folder], stdin=subprocess.DEVNULL, capture_output=True, text=True, errors="replace")
@@ -45,6 +51,22 @@ def let_go(mount, *how):
         return ""
     why = one_line(done.stderr) or f"{TOOL} has the status {done.returncode}"
     return "somebody works in it; it stays mounted" if "busy" in why else why
+
+
+def is_dead(folder):
+    """Whether the program of the volume at a folder has ended."""
+    try:
+        os.statvfs(folder)
+    except OSError as error:
+        return error.errno in (errno.ENOTCONN, errno.ECONNABORTED, errno.ECONNREFUSED)
+    return False
+
+
+def let_go_of_dead(mount):
+    """Lets the folder of a volume go, whose program has ended. One that was mounted in its place since is served, and stays."""
+    now = mounted_still(mount)
+    if now and is_dead(now.folder):
+        let_go(now, "-z")
 
 
 def elsewhere(mount):
@@ -194,7 +216,7 @@ def answer(asked, tell_of_waiting):
 def lock_of(image):
     """The log of an image, which the program that writes the image has locked until it ended; None where there is none to be read."""
     try:
-        return os.open(f"{image}.log", os.O_RDONLY | os.O_CLOEXEC)
+        return os.open(f"{image}.redo", os.O_RDONLY | os.O_CLOEXEC)
     except OSError:
         return None
 

@@ -57,6 +57,30 @@ def git(at, source):
     ran("diff", "-r", source / "docs", repo / "docs0")
 
 
+@program("git-rebase")
+def git_rebase(at, source):
+    """git looks whether a word of two commits' names, 82 bytes long, is a file."""
+    need("git")
+    repo = at / "repo"
+    ran("git", "init", "-q", "-b", "main", repo)
+
+    def commit(name):
+        (repo / name).write_text(name)
+        git_ran(repo, "add", "-A")
+        git_ran(repo, "commit", "-q", "-m", name)
+
+    commit("first")
+    git_ran(repo, "checkout", "-q", "-b", "topic")
+    commit("second")
+    git_ran(repo, "checkout", "-q", "main")
+    commit("third")
+    git_ran(repo, "checkout", "-q", "topic")
+    git_ran(repo, "rebase", "-q", "main")
+    ends = [git_ran(repo, "rev-parse", it).strip() for it in ("main", "topic")]
+    same("the log", git_ran(repo, "log", "--format=%s", "..".join(ends)), "second\n")
+    same("the names", sorted(os.listdir(repo)), [".git", "first", "second", "third"])
+
+
 @program("git-clone")
 def git_clone(at, source):
     """A clone onto the volume, and one of that within it."""

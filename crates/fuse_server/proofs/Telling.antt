@@ -615,9 +615,15 @@ pub nothing_there : {S : Type 0} {called : S → ℕ → ℕ → Call → Outcom
 nothing_there {k = k} x name path at looked = (
   log_of looked,
   leads_of looked,
-  (record { session = looked.session; path = path; at = at; ends = (refl, refl) }, alone _ looked.first.exact),
+  inl (record { session = looked.session; path = path; at = at; ends = (refl, refl) }, alone _ looked.first.exact),
   loses_of k looked refl,
 )
+
+-- nothing has so long a name
+pub too_long : {S : Type 0} (called : S → ℕ → ℕ → Call → Outcome → S → Type 0) (entered : S → ℕ → ℕ → Result ℕ EnterRefusal → S → Type 0)
+    (left : S → Leaving → S → Type 0) (now : ℕ) (k : Known) (s : S) (x : Reach) (name : List ℕ) → 60 < length name
+    → AskedFor (MayHear called entered left now) x (Name name) k s said.Missing s
+too_long called entered left now k s x name long = ([], refl, inr (long, refl), tt)
 
 -- a sync was asked for, and is done
 pub synced : {S : Type 0} {called : S → ℕ → ℕ → Call → Outcome → S → Type 0} {entered : S → ℕ → ℕ → Result ℕ EnterRefusal → S → Type 0}

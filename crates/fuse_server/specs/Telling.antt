@@ -316,12 +316,16 @@ IsToldAs x (ReadAt offset count) (answer_of.Bytes bytes) log = IsReadOrPast x of
 IsToldAs x (WrittenAt offset bytes) (answer_of.Write count) log = IsWritten x offset bytes count log
 IsToldAs x about a log = ⊤
 
+-- No entry has a longer name, so nothing is asked for one.
+abbrev pub IsTooLong : List ℕ → List Exchange → Type 0
+IsTooLong name log = (60 < length name) × (log ≡ [])
+
 abbrev pub IsMissingAs : Reach → Telling → List Exchange → Type 0
-IsMissingAs x (Name name) log = IsMissing x name log × IsAlone log
+IsMissingAs x (Name name) log = (IsMissing x name log × IsAlone log) ⊎ IsTooLong name log
 IsMissingAs x about log = ⊥
 
 -- Where it is said that a sync was done, they end in such a sync, and where it is said that a name leads to nothing, in a look that found
--- nothing.
+-- nothing, or there are none, for a name that is too long.
 abbrev pub IsBehind : Reach → Telling → Said → List Exchange → Type 0
 IsBehind x about (said.Plain a) log = IsToldAs x about a log
 IsBehind x about said.Synced log = EndsInSync log × IsAlone log

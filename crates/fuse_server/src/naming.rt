@@ -29,7 +29,7 @@ use fuse::reply::Entry;
 use fuse_nodes::nodes::Nodes;
 use talks::refused::Refused;
 use talks::sessions::Sessions;
-use tree::{Attributes, Call, PathFrom};
+use tree::{Attributes, Call, MAX_NAME, PathFrom};
 
 /// With this flag of a rename nothing is to stand at the new name.
 const NO_REPLACE: u32 = 1;
@@ -156,7 +156,8 @@ impl Mount {
         }
     }
 
-    /// LOOKUP.
+    /// LOOKUP. A name that is longer than any entry's is missing (own): programs look whether some other word of theirs names a file, and
+    /// take no error but ENOENT for a no.
     pub(crate) fn lookup<S: Sessions>(&mut self, sessions: &mut S, work: Work, name: &[u8]) -> Said
         requires plan { work.reach.plan ≡ plan.Look }
         ensures asked { AskedFor (MayHear (CalledFrom work.reach S.called) S.entered S.left work.now) work.reach (Name name.now)
@@ -164,6 +165,9 @@ impl Mount {
         ensures told { IsOfLookup (known_of self.new.nodes) result }
         ensures steps { Steps (known_of self.old.nodes) (known_of self.new.nodes) }
     {
+        if name.len() > MAX_NAME {
+            return Said::Missing;
+        }
         match work.reach.below(name) {
             Ok(path) => self.lookup_at(sessions, work, path),
             Err(refused) => Said::Plain(FuseAnswer::Refused(refused)),

@@ -25,19 +25,37 @@ struct Contents<'a> {
     length: u64,
 }
 
-/// The bytes of a file. Room for as many as it tells is made first, and read into at once; more may stand behind those, as where a pipe
-/// tells none.
+/// How many bytes are read of a file at most (own): those of the largest volume that a superblock describes, 65536 blocks of 4096 bytes.
+const MOST_BYTES: u64 = 268435456;
+
+/// The first bytes of a file, 268435456 at most: what an image is read by, since no volume reaches further.
+pub fn read_front<R: Files + Alloc>(rt: &R, name: &str) -> io::Result<Vec<u8, R::A>> {
+    read_first(rt, name, MOST_BYTES)
+}
+
+/// The bytes of a file, all of them: an error where there are more than 268435456.
 pub fn read<R: Files + Alloc>(rt: &R, name: &str) -> io::Result<Vec<u8, R::A>> {
+    let bytes = read_first(rt, name, MOST_BYTES + 1)?;
+    if bytes.len() as u64 > MOST_BYTES {
+        return Err(io::Error::from(ErrorKind::FileTooLarge));
+    }
+    Ok(bytes)
+}
+
+/// The first bytes of a file, so many at most. Room for as many as it tells is made first, and read into at once; more may stand behind
+/// those, as where a pipe tells none.
+fn read_first<R: Files + Alloc>(rt: &R, name: &str, most: u64) -> io::Result<Vec<u8, R::A>> {
     let mut file = File::open(rt, name)?;
-    let size = file.metadata()?.len() as usize;
-    let mut bytes = vec![in rt.alloc(); 0; size]?;
+    let size = file.metadata()?.len().min(most);
+    let mut bytes = vec![in rt.alloc(); 0; size as usize]?;
     let filled = read_into(&mut file, &mut bytes)?;
-    if filled < size {
+    if filled < bytes.len() {
         bytes.truncate(filled);
         return Ok(bytes);
     }
     let mut behind = Vec::new(rt.alloc());
-    file.read_to_end(&mut behind)?;
+    file.take(most.saturating_sub(size))
+        .read_to_end(&mut behind)?;
     bytes.append(&mut behind)?;
     Ok(bytes)
 }

@@ -52,11 +52,11 @@ impl fmt::Display for FilesRefusal<'_> {
         match self {
             FilesRefusal::CannotWrite(name) => write!(f, "cannot write {name}"),
             FilesRefusal::Served(name) => write!(f, "{name} is being served"),
-            FilesRefusal::Foreign(name) => write!(f, "{name}.log is of another image"),
+            FilesRefusal::Foreign(name) => write!(f, "{name}.redo is of another image"),
             FilesRefusal::CopiedOver(name) => {
                 write!(
                     f,
-                    "{name} was changed later than {name}.log, which a kill left: "
+                    "{name} was changed later than {name}.redo, which a kill left: "
                 )?;
                 f.write_str("if another image took its place remove that log, else touch it")
             }
@@ -66,7 +66,7 @@ impl fmt::Display for FilesRefusal<'_> {
 
 /// The name of the log of the image at this place.
 fn log_name(alloc: Global, place: &str) -> Result<String, AllocError> {
-    format!(in alloc; "{place}.log")
+    format!(in alloc; "{place}.redo")
 }
 
 /// The image of this name, open for reading and writing; none where there is none. What is there and is no file is refused.

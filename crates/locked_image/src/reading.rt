@@ -3,7 +3,7 @@
 use crate::copied_over::is_copied_over;
 use crate::storing::{ImageFiles, is_log};
 use crate::{FilesRefusal, MOST_TRIES, is_at, is_taken, log_name};
-use host::whole_file::{place_of, read};
+use host::whole_file::{place_of, read_front};
 use image_file::{OpenRefusal, read_through};
 use std::fs::{File, TryLockError};
 use std::io::{self, ErrorKind};
@@ -39,7 +39,7 @@ fn try_read<'n, R: Files<File = File> + AllocGlobal + Clock + Copy>(
         let Some(shared) = shared_at(rt, place, &log_name)? else {
             break;
         };
-        let bytes = read(rt, place)?;
+        let bytes = read_front(rt, place)?;
         if is_at(rt, shared.log.as_ref(), &log_name)? {
             return read_behind(rt, name, shared, bytes);
         }

@@ -8,7 +8,7 @@ use gate::paced_gate::Paced;
 use host::command_line::{line_of, status_for};
 use host::frames::frames_for;
 use host::play_words::mfs::{MfsWords, read as read_words};
-use host::whole_file::{read, try_replace};
+use host::whole_file::{read_front, try_replace};
 use locked_image::FilesRefusal;
 use locked_image::locked::{LockedImage, open};
 use locked_image::reading::read_image;
@@ -103,7 +103,7 @@ fn image_beside<'n>(
         return Err(FilesRefusal::CannotWrite(name));
     }
     if locked.is_image(&rt, words.image) {
-        Ok(read(&rt, words.image).ok())
+        Ok(read_front(&rt, words.image).ok())
     } else {
         read_image(&rt, words.image)
     }

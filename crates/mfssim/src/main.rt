@@ -2,14 +2,15 @@
 #![tactic(auto)]
 
 use host::command_line::{line_of, status_for};
-use host::play_words::mfssim::{MfssimWords, read};
+use host::play_words::mfssim::{MfssimWords, read as read_words};
+use host::whole_file::read;
 use locked_image::reading::read_image;
 use modeldisk::supply::{drivers_for, setup_for, table_in};
 use output::tell;
 use simulation::inputs::File;
 use simulation::simulate::simulate;
+use std::io;
 use std::process::ExitCode;
-use std::{fs, io};
 
 /// A file of this name, with its bytes if it could be read.
 fn file<'n, 'b>(name: &'n str, bytes: &'b Option<Vec<u8>>) -> File<'n, 'b> {
@@ -26,7 +27,7 @@ fn run_on(
     image: Option<Vec<u8>>,
 ) -> io::Result<ExitCode> {
     let alloc = rt.alloc();
-    let schedule = fs::read(&rt, words.schedule).ok();
+    let schedule = read(&rt, words.schedule).ok();
     let table = table_in(image.as_deref().unwrap_or(&[]));
     let supply = drivers_for(alloc, words.spares, false, table)?;
     let setup = setup_for(words.minor);
@@ -51,7 +52,7 @@ fn main(rt: HostRuntime) -> io::Result<ExitCode> {
     let Some(line) = line_of(&rt)? else {
         return Ok(ExitCode::from(2));
     };
-    match read(rt.alloc(), line.as_slice()) {
+    match read_words(rt.alloc(), line.as_slice()) {
         Ok(words) => run_files(rt, &words),
         Err(error) => {
             error.print(&rt)?;

@@ -1,7 +1,7 @@
 //! The image that a mount keeps: what it begins with, and what is left of it.
 
 use host::play_words::mount::MountWords;
-use host::whole_file::read;
+use host::whole_file::read_front;
 use image_file::Kept;
 use locked_image::FilesRefusal;
 use locked_image::beside::Beside;
@@ -72,7 +72,7 @@ fn begin_in_place(
     name: &str,
 ) -> Result<Begun, MountStatus> {
     let mut kept = kept_image(rt, locked, name)?;
-    let mut image = read(&rt, words.image).ok();
+    let mut image = read_front(&rt, words.image).ok();
     if let Some(bytes) = &mut image {
         if gives_back(rt, words, bytes) && kept.put_image(bytes).is_err() {
             return Err(refused(rt, &FilesRefusal::CannotWrite(name)));
