@@ -87,7 +87,7 @@ MEANINGS = (
     ("Mount Eio", "it ends before its volume does"),
     ("Mount Inconsistent", "the volume is damaged"),
     ("NotAsRead", "what was read back through the drivers isn't what the image has, or it couldn't be read back"),
-    ("log is of another image", "it is of a file in whose place this one came, or both are copies"),
+    ("redo is of another image", "it is of a file in whose place this one came, or both are copies"),
 )
 
 

@@ -3,9 +3,10 @@
 use crate::deed::NAMES;
 use errno::Errno;
 
-/// How many bytes a piece of a file has, and how many pieces a file may have.
+/// How many bytes a piece of a file has.
 pub const PIECE: usize = 700;
 
+/// How many pieces a file may have.
 pub const PIECES: usize = 4;
 
 /// What is under a name.
