@@ -200,7 +200,8 @@ impl Mount {
         Ok(descriptor)
     }
 
-    /// What is open of an inode has a descriptor, before the name at a path is taken from it: a file that is gone can't be opened again.
+    /// What is open of an inode has a descriptor, before the name at a path is taken from it: a file that is gone can't be opened again. Other
+    /// files still have one, so those that are gone never stop them.
     pub(crate) fn hold<S: Sessions>(
         &mut self,
         sessions: &mut S,
@@ -218,9 +219,40 @@ impl Mount {
             return Ok(());
         };
         let node = self.nodes.get(id)?;
-        if node.opens > 0 && node.descriptor.is_none() {
+        if node.opens == 0 {
+            return Ok(());
+        }
+        if node.descriptor.is_none() {
             self.open_node(sessions, work, path, id)?;
         }
+        self.leave_room(sessions, work, path, id)
+    }
+
+    /// There is a descriptor for other files, beside this node's, which is to be kept from them: one that can be closed, or one more. ENFILE
+    /// where there is none.
+    fn leave_room<S: Sessions>(
+        &mut self,
+        sessions: &mut S,
+        work: Work,
+        path: PathFrom<'_>,
+        node: u64,
+    ) -> Result<(), Refused>
+        requires named { IsNamed work.reach path }
+        requires opens { May work.reach.plan Open }
+        requires closes { May work.reach.plan Close }
+        ensures asked { Talked (CalledFrom work.reach S.called) S.entered S.left work.now sessions.old sessions.new }
+        ensures steps { Steps (known_of self.old.nodes) (known_of self.new.nodes) }
+    {
+        if self.nodes.spare(node).is_some() {
+            return Ok(());
+        }
+        let opening = Opening {
+            path,
+            flags: READ,
+            mode: 0,
+        };
+        let descriptor = self.seats.open_somewhere(sessions, work, opening)?;
+        close(sessions, work, descriptor);
         Ok(())
     }
 

@@ -5,6 +5,7 @@ pub mod beside;
 mod copied_over;
 pub mod locked;
 pub mod reading;
+pub mod reasons;
 pub mod storing;
 
 ghost use Rattle.std.specs.Prelude.{◌≡◌};
@@ -23,14 +24,16 @@ const MOST_TRIES: u32 = 16;
 /// Why an image is neither read nor written, in the order in which it is looked for; each prints a line.
 #[derive(Clone, Copy, Debug, PartialEq, Eq)]
 pub enum FilesRefusal<'n> {
-    /// 1: it can't be opened for reading and writing, or its log can't, or it can't be written.
-    CannotWrite(&'n str),
+    /// 1: it can't be opened for reading and writing, or its log can't, or it can't be written; and why.
+    CannotWrite(&'n str, &'static str),
     /// 2: another program has a lock of it, or of its log.
     Served(&'n str),
     /// 3: its log is open for another image, or the file of that name is no log. It is as it was.
     Foreign(&'n str),
     /// 4: it was changed more than a second later than its log, which asks for changes of it. Both are as they were.
     CopiedOver(&'n str),
+    /// 5: it can't be read, or its log can't; and why.
+    CannotRead(&'n str, &'static str),
 }
 
 impl FilesRefusal<'_> {
@@ -39,10 +42,11 @@ impl FilesRefusal<'_> {
         ensures { result ≡ files_refusal_number self.now }
     {
         match self {
-            FilesRefusal::CannotWrite(_) => 1,
+            FilesRefusal::CannotWrite(_, _) => 1,
             FilesRefusal::Served(_) => 2,
             FilesRefusal::Foreign(_) => 3,
             FilesRefusal::CopiedOver(_) => 4,
+            FilesRefusal::CannotRead(_, _) => 5,
         }
     }
 }
@@ -50,7 +54,8 @@ impl FilesRefusal<'_> {
 impl fmt::Display for FilesRefusal<'_> {
     fn fmt<W: fmt::Write>(&self, f: &mut fmt::Formatter<W>) -> fmt::Result {
         match self {
-            FilesRefusal::CannotWrite(name) => write!(f, "cannot write {name}"),
+            FilesRefusal::CannotWrite(name, why) => write!(f, "cannot write {name}: {why}"),
+            FilesRefusal::CannotRead(name, why) => write!(f, "cannot read {name}: {why}"),
             FilesRefusal::Served(name) => write!(f, "{name} is being served"),
             FilesRefusal::Foreign(name) => write!(f, "{name}.redo is of another image"),
             FilesRefusal::CopiedOver(name) => {

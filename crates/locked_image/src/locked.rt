@@ -1,6 +1,7 @@
 //! An image that one program alone may write: it holds the locks of the image and of its log.
 
 use crate::copied_over::is_copied_over;
+use crate::reasons::why;
 use crate::storing::{ImageFiles, is_log, is_shut};
 use crate::{FilesRefusal, MOST_TRIES, image_at, is_at, is_taken, log_name};
 use host::whole_file::{flush_folder, place_of, replace_filled};
@@ -37,10 +38,10 @@ pub fn open<'n, R: Files<File = File> + AllocGlobal>(
         Ok(Some(locked)) => match is_log(&locked.log) {
             Ok(true) => Ok(locked),
             Ok(false) => Err(FilesRefusal::Foreign(name)),
-            Err(_) => Err(FilesRefusal::CannotWrite(name)),
+            Err(error) => Err(FilesRefusal::CannotWrite(name, why(&error))),
         },
         Ok(None) => Err(FilesRefusal::Served(name)),
-        Err(_) => Err(FilesRefusal::CannotWrite(name)),
+        Err(error) => Err(FilesRefusal::CannotWrite(name, why(&error))),
     }
 }
 
@@ -61,7 +62,7 @@ fn try_open<R: Files<File = File> + AllocGlobal>(
         if !is_taken(log.try_lock())? {
             return Ok(None);
         }
-        if !is_locked(image.as_ref())? {
+        if !try_lock_image(image.as_ref())? {
             take_away(rt, &log_name, is_new);
             return Ok(None);
         }
@@ -79,8 +80,8 @@ fn try_open<R: Files<File = File> + AllocGlobal>(
     Ok(None)
 }
 
-/// Locks an image, if there is one: a program that serves it by another name of the file has another log. Whether none does.
-fn is_locked(image: Option<&File>) -> io::Result<bool> {
+/// Tries to lock an image, if there is one: a program that serves it by another name of the file has another log. Whether none does.
+fn try_lock_image(image: Option<&File>) -> io::Result<bool> {
     match image {
         Some(image) => is_taken(image.try_lock()),
         None => Ok(true),
@@ -139,15 +140,23 @@ impl LockedImage {
         match self.is_copied_over() {
             Ok(false) => {}
             Ok(true) => return Err(FilesRefusal::CopiedOver(name)),
-            Err(_) => return Err(FilesRefusal::CannotWrite(name)),
+            Err(error) => return Err(FilesRefusal::CannotWrite(name, why(&error))),
         }
-        let Ok((files, number)) = self.files(rt) else {
-            return Err(FilesRefusal::CannotWrite(name));
-        };
-        match Kept::open(rt.alloc(), files, number) {
+        match self.opened(rt) {
             Ok(kept) => Ok(kept),
             Err(OpenRefusal::Foreign) => Err(FilesRefusal::Foreign(name)),
-            Err(OpenRefusal::Io(_)) => Err(FilesRefusal::CannotWrite(name)),
+            Err(OpenRefusal::Io(error)) => Err(FilesRefusal::CannotWrite(name, why(&error))),
+        }
+    }
+
+    /// Does what the log asks for.
+    fn opened<R: Files<File = File> + AllocGlobal + Clock + Copy>(
+        &self,
+        rt: &R,
+    ) -> Result<Kept<ImageFiles<R>>, OpenRefusal> {
+        match self.files(rt) {
+            Ok((files, number)) => Kept::open(rt.alloc(), files, number),
+            Err(error) => Err(OpenRefusal::Io(error)),
         }
     }
 
@@ -200,7 +209,7 @@ impl LockedImage {
         let place = self.place.as_path().as_str();
         replace_filled(rt, place, bytes, length)?;
         self.image = image_at(rt, place)?;
-        is_locked(self.image.as_ref())?;
+        try_lock_image(self.image.as_ref())?;
         Ok(())
     }
 
@@ -225,7 +234,7 @@ pub fn replace_image<'n, R: Files<File = File> + AllocGlobal + Clock + Copy>(
     let replaced = match locked.settle(rt, name) {
         Ok(()) => locked
             .replace(rt, bytes, length)
-            .map_err(|_| FilesRefusal::CannotWrite(name)),
+            .map_err(|error| FilesRefusal::CannotWrite(name, why(&error))),
         Err(refusal) => Err(refusal),
     };
     locked.close(rt);

@@ -1,29 +1,28 @@
 //! Images that are only read.
 
 use crate::copied_over::is_copied_over;
+use crate::reasons::why;
 use crate::storing::{ImageFiles, is_log};
 use crate::{FilesRefusal, MOST_TRIES, is_at, is_taken, log_name};
 use host::whole_file::{place_of, read_front};
 use image_file::{OpenRefusal, read_through};
-use std::fs::{File, TryLockError};
+use std::fs::{self, File, TryLockError};
 use std::io::{self, ErrorKind};
 use std::os::unix::fs::MetadataExt;
 use std::rt::Files;
 use std::time::Clock;
 
-/// The bytes of an image, or none where it can't be read, or its log can't. Where a log lies beside it, what the log asks for is put into
-/// them; no file is changed.
+/// The bytes of an image. Where a log lies beside it, what the log asks for is put into them; no file is changed.
 ///
-/// Refused are an image that a program may be writing (`Served`), one whose log is another image's, or none (`Foreign`), and one that was
-/// copied over that of its log (`CopiedOver`).
+/// Refused are an image that can't be read, or whose log can't (`CannotRead`), one that a program may be writing (`Served`), one whose log is
+/// another image's, or none (`Foreign`), and one that was copied over that of its log (`CopiedOver`).
 pub fn read_image<'n, R: Files<File = File> + AllocGlobal + Clock + Copy>(
     rt: &R,
     name: &'n str,
-) -> Result<Option<Vec<u8>>, FilesRefusal<'n>> {
+) -> Result<Vec<u8>, FilesRefusal<'n>> {
     match try_read(rt, name) {
-        Ok(Ok(bytes)) => Ok(Some(bytes)),
-        Ok(Err(refusal)) => Err(refusal),
-        Err(_) => Ok(None),
+        Ok(read) => read,
+        Err(error) => Err(FilesRefusal::CannotRead(name, why(&error))),
     }
 }
 
@@ -74,10 +73,11 @@ fn shared_at<R: Files<File = File>>(
     }
 }
 
-/// The log of this name, if there is one.
+/// The log of this name, if there is one. What is there and is no file, as a pipe that nobody may ever write, is refused.
 fn log_at<R: Files<File = File>>(rt: &R, name: &str) -> io::Result<Option<File>> {
-    match File::open(rt, name) {
-        Ok(log) => Ok(Some(log)),
+    match fs::metadata(rt, name) {
+        Ok(there) if there.is_file() => Ok(Some(File::open(rt, name)?)),
+        Ok(_) => Err(io::Error::from(ErrorKind::InvalidInput)),
         Err(error) if error.kind() == ErrorKind::NotFound => Ok(None),
         Err(error) => Err(error),
     }

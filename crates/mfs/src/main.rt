@@ -12,6 +12,7 @@ use host::whole_file::{read_front, try_replace};
 use locked_image::FilesRefusal;
 use locked_image::locked::{LockedImage, open};
 use locked_image::reading::read_image;
+use locked_image::reasons::why;
 use modeldisk::supply::{drivers_for, setup_for, table_in};
 use output::tell;
 use release::start_on;
@@ -22,16 +23,15 @@ use std::thread::Threads;
 use tools::handing::let_go;
 use tools::play::{Ended, ImageFile, PlayStatus, play};
 
-/// Plays the scripts that the words name on an image, whose bytes are none where it couldn't be read. The service has threads of its own,
-/// and a tick of it takes a tenth of a second.
+/// Plays the scripts that the words name on an image. The service has threads of its own, and a tick of it takes a tenth of a second.
 fn play_files<W: Threads + Wait + Copy + Send + Sync + 'static>(
     rt: HostRuntime,
     waits: W,
     words: &MfsWords<'_>,
-    image: Option<Vec<u8>>,
+    image: Vec<u8>,
 ) -> io::Result<Ended> {
     let alloc = rt.alloc();
-    let image = start_on(alloc, image, words.minor, &mut rt.stderr());
+    let image = start_on(alloc, Some(image), words.minor, &mut rt.stderr());
     let texts = read_all(&rt, &words.scripts)?;
     let scripts = files(alloc, &words.scripts, &texts)?;
     let bytes = image.as_deref().unwrap_or(&[]);
@@ -91,19 +91,26 @@ fn play_into<W: Threads + Wait + Copy + Send + Sync + 'static>(
     }
 }
 
-/// The image that the words name, where another one, or the same, is locked and is to be replaced; that one's log is settled.
+/// The image that the words name, where another one, or the same, is locked and is to be replaced; that one's log is settled. A script isn't
+/// replaced.
 fn image_beside<'n>(
     rt: HostRuntime,
     words: &MfsWords<'n>,
     locked: &LockedImage,
     name: &'n str,
-) -> Result<Option<Vec<u8>>, FilesRefusal<'n>> {
+) -> Result<Vec<u8>, FilesRefusal<'n>> {
+    if words.scripts.iter().any(|it| locked.is_image(&rt, it)) {
+        return Err(FilesRefusal::CannotWrite(name, "it is one of the scripts"));
+    }
     locked.settle(&rt, name)?;
-    if try_replace(&rt, name).is_err() {
-        return Err(FilesRefusal::CannotWrite(name));
+    if let Err(error) = try_replace(&rt, name) {
+        return Err(FilesRefusal::CannotWrite(name, why(&error)));
     }
     if locked.is_image(&rt, words.image) {
-        Ok(read_front(&rt, words.image).ok())
+        read_front(&rt, words.image).map_err(|error| FilesRefusal::CannotRead(
+            words.image,
+            why(&error),
+        ))
     } else {
         read_image(&rt, words.image)
     }

@@ -17,7 +17,7 @@ fn check_file(rt: HostRuntime, words: &MfsckWords<'_>) -> io::Result<ExitCode> {
         Ok(image) => verify(
             alloc,
             words.image,
-            image.as_deref(),
+            Some(image.as_slice()),
             words.minor,
             &mut out,
             &mut err,

@@ -20,17 +20,14 @@ fn file<'n, 'b>(name: &'n str, bytes: &'b Option<Vec<u8>>) -> File<'n, 'b> {
     }
 }
 
-/// Runs the schedule that the words name on an image, whose bytes are none where it couldn't be read.
-fn run_on(
-    rt: HostRuntime,
-    words: &MfssimWords<'_>,
-    image: Option<Vec<u8>>,
-) -> io::Result<ExitCode> {
+/// Runs the schedule that the words name on an image.
+fn run_on(rt: HostRuntime, words: &MfssimWords<'_>, image: Vec<u8>) -> io::Result<ExitCode> {
     let alloc = rt.alloc();
     let schedule = read(&rt, words.schedule).ok();
-    let table = table_in(image.as_deref().unwrap_or(&[]));
+    let table = table_in(&image);
     let supply = drivers_for(alloc, words.spares, false, table)?;
     let setup = setup_for(words.minor);
+    let image = Some(image);
     let (image, schedule) = (file(words.image, &image), file(words.schedule, &schedule));
     let (mut out, mut err) = (io::writer(&rt), rt.stderr());
     let status = simulate(alloc, image, schedule, &setup, supply, &mut out, &mut err);

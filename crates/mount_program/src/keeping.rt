@@ -7,6 +7,7 @@ use locked_image::FilesRefusal;
 use locked_image::beside::Beside;
 use locked_image::locked::LockedImage;
 use locked_image::reading::read_image;
+use locked_image::reasons::why;
 use locked_image::storing::ImageFiles;
 use mount_service::file_archive::FileArchive;
 use mount_service::handing::hand_left;
@@ -37,7 +38,7 @@ pub(crate) fn refused(rt: HostRuntime, refusal: &FilesRefusal<'_>) -> MountStatu
 pub(crate) fn begin(rt: HostRuntime, words: &MountWords<'_>) -> Result<Begun, MountStatus> {
     match read_image(&rt, words.image) {
         Ok(image) => Ok(Begun {
-            image: start_on(rt.alloc(), image, words.minor, &mut rt.stderr()),
+            image: start_on(rt.alloc(), Some(image), words.minor, &mut rt.stderr()),
             archive: None,
         }),
         Err(refusal) => Err(refused(rt, &refusal)),
@@ -72,16 +73,25 @@ fn begin_in_place(
     name: &str,
 ) -> Result<Begun, MountStatus> {
     let mut kept = kept_image(rt, locked, name)?;
-    let mut image = read_front(&rt, words.image).ok();
-    if let Some(bytes) = &mut image {
-        if gives_back(rt, words, bytes) && kept.put_image(bytes).is_err() {
-            return Err(refused(rt, &FilesRefusal::CannotWrite(name)));
-        }
+    let mut image = read_front(&rt, words.image).map_err(|error| unread(rt, words.image, &error))?;
+    if gives_back(rt, words, &mut image) {
+        kept.put_image(&image)
+            .map_err(|error| unwritten(rt, name, &error))?;
     }
     Ok(Begun {
-        image,
+        image: Some(image),
         archive: Some(FileArchive::new(kept)),
     })
+}
+
+/// How a mount ended whose image of this name can't be read.
+fn unread(rt: HostRuntime, name: &str, error: &io::Error) -> MountStatus {
+    refused(rt, &FilesRefusal::CannotRead(name, why(error)))
+}
+
+/// How one ended whose image of this name can't be written.
+fn unwritten(rt: HostRuntime, name: &str, error: &io::Error) -> MountStatus {
+    refused(rt, &FilesRefusal::CannotWrite(name, why(error)))
 }
 
 /// Whether files without a name were given back in an image, as a line on standard error says.
@@ -118,7 +128,7 @@ fn kept_copy(
     }
     match locked.replace(&rt, bytes, bytes.len() as u64) {
         Ok(()) => Ok(FileArchive::new(kept_image(rt, locked, name)?)),
-        Err(_) => Err(refused(rt, &FilesRefusal::CannotWrite(name))),
+        Err(error) => Err(unwritten(rt, name, &error)),
     }
 }
 
