@@ -1,5 +1,5 @@
 """How a mount begins and ends: refusals, a busy folder, an image that is being written, a full volume, kills, drivers that are used up."""
-import contextlib, errno, os, random, signal, subprocess, time
+import contextlib, errno, fcntl, os, random, signal, socket, struct, subprocess, time
 from .mounted import TOOL, answer, ask, let_go, mount_at, room_at
 from .rows import Skip, Wrong, holds, need_root, ran, row, run, said, same
 from .volume import BIN, LARGE, SMALL, Volume, differ, tree_of
@@ -430,7 +430,8 @@ def copied(trial):
 
 @end("replaced")
 def replaced(trial):
-    """Who unmounts is told where another file took the image's place meanwhile, or none has its name."""
+    """Where another file took the image's place meanwhile, or none has its name, the volume stays mounted, and who unmounts it all the same is
+    told so."""
     with Volume(trial, "replaced") as volume:
         for is_there in True, False:
             volume.mount()
@@ -440,9 +441,89 @@ def replaced(trial):
                 volume.image.write_bytes(copy)
             (volume.folder / "file").write_text("x")
             refused(volume.try_umount(), b"moved, replaced or removed")
+            same("the file", (volume.folder / "file").read_text(), "x")
+            refused(volume.try_umount("--force"), b"moved, replaced or removed")
             other.replace(volume.image)
         volume.mount()
         same("the file", (volume.folder / "file").read_text(), "x")
+        volume.image.rename(other)
+        refused(volume.try_umount(), b"moved, replaced or removed")
+        other.rename(volume.image)
+        volume.umount()
+
+
+@end("terminated")
+def terminated(trial):
+    """SIGTERM for all, as at a shutdown, unmounts a volume, and what was written is in the image; a busy one ends with who works in it."""
+    with Volume(trial, "terminated") as volume:
+        for is_busy in False, True:
+            volume.mount("--sync-every", "0")
+            file = open(volume.folder / f"file{int(is_busy)}", "w")
+            file.write("x")
+            file.flush()
+            if not is_busy:
+                file.close()
+            for process in server_of(volume), volume.process():
+                os.kill(process, signal.SIGTERM)
+            file.close()
+            volume.wait_for_end()
+            volume.check()
+        volume.mount()
+        same("the files", sorted(os.listdir(volume.folder)), ["file0", "file1"])
+        volume.umount()
+
+
+def server_of(volume):
+    """The number of the process that serves a volume's mount."""
+    with ask(mount_at(str(volume.folder))) as asked:
+        return struct.unpack("3i", asked.getsockopt(socket.SOL_SOCKET, socket.SO_PEERCRED, 12))[0]
+
+
+@end("dead")
+def dead(trial):
+    """Where both the program and the process that serves it were killed, the next bin/mount takes the folder back."""
+    with Volume(trial, "dead") as volume:
+        volume.mount()
+        for process in server_of(volume), volume.process():
+            os.kill(process, signal.SIGKILL)
+        while volume.process():
+            time.sleep(0.02)
+        volume.mount()
+        volume.umount()
+
+
+@end("readers")
+def readers(trial):
+    """A volume that is only read is unmounted at once, while another program writes its image."""
+    with Volume(trial, "readers") as volume:
+        other = volume.home / "other"
+        other.mkdir()
+        done = volume.try_mount("-o", "ro", folder=other)
+        same("bin/mount -o ro", done.returncode, 0)
+        volume.mount()
+        done = run("timeout", "20", BIN / "umount", other)
+        same("bin/umount of the one that is read", (done.returncode, done.stderr), (0, b""))
+        volume.umount()
+
+
+@end("at-once")
+def at_once(trial):
+    """Of two bin/mount at one moment one mounts the volume, and the other is refused; a lock of who calls isn't held by what serves."""
+    with Volume(trial, "at-once") as volume:
+        words = (BIN / "mount", "--program", trial.program, volume.image, volume.folder)
+        for _ in range(10):
+            both = [subprocess.Popen(words, stderr=subprocess.PIPE) for _ in range(2)]
+            said_ = [it.communicate()[1] for it in both]
+            same("the statuses", sorted(it.returncode for it in both), [0, 1])
+            if not any(b"is mounted there" in it or b"is being served" in it for it in said_):
+                raise Wrong(f"{said_}")
+            volume.umount()
+        with open(volume.home / "lock", "w") as lock:
+            fcntl.flock(lock, fcntl.LOCK_EX)
+            done = run(*words, pass_fds=(lock.fileno(),))
+            same("bin/mount", done.returncode, 0)
+        with open(volume.home / "lock") as lock:
+            fcntl.flock(lock, fcntl.LOCK_EX | fcntl.LOCK_NB)
         volume.umount()
 
 

@@ -199,7 +199,7 @@ def other_name_lost(at, trial):
 
 @limit("many-removed-open")
 def many_removed_open(at, trial):
-    """128 removed files may be open; the next removal of an open one is refused, and that file stays."""
+    """127 removed files may be open; the next removal of an open one is refused, and that file stays. Other files go on."""
     files, removed = [open(at / f"f{it}", "w+") for it in range(140)], 0
     for count, file in enumerate(files):
         file.write(f"{count}")
@@ -210,10 +210,15 @@ def many_removed_open(at, trial):
             removed += 1
     except OSError as error:
         same("the error", errno.errorcode[error.errno], "ENFILE")
-    same("removed", 120 <= removed <= 128, True)
-    for count, file in enumerate(files[:removed]):
+    same("removed", 120 <= removed <= 127, True)
+    for count, file in enumerate(files):
         file.seek(0)
         same(f"file {count}", file.read(), f"{count}")
+    made(at / "other", b"other")
+    forget()
+    same("another file", (at / "other").read_bytes(), b"other")
+    same("its name", "other" in os.listdir(at), True)
+    (at / "other").unlink()
     for file in files:
         file.close()
     for it in range(removed, 140):

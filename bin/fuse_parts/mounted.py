@@ -6,8 +6,9 @@ KIND = "fuse.mfs"
 TOOL = "fusermount3"
 
 
-# A mounted volume: its number among the mounts and that of its device, its folder, the image, and the user who mounted it.
-Mount = collections.namedtuple("Mount", "number device folder image user")
+# A mounted volume: its number among the mounts and that of its device, its folder, the image, the user who mounted it, and whether it is
+# only read.
+Mount = collections.namedtuple("Mount", "number device folder image user is_read_only")
 
 
 def plain(text):
@@ -26,7 +27,8 @@ def mounts():
         kind, image, options = tail.split(" ", 2)
         if kind == KIND:
             user = re.search(r"(?:^|,)user_id=(\d+)", options)
-            found.append(Mount(int(number), device, plain(folder), plain(image), int(user[1]) if user else 0))
+            is_read_only = "ro" in options.split(",")
+            found.append(Mount(int(number), device, plain(folder), plain(image), int(user[1]) if user else 0, is_read_only))
     return found
 
 
@@ -86,6 +88,8 @@ MEANINGS = (
     ("Mount Layout BadMagic", "it is no volume of MINIX version 3"),
     ("Mount Eio", "it ends before its volume does"),
     ("Mount Inconsistent", "the volume is damaged"),
+    ("given up", "its drivers failed too often: the image has what was synced before, and may lack what was written since"),
+    ("image left in ", "the newest bytes are there: put that file in the image's place if mfsck finds it clean"),
     ("NotAsRead", "what was read back through the drivers isn't what the image has, or it couldn't be read back"),
     ("redo is of another image", "it is of a file in whose place this one came, or both are copies"),
 )
@@ -127,9 +131,36 @@ def lacks_room(mount):
     return ""
 
 
+def is_being_written(image):
+    """Whether the file of this name is the one that a program has locked to write it, as far as one can tell."""
+    try:
+        file = os.open(image, os.O_RDONLY | os.O_CLOEXEC)
+    except FileNotFoundError:
+        return False
+    except OSError:
+        return True
+    try:
+        fcntl.flock(file, fcntl.LOCK_SH | fcntl.LOCK_NB)
+    except OSError:
+        return True
+    finally:
+        os.close(file)
+    return False
+
+
+def lacks(mount):
+    """Why what changed in a volume would be lost if it were unmounted now, or nothing."""
+    if mount.is_read_only:
+        return ""
+    if not is_being_written(mount.image):
+        return (f"{mount.image} was moved, replaced or removed: what changed goes to the file that it was, and is lost if that has no name "
+                "any more")
+    return lacks_room(mount)
+
+
 def explained(line):
     """A line of the program, with what it means where it doesn't say so itself."""
-    if line.startswith("cannot write ") and not line.endswith(".given-up") and is_full(os.path.dirname(line[13:])):
+    if line.startswith("cannot write ") and not line.endswith(".given-up") and is_full(os.path.dirname(line[13:].partition(": ")[0])):
         return f"{line} (no room is left there; what was synced is in it and its log: make room and mount it again)"
     return next((f"{line} ({meaning})" for start, meaning in MEANINGS if start in line), line)
 
