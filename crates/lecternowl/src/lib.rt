@@ -3,7 +3,8 @@
 //! - An image: [`mkfs`] makes one, [`check`] looks whether it is sound.
 //! - A service on its volume: [`serve`] starts one, does [`Task`]s in sessions of it, each in a thread of its own, and stops it.
 //! - A session: [`Files`], a method for each client call.
-//! - Drivers: [`RamDriver`], [`ModelDriver`] and [`DiesAfter`], or one's own [`BlockDriver`]; [`Policy`] says when the next is started.
+//! - Drivers: [`RamDriver`], [`ModelDriver`], either ([`DiskDriver`]) and [`DiesAfter`], or one's own [`BlockDriver`]; [`Policy`] says when
+//!   the next is started.
 //! - A run of a schedule of faults, with no threads: [`World`].
 #![tactic(auto)]
 
@@ -26,7 +27,7 @@ pub use errno::Errno;
 pub use media::Media;
 pub use media::partition::Table;
 pub use message::{BlockRequest, Kind};
-pub use modeldisk::supply::{setup_for, table_in};
+pub use modeldisk::supply::{DiskDriver, setup_for, table_in};
 pub use modeldisk::{DiesAfter, ModelDriver, RamDriver};
 pub use reincarnate::policy::{Policy, Setup};
 
@@ -43,7 +44,8 @@ pub use shared_server::refusal::SessionRefusal;
 pub use start::serve;
 pub use tasks::{Came, Task};
 pub use tree::{
-    Attributes, Call, Entry, LinkTarget, OpenFlags, Outcome, Reply, Statfs, User, Whence, Who,
+    Attributes, Call, Entry, LinkTarget, MAX_TRANSFER, OpenFlags, Outcome, Reply, Statfs, User,
+    Whence, Who,
 };
 
 // runs of schedules
