@@ -122,12 +122,12 @@ def lacks_room(mount):
             os.fsync(root)
         except OSError as error:
             if error.errno == errno.ENOSPC:
-                return f"no room is left for what changed beside {mount.image}"
+                return f"no room is left for what changed beside {mount.image}: make room"
         finally:
             os.close(root)
     wanted = max(least, room_wanted(mount.image))
     if room_at(mount.image) < wanted:
-        return f"no room is left for what changed: {mount.image} may take {wanted} bytes more"
+        return f"no room is left for what changed, since {mount.image} may take {wanted} bytes more: make room"
     return ""
 
 
@@ -153,8 +153,8 @@ def lacks(mount):
     if mount.is_read_only:
         return ""
     if not is_being_written(mount.image):
-        return (f"{mount.image} was moved, replaced or removed: what changed goes to the file that it was, and is lost if that has no name "
-                "any more")
+        return (f"{mount.image} was moved, replaced or removed, and what changed goes to the file that it was, which may have no name any "
+                "more: put it back")
     return lacks_room(mount)
 
 
