@@ -508,7 +508,8 @@ def readers(trial):
 
 @end("at-once")
 def at_once(trial):
-    """Of two bin/mount at one moment one mounts the volume, and the other is refused; a lock of who calls isn't held by what serves."""
+    """Of two bin/mount at one moment one mounts the volume, and the other is refused; of two bin/umount neither takes the other for work in it.
+    A lock of who calls isn't held by what serves."""
     with Volume(trial, "at-once") as volume:
         words = (BIN / "mount", "--program", trial.program, volume.image, volume.folder)
         for _ in range(10):
@@ -517,7 +518,12 @@ def at_once(trial):
             same("the statuses", sorted(it.returncode for it in both), [0, 1])
             if not any(b"is mounted there" in it or b"is being served" in it for it in said_):
                 raise Wrong(f"{said_}")
-            volume.umount()
+            both = [subprocess.Popen((BIN / "umount", volume.folder), stderr=subprocess.PIPE) for _ in range(2)]
+            said_ = [it.communicate()[1] for it in both]
+            if both[0].returncode and both[1].returncode or any(b"works in it" in it for it in said_):
+                raise Wrong(f"{said_}")
+            volume.wait_for_end()
+            volume.check()
         with open(volume.home / "lock", "w") as lock:
             fcntl.flock(lock, fcntl.LOCK_EX)
             done = run(*words, pass_fds=(lock.fileno(),))
