@@ -5,40 +5,53 @@ use host::play_words::mfs::MfsWords;
 use host::whole_file::read;
 use locked_image::beside::{Beside, InPlace};
 use locked_image::locked::LockedImage;
+use locked_image::reasons::why;
 use std::alloc::{AllocError, Global};
 use std::rt::Files;
 use tools::handing::hand_left;
 use tools::play::{Ended, PlayStatus};
 
-/// A file of this name, with its bytes if it could be read.
-fn file<'n, 'b>(name: &'n str, bytes: &'b Option<Vec<u8>>) -> File<'n, 'b> {
-    File {
-        name,
-        bytes: bytes.as_deref(),
+/// A script: its bytes if it could be read, and its name, with why behind it where it couldn't.
+#[derive(Drop)]
+pub(crate) struct Script {
+    name: String,
+    bytes: Option<Vec<u8>>,
+}
+
+/// The script in the file of this name.
+fn read_script<R: Files + AllocGlobal>(rt: &R, name: &str) -> Result<Script, AllocError> {
+    match read(rt, name) {
+        Ok(bytes) => Ok(Script {
+            name: String::from_str(rt.alloc(), name)?,
+            bytes: Some(bytes),
+        }),
+        Err(error) => Ok(Script {
+            name: format!(in rt.alloc(); "{name}: {}", why(&error))?,
+            bytes: None,
+        }),
     }
 }
 
-/// The bytes of each of these files, if it can be read.
+/// The scripts in the files of these names.
 pub(crate) fn read_all<R: Files + AllocGlobal>(
     rt: &R,
     names: &[&str],
-) -> Result<Vec<Option<Vec<u8>>>, AllocError> {
-    let mut texts = Vec::new(rt.alloc());
+) -> Result<Vec<Script>, AllocError> {
+    let mut scripts = Vec::new(rt.alloc());
     for name in names {
-        texts.push(read(rt, name).ok())?;
+        scripts.push(read_script(rt, name)?)?;
     }
-    Ok(texts)
+    Ok(scripts)
 }
 
-/// The files of these names, with their bytes.
-pub(crate) fn files<'n, 'b>(
-    alloc: Global,
-    names: &[&'n str],
-    texts: &'b [Option<Vec<u8>>],
-) -> Result<Vec<File<'n, 'b>>, AllocError> {
+/// The same, as a play takes them.
+pub(crate) fn files(alloc: Global, scripts: &[Script]) -> Result<Vec<File<'_, '_>>, AllocError> {
     let mut files = Vec::new(alloc);
-    for (name, text) in names.iter().zip(texts) {
-        files.push(file(name, text))?;
+    for script in scripts {
+        files.push(File {
+            name: script.name.as_str(),
+            bytes: script.bytes.as_deref(),
+        })?;
     }
     Ok(files)
 }

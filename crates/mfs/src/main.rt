@@ -32,8 +32,8 @@ fn play_files<W: Threads + Wait + Copy + Send + Sync + 'static>(
 ) -> io::Result<Ended> {
     let alloc = rt.alloc();
     let image = start_on(alloc, Some(image), words.minor, &mut rt.stderr());
-    let texts = read_all(&rt, &words.scripts)?;
-    let scripts = files(alloc, &words.scripts, &texts)?;
+    let read = read_all(&rt, &words.scripts)?;
+    let scripts = files(alloc, &read)?;
     let bytes = image.as_deref().unwrap_or(&[]);
     let table = table_in(bytes);
     let frames = frames_for(words.frames, bytes.len());
