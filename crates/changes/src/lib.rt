@@ -7,7 +7,7 @@ mod taken;
 
 ghost use Rattle.std.specs.Prelude.{◌≡◌, ◌<◌, ◌≤◌, ◌^◌, ◌++◌, IfOk, Bool, false, drop, length, map, replicate};
 ghost use Rattle.std.specs.List.{concat};
-ghost use Rattle.changes.specs.Units.{AreTaken, marked, unit_of, with_mark, with_marks};
+ghost use Rattle.changes.specs.Units.{AreTaken, is_marked, marked, unit_of, with_mark, with_marks};
 ghost use Rattle.changes.specs.Laws.{TakenIsAll, StaysUnchanged};
 
 use stable::UNIT;
@@ -56,6 +56,16 @@ impl Marks {
     {
         for number in numbers {
             self.mark(*number);
+        }
+    }
+
+    /// Whether a unit is marked: not one past the last.
+    pub fn has(&self, unit: u32) -> bool
+        ensures { result ≡ is_marked self.now unit }
+    {
+        match self.marks.get(unit as usize) {
+            Some(mark) => *mark,
+            None => false,
         }
     }
 
