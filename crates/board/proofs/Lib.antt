@@ -5,4 +5,4 @@ pub mod Joins
 pub mod Steps
 pub mod RuleSays
 pub mod KeeperLaws
-pub mod Reach
+pub mod Written

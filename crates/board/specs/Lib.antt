@@ -7,5 +7,5 @@ pub mod Rooms
 pub mod Root
 pub mod Steady
 pub mod Keeper
-pub mod Reach
+pub mod Written
 pub mod Recorder

@@ -3,7 +3,7 @@
 
 pub mod keeper;
 pub mod parameters;
-pub mod reach;
+pub mod written;
 pub mod recorder;
 mod recording_link;
 pub mod steady;

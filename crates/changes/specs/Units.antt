@@ -21,6 +21,10 @@ units_in image = (length image + 4095) / 4096
 abbrev pub is_marked : List Bool → ℕ → Bool
 is_marked marks n = get_or marks n false
 
+-- each unit is marked that these others have
+abbrev pub Covers : List Bool → List Bool → Type 0
+Covers marks others = (n : ℕ) → is_marked others n ≡ true → is_marked marks n ≡ true
+
 -- the numbers of those that are marked, the first one having this number
 abbrev pub marked_from : ℕ → List Bool → List ℕ
 marked_from n [] = []

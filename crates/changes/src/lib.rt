@@ -5,9 +5,9 @@
 
 mod taken;
 
-ghost use Rattle.std.specs.Prelude.{◌≡◌, ◌<◌, ◌≤◌, ◌^◌, ◌++◌, IfOk, Bool, false, drop, length, map, replicate};
+ghost use Rattle.std.specs.Prelude.{◌≡◌, ◌<◌, ◌≤◌, ◌^◌, ◌++◌, ◌↔◌, IfOk, Bool, false, true, drop, length, map, replicate};
 ghost use Rattle.std.specs.List.{concat};
-ghost use Rattle.changes.specs.Units.{AreTaken, is_marked, marked, unit_of, with_mark, with_marks};
+ghost use Rattle.changes.specs.Units.{AreTaken, Covers, is_marked, marked, unit_of, with_mark, with_marks};
 ghost use Rattle.changes.specs.Laws.{TakenIsAll, StaysUnchanged};
 
 use stable::UNIT;
@@ -67,6 +67,27 @@ impl Marks {
             Some(mark) => *mark,
             None => false,
         }
+    }
+
+    /// The same marks once more. Refused where no memory was found.
+    pub fn copied(&self, alloc: Global) -> Result<Marks, AllocError>
+        ensures { IfOk result (λ copy. copy ≡ self.now) }
+    {
+        Ok(Marks {
+            marks: Vec::from_slice(alloc, &self.marks)?,
+        })
+    }
+
+    /// Whether each unit is marked that other marks have.
+    pub fn covers(&self, other: &Marks) -> bool
+        ensures { (result ≡ true) ↔ Covers self.now other.now }
+    {
+        for (unit, is_marked) in other.marks.iter().enumerate() {
+            if *is_marked && !self.has(unit as u32) {
+                return false;
+            }
+        }
+        true
     }
 
     /// Takes all marks away.

@@ -10,13 +10,14 @@ ghost use Rattle.board.specs.View.{without};
 ghost use Rattle.board.specs.Steady.{IsAside};
 ghost use Rattle.board.specs.Steps.{SessionLearns, SessionIsNew};
 ghost use Rattle.board.specs.Keeper.{AreAllUsed, IsLowestFree, IsOneUsed};
-ghost use Rattle.board.specs.Reach.{reach_of};
+ghost use Rattle.board.specs.Written.{AreWritten};
 ghost use Rattle.board.specs.Recorder.{SameLink};
 ghost use Rattle.file_server.specs.Leaving.{IsEndLast};
 
 use crate::Seat;
 use crate::counting::parameters::ServiceParameters;
 use crate::counting::steady::Supplied;
+use changes::Marks;
 use message::Incoming;
 use tree::{Call, Reply, Who};
 
@@ -84,9 +85,9 @@ pub trait Recorder<N: ServiceParameters>: Supplied + Drop {
     fn has_ended(&self) -> bool
         ensures { result ≡ took_end (Self.Link.history self.now) };
 
-    /// How far the writes reach that were issued: the place in the volume's range behind the last byte of one; 0 with none.
-    fn reach(&self) -> u128
-        ensures { result ≡ reach_of (marks self.now) };
+    /// Which units of 4096 bytes of the volume's range the writes have a byte in that were issued: a mark for each that a volume may have.
+    fn written(&self) -> &Marks
+        ensures { AreWritten result.now (marks self.now) };
 
     /// Whether each of the 64 numbers is that of a session.
     fn is_full(&self) -> bool

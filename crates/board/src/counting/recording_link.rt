@@ -11,14 +11,15 @@ ghost use Rattle.board.specs.Steps.{SessionLearns};
 ghost use Rattle.file_server.specs.Leaving.{IsEndLast};
 ghost use Rattle.trace_digest.specs.Heard.{IsHeard};
 ghost use Rattle.board.specs.Keeper.{record_of, numbers_of, begins_itself, begins_further, stays_further};
-ghost use Rattle.board.specs.Reach.{reach_of};
+ghost use Rattle.board.specs.Written.{AreWritten};
 
 use crate::counting::keeper::Keeper;
 use crate::counting::parameters::ServiceParameters;
-use crate::counting::reach::reach_with;
 use crate::counting::recorder::Recorder;
 use crate::counting::steady::{Steady, Supplied};
+use crate::counting::written::{mark_written, none_written};
 use crate::{Board, Seat};
+use changes::Marks;
 use message::endpoint::Endpoint;
 use message::{BlockRequest, Incoming};
 use reissue::link::{Link, LinkRefusal, TrueLink};
@@ -40,10 +41,10 @@ pub struct RecordingLink<N: ServiceParameters, L: Link> {
     pub(crate) heard: TraceDigest,
     // A take gave End.
     pub(crate) ended: bool,
-    // How far the writes reach that were issued.
-    pub(crate) reach: u128,
+    // The units of the volume's range in which the writes have a byte that were issued.
+    pub(crate) written: Marks,
     ghost told: { ended ≡ took_end (L.history link) },
-    ghost reaches: { reach ≡ reach_of (record_of keeper) },
+    ghost writes: { AreWritten written (record_of keeper) },
 }
 
 impl<N: ServiceParameters, L: Link> RecordingLink<N, L> {
@@ -73,7 +74,7 @@ impl<N: ServiceParameters, L: Link> RecordingLink<N, L> {
             keeper: Keeper::new(board, seat),
             heard: TraceDigest::new(alloc)?,
             ended: false,
-            reach: 0,
+            written: none_written(alloc)?,
         })
     }
 }
@@ -97,7 +98,7 @@ impl<N: ServiceParameters, L: Link> Link for RecordingLink<N, L> {
         if posted.is_ok() {
             self.keeper.issue(request, to);
             self.heard.issued(request);
-            self.reach = reach_with(self.reach, request);
+            mark_written(&mut self.written, request);
         }
         posted
     }
@@ -186,8 +187,8 @@ impl<N: ServiceParameters, L: Steady + Supplied + Drop> Recorder<N> for Recordin
         self.ended
     }
 
-    fn reach(&self) -> u128 {
-        self.reach
+    fn written(&self) -> &Marks {
+        &self.written
     }
 
     fn is_full(&self) -> bool {
