@@ -1,5 +1,5 @@
 -- What is done at a link while a range is read, act by act.
-use Rattle.std.proofs.Common.{◌≡◌, ℕ, ◌+◌, ◌<◌, ◌≤◌, List, [], ◌∷◌, ◌++◌, Bool, true, false, cond, refl, sym, ◌∙◌, ap, subst, inl, inr, arith, append_assoc, Option, Some, None}
+use Rattle.std.proofs.Common.{◌≡◌, ◌⊎◌, ℕ, ◌+◌, ◌<◌, ◌≤◌, List, [], ◌∷◌, ◌++◌, Bool, true, false, cond, refl, sym, ◌∙◌, ap, subst, inl, inr, arith, append_assoc, Option, Some, None}
 use Rattle.message.specs.declared.Kind.{Kind}
 use Rattle.message.specs.declared.Kind.TheVariants.{Read, Write}
 use Rattle.message.specs.Good.{is_write}
@@ -27,7 +27,7 @@ use Rattle.reissue.specs.Calls.{Truth}
 use Rattle.reissue.proofs.Tickets.{pending_among}
 use Rattle.volume_reading.specs.declared.sought.Sought.{Sought}
 use Rattle.volume_reading.specs.Sought.{piece, piece_size, pieces_of, AreBefore}
-use Rattle.volume_reading.specs.Reading.{LeavesDisk, Went, IsFilled, IsUntouched, GoesUpTo}
+use Rattle.volume_reading.specs.Reading.{LeavesDisk, Went, IsFilled, IsUntouched, GoesUpTo, KeepsElsewhere}
 use Rattle.volume_reading.proofs.Searching.{piece_there, before_at}
 
 -- neither has a handed message
@@ -254,20 +254,29 @@ filled_on ps us start marks more place byte on before none f =
     record { read = (f.read.0 ∙ sym o.0, o.1 ∙ f.read.1); is_disk = λ image tr. f.is_disk image (before image tr) }
 
 -- what wasn't read yet, after a message
-pub goes_on : (start size next : ℕ) (ps us : List Pending) (asked : List Sought) (first marks more : List Mark) → HaveTickets ps
+pub goes_on : (start size next : ℕ) (ps us : List Pending) (asked : List Sought) (marks more : List Mark) → HaveTickets ps
     → pending_of ps ≡ pieces_of start size asked → AreBefore size next asked → ReadsOn ps us marks more
-    → GoesUpTo start next ps first marks → GoesUpTo start next us first more
-goes_on start size next ps us asked first marks more d same w on g = record {
+    → GoesUpTo start next ps marks → GoesUpTo start next us more
+goes_on start size next ps us asked marks more d same w on g = record {
   asks = on.ask g.asks;
   left = λ place l. let o = on.left place l in o.1 ∙ g.left place o.0;
   beyond = record {
     each = λ place le.
         (on.others place (λ l. omega (arith, (left_within start size next ps asked place d same w l).1, le))).1 ∙ g.beyond.each place le;
   };
-  below = record {
-    each = λ place lt.
-        let o = on.others place (λ l. omega (arith, (left_within start size next ps asked place d same w l).0, lt)) in
-        let b = g.below.each place lt in
-        (o.0 ∙ b.0, o.1 ∙ b.1);
-  };
 }
+
+-- what was read elsewhere stays, after a message
+pub elsewhere_on : (start size next : ℕ) (ps us : List Pending) (asked : List Sought) (first marks more : List Mark) → HaveTickets ps
+    → pending_of ps ≡ pieces_of start size asked → AreBefore size next asked → ReadsOn ps us marks more
+    → KeepsElsewhere start (start + next) first marks → KeepsElsewhere start (start + next) first more
+elsewhere_on start size next ps us asked first marks more d same w on k = record {
+  each = λ place out.
+      let b = k.each place out in
+      let o = on.others place (λ l. inside place (left_within start size next ps asked place d same w l) out) in
+      (o.0 ∙ b.0, o.1 ∙ b.1);
+}
+  where
+    inside : (place : ℕ) → (start ≤ place) × (place < start + next) → (place < start) ⊎ (start + next ≤ place) → ⊥
+    inside place i (inl x) = omega (arith, i.0, x)
+    inside place i (inr x) = omega (arith, i.1, x)

@@ -2,4 +2,6 @@ pub mod Searching
 pub mod Going
 pub mod Parts
 pub mod Steps
+pub mod Pieces
 pub mod Waiting
+pub mod Partway

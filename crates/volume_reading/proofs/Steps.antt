@@ -30,9 +30,9 @@ use Rattle.reissue.proofs.Left.{ask_push, left_back}
 use Rattle.volume_reading.specs.declared.sought.Sought.{Sought}
 use Rattle.volume_reading.specs.declared.reading.Stop.TheVariants.{OutOfMemory, GaveUp, Ended}
 use Rattle.volume_reading.specs.Sought.{piece, piece_at, piece_size, pieces_of, place_of, without_ticket, AreBefore, AreDistinct as SoughtDistinct, PutsAt, PutsPiece}
-use Rattle.volume_reading.specs.Reading.{LeavesDisk, IsFilled, IsUntouched, IsUnread, IsCutShort, AreFilled, GoesUpTo, Midway, BeginsNext, ReadsRange}
+use Rattle.volume_reading.specs.Reading.{LeavesDisk, IsFilled, IsUntouched, IsUnread, IsCutShort, AreFilled, GoesUpTo, KeepsBelow, KeepsElsewhere, Midway, BeginsNext, ReadsRange}
 use Rattle.volume_reading.proofs.Searching.{before_gone, before_later, before_new, distinct_gone, distinct_new, no_piece, piece_there, pieces_gone, pieces_new, place_here, place_stays}
-use Rattle.volume_reading.proofs.Going.{Further, began_reads, filled_on, goes_on, grows_on, leaves_both, leaves_quiet, left_within, no_write, nothing_left, posts_read, quiet_pieces, true_posted, true_step, went_none, went_on}
+use Rattle.volume_reading.proofs.Going.{Further, began_reads, elsewhere_on, filled_on, goes_on, grows_on, leaves_both, leaves_quiet, left_within, no_write, nothing_left, posts_read, quiet_pieces, true_posted, true_step, went_none, went_on}
 
 -- what is begun, by its parts
 abbrev begun : ℕ → ℕ → Option (List ℕ) → Begun
@@ -60,8 +60,8 @@ midway_none minor start size bytes t told was none = record {
     asks = subst (λ (l : List Pending). AllAsk l) (sym none) tt;
     left = λ place l. absurd (subst (λ (x : List Pending). IsLeft x place) none l);
     beyond = record { each = λ place le. unread.each place (omega (arith, le)) };
-    below = record { each = λ place lt. (refl, refl) };
   };
+  elsewhere = λ marks h. record { each = λ place out. (refl, refl) };
 }
 
 -- what a begun read is as further acts
@@ -111,17 +111,20 @@ pub midway_on : (minor start size next after : ℕ) (asked more : List Sought) (
     (was mid is : Truth) (m : Midway minor start size next asked bytes s t before between was mid) (x : Further minor t u between told mid is)
     → pending_of u.pending ≡ pieces_of start size more → SoughtDistinct more → AreBefore size after more
     → ((marks : List Mark) → Agrees s marks → AreFilled start after (pieces_of start size more) then marks (x.more (marks_after m.went.acts marks)))
-    → ((marks : List Mark) → Agrees s marks → IsUnread start marks → GoesUpTo start after u.pending marks (x.more (marks_after m.went.acts marks)))
+    → ((marks : List Mark) → Agrees s marks → KeepsElsewhere start (start + after) marks (x.more (marks_after m.went.acts marks)))
+    → ((marks : List Mark) → Agrees s marks → IsUnread start marks → GoesUpTo start after u.pending (x.more (marks_after m.went.acts marks)))
     → Midway minor start size after more then s u before told was is
 unfolding went_on
-midway_on minor start size next after asked more bytes then s t u before between told was mid is m x pending distinct within filled goes = record {
+midway_on minor start size next after asked more bytes then s t u before between told was mid is m x pending distinct within filled elsewhere goes = record {
   went = went_on minor s t u before between told was mid is m.went x;
   pending = pending;
   distinct = distinct;
   within = within;
   filled = λ marks h. subst (λ (ms : List Mark). AreFilled start after (pieces_of start size more) then marks ms)
       (sym (grows_on minor s t u before between told was mid is m.went x marks h)) (filled marks h);
-  goes = λ marks h unread. subst (λ (ms : List Mark). GoesUpTo start after u.pending marks ms)
+  elsewhere = λ marks h. subst (λ (ms : List Mark). KeepsElsewhere start (start + after) marks ms)
+      (sym (grows_on minor s t u before between told was mid is m.went x marks h)) (elsewhere marks h);
+  goes = λ marks h unread. subst (λ (ms : List Mark). GoesUpTo start after u.pending ms)
       (sym (grows_on minor s t u before between told was mid is m.went x marks h)) (goes marks h unread);
 }
 
@@ -140,7 +143,7 @@ midway_begins {L} link minor start size next after asked more bytes s old new be
     same (subst SoughtDistinct (sym x.sought) (distinct_new asked sought free m.distinct))
     (subst (AreBefore size after) (sym x.sought) (before_new size after asked sought (before_later size next after asked (omega (arith, x.after_is)) m.within)
     (omega (arith, x.within)) (omega (arith, x.after_is))))
-    filled goes
+    filled elsewhere goes
   where
     sought : Sought
     sought = record { ticket = x.ticket; at = next }
@@ -183,8 +186,21 @@ midway_begins {L} link minor start size next after asked more bytes s old new be
           is_disk = λ image tr. f.is_disk image (true_posted x.begins.posts image (marks_after m.went.acts marks) x.begins.only_posts tr);
         }
 
+    elsewhere : (marks : List Mark) → Agrees s marks
+        → KeepsElsewhere start (start + after) marks (grown x.begins.posts (marks_after m.went.acts marks))
+    elsewhere marks h = record {
+      each = λ place out.
+          let b = (m.elsewhere marks h).each place (before_it place out) in
+          let p = posts_read x.begins.posts (marks_after m.went.acts marks) place x.begins.only_posts in
+          (p.0 ∙ b.0, p.1 ∙ b.1);
+    }
+      where
+        before_it : (place : ℕ) → (place < start) ⊎ (start + after ≤ place) → (place < start) ⊎ (start + next ≤ place)
+        before_it place (inl o) = inl o
+        before_it place (inr o) = inr (omega (arith, o, x.after_is))
+
     goes : (marks : List Mark) → Agrees s marks → IsUnread start marks
-        → GoesUpTo start after (table_of new).pending marks (grown x.begins.posts (marks_after m.went.acts marks))
+        → GoesUpTo start after (table_of new).pending (grown x.begins.posts (marks_after m.went.acts marks))
     goes marks h unread =
         let g = m.goes marks h unread in
         let entry = x.adds.entry in
@@ -199,7 +215,6 @@ midway_begins {L} link minor start size next after asked more bytes s old new be
                 | inr k ↦ g.beyond.each place (omega (arith, k.0, at))
               ];
           beyond = record { each = λ place le. (posts place).1 ∙ g.beyond.each place (omega (arith, le, x.after_is)) };
-          below = record { each = λ place lt. let b = g.below.each place lt in ((posts place).0 ∙ b.0, (posts place).1 ∙ b.1) };
         }
 
 -- the first read that is sought
@@ -233,10 +248,15 @@ midway_step minor start size next asked bytes res s t u before between after was
     filled_on t.pending u.pending marks old (grown x.posts (received x.message old)) (start + k) (slice_index bytes k) c.reads
     (λ image tr. true_step x.posts x.message image old x.only_posts tr)
     (nothing_left start size t.pending asked (start + k) t.numbers.distinct m.pending un) (m.filled marks h k lt un))
+    (λ marks h.
+    let old = marks_after m.went.acts marks in
+    let c = x.closing old (m.went.follows marks h).agrees in
+    elsewhere_on start size next t.pending u.pending asked marks old (grown x.posts (received x.message old)) t.numbers.distinct m.pending m.within c.reads
+    (m.elsewhere marks h))
     (λ marks h unread.
     let old = marks_after m.went.acts marks in
     let c = x.closing old (m.went.follows marks h).agrees in
-    goes_on start size next t.pending u.pending asked marks old (grown x.posts (received x.message old)) t.numbers.distinct m.pending m.within c.reads
+    goes_on start size next t.pending u.pending asked old (grown x.posts (received x.message old)) t.numbers.distinct m.pending m.within c.reads
     (m.goes marks h unread))
 
 -- a read is settled: its bytes stand in their places
@@ -251,10 +271,15 @@ midway_read minor start size next n asked got bytes then s t u before between af
     (steps_further minor start size asked (without_ticket n asked) (settled.Read n got) t u between after mid is m.pending now
     (busy_sought start size t.pending asked m.pending some) live x)
     now (distinct_gone asked n m.distinct) (before_gone size next asked n m.within) filled
+    (λ marks h.
+    let old = marks_after m.went.acts marks in
+    let c = x.closing old (m.went.follows marks h).agrees in
+    elsewhere_on start size next t.pending u.pending asked marks old (grown x.posts (received x.message old)) t.numbers.distinct m.pending m.within c.reads
+    (m.elsewhere marks h))
     (λ marks h unread.
     let old = marks_after m.went.acts marks in
     let c = x.closing old (m.went.follows marks h).agrees in
-    goes_on start size next t.pending u.pending asked marks old (grown x.posts (received x.message old)) t.numbers.distinct m.pending m.within c.reads
+    goes_on start size next t.pending u.pending asked old (grown x.posts (received x.message old)) t.numbers.distinct m.pending m.within c.reads
     (m.goes marks h unread))
   where
     now : pending_of u.pending ≡ pieces_of start size (without_ticket n asked)
@@ -346,6 +371,18 @@ cleared (p ∷ ps) h = absurd (nothing (sym (h p.ticket) ∙ pending_here p ps p
   nothing : {r : Begun} → None ≡ Some r → ⊥
   nothing e = cc
 
+-- what was read below a range is elsewhere
+below_of : (start end : ℕ) (marks more : List Mark) → KeepsElsewhere start end marks more → KeepsBelow start marks more
+below_of start end marks more k = record { each = λ place lt. k.each place (inl lt) }
+
+-- what is outside the whole range is outside its front
+wider : (start next size : ℕ) (marks more : List Mark) → next ≤ size → KeepsElsewhere start (start + next) marks more
+    → KeepsElsewhere start (start + size) marks more
+wider start next size marks more le k = record { each = λ place out. k.each place (narrow place out) } where
+  narrow : (place : ℕ) → (place < start) ⊎ (start + size ≤ place) → (place < start) ⊎ (start + next ≤ place)
+  narrow place (inl o) = inl o
+  narrow place (inr o) = inr (omega (arith, o, le))
+
 -- all is read
 pub range_done : (minor start size next : ℕ) (bytes : List ℕ) (s u : Table) (before after : List Told) (was is : Truth) (asked : List Sought)
     → Midway minor start size next asked bytes s u before after was is → length asked ≡ 0 → size ≤ next → next ≤ size
@@ -353,8 +390,9 @@ pub range_done : (minor start size next : ℕ) (bytes : List ℕ) (s u : Table) 
 range_done minor start size next bytes s u before after was is (a ∷ asked) m none all within unended live = absurd (omega (arith, none))
 range_done minor start size next bytes s u before after was is [] m none all within unended live = record {
   went = m.went;
-  below = λ marks h unread. (m.goes marks h unread).below;
+  below = λ marks h unread. below_of start (start + next) marks (marks_after m.went.acts marks) (m.elsewhere marks h);
   beyond = λ marks h unread. record { each = λ place le. (m.goes marks h unread).beyond.each place (omega (arith, le, within)) };
+  elsewhere = λ marks h. wider start next size marks (marks_after m.went.acts marks) within (m.elsewhere marks h);
   end = (
     unended,
     live,
@@ -386,8 +424,9 @@ pub range_given_up : (minor start size next : ℕ) (asked : List Sought) (bytes 
     → took_end after ≡ false → u.given_up ≡ true → ReadsRange (Err GaveUp) minor start size bytes s u before after was is
 range_given_up minor start size next asked bytes s u before after was is m some within unended gone = record {
   went = m.went;
-  below = λ marks h unread. (m.goes marks h unread).below;
+  below = λ marks h unread. below_of start (start + next) marks (marks_after m.went.acts marks) (m.elsewhere marks h);
   beyond = λ marks h unread. record { each = λ place le. (m.goes marks h unread).beyond.each place (omega (arith, le, within)) };
+  elsewhere = λ marks h. wider start next size marks (marks_after m.went.acts marks) within (m.elsewhere marks h);
   end = (unended, gone, cut_short minor start size next asked bytes s u before after was is m some within);
 }
 
@@ -397,8 +436,9 @@ pub range_ended : (minor start size next : ℕ) (asked : List Sought) (bytes : L
     → took_end after ≡ true → u.given_up ≡ false → ReadsRange (Err Ended) minor start size bytes s u before after was is
 range_ended minor start size next asked bytes s u before after was is m some within ended live = record {
   went = m.went;
-  below = λ marks h unread. (m.goes marks h unread).below;
+  below = λ marks h unread. below_of start (start + next) marks (marks_after m.went.acts marks) (m.elsewhere marks h);
   beyond = λ marks h unread. record { each = λ place le. (m.goes marks h unread).beyond.each place (omega (arith, le, within)) };
+  elsewhere = λ marks h. wider start next size marks (marks_after m.went.acts marks) within (m.elsewhere marks h);
   end = (ended, live, cut_short minor start size next asked bytes s u before after was is m some within);
 }
 
@@ -410,6 +450,7 @@ range_none minor start size bytes t told was none = record {
   went = went_none minor t told was none;
   below = λ marks h unread. record { each = λ place lt. (refl, refl) };
   beyond = λ marks h unread. record { each = λ place le. unread.each place (omega (arith, le)) };
+  elsewhere = λ marks h. record { each = λ place out. (refl, refl) };
   end = (refl, refl);
 }
 

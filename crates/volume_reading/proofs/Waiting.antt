@@ -1,10 +1,10 @@
--- What is told and given at a link while all that is pending is waited for, and then a range is read.
-use Rattle.std.proofs.Common.{◌≡◌, ℕ, ◌+◌, List, [], ◌∷◌, ◌++◌, length, true, false, refl, sym, ◌∙◌, ap, subst, arith, append_assoc, inl, inr, Option, Some, None, Result, Ok, Err}
+-- What is told and given at a link while all that is pending is waited for, and then pieces of a range are read.
+use Rattle.std.proofs.Common.{◌≡◌, ℕ, ◌+◌, ◌<◌, List, [], ◌∷◌, ◌++◌, length, true, false, refl, sym, ◌∙◌, ap, subst, append_assoc, inl, inr, Option, Some, None, Result, Ok, Err}
 use Rattle.std.specs.Prelude.{slice_index}
 use Rattle.message.specs.declared.Incoming.{Incoming}
 use Rattle.message.specs.declared.Incoming.TheVariants as incoming
 use Rattle.records.specs.Marks.{Mark}
-use Rattle.records.specs.Disk.{Contents, HasTrueReplies, disk_after, unsure}
+use Rattle.records.specs.Disk.{Contents, HasTrueReplies, disk_after}
 use Rattle.records.specs.Told.{Told, Posted, Complained, Received, received, grown, heard, took_end}
 use Rattle.records.specs.Acts.{marks_after, told_of}
 use Rattle.records.proofs.ActLaws.{marks_are_told}
@@ -21,8 +21,11 @@ use Rattle.reissue.proofs.Joining.{grown_append}
 use Rattle.reissue.proofs.Maps.{put_cases}
 use Rattle.volume_reading.specs.declared.reading.Stop.{Stop}
 use Rattle.volume_reading.specs.declared.reading.Stop.TheVariants.{OutOfMemory, GaveUp, Ended}
+use Rattle.volume_reading.specs.declared.piece.Piece.{Piece}
+use Rattle.volume_reading.specs.Pieces.{HaveBytes, IsIn}
 use Rattle.volume_reading.specs.Reading.{LeavesDisk, Went, ReadsRange}
-use Rattle.volume_reading.specs.ReadBack.{AreFor, AreReads, GoesOn, IsOver, Waits, AreBack, ReadsBack}
+use Rattle.volume_reading.specs.ReadBack.{AreFor, AreReads, GoesOn, IsOver, Waits, IsBack, AreBack, ReadsBack}
+use Rattle.volume_reading.proofs.Pieces.{have_in, have_map, have_more}
 use Rattle.volume_reading.proofs.Going.{leaves_both, leaves_quiet, true_received}
 
 -- replies that are true after all of these were so before
@@ -169,56 +172,126 @@ range_goes minor t u between after mid is w = record {
     grows marks = marks_are_told w.acts marks w.none_absorbed
 
 -- how that ended
-range_over : (result : Result (Unit {0}) Stop) (minor : ℕ) (size : ℕ) (bytes : List ℕ) (t u : Table) (between after : List Told) (mid is : Truth)
-    → ReadsRange result minor 0 size bytes t u between after mid is → (result ≡ Err OutOfMemory → ⊥) → IsOver result u after
-range_over (Ok a) minor size bytes t u between after mid is x memory = (x.end.0, x.end.1, x.end.2)
-range_over (Err OutOfMemory) minor size bytes t u between after mid is x memory = absurd (memory refl)
-range_over (Err GaveUp) minor size bytes t u between after mid is x memory = (x.end.0, x.end.1)
-range_over (Err Ended) minor size bytes t u between after mid is x memory = (x.end.0, x.end.1)
+range_over : (result : Result (Unit {0}) Stop) (minor start size : ℕ) (bytes : List ℕ) (t u : Table) (between after : List Told) (mid is : Truth)
+    → ReadsRange result minor start size bytes t u between after mid is → (result ≡ Err OutOfMemory → ⊥) → IsOver result u after
+range_over (Ok a) minor start size bytes t u between after mid is x memory = (x.end.0, x.end.1, x.end.2)
+range_over (Err OutOfMemory) minor start size bytes t u between after mid is x memory = absurd (memory refl)
+range_over (Err GaveUp) minor start size bytes t u between after mid is x memory = (x.end.0, x.end.1)
+range_over (Err Ended) minor start size bytes t u between after mid is x memory = (x.end.0, x.end.1)
 
--- both
-pub back_is : (result : Result (Unit {0}) Stop) (minor : ℕ) (bytes : List ℕ) (s t u : Table) (before between after : List Told) (was mid is : Truth)
-    → Waits (Ok tt) minor s t before between was mid → ReadsRange result minor 0 (length bytes) bytes t u between after mid is
-    → (result ≡ Err OutOfMemory → ⊥) → ReadsBack result minor bytes s u before after was is
-back_is result minor bytes s t u before between after was mid is w x memory = record {
-  told = told_of x.went.acts ++ w.told;
-  goes = goes_both minor w.told (told_of x.went.acts) s t u before between after was mid is (λ r. none_reads t.pending w.over.2) w.goes
+-- nothing was read yet
+pub back_none : (minor : ℕ) (t : Table) (told : List Told) (was : Truth) → took_end told ≡ false → t.given_up ≡ false → t.pending ≡ []
+    → ReadsBack (Ok tt) minor [] t t told told was was
+back_none minor t told was unended live idle = record {
+  told = [];
+  goes = goes_none minor t told was;
+  over = (unended, live, idle);
+  back = λ marks h. tt;
+}
+
+-- and one more piece, behind the others
+pub back_more : (minor : ℕ) (done : List Piece) (q : Piece) (s t u : Table) (before between after : List Told) (was mid is : Truth)
+    → ReadsBack (Ok tt) minor done s t before between was mid
+    → ReadsRange (Ok tt) minor q.start (length q.bytes.items) q.bytes.items t u between after mid is
+    → ((place : ℕ) → IsIn done place → place < q.start)
+    → ReadsBack (Ok tt) minor (done ++ q ∷ []) s u before after was is
+back_more minor done q s t u before between after was mid is r x apart = record {
+  told = told_of x.went.acts ++ r.told;
+  goes = goes_both minor r.told (told_of x.went.acts) s t u before between after was mid is (λ w. none_reads t.pending r.over.2) r.goes
       (range_goes minor t u between after mid is x.went);
-  over = range_over result minor (length bytes) bytes t u between after mid is x memory;
-  back = by result x;
+  over = (x.end.0, x.end.1, x.end.2);
+  back = λ marks h.
+      have_more (IsBack s marks (last marks)) done q
+      (have_in (IsBack s marks (grown r.told marks)) (IsBack s marks (last marks)) done (r.back marks h) (λ k b i. kept marks h k b i))
+      (λ k lt. read marks h k lt);
 }
   where
-    by : (q : Result (Unit {0}) Stop) (y : ReadsRange q minor 0 (length bytes) bytes t u between after mid is)
-        → AreBack q bytes s (told_of y.went.acts ++ w.told)
-    by (Err stop) y = tt
-    by (Ok a) y = λ marks h k lt.
-        let h2 = w.goes.agrees marks h in
-        let e : marks_after y.went.acts (grown w.told marks) ≡ grown (told_of y.went.acts ++ w.told) marks =
-        marks_are_told y.went.acts (grown w.told marks) y.went.none_absorbed ∙ sym (grown_append (told_of y.went.acts) w.told marks) in
-        let f = y.end.3 (grown w.told marks) h2 k lt in
-        let z : 0 + k ≡ k = omega arith in
+    last : List Mark → List Mark
+    last marks = grown (told_of x.went.acts ++ r.told) marks
+
+    grows : (marks : List Mark) → marks_after x.went.acts (grown r.told marks) ≡ last marks
+    grows marks = marks_are_told x.went.acts (grown r.told marks) x.went.none_absorbed ∙ sym (grown_append (told_of x.went.acts) r.told marks)
+
+    so : (marks : List Mark) (image : Contents) → HasTrueReplies image (last marks)
+        → HasTrueReplies image (marks_after x.went.acts (grown r.told marks))
+    so marks image replies = subst (λ (ms : List Mark). HasTrueReplies image ms) (sym (grows marks)) replies
+
+    first : (marks : List Mark) (image : Contents) → HasTrueReplies image (last marks) → HasTrueReplies image (grown r.told marks)
+    first marks image replies = true_told (told_of x.went.acts) image (grown r.told marks)
+        (subst (λ (ms : List Mark). HasTrueReplies image ms) (grown_append (told_of x.went.acts) r.told marks) replies)
+
+    stays : (marks : List Mark) → Agrees s marks → (image : Contents) → HasTrueReplies image (last marks) → (place : ℕ)
+        → disk_after image (grown r.told marks) place ≡ disk_after image (last marks) place
+    stays marks h image replies place =
+        sym ((x.went.leaves image (grown r.told marks) (r.goes.agrees marks h) (so marks image replies)).disk place)
+        ∙ ap (λ (ms : List Mark). disk_after image ms place) (grows marks)
+
+    kept : (marks : List Mark) → Agrees s marks → (k b : ℕ) → IsIn done k → IsBack s marks (grown r.told marks) k b → IsBack s marks (last marks) k b
+    kept marks h k b i old =
+        let e = (x.elsewhere (grown r.told marks) (r.goes.agrees marks h)).each k (inl (apart k i)) in
         record {
-          read = subst (λ (ms : List Mark). WasRead ms k (slice_index bytes k)) e
-              (subst (λ (p : ℕ). WasRead (marks_after y.went.acts (grown w.told marks)) p (slice_index bytes k)) z f.read);
-          is_disk = λ reads image true sure.
-              let last : HasTrueReplies image (marks_after y.went.acts (grown w.told marks)) = subst (λ (ms : List Mark). HasTrueReplies image ms) (sym e) true in
-              let there : HasTrueReplies image (grown (told_of y.went.acts) (grown w.told marks)) =
-              subst (λ (ms : List Mark). HasTrueReplies image ms) (grown_append (told_of y.went.acts) w.told marks) true in
-              let first = w.goes.leaves reads image marks h (true_told (told_of y.went.acts) image (grown w.told marks) there) in
-              let then = y.went.leaves image (grown w.told marks) h2 last in
-              f.is_disk image last (ap (λ (p : ℕ). unsure (grown w.told marks) p) z ∙ first.sure k sure)
-              ∙ ap (λ (p : ℕ). disk_after image (grown w.told marks) p) z ∙ sym (then.disk k) ∙ ap (λ (ms : List Mark). disk_after image ms k) e;
+          read = subst (λ (ms : List Mark). WasRead ms k b) (grows marks) (old.read.0 ∙ sym e.0, e.1 ∙ old.read.1);
+          is_disk = λ reads image replies sure. old.is_disk reads image (first marks image replies) sure ∙ stays marks h image replies k;
         }
 
+    read : (marks : List Mark) → Agrees s marks → (k : ℕ) → k < length q.bytes.items
+        → IsBack s marks (last marks) (q.start + k) (slice_index q.bytes.items k)
+    read marks h k lt =
+        let f = x.end.3 (grown r.told marks) (r.goes.agrees marks h) k lt in
+        record {
+          read = subst (λ (ms : List Mark). WasRead ms (q.start + k) (slice_index q.bytes.items k)) (grows marks) f.read;
+          is_disk = λ reads image replies sure.
+              f.is_disk image (so marks image replies) ((r.goes.leaves reads image marks h (first marks image replies)).sure (q.start + k) sure)
+              ∙ stays marks h image replies (q.start + k);
+        }
+
+-- reading a further one ended otherwise
+pub back_cut : (stop : Stop) (minor start size : ℕ) (bytes : List ℕ) (done pieces : List Piece) (s t u : Table) (before between after : List Told)
+    (was mid is : Truth) → ReadsBack (Ok tt) minor done s t before between was mid
+    → ReadsRange (Err stop) minor start size bytes t u between after mid is → (◌≡◌ {A = Result (Unit {0}) Stop} (Err stop) (Err OutOfMemory) → ⊥)
+    → ReadsBack (Err stop) minor pieces s u before after was is
+back_cut stop minor start size bytes done pieces s t u before between after was mid is r x memory = record {
+  told = told_of x.went.acts ++ r.told;
+  goes = goes_both minor r.told (told_of x.went.acts) s t u before between after was mid is (λ w. none_reads t.pending r.over.2) r.goes
+      (range_goes minor t u between after mid is x.went);
+  over = range_over (Err stop) minor start size bytes t u between after mid is x memory;
+  back = tt;
+}
+
+-- the pieces were read once all had come
+pub back_is : (result : Result (Unit {0}) Stop) (minor : ℕ) (pieces : List Piece) (s t u : Table) (before between after : List Told) (was mid is : Truth)
+    → Waits (Ok tt) minor s t before between was mid → ReadsBack result minor pieces t u between after mid is
+    → ReadsBack result minor pieces s u before after was is
+back_is result minor pieces s t u before between after was mid is w x = record {
+  told = x.told ++ w.told;
+  goes = goes_both minor w.told x.told s t u before between after was mid is (λ r. none_reads t.pending w.over.2) w.goes x.goes;
+  over = x.over;
+  back = by result x.back;
+}
+  where
+    by : (q : Result (Unit {0}) Stop) → AreBack q pieces t x.told → AreBack q pieces s (x.told ++ w.told)
+    by (Err stop) y = tt
+    by (Ok a) y = λ marks h.
+        let grows : grown x.told (grown w.told marks) ≡ grown (x.told ++ w.told) marks = sym (grown_append x.told w.told marks) in
+        subst (λ (ms : List Mark). HaveBytes (IsBack s marks ms) pieces) grows
+        (have_map (IsBack t (grown w.told marks) (grown x.told (grown w.told marks))) (IsBack s marks (grown x.told (grown w.told marks))) pieces
+        (y (grown w.told marks) (w.goes.agrees marks h))
+        (λ k b i. record {
+          read = i.read;
+          is_disk = λ reads image true sure.
+              i.is_disk (none_reads t.pending w.over.2) image true
+              ((w.goes.leaves reads image marks h (true_told x.told image (grown w.told marks) true)).sure k sure);
+        }))
+
 -- where waiting ended otherwise
-pub back_stopped : (stop : Stop) (minor : ℕ) (bytes : List ℕ) (s u : Table) (before after : List Told) (was is : Truth)
-    → Waits (Err stop) minor s u before after was is → ReadsBack (Err stop) minor bytes s u before after was is
-back_stopped stop minor bytes s u before after was is w = record { told = w.told; goes = w.goes; over = w.over; back = tt }
+pub back_stopped : (stop : Stop) (minor : ℕ) (pieces : List Piece) (s u : Table) (before after : List Told) (was is : Truth)
+    → Waits (Err stop) minor s u before after was is → ReadsBack (Err stop) minor pieces s u before after was is
+back_stopped stop minor pieces s u before after was is w = record { told = w.told; goes = w.goes; over = w.over; back = tt }
 
 -- where the device was given up before nothing is done
-pub back_given_up : (minor : ℕ) (bytes : List ℕ) (t : Table) (told : List Told) (was : Truth) → took_end told ≡ false → t.given_up ≡ true
-    → ReadsBack (Err GaveUp) minor bytes t t told told was was
-back_given_up minor bytes t told was live gone = record { told = []; goes = goes_none minor t told was; over = (live, gone); back = tt }
+pub back_given_up : (minor : ℕ) (pieces : List Piece) (t : Table) (told : List Told) (was : Truth) → took_end told ≡ false → t.given_up ≡ true
+    → ReadsBack (Err GaveUp) minor pieces t t told told was was
+back_given_up minor pieces t told was live gone = record { told = []; goes = goes_none minor t told was; over = (live, gone); back = tt }
 
 -- none of these ends is for want of memory
 pub no_memory : (stop : Stop) (t : Table) (after : List Told) → IsOver (Err stop) t after

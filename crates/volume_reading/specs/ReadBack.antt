@@ -1,5 +1,5 @@
 -- What reading a volume back through a link does, once all that was pending has come.
-use Rattle.std.specs.Prelude.{◌≡◌, ℕ, ◌<◌, List, [], ◌++◌, length, Some, false, true, Result, Ok, Err, slice_index}
+use Rattle.std.specs.Prelude.{◌≡◌, ℕ, List, [], ◌++◌, Some, false, true, Result, Ok, Err}
 use Rattle.records.specs.Marks.{Mark}
 use Rattle.records.specs.Disk.{Contents, HasTrueReplies, disk_after, unsure}
 use Rattle.records.specs.Area.{Area}
@@ -13,7 +13,9 @@ use Rattle.reissue.specs.Moves.{Begun, WasRead}
 use Rattle.reissue.specs.Calls.{Truth}
 use Rattle.volume_reading.specs.declared.reading.Stop.{Stop}
 use Rattle.volume_reading.specs.declared.reading.Stop.TheVariants.{OutOfMemory, GaveUp, Ended}
+use Rattle.volume_reading.specs.declared.piece.Piece.{Piece}
 use Rattle.volume_reading.specs.Reading.{LeavesDisk}
+use Rattle.volume_reading.specs.Pieces.{HaveBytes}
 
 -- these requests are for an area of this minor
 pub record AreFor (minor : ℕ) (ps : List Pending) : Type 0 where
@@ -53,16 +55,15 @@ pub record IsBack (old : Table) (marks more : List Mark) (place byte : ℕ) : Ty
   pub is_disk : AreReads old.pending → (image : Contents) → HasTrueReplies image more → unsure marks place ≡ false
       → byte ≡ disk_after image more place
 
--- each of these bytes came back, if all were read
-abbrev pub AreBack : Result (Unit {0}) Stop → List ℕ → Table → List Told → Type 0
-AreBack (Ok u) bytes old told = (marks : List Mark) → Agrees old marks → (k : ℕ) → k < length bytes
-    → IsBack old marks (grown told marks) k (slice_index bytes k)
-AreBack (Err stop) bytes old told = Unit {0}
+-- the bytes of each of these pieces came back, if all were read
+abbrev pub AreBack : Result (Unit {0}) Stop → List Piece → Table → List Told → Type 0
+AreBack (Ok u) pieces old told = (marks : List Mark) → Agrees old marks → HaveBytes (IsBack old marks (grown told marks)) pieces
+AreBack (Err stop) pieces old told = Unit {0}
 
--- All that was pending was waited for, and then these bytes were read, from the range's first place on.
-pub record ReadsBack (result : Result (Unit {0}) Stop) (minor : ℕ) (bytes : List ℕ) (old new : Table) (before after : List Told) (was is : Truth)
-    : Type 0 where
+-- All that was pending was waited for, and then these pieces of the range were read.
+pub record ReadsBack (result : Result (Unit {0}) Stop) (minor : ℕ) (pieces : List Piece) (old new : Table) (before after : List Told)
+    (was is : Truth) : Type 0 where
   pub told : List Told
   pub goes : GoesOn minor told old new before after was is
   pub over : IsOver result new after
-  pub back : AreBack result bytes old told
+  pub back : AreBack result pieces old told

@@ -67,18 +67,21 @@ pub record KeepsBelow (start : ℕ) (marks more : List Mark) : Type 0 where
   pub each : (place : ℕ) → place < start
       → (bytes_read more place ≡ bytes_read marks place) × (is_read more place ≡ is_read marks place)
 
+-- what was read elsewhere than from this place to this one stays
+pub record KeepsElsewhere (start end : ℕ) (marks more : List Mark) : Type 0 where
+  pub each : (place : ℕ) → (place < start) ⊎ (end ≤ place)
+      → (bytes_read more place ≡ bytes_read marks place) × (is_read more place ≡ is_read marks place)
+
 -- the bytes of the range up to the next one to be asked for are there, but for those of pending reads
 abbrev pub AreFilled : ℕ → ℕ → (ℕ → Option Begun) → List ℕ → List Mark → List Mark → Type 0
 AreFilled start next pending bytes marks more =
     (k : ℕ) → k < next → IsUntouched pending (start + k) → IsFilled marks more (start + k) (slice_index bytes k)
 
--- What wasn't read yet: something is left of each pending read, and that wasn't, nor what wasn't asked for. The places before the range are
--- left alone.
-pub record GoesUpTo (start next : ℕ) (ps : List Pending) (marks more : List Mark) : Type 0 where
+-- What wasn't read yet: something is left of each pending read, and that wasn't, nor what wasn't asked for.
+pub record GoesUpTo (start next : ℕ) (ps : List Pending) (more : List Mark) : Type 0 where
   pub asks : AllAsk ps
   pub left : (place : ℕ) → IsLeft ps place → is_read more place ≡ false
   pub beyond : IsUnread (start + next) more
-  pub below : KeepsBelow start marks more
 
 -- A range is being read: so many of its bytes were asked for, and these reads are pending.
 pub record Midway (minor start size next : ℕ) (asked : List Sought) (bytes : List ℕ) (old new : Table) (before after : List Told)
@@ -89,8 +92,8 @@ pub record Midway (minor start size next : ℕ) (asked : List Sought) (bytes : L
   pub within : AreBefore size next asked
   pub filled : (marks : List Mark) → Agrees old marks
       → AreFilled start next (pieces_of start size asked) bytes marks (marks_after went.acts marks)
-  pub goes : (marks : List Mark) → Agrees old marks → IsUnread start marks
-      → GoesUpTo start next new.pending marks (marks_after went.acts marks)
+  pub elsewhere : (marks : List Mark) → Agrees old marks → KeepsElsewhere start (start + next) marks (marks_after went.acts marks)
+  pub goes : (marks : List Mark) → Agrees old marks → IsUnread start marks → GoesUpTo start next new.pending (marks_after went.acts marks)
 
 -- some byte of the range wasn't read
 pub record IsCutShort (start size : ℕ) (marks : List Mark) : Type 0 where
@@ -113,12 +116,14 @@ IsRangeEnd (Err Ended) start size bytes old new acts after =
     (took_end after ≡ true) × (new.given_up ≡ false)
     × ((marks : List Mark) → Agrees old marks → IsUnread start marks → IsCutShort start size (marks_after acts marks))
 
--- A range of so many bytes is read, from a table with nothing pending on, where none of the places from its start on was read before.
+-- A range of so many bytes is read, from a table with nothing pending on. What was read elsewhere stays; `below` and `beyond` say what they do
+-- where none of the places from its start on was read before.
 pub record ReadsRange (result : Result (Unit {0}) Stop) (minor start size : ℕ) (bytes : List ℕ) (old new : Table) (before after : List Told)
     (was is : Truth) : Type 0 where
   pub went : Went minor old new before after was is
   pub below : (marks : List Mark) → Agrees old marks → IsUnread start marks → KeepsBelow start marks (marks_after went.acts marks)
   pub beyond : (marks : List Mark) → Agrees old marks → IsUnread start marks → IsUnread (start + size) (marks_after went.acts marks)
+  pub elsewhere : (marks : List Mark) → Agrees old marks → KeepsElsewhere start (start + size) marks (marks_after went.acts marks)
   pub end : IsRangeEnd result start size bytes old new went.acts after
 
 -- The next read of a range was begun: its bytes go where the last ended.

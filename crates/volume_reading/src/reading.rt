@@ -78,14 +78,17 @@ fn begin_next<L: Link>(
 
 /// Reads the bytes of a range of the media that begins at `start`, as many as there is room for, a multiple of 512: so many reads are
 /// pending at once as may be, each of at most 4096 bytes. It takes messages until all have come, the device is given up or the link ends. A
-/// Flush asks for nothing here. Where it stops early, some byte of the range wasn't read. It takes no memory.
-pub fn read_in<L: Link>(
+/// Flush asks for nothing here. Where it stops early, some byte of the range wasn't read. It takes no memory. The list is for the reads that are
+/// pending.
+pub(crate) fn read_in<L: Link>(
     transfers: &mut Transfers<L>,
-    room: ReadRoom,
+    asked: &mut Vec<Sought>,
     minor: u8,
     start: u64,
     into: &mut [u8],
 ) -> Result<(), Stop>
+    requires none { asked.old.items ≡ [] }
+    requires wide { 16 ≤ vec_capacity asked.old }
     requires start { start % 512 ≡ 0 }
     requires whole { length into.old % 512 ≡ 0 }
     requires bound { start + length into.old < 2 ^ 62 }
@@ -102,15 +105,18 @@ pub fn read_in<L: Link>(
     ensures room { OnOk result (HasRoom (table_of transfers.new) (L.room (link_of transfers.new))) }
     ensures ids { OnOk result ((table_of transfers.new).ids + 2 * L.budget_left (link_of transfers.new)
         ≤ (table_of transfers.old).ids + 2 * L.budget_left (link_of transfers.old) + length into.old) }
+    ensures fewer { OnOk result ((table_of transfers.new).ids + L.budget_left (link_of transfers.new)
+        ≤ (table_of transfers.old).ids + L.budget_left (link_of transfers.old) + length into.old) }
+    ensures none { OnOk result (asked.new.items ≡ []) }
+    ensures wide { vec_capacity asked.new ≡ vec_capacity asked.old }
     ensures memory { result ≢ Err Stop.OutOfMemory }
 {
-    let ReadRoom { mut asked } = room;
     let size = into.len();
     let mut next = 0;
     let mut message = Incoming::End;
     let mut bytes = [0; 4096];
     'messages: loop {
-        if let Some(after) = begin_next(transfers, &mut asked, minor, start, size, next) {
+        if let Some(after) = begin_next(transfers, asked, minor, start, size, next) {
             next = after;
             continue;
         }
@@ -118,7 +124,7 @@ pub fn read_in<L: Link>(
             return Ok(());
         }
         match transfers.step(&mut message, &mut bytes) {
-            Settled::Read(ticket) => put_bytes(&mut asked, into, ticket, &bytes),
+            Settled::Read(ticket) => put_bytes(asked, into, ticket, &bytes),
             Settled::GaveUp => return Err(Stop::GaveUp),
             Settled::End => return Err(Stop::Ended),
             Settled::Nothing => {}
@@ -128,7 +134,7 @@ pub fn read_in<L: Link>(
     }
 }
 
-/// The same in room of its own. Where no memory was found, all is as it was.
+/// The same with a list of its own. Where no memory was found, all is as it was.
 pub fn read_range<L: Link>(
     alloc: Global,
     transfers: &mut Transfers<L>,
@@ -155,7 +161,10 @@ pub fn read_range<L: Link>(
     ensures refused { result ≡ Err Stop.OutOfMemory → (transfers.new ≡ transfers.old) × (into.new ≡ into.old) }
 {
     match ReadRoom::new(alloc) {
-        Ok(room) => read_in(transfers, room, minor, start, into),
+        Ok(room) => {
+            let ReadRoom { mut asked } = room;
+            read_in(transfers, &mut asked, minor, start, into)
+        }
         Err(_) => Err(Stop::OutOfMemory),
     }
 }

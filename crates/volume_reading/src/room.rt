@@ -8,7 +8,7 @@ use std::alloc::{AllocError, Global};
 /// How many reads of a range are pending at once at most: as many as may be.
 pub(crate) const AT_ONCE: usize = 16;
 
-/// Room for the reads of one range, of which sixteen are pending at once at most.
+/// Room for the reads of a range, of which sixteen are pending at once at most. It serves one range after another.
 #[derive(Drop)]
 pub struct ReadRoom {
     pub(crate) asked: Vec<Sought>,
@@ -17,7 +17,7 @@ pub struct ReadRoom {
 }
 
 impl ReadRoom {
-    /// Room for one range.
+    /// Room for sixteen reads.
     pub fn new(alloc: Global) -> Result<ReadRoom, AllocError> {
         Ok(ReadRoom {
             asked: Vec::with_capacity(alloc, AT_ONCE)?,

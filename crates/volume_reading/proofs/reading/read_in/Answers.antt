@@ -9,13 +9,14 @@ use Rattle.volume_reading.proofs.reading.read_in.Goals as goal
 
 pub messages-init : goal.messages-init
 messages-init g c = record {
-  midway = midway_first c.args.minor c.args.start (length c.args.into.now) c.args.room.asked.items c.args.into.now (table_of c.args.transfers.now) _ _
-      c.args.room.none c.requires.idle;
+  midway = midway_first c.args.minor c.args.start (length c.args.into.now) c.args.asked.now.items c.args.into.now (table_of c.args.transfers.now) _ _
+      c.requires.none c.requires.idle;
   goes = g.met.L.Link.stays _;
   live = c.requires.live;
   unended = c.requires.unended;
   room = c.requires.room;
-  capacity = c.args.room.wide;
+  capacity = c.requires.wide;
+  wide = refl;
   many = refl;
   all = refl;
   place = λ lt. refl;
@@ -37,6 +38,7 @@ messages-preserved-in-Some g c =
       unended = x.begins.ended ∙ i.unended;
       room = e.room;
       capacity = omega (arith, e.capacity, i.capacity);
+      wide = e.capacity ∙ i.wide;
       many = i.many;
       all = i.all;
       place = λ lt. omega (arith, x.after_is, x.within, i.place x.within, lt);
@@ -118,6 +120,7 @@ messages-preserved-in-Read g c =
       unended = x.steps.ended ∙ unended;
       room = x.room refl;
       capacity = omega (arith, p.capacity, e.capacity, i.capacity);
+      wide = p.capacity ∙ e.capacity ∙ i.wide;
       many = puts_length (place_of asked c.in-Read.ticket) c.step.new.into c.messages.into c.put_bytes.new.into p.puts ∙ i.many;
       all = i.all;
       place = i.place;
@@ -208,6 +211,7 @@ messages-preserved-in-Nothing g c =
       unended = x.steps.ended ∙ unended;
       room = x.room refl;
       capacity = omega (arith, e.capacity, i.capacity);
+      wide = e.capacity ∙ i.wide;
       many = i.many;
       all = i.all;
       place = i.place;
@@ -267,6 +271,7 @@ messages-preserved g c =
       unended = x.steps.ended ∙ unended;
       room = x.room refl;
       capacity = omega (arith, e.capacity, i.capacity);
+      wide = e.capacity ∙ i.wide;
       many = i.many;
       all = i.all;
       place = i.place;
@@ -274,3 +279,12 @@ messages-preserved g c =
       numbers = omega (arith, x.ids, x.falls refl, ids, e.budget, i.numbers);
       spent = omega (arith, x.ids, x.falls refl, ids, e.budget, i.spent);
     }
+
+pub returns-then-is_empty-clause-wide : goal.returns-then-is_empty-clause-wide
+returns-then-is_empty-clause-wide g c = c.in_default.ensures.capacity ∙ c.messages.invariant.wide
+
+pub returns-in-GaveUp-clause-wide : goal.returns-in-GaveUp-clause-wide
+returns-in-GaveUp-clause-wide g c = c.in_default.ensures.capacity ∙ c.messages.invariant.wide
+
+pub returns-in-End-clause-wide : goal.returns-in-End-clause-wide
+returns-in-End-clause-wide g c = c.in_default.ensures.capacity ∙ c.messages.invariant.wide

@@ -16,6 +16,7 @@ invariant-messages g l = record {
   unended : took_end (g.L.Link.history (link_of l.transfers)) ≡ false;
   room : HasRoom (table_of l.transfers) (g.L.Link.room (link_of l.transfers));
   capacity : 16 ≤ vec_capacity l.asked;
+  wide : vec_capacity l.asked ≡ vec_capacity l.fn.asked;
   many : length l.into ≡ l.size;
   all : length l.fn.into ≡ l.size;
   place : l.next < l.size → l.next % 512 ≡ 0;
