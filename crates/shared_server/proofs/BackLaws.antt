@@ -1,8 +1,7 @@
 -- What the record of a service says once its volume was read back, behind a last sync that was answered ok.
-use Rattle.std.proofs.Common.{◌≡◌, ℕ, ◌≤◌, ◌<◌, List, [], ◌∷◌, length, Bool, true, false, refl, sym, ◌∙◌, ap, subst, arith, inl, inr}
-use Rattle.std.specs.Prelude.{◌↔◌, if◌then◌else◌, min}
-use Rattle.std.proofs.Math.Nat.{le-min}
-use Rattle.std.proofs.lemmas.Bool.{cases_lt, false≢true}
+use Rattle.std.proofs.Common.{◌≡◌, ℕ, ◌≤◌, ◌<◌, ◌/◌, List, [], ◌∷◌, Bool, true, false, refl, sym, ◌∙◌, ap, subst, arith}
+use Rattle.std.specs.Prelude.{◌↔◌, if◌then◌else◌}
+use Rattle.std.proofs.lemmas.Bool.{false≢true}
 use Rattle.layout.specs.declared.Geometry.{Geometry}
 use Rattle.message.specs.declared.BlockReply.{BlockReply}
 use Rattle.message.specs.declared.Incoming.{Incoming}
@@ -25,16 +24,21 @@ use Rattle.records.specs.Legal.{IsAtFirst, IsSynced, tree_after, tree_after_answ
 use Rattle.records.specs.ServerCall.{Serving, Serves, Outcome, Replied, Cut}
 use Rattle.reissue.specs.declared.link.Link.{Ghosts as LinkWords}
 use Rattle.reissue.specs.Calls.{Truth}
+use Rattle.reissue.specs.Moves.{WasRead}
+use Rattle.changes.specs.Units.{Covers, is_marked}
 use Rattle.volume_reading.specs.Reading.{LeavesDisk}
+use Rattle.volume_reading.specs.declared.piece.Piece.{Piece}
+use Rattle.volume_reading.proofs.Pieces.{have_map, same_places_in, same_places_pieces}
+use Rattle.volume_reading.specs.Pieces.{SamePlaces}
 use Rattle.file_server.specs.Over.{CallSpecification}
-use Rattle.file_server.specs.Back.{AgreesUpToCall, ReadsBack, is_cut, is_given_up}
+use Rattle.file_server.specs.Back.{AgreesUpToCall, IsReadBack, ReadsBack, is_cut, is_given_up}
 use Rattle.file_server.specs.declared.ReadEnd.{ReadEnd}
 use Rattle.file_server.specs.declared.ReadEnd.TheVariants as read
 use Rattle.board.specs.declared.counting.parameters.ServiceParameters.{Ghosts as RoomWords}
-use Rattle.board.specs.Reach.{DiskStaysBeyond, reach_of}
+use Rattle.board.specs.Written.{AreWritten, DiskStaysUnwritten, is_written}
 use Rattle.board.specs.Keeper.{begins_itself, begins_before, begins_further}
 use Rattle.shared_server.specs.Held.{IsHeld}
-use Rattle.shared_server.specs.Finishing.{end_of}
+use Rattle.shared_server.specs.Finishing.{ArePiecesOf, end_of}
 use Rattle.shared_server.specs.Stopping.{syncer, SyncEnd, Went, WasNotRead, has_ended, SyncTells, AreOnDisk, IsFinished, IsLastLine}
 use Rattle.shared_server.specs.Descriptors.{succeeded}
 use Rattle.file_server.specs.Leaving.{IsEndLast}
@@ -119,13 +123,14 @@ pub record WasSynced (s : Serving) (truth : Truth) (g : Geometry) (v : Opening) 
   pub at_first : HasTrueReplies (contents_at v) marks → IsAtFirst g (contents_at v) own
   pub settled : HasTrueReplies (contents_at v) marks → s.settled
 
--- behind these bytes of a range of this size the disk is as it was handed in
-abbrev IsSameBeyond : Opening → ℕ → List Mark → List ℕ → Type 0
-IsSameBeyond v size marks bytes = (k : ℕ) → length bytes ≤ k → k < size → disk_after (contents_at v) marks k ≡ contents_at v k
+-- in the units of a range of this size that aren't marked the disk is as it was handed in
+abbrev IsSameElsewhere : Opening → ℕ → List Mark → List Bool → Type 0
+IsSameElsewhere v size marks units =
+    (k : ℕ) → k < size → is_marked units (k / 4096) ≡ false → disk_after (contents_at v) marks k ≡ contents_at v k
 
 -- what the record says once all was read back, or not all
-module _ (s : Serving) (end : ReadEnd) (bytes : List ℕ) (after : List Told) (was is : Truth) (g : Geometry) (v : Opening) (seen marks : List Mark)
-    (k : WasSynced s was g v seen marks) (x : ReadsBack s end bytes after was is) where
+module _ (s : Serving) (end : ReadEnd) (pieces : List Piece) (after : List Told) (was is : Truth) (g : Geometry) (v : Opening) (seen marks : List Mark)
+    (k : WasSynced s was g v seen marks) (x : ReadsBack s end pieces after was is) where
   abbrev more : List Mark
   more = grown x.told marks
 
@@ -148,16 +153,19 @@ module _ (s : Serving) (end : ReadEnd) (bytes : List ℕ) (after : List Told) (w
   back_tells read.GivenUp same tree first = λ true. gone ∙ sym (ap is_given_up same)
   back_tells read.Cut same tree first = gone ∙ sym (ap is_given_up same)
 
-  -- and of the bytes that were read, behind which the disk is as it was handed in
-  pub back_bytes : (size : ℕ) → length bytes ≤ size → IsSameBeyond v size more bytes → end ≡ read.Read → AreOnDisk v size more bytes
-  back_bytes size within beyond is = record {
-    within = within;
-    read = λ n lt. (x.back is (contents_at v) k.own marks k.knows n lt).read;
-    is_disk = λ true n lt.
+  -- and of the pieces that were read, beside which the disk is as it was handed in
+  pub back_pieces : (size : ℕ) (units : List Bool) → ArePiecesOf units size pieces → IsSameElsewhere v size more units → end ≡ read.Read
+      → AreOnDisk v size more units pieces
+  back_pieces size units of elsewhere is = record {
+    ordered = of.ordered;
+    all = of.all;
+    read = have_map (IsReadBack s.settled marks more) (WasRead more) pieces (x.back is (contents_at v) k.own marks k.knows) (λ n b r. r.read);
+    is_disk = λ true.
         let first = true_then true in
-        (x.back is (contents_at v) k.own marks k.knows n lt).is_disk (k.settled first) (contents_at v) true
-        (((k.tells k.own (k.at_first first)).1 first).sure.each n);
-    beyond = beyond;
+        have_map (IsReadBack s.settled marks more) (λ n b. b ≡ disk_after (contents_at v) more n) pieces
+        (x.back is (contents_at v) k.own marks k.knows)
+        (λ n b r. r.is_disk (k.settled first) (contents_at v) true (((k.tells k.own (k.at_first first)).1 first).sure.each n));
+    elsewhere = elsewhere;
   }
 
 -- a link has ended where the reading was cut
@@ -167,15 +175,15 @@ ended_is read.GivenUp = refl
 ended_is read.Cut = refl
 
 -- so the server is let go with its link
-last_back : {L : Type 0} (link : LinkWords L) (g : Geometry) (v : Opening) (seen marks : List Mark) (s : Serving) (end : ReadEnd) (bytes : List ℕ)
-    (mid l : L) → WasSynced s (link.truth mid) g v seen marks → ReadsBack s end bytes (link.history l) (link.truth mid) (link.truth l)
+last_back : {L : Type 0} (link : LinkWords L) (g : Geometry) (v : Opening) (seen marks : List Mark) (s : Serving) (end : ReadEnd) (pieces : List Piece)
+    (mid l : L) → WasSynced s (link.truth mid) g v seen marks → ReadsBack s end pieces (link.history l) (link.truth mid) (link.truth l)
     → IsLastLine link g v seen (end_of end) l
-last_back link g v seen marks s end bytes mid l k x = record {
+last_back link g v seen marks s end pieces mid l k x = record {
   ended = x.ended ∙ ended_is end;
   marks = grown x.told marks;
   guaranteed = x.truth v k.own marks k.minor k.knows k.guaranteed;
   goes_on = begins_further seen marks (grown x.told marks) k.goes_on (told_goes_on x.told marks);
-  tells = back_tells s end bytes (link.history l) (link.truth mid) (link.truth l) g v seen marks k x end refl;
+  tells = back_tells s end pieces (link.history l) (link.truth mid) (link.truth l) g v seen marks k x end refl;
 }
 
 -- a link after which nothing was read back, or not all
@@ -186,39 +194,20 @@ unread_line link g v seen l last =
 
 -- what was read back of a range of this size, and the record that its link keeps
 finished_back : {L : Type 0} (link : LinkWords L) (numbers : L → List ℕ) (record_in : L → List Mark) (g : Geometry) (v : Opening)
-    (seen marks : List Mark) (used : List ℕ) (s : Serving) (end : ReadEnd) (size : ℕ) (bytes : List ℕ) (mid l : L)
-    → WasSynced s (link.truth mid) g v seen marks → ReadsBack s end bytes (link.history l) (link.truth mid) (link.truth l)
-    → ((older : List Mark) → link.truth l v older → record_in l ≡ older) → numbers l ≡ used → end ≡ read.Read → length bytes ≤ size
-    → IsSameBeyond v size (record_in l) bytes → IsFinished link numbers g v seen used Went size bytes
+    (seen marks : List Mark) (used : List ℕ) (s : Serving) (end : ReadEnd) (size : ℕ) (units : List Bool) (pieces : List Piece) (mid l : L)
+    → WasSynced s (link.truth mid) g v seen marks → ReadsBack s end pieces (link.history l) (link.truth mid) (link.truth l)
+    → ((older : List Mark) → link.truth l v older → record_in l ≡ older) → numbers l ≡ used → end ≡ read.Read
+    → ArePiecesOf units size pieces → IsSameElsewhere v size (record_in l) units → IsFinished link numbers g v seen used Went size units pieces
 unfolding last_back
-finished_back link numbers record_in g v seen marks used s end size bytes mid l k x is_record same is within beyond =
-    let so : ReadsBack s read.Read bytes (link.history l) (link.truth mid) (link.truth l) =
-    subst (λ (e : ReadEnd). ReadsBack s e bytes (link.history l) (link.truth mid) (link.truth l)) is x in
-    let last = last_back link g v seen marks s read.Read bytes mid l k so in
+finished_back link numbers record_in g v seen marks used s end size units pieces mid l k x is_record same is of elsewhere =
+    let so : ReadsBack s read.Read pieces (link.history l) (link.truth mid) (link.truth l) =
+    subst (λ (e : ReadEnd). ReadsBack s e pieces (link.history l) (link.truth mid) (link.truth l)) is x in
+    let last = last_back link g v seen marks s read.Read pieces mid l k so in
     record {
       line = l;
       last = last;
-      back = back_bytes s read.Read bytes (link.history l) (link.truth mid) (link.truth l) g v seen marks k so size within
-          (subst (λ (ms : List Mark). IsSameBeyond v size ms bytes) (is_record last.marks last.guaranteed) beyond) refl;
-      same = same;
-    }
-
--- where the link's record has no write nothing is to be read
-pub none_written : {L : Type 0} (link : LinkWords L) (numbers : L → List ℕ) (record_in : L → List Mark) (g : Geometry) (v : Opening)
-    (seen : List Mark) (used : List ℕ) (size : ℕ) (l : L) → DiskStaysBeyond
-    → ((older : List Mark) → link.truth l v older → record_in l ≡ older) → reach_of (record_in l) ≡ 0 → numbers l ≡ used
-    → IsLastLine link g v seen Went l → IsFinished link numbers g v seen used Went size []
-none_written link numbers record_in g v seen used size l stays is_record none same last =
-    let at : reach_of last.marks ≡ 0 = subst (λ (ms : List Mark). reach_of ms ≡ 0) (is_record last.marks last.guaranteed) none in
-    record {
-      line = l;
-      last = last;
-      back = record {
-        within = omega arith;
-        read = λ k lt. absurd (omega (arith, lt));
-        is_disk = λ true k lt. absurd (omega (arith, lt));
-        beyond = λ k from to. stays (contents_at v) last.marks k (omega (arith, at));
-      };
+      back = back_pieces s read.Read pieces (link.history l) (link.truth mid) (link.truth l) g v seen marks k so size units of
+          (subst (λ (ms : List Mark). IsSameElsewhere v size ms units) (is_record last.marks last.guaranteed) elsewhere) refl;
       same = same;
     }
 
@@ -271,53 +260,56 @@ module _ {N S L : Type 0} (room : RoomWords N) (link : LinkWords L) (serving : S
 -- the same by an outcome that is a success: what the link says of itself
 pub line_back : {N S L : Type 0} (room : RoomWords N) (link : LinkWords L) (serving : S → Serving) (line : S → L) (is_ready : S → Type 0)
     (knows : Call → Type 0) (runs_on : L → Policy → List DriverState → Type 0) (record_in : L → List Mark) (old mid : S) (l m : L)
-    (outcome : Outcome) (end : ReadEnd) (how : SyncEnd) (bytes : List ℕ) → line old ≡ l → Kept room link serving line runs_on record_in
+    (outcome : Outcome) (end : ReadEnd) (how : SyncEnd) (pieces : List Piece) → line old ≡ l → Kept room link serving line runs_on record_in
     → IsHeld room link serving line is_ready knows runs_on record_in old
     → CallSpecification (serving old) (serving mid) (link.truth (line old)) (link.truth (line mid)) syncer 0 Sync outcome
-    → succeeded outcome ≡ true → ReadsBack (serving mid) end bytes (link.history m) (link.truth (line mid)) (link.truth m)
+    → succeeded outcome ≡ true → ReadsBack (serving mid) end pieces (link.history m) (link.truth (line mid)) (link.truth m)
     → end_of end ≡ how → IsLastLine link room.geometry room.opening (record_in l) how m
-line_back {L = L} room link serving line is_ready knows runs_on record_in old mid l m outcome end how bytes same kept held c is x to =
+line_back {L = L} room link serving line is_ready knows runs_on record_in old mid l m outcome end how pieces same kept held c is x to =
     let d = subst (λ (o : Outcome). CallSpecification (serving old) (serving mid) (link.truth (line old)) (link.truth (line mid)) syncer 0 Sync o)
     (done_is outcome is) c in
     subst (λ (n : L). IsLastLine link room.geometry room.opening (record_in n) how m) same
     (subst (λ (h : SyncEnd). IsLastLine link room.geometry room.opening (record_in (line old)) h m) to
-    (last_back link room.geometry room.opening (record_in (line old)) (marks_after d.keeps.acts (record_in (line old))) (serving mid) end bytes
+    (last_back link room.geometry room.opening (record_in (line old)) (marks_after d.keeps.acts (record_in (line old))) (serving mid) end pieces
     (line mid) m (was_synced room link serving line is_ready knows runs_on record_in old mid kept held d) x))
 
 -- and what was read back
 pub synced_by : {N S L : Type 0} (room : RoomWords N) (link : LinkWords L) (serving : S → Serving) (line : S → L) (is_ready : S → Type 0)
     (knows : Call → Type 0) (runs_on : L → Policy → List DriverState → Type 0) (record_in : L → List Mark) (numbers : L → List ℕ)
-    (used : List ℕ) (old mid : S) (l m : L) (outcome : Outcome) (end : ReadEnd) (size : ℕ) (bytes : List ℕ) → line old ≡ l
+    (used : List ℕ) (old mid : S) (l m : L) (outcome : Outcome) (end : ReadEnd) (size : ℕ) (units : List Bool) (pieces : List Piece)
+    → line old ≡ l
     → Kept room link serving line runs_on record_in → IsHeld room link serving line is_ready knows runs_on record_in old
     → CallSpecification (serving old) (serving mid) (link.truth (line old)) (link.truth (line mid)) syncer 0 Sync outcome
-    → succeeded outcome ≡ true → ReadsBack (serving mid) end bytes (link.history m) (link.truth (line mid)) (link.truth m)
-    → numbers m ≡ used → end ≡ read.Read → length bytes ≤ size → IsSameBeyond room.opening size (record_in m) bytes
-    → IsFinished link numbers room.geometry room.opening (record_in l) used Went size bytes
-synced_by {L = L} room link serving line is_ready knows runs_on record_in numbers used old mid l m outcome end size bytes same kept held c is x at
-    all within beyond =
+    → succeeded outcome ≡ true → ReadsBack (serving mid) end pieces (link.history m) (link.truth (line mid)) (link.truth m)
+    → numbers m ≡ used → end ≡ read.Read → ArePiecesOf units size pieces → IsSameElsewhere room.opening size (record_in m) units
+    → IsFinished link numbers room.geometry room.opening (record_in l) used Went size units pieces
+synced_by {L = L} room link serving line is_ready knows runs_on record_in numbers used old mid l m outcome end size units pieces same kept held c is
+    x at all of elsewhere =
     let d = subst (λ (o : Outcome). CallSpecification (serving old) (serving mid) (link.truth (line old)) (link.truth (line mid)) syncer 0 Sync o)
     (done_is outcome is) c in
-    subst (λ (n : L). IsFinished link numbers room.geometry room.opening (record_in n) used Went size bytes) same
+    subst (λ (n : L). IsFinished link numbers room.geometry room.opening (record_in n) used Went size units pieces) same
     (finished_back link numbers record_in room.geometry room.opening (record_in (line old)) (marks_after d.keeps.acts (record_in (line old))) used
-    (serving mid) end size bytes (line mid) m (was_synced room link serving line is_ready knows runs_on record_in old mid kept held d) x
-    (kept.is_record m) at all within beyond)
+    (serving mid) end size units pieces (line mid) m (was_synced room link serving line is_ready knows runs_on record_in old mid kept held d) x
+    (kept.is_record m) at all of elsewhere)
 
--- whether writes reach further than was read, by what was asked
-pub read_less : (reach is n m size : ℕ) (beyond : Bool) → reach ≡ is → n ≡ m → ((beyond ≡ true) ↔ (n < min reach size))
-    → (beyond ≡ true) ↔ (m < min is size)
-read_less reach is n m size beyond reaches same h = subst (λ (k : ℕ). (beyond ≡ true) ↔ (k < min is size)) same
-    (subst (λ (r : ℕ). (beyond ≡ true) ↔ (n < min r size)) reaches h)
+-- what holds of a Bool and can't be true
+not_true : (b : Bool) → (b ≡ true → ⊥) → b ≡ false
+not_true true never = absurd (never refl)
+not_true false never = refl
 
--- a place behind those that were read, where writes reach no further
-not_past : (reach size n k : ℕ) → ((n < min reach size) → ⊥) → n ≤ k → k < size → reach ≤ k
-not_past reach size n k none from to = elim (cases_lt k reach) [
-  | inl low ↦ absurd (none (le-min (omega (arith, low, from)) (omega (arith, from, to))))
-  | inr past ↦ past
-]
+-- where all units are marked that writes have bytes in
+pub same_elsewhere : (v : Opening) (size : ℕ) (marks : List Mark) (units written : List Bool) (all : Bool) → DiskStaysUnwritten
+    → size ≤ 67108864 → AreWritten written marks → ((all ≡ true) ↔ Covers units written) → all ≡ true → IsSameElsewhere v size marks units
+same_elsewhere v size marks units written all stays most are covers is k low off =
+    let n : ℕ = k / 4096 in
+    let none : is_marked written n ≡ false =
+    not_true (is_marked written n) (λ there. let marked = covers.0 is n there in false≢true (sym off ∙ marked)) in
+    stays (contents_at v) marks k (sym (are.each n (omega (arith, low, most))) ∙ none)
 
--- where writes reach no further than was read
-pub same_beyond : (v : Opening) (size : ℕ) (marks : List Mark) (bytes : List ℕ) (beyond : Bool) → DiskStaysBeyond
-    → ((beyond ≡ true) ↔ (length bytes < min (reach_of marks) size)) → beyond ≡ false → IsSameBeyond v size marks bytes
-same_beyond v size marks bytes beyond stays h none k from to =
-    stays (contents_at v) marks k
-    (not_past (reach_of marks) size (length bytes) k (λ over. let t : beyond ≡ true = h.1 over in false≢true (sym none ∙ t)) from to)
+-- the pieces that were to be read, once they were
+pub pieces_still : (units : List Bool) (size : ℕ) (old new : List Piece) → SamePlaces old new → ArePiecesOf units size old
+    → ArePiecesOf units size new
+pieces_still units size old new same of = record {
+  ordered = same_places_pieces 0 size old new same of.ordered;
+  all = λ k low marked. same_places_in old new k same (of.all k low marked);
+}

@@ -28,6 +28,7 @@ use Rattle.board.specs.declared.counting.parameters.ServiceParameters.{Ghosts as
 use Rattle.board.specs.Keeper.{begins_itself, begins_before, begins_further}
 use Rattle.shared_server.specs.Descriptors.{is_done, was_cut, succeeded}
 use Rattle.shared_server.specs.Held.{IsHeld}
+use Rattle.volume_reading.specs.declared.piece.Piece.{Piece}
 use Rattle.shared_server.specs.Stopping.{syncer, SyncEnd, Went, WasGivenUp, WasCut, sync_end, has_ended, SyncTells, IsFinished, IsLastLine}
 use Rattle.shared_server.proofs.HeldLaws.{Kept, ends_called, kept_if_cut, legal_from, not_given_up, done_is, true_before, true_outcome}
 
@@ -189,10 +190,10 @@ line_from link g v earlier seen how line begins l = record {
 
 -- so does what is left of a server
 pub finished_from : {L : Type 0} (link : LinkWords L) (numbers : L → List ℕ) (g : Geometry) (v : Opening) (earlier seen : List Mark) (used : List ℕ)
-    (how : SyncEnd) (size : ℕ) (bytes : List ℕ) → IsBeginning earlier seen → IsFinished link numbers g v seen used how size bytes
-    → IsFinished link numbers g v earlier used how size bytes
+    (how : SyncEnd) (size : ℕ) (units : List Bool) (pieces : List Piece) → IsBeginning earlier seen
+    → IsFinished link numbers g v seen used how size units pieces → IsFinished link numbers g v earlier used how size units pieces
 unfolding line_from
-finished_from link numbers g v earlier seen used how size bytes begins l = record {
+finished_from link numbers g v earlier seen used how size units pieces begins l = record {
   line = l.line;
   last = line_from link g v earlier seen how l.line begins l.last;
   back = l.back;

@@ -1,5 +1,5 @@
 -- What a service that is stopped leaves.
-use Rattle.std.specs.Prelude.{◌≡◌, ◌<◌, ◌≤◌, ℕ, List, ◌∷◌, length, Bool, true, false, if◌then◌else◌, slice_index}
+use Rattle.std.specs.Prelude.{◌≡◌, ◌<◌, ◌/◌, ℕ, List, ◌∷◌, Bool, true, false, if◌then◌else◌}
 use Rattle.layout.specs.declared.Geometry.{Geometry}
 use Rattle.tree.specs.declared.Who.{Who}
 use Rattle.tree.specs.declared.Call.TheVariants.{Sync}
@@ -12,6 +12,9 @@ use Rattle.records.specs.Told.{took_end}
 use Rattle.records.specs.Legal.{IsAtFirst, IsSynced, tree_after}
 use Rattle.reissue.specs.declared.link.Link.{Ghosts as LinkWords}
 use Rattle.reissue.specs.Moves.{WasRead}
+use Rattle.changes.specs.Units.{is_marked}
+use Rattle.volume_reading.specs.declared.piece.Piece.{Piece}
+use Rattle.volume_reading.specs.Pieces.{ArePieces, HaveBytes, IsIn}
 
 -- who syncs a service that is stopped
 abbrev pub syncer : Who
@@ -50,18 +53,19 @@ SyncTells WasCut g v tree marks = gave_up marks ≡ false
 SyncTells WasNotAsRead g v tree marks = IsOnDisk g v tree marks
 SyncTells WasNotRead g v tree marks = IsOnDisk g v tree marks
 
--- These are the first bytes of the volume's range, as far as it was written. Each place of them was read, and gave its byte; where the replies
--- were true, it is the disk's. Behind them the disk is as it was handed in, whatever the replies.
-pub record AreOnDisk (v : Opening) (size : ℕ) (marks : List Mark) (bytes : List ℕ) : Type 0 where
-  pub within : length bytes ≤ size
-  pub read : (k : ℕ) → k < length bytes → WasRead marks k (slice_index bytes k)
-  pub is_disk : HasTrueReplies (contents_at v) marks → (k : ℕ) → k < length bytes → slice_index bytes k ≡ disk_after (contents_at v) marks k
-  pub beyond : (k : ℕ) → length bytes ≤ k → k < size → disk_after (contents_at v) marks k ≡ contents_at v k
+-- These pieces of the volume's range were read, in order: they have each place in a unit that is marked, and each gave its byte; where the
+-- replies were true, it is the disk's. In the other units the disk is as it was handed in, whatever the replies.
+pub record AreOnDisk (v : Opening) (size : ℕ) (marks : List Mark) (units : List Bool) (pieces : List Piece) : Type 0 where
+  pub ordered : ArePieces 0 size pieces
+  pub all : (k : ℕ) → k < size → is_marked units (k / 4096) ≡ true → IsIn pieces k
+  pub read : HaveBytes (WasRead marks) pieces
+  pub is_disk : HasTrueReplies (contents_at v) marks → HaveBytes (λ k b. b ≡ disk_after (contents_at v) marks k) pieces
+  pub elsewhere : (k : ℕ) → k < size → is_marked units (k / 4096) ≡ false → disk_after (contents_at v) marks k ≡ contents_at v k
 
 -- so it is of what was read back, where all went
-abbrev pub AreBack : SyncEnd → Opening → ℕ → List Mark → List ℕ → Type 0
-AreBack Went v size marks bytes = AreOnDisk v size marks bytes
-AreBack _ v size marks bytes = Unit {0}
+abbrev pub AreBack : SyncEnd → Opening → ℕ → List Mark → List Bool → List Piece → Type 0
+AreBack Went v size marks units pieces = AreOnDisk v size marks units pieces
+AreBack _ v size marks units pieces = Unit {0}
 
 -- A service's link after the last sync, which went so: it has ended where the sync was cut, and guarantees a record that goes on from what was
 -- seen, and says how the sync went, whichever tree the volume held as it was handed in.
@@ -72,11 +76,11 @@ pub record IsLastLine {L : Type 0} (link : LinkWords L) (g : Geometry) (v : Open
   pub goes_on : IsBeginning seen marks
   pub tells : (tree : Tree) → IsAtFirst g (contents_at v) tree → SyncTells how g v tree marks
 
--- A server was let go after a last sync, which went so, with these first bytes of its range of this size read back: its link then, at which
--- sessions had these numbers.
+-- A server was let go after a last sync, which went so, with these pieces of its range of this size read back, which lie in these units: its
+-- link then, at which sessions had these numbers.
 pub record IsFinished {L : Type 0} (link : LinkWords L) (numbers : L → List ℕ) (g : Geometry) (v : Opening) (seen : List Mark) (used : List ℕ)
-    (how : SyncEnd) (size : ℕ) (bytes : List ℕ) : Type 0 where
+    (how : SyncEnd) (size : ℕ) (units : List Bool) (pieces : List Piece) : Type 0 where
   pub line : L
   pub last : IsLastLine link g v seen how line
-  pub back : AreBack how v size last.marks bytes
+  pub back : AreBack how v size last.marks units pieces
   pub same : numbers line ≡ used

@@ -1,15 +1,34 @@
-//! What comes of the last sync of a service, and room to read its volume back.
+//! What comes of the last sync of a service, and the pieces of its volume that are read back.
 
-ghost use Rattle.std.specs.Prelude.{◌≡◌, ◌≤◌, ◌<◌, ◌^◌, ◌%◌, ◌↔◌, length, true, IfOk, min};
+ghost use Rattle.std.specs.Prelude.{◌≡◌, ◌≤◌, ◌<◌, ◌+◌, ◌*◌, ◌-◌, ◌%◌, IfOk, false};
+ghost use Rattle.changes.specs.Units.{is_marked};
+ghost use Rattle.shared_server.specs.Finishing.{ArePiecesOf, IsPieceOf, piece_end};
+ghost use Rattle.volume_reading.specs.Pieces.{ArePieces};
 
+use changes::Marks;
 use std::alloc::{AllocError, Global};
-use volume_reading::ReadRoom;
+use volume_reading::{Piece, ReadRoom};
 
-/// What came of a last sync, and of reading back the volume's range as far as it was written.
+/// The bytes of the largest volume (own): 64 MiB.
+pub(crate) const MOST: u64 = 67108864;
+
+/// The bytes of a unit.
+const UNIT: u64 = 4096;
+
+/// What was read back of a volume's range.
+#[derive(Drop)]
+pub struct ReadBack {
+    /// Which units of 4096 bytes writes had bytes in.
+    pub units: Marks,
+    /// The pieces of the range that lie in these units, with their bytes, in order.
+    pub pieces: Vec<Piece>,
+}
+
+/// What came of a last sync, and of reading back what was written of the volume's range.
 #[derive(Drop)]
 pub enum Finish {
-    /// The sync was answered ok, and these first bytes of the range were read back: no write that was issued reaches behind them.
-    Read(Vec<u8>),
+    /// The sync was answered ok, and these pieces of the range were read back: no write that was issued has a byte elsewhere.
+    Read(ReadBack),
     /// The sync was answered ok, and the range wasn't read back: no memory was found for it.
     Unread,
     /// The device was given up.
@@ -18,28 +37,72 @@ pub enum Finish {
     Cut,
 }
 
-/// Room for the first bytes of a range of this size, a multiple of 512, as far as writes reach, and room to read them.
-pub(crate) fn room_for(
-    alloc: Global,
-    reach: u128,
-    size: u64,
-) -> Result<(ReadRoom, Vec<u8>), AllocError>
-    requires whole { size % 512 ≡ 0 }
-    requires most { size ≤ 2 ^ 48 }
-    ensures whole { IfOk result (λ r. length r.1.items % 512 ≡ 0) }
-    ensures within { IfOk result (λ r. length r.1.items ≤ size) }
-    ensures reaches { IfOk result (λ r. min reach size ≤ length r.1.items) }
+/// Where marked units that lie side by side end, from one on: that one, where it isn't marked. None is looked at from `count` on.
+fn end_of_run(units: &Marks, from: u32, count: u32) -> u32
+    requires { from ≤ count }
+    ensures within { (from ≤ result) × (result ≤ count) }
+    ensures none { result ≡ from → from < count → is_marked units.now from ≡ false }
 {
-    let room = ReadRoom::new(alloc)?;
-    let sectors = reach.min(size as u128) as u64;
-    let sectors = sectors / 512 + u64::from(sectors % 512 != 0);
-    let bytes = vec![in alloc; 0; sectors as usize * 512]?;
-    Ok((room, bytes))
+    for unit in from..count {
+        if !units.has(unit) {
+            return unit;
+        }
+    }
+    count
 }
 
-/// Whether writes that reach so far cover a place of a range of this size behind its first bytes, which are so many.
-pub(crate) fn is_beyond(reach: u128, read: usize, size: u64) -> bool
-    ensures { (result ≡ true) ↔ (read < min reach size) }
+/// The piece of a range of this size that lies in units from `first` to before `end`, whose bytes aren't read yet. Refused where no memory was
+/// found.
+fn piece_of(alloc: Global, first: u32, end: u32, size: u64) -> Result<Piece, AllocError>
+    requires some { first < end }
+    requires starts { 4096 * first < size }
+    requires most { size ≤ 67108864 }
+    ensures { IfOk result (IsPieceOf first end size) }
 {
-    reach.min(size as u128) > read as u128
+    let start = u64::from(first) * UNIT;
+    let behind = (u64::from(end) * UNIT).min(size);
+    let bytes = vec![in alloc; 0; (behind - start) as usize]?;
+    Ok(Piece { start, bytes })
+}
+
+/// The pieces of a range of this size, a multiple of 512, that lie in marked units, in order, whose bytes aren't read yet. Refused where no
+/// memory was found for them.
+fn pieces_of(
+    alloc: Global,
+    units: &Marks,
+    size: u64,
+) -> Result<Vec<Piece>, AllocError>
+    requires whole { size % 512 ≡ 0 }
+    requires most { size ≤ 67108864 }
+    ensures { IfOk result (λ pieces. ArePiecesOf units.now size pieces.items) }
+{
+    let count = ((size + (UNIT - 1)) / UNIT) as u32;
+    let mut pieces = Vec::new(alloc);
+    let mut next: u32 = 0;
+    while next < count {
+        let end = end_of_run(units, next, count);
+        if next < end {
+            pieces.push(piece_of(alloc, next, end, size)?)?;
+        }
+        next = end.max(next + 1);
+    }
+    Ok(pieces)
+}
+
+/// The pieces of a range of this size, a multiple of 512, that are to be read back where these units were written, and room to read them.
+/// Refused where no memory was found.
+pub(crate) fn room_for(
+    alloc: Global,
+    units: &Marks,
+    size: u64,
+) -> Result<(ReadRoom, ReadBack), AllocError>
+    requires whole { size % 512 ≡ 0 }
+    requires most { size ≤ 67108864 }
+    ensures units { IfOk result (λ r. r.1.units ≡ units.now) }
+    ensures pieces { IfOk result (λ r. ArePiecesOf units.now size r.1.pieces.items) }
+{
+    let room = ReadRoom::new(alloc)?;
+    let pieces = pieces_of(alloc, units, size)?;
+    let units = units.copied(alloc)?;
+    Ok((room, ReadBack { units, pieces }))
 }

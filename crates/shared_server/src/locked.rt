@@ -11,19 +11,19 @@ ghost use Rattle.board.specs.Steps.{SessionIsNew, SessionLearns};
 ghost use Rattle.file_server.specs.Over.{outcome_in, outcome_of};
 ghost use Rattle.shared_server.specs.Held.{AddsCall, HoldsIfTrue, IsEioOnceGivenUp, IsGood, IsGuaranteed, IsHeld, IsNotAdmitted, IsServedCall, IsSound};
 ghost use Rattle.shared_server.specs.Stopping.{IsFinished};
-ghost use Rattle.shared_server.specs.Finishing.{bytes_back, finish_end};
+ghost use Rattle.shared_server.specs.Finishing.{finish_end, pieces_back, units_back};
 ghost use Rattle.board.specs.Keeper.{AreAllUsed, IsLowestFree, IsOneFree, IsOneUsed};
 
 use crate::calling::make_call;
-use crate::finishing::{Finish, is_beyond, room_for};
+use crate::finishing::{Finish, MOST, room_for};
 use crate::flushing::{take_aside, take_flush};
 use crate::left_open::{is_cut, was_done};
 use crate::refusal::SessionRefusal;
 use crate::sharing::{admit, release, show};
 use board::Seat;
 use board::counting::parameters::ServiceParameters;
-use board::counting::reach::disk_stays_beyond;
 use board::counting::recorder::Recorder;
+use board::counting::written::disk_stays_unwritten;
 use file_server::{Ending, FileServer, ReadEnd};
 use std::alloc::Global;
 use std::marker::{Model, PhantomData};
@@ -150,15 +150,14 @@ impl<N: ServiceParameters, L: Recorder<N>, S: FileServer<L>> Locked<N, L, S> {
         self.server.link().has_sessions(but)
     }
 
-    /// A last sync, after which the server is let go with its link. Where it was answered ok, the first bytes of the volume's range, whose
-    /// size in bytes is given, are read back through the link, as many as writes reach: `Read` where all that went, `Unread` where no memory
-    /// was found for them; none is asked for where nothing was written. `GivenUp` or `Cut` where the device was given up or the link ended
-    /// in either. The numbers of sessions stay.
+    /// A last sync, after which the server is let go with its link. Where it was answered ok, the pieces of the volume's range, whose size in
+    /// bytes is given, in which writes have bytes are read back through the link, in units of 4096 bytes: `Read` where all that went, `Unread`
+    /// where no memory was found for them, or no volume is so large. `GivenUp` or `Cut` where the device was given up or the link ended in
+    /// either. The numbers of sessions stay.
     pub fn finish(self, alloc: Global, size: u64) -> Finish
         requires whole { size % 512 ≡ 0 }
-        requires most { size ≤ 2 ^ 48 }
         ensures finished { IsFinished L.Link L.numbers N.geometry N.opening (L.marks self) (L.numbers self) (finish_end result) size
-            (bytes_back result) }
+            (units_back result) (pieces_back result) }
     {
         let Locked {
             mut server,
@@ -175,21 +174,20 @@ impl<N: ServiceParameters, L: Recorder<N>, S: FileServer<L>> Locked<N, L, S> {
         if !was_done(&outcome) {
             return Finish::GivenUp;
         }
-        disk_stays_beyond();
-        let reach = server.link().reach();
-        if reach == 0 {
-            return Finish::Read(Vec::new(alloc));
+        if size > MOST {
+            return Finish::Unread;
         }
-        let Ok((room, mut bytes)) = room_for(alloc, reach, size) else {
+        disk_stays_unwritten();
+        let Ok((room, mut back)) = room_for(alloc, server.link().written(), size) else {
             return Finish::Unread;
         };
-        let (link, end) = server.read_back(room, &mut bytes);
-        let reached = link.reach();
+        let (link, end) = server.read_back(room, &mut back.pieces);
+        let is_all = back.units.covers(link.written());
         match end {
             ReadEnd::GivenUp => Finish::GivenUp,
             ReadEnd::Cut => Finish::Cut,
-            ReadEnd::Read if is_beyond(reached, bytes.len(), size) => Finish::Unread,
-            ReadEnd::Read => Finish::Read(bytes),
+            ReadEnd::Read if !is_all => Finish::Unread,
+            ReadEnd::Read => Finish::Read(back),
         }
     }
 
@@ -197,9 +195,8 @@ impl<N: ServiceParameters, L: Recorder<N>, S: FileServer<L>> Locked<N, L, S> {
     pub fn finish_after(mut self, number: u8, mut seat: Seat, alloc: Global, size: u64) -> Finish
         requires seat { (seat.table ≡ N.table) × (seat.view.number ≡ Some number) × (number < 64) }
         requires whole { size % 512 ≡ 0 }
-        requires most { size ≤ 2 ^ 48 }
         ensures finished { IsFinished L.Link L.numbers N.geometry N.opening seat.view.seen (without (Some number) (L.numbers self))
-            (finish_end result) size (bytes_back result) }
+            (finish_end result) size (units_back result) (pieces_back result) }
     {
         self.show(&mut seat);
         self.release(number, seat);
