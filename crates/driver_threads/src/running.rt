@@ -1,10 +1,10 @@
 //! The threads behind a link, from their start to their end.
 
-ghost use Rattle.std.specs.Prelude.{◌≡◌, [], IfOk};
+ghost use Rattle.std.specs.Prelude.{◌≡◌, ◌+◌, ◌/◌, [], IfOk, length};
 ghost use Rattle.std.specs.Arc.{arc_value};
 ghost use Rattle.records.specs.Opening.{Opening};
 ghost use Rattle.true_replies.specs.Events.{opening_media};
-ghost use Rattle.shared_media.specs.Confined.{IsImageOutside, KeepsBeyond, KeepsOutside};
+ghost use Rattle.shared_media.specs.Confined.{IsImageOutside, KeepsBut, KeepsOutside};
 ghost use Rattle.shared_media.specs.Marking.{AreChangesOutside};
 
 use crate::alone::once_alone;
@@ -13,7 +13,7 @@ use crate::supervisor::{Lines, Supervisor, Worker, start_supervisor};
 use bdev::BlockDriver;
 use board::counting::parameters::ServiceParameters;
 use board::{Board, Seat};
-use changes::Changes;
+use changes::{Changes, Marks};
 use channel_link::channel::bounded;
 use channel_link::link::ChannelLink;
 use channel_link::messages::Report;
@@ -199,14 +199,15 @@ impl<N: ServiceParameters> Running<N> {
         Arc::strong_count(&self.media.handles) > 1
     }
 
-    /// Ends all drivers, joins all threads, and gives the media back, and how many sectors of the volume's range, from its first on,
-    /// drivers may have written: each other sector is as it was handed in, and there are as many. The link has to be let go of before,
-    /// since else a driver may wait for room in it.
+    /// Ends all drivers, joins all threads, and gives the media, and which units of eight sectors of the volume's range, from its first
+    /// sector on, drivers may have written: each other sector is as it was handed in, and there are as many. The link has to be let go of
+    /// before, since else a driver may wait for room in it.
     ///
     /// It waits until each `MediaHandle` was let go (`is_shared`).
-    pub fn stop<R: Threads + Wait>(self, rt: &R) -> (Media, u32)
-        ensures beyond { KeepsBeyond N.opening result.1 result.0 }
+    pub fn stop<R: Threads + Wait>(self, rt: &R) -> (Media, Marks)
+        ensures kept { KeepsBut N.opening result.1 result.0 }
         ensures outside { KeepsOutside N.opening result.0 }
+        ensures units { length result.1 ≡ (N.opening.count + 7) / 8 }
     {
         let Running {
             supervisor,

@@ -1,5 +1,5 @@
 -- A step marks what it changes.
-use Rattle.std.proofs.Common.{◌≡◌, ℕ, ◌+◌, ◌*◌, ◌/◌, ◌<◌, inl, inr, List, length, Bool, true, false, refl, sym, subst, ◌∙◌, ap, arith, length-set, get_or-set_same, Option, Some, None}
+use Rattle.std.proofs.Common.{◌≡◌, ℕ, ◌+◌, ◌*◌, ◌/◌, ◌<◌, inl, inr, List, [], length, Bool, true, false, refl, sym, subst, ◌∙◌, ap, arith, length-set, get_or-set_same, Option, Some, None}
 use Rattle.std.specs.List.{concat}
 use Rattle.std.proofs.lemmas.Bool.{false≢true}
 use Rattle.message.specs.declared.Kind.{Kind}
@@ -15,20 +15,20 @@ use Rattle.bdev.specs.Promises.{StepKeeps, StepsAt, MovesBytes, IsNext}
 use Rattle.changes.specs.declared.taken.Changes.{Changes}
 use Rattle.changes.specs.Units.{units_in, is_marked, with_mark, with_marks, AreTaken}
 use Rattle.changes.proofs.Marking.{length-with_marks, still_set, still_marks}
-use Rattle.shared_media.specs.Confined.{KeepsBeyond}
+use Rattle.shared_media.specs.Confined.{KeepsBut}
 use Rattle.shared_media.specs.Marking.{ConfinedState, MarksChanges, AreChangesOutside, units_of, marked_for}
 use Rattle.shared_media.proofs.Confining.{keeps_outside}
 
--- media with marks, and a reach, of which the lemmas on marks ask nothing
-abbrev with_reach : MediaState → List Bool → ℕ → ConfinedState
-with_reach m marks reach = record { media = m; marks = marks; reach = reach }
+-- media with marks, and those of the units that were written, of which the lemmas on marks ask nothing
+abbrev with_units : MediaState → List Bool → List Bool → ConfinedState
+with_units m marks units = record { media = m; marks = marks; written = units }
 
 abbrev with : MediaState → List Bool → ConfinedState
-with m marks = with_reach m marks 0
+with m marks = with_units m marks []
 
-any_reach : (m m' : MediaState) (marks marks' : List Bool) (reach reach' : ℕ) → MarksChanges (with m marks) (with m' marks')
-    → MarksChanges (with_reach m marks reach) (with_reach m' marks' reach')
-any_reach m m' marks marks' reach reach' p = record { number = p.number; same = p.same; still = p.still }
+any_units : (m m' : MediaState) (marks marks' units units' : List Bool) → MarksChanges (with m marks) (with m' marks')
+    → MarksChanges (with_units m marks units) (with_units m' marks' units')
+any_units m m' marks marks' units units' p = record { number = p.number; same = p.same; still = p.still }
 
 -- marks of which none was taken away
 abbrev Stills : List Bool → List Bool → Type 0
@@ -48,15 +48,15 @@ same_media m m' old new same still =
     subst (λ (x : MediaState). MarksChanges (with m old) (with x new)) (sym same)
     (record { number = refl; same = λ n off. refl; still = still })
 
-pub adopted_marks : (m : MediaState) (marks : List Bool) (reach g : ℕ)
-    → MarksChanges (with_reach m marks reach) (with_reach (adopted m g) marks reach)
-adopted_marks m marks reach g = record { number = refl; same = λ n off. refl; still = λ n off. off }
+pub adopted_marks : (m : MediaState) (marks units : List Bool) (g : ℕ)
+    → MarksChanges (with_units m marks units) (with_units (adopted m g) marks units)
+adopted_marks m marks units g = record { number = refl; same = λ n off. refl; still = λ n off. off }
 
-pub marked_again : (old : ConfinedState) (m : MediaState) (marks marks' : List Bool) (reach : ℕ) (ns : List ℕ)
-    → with_reach m marks reach ≡ old → marks' ≡ with_marks marks ns → MarksChanges old (with_reach m marks' reach)
-marked_again old m marks marks' reach ns from is =
-    subst (λ (x : ConfinedState). MarksChanges x (with_reach m marks' reach)) from
-    (subst (λ (l : List Bool). MarksChanges (with_reach m marks reach) (with_reach m l reach)) (sym is)
+pub marked_again : (old : ConfinedState) (m : MediaState) (marks marks' units : List Bool) (ns : List ℕ)
+    → with_units m marks units ≡ old → marks' ≡ with_marks marks ns → MarksChanges old (with_units m marks' units)
+marked_again old m marks marks' units ns from is =
+    subst (λ (x : ConfinedState). MarksChanges x (with_units m marks' units)) from
+    (subst (λ (l : List Bool). MarksChanges (with_units m marks units) (with_units m l units)) (sym is)
     (record { number = refl; same = λ n off. refl; still = still_marks ns marks }))
 
 pub long_again : (m : MediaState) (marks : List Bool) (ns : List ℕ) → length marks ≡ units_of m → length (with_marks marks ns) ≡ units_of m
@@ -100,12 +100,12 @@ stepped b (Some w) m g step a m' marks s long = elim s.1 [
 ]
 
 pub marks_step : (old : ConfinedState) (b : DriverState) (m : MediaState) (g : ℕ) (step : Step) (a : DriverState) (m' : MediaState)
-    (marks marks' : List Bool) (reach reach' : ℕ) → with_reach m marks reach ≡ old → StepKeeps b m g step a m' → length marks ≡ units_of m
-    → marks' ≡ marked_for b.in_work marks → MarksChanges old (with_reach m' marks' reach')
-marks_step old b m g step a m' marks marks' reach reach' from keeps long is =
-    subst (λ (x : ConfinedState). MarksChanges x (with_reach m' marks' reach')) from
-    (subst (λ (l : List Bool). MarksChanges (with_reach m marks reach) (with_reach m' l reach')) (sym is)
-    (any_reach m m' marks (marked_for b.in_work marks) reach reach' (stepped b b.work m g step a m' marks keeps.steps long)))
+    (marks marks' units units' : List Bool) → with_units m marks units ≡ old → StepKeeps b m g step a m' → length marks ≡ units_of m
+    → marks' ≡ marked_for b.in_work marks → MarksChanges old (with_units m' marks' units')
+marks_step old b m g step a m' marks marks' units units' from keeps long is =
+    subst (λ (x : ConfinedState). MarksChanges x (with_units m' marks' units')) from
+    (subst (λ (l : List Bool). MarksChanges (with_units m marks units) (with_units m' l units')) (sym is)
+    (any_units m m' marks (marked_for b.in_work marks) units units' (stepped b b.work m g step a m' marks keeps.steps long)))
 
 pub long_after : (b : DriverState) (m : MediaState) (g : ℕ) (step : Step) (a : DriverState) (m' : MediaState) (marks marks' : List Bool)
     → StepKeeps b m g step a m' → length marks ≡ units_of m → marks' ≡ marked_for b.in_work marks → length marks' ≡ units_of m'
@@ -114,13 +114,13 @@ long_after b m g step a m' marks marks' keeps long is =
     ap length is ∙ length-marked_for b.in_work marks ∙ long ∙ ap (λ k. (k + 7) / 8) (sym number)
 
 -- the changes taken of media that are as they were handed in outside of the volume
-pub changes_outside : (v : Opening) (reach : ℕ) (m : MediaState) (marks : List Bool) (changes : Changes) → KeepsBeyond v reach m
+pub changes_outside : (v : Opening) (units : List Bool) (m : MediaState) (marks : List Bool) (changes : Changes) → KeepsBut v units m
     → IsWhole m.sectors → length marks ≡ units_of m → AreTaken marks (concat m.sectors) changes → AreChangesOutside v changes
-changes_outside v reach m marks changes kept whole long taken =
+changes_outside v units m marks changes kept whole long taken =
     let bytes : length (concat m.sectors) ≡ 512 * length m.sectors = length-concat m.sectors whole.each in
     record {
       image = concat m.sectors;
-      outside = record { media = m; bytes = refl; whole = whole; outside = keeps_outside v reach m kept };
+      outside = record { media = m; bytes = refl; whole = whole; outside = keeps_outside v units m kept };
       marks = marks;
       as_many = let same : units_in (concat m.sectors) ≡ units_of m = omega arith in long ∙ sym same;
       taken = taken;

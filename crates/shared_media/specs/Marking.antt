@@ -8,19 +8,21 @@ use Rattle.changes.specs.declared.taken.Changes.{Changes}
 use Rattle.changes.specs.Units.{units_in, is_marked, with_mark, with_marks, AgreesBut, AreTaken, puts_of, unit_of}
 use Rattle.shared_media.specs.Confined.{IsImageOutside}
 
--- the media, a mark for each unit of eight sectors, and how many of the volume's sectors, from its first on, steps may have written
+-- The media, a mark for each unit of eight sectors, and one for each of the volume's, counted from its first sector on: whether steps may
+-- have written it.
 pub record ConfinedState : Type 0 where
   pub media : MediaState
   pub marks : List Bool
-  pub reach : ℕ
+  pub written : List Bool
 
 -- how many units media have; the last one may have fewer than eight sectors
 abbrev pub units_of : MediaState → ℕ
 units_of media = (length media.sectors + 7) / 8
 
--- media on which no step was taken
-abbrev pub fresh : MediaState → ConfinedState
-fresh media = record { media = media; marks = replicate (units_of media) false; reach = 0 }
+-- media on which no step was taken, of a volume of so many sectors
+abbrev pub fresh : ℕ → MediaState → ConfinedState
+fresh count media =
+    record { media = media; marks = replicate (units_of media) false; written = replicate ((count + 7) / 8) false }
 
 -- the same media, of which no unit is marked
 abbrev pub unmarked : ConfinedState → ConfinedState

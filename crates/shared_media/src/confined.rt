@@ -1,13 +1,13 @@
 //! The media that drivers share, on which they write in the range of one volume alone.
 
-ghost use Rattle.std.specs.Prelude.{◌≡◌, ◌≤◌, ◌<◌, ◌+◌, ◌↔◌, IfOk, IfSome, IsTrue, OnErr, OnOk};
+ghost use Rattle.std.specs.Prelude.{◌≡◌, ◌≤◌, ◌+◌, ◌/◌, ◌↔◌, IfOk, IfSome, IsTrue, OnErr, OnOk, length};
 ghost use Rattle.std.specs.List.{concat};
 ghost use Rattle.media.specs.Contents.{adopted};
 ghost use Rattle.true_replies.specs.Events.{opening_media};
 ghost use Rattle.bdev.specs.Promises.{StepKeeps};
 ghost use Rattle.bdev.specs.Stepping.{step_with};
 ghost use Rattle.changes.specs.Units.{AreTaken, with_marks};
-ghost use Rattle.shared_media.specs.Confined.{KeepsBeyond, KeepsOutside, IsImageOutside, IsInVolume, StaysInVolume, reached_for, step_of};
+ghost use Rattle.shared_media.specs.Confined.{KeepsBut, KeepsOutside, IsImageOutside, IsInVolume, StaysInVolume, step_of, written_for};
 ghost use Rattle.shared_media.specs.Marking.{AreChangesOutside, MarksChanges, fresh, marked_for, units_of, unmarked};
 
 use bdev::{BlockDriver, Stepped};
@@ -23,8 +23,8 @@ const SECTORS: u32 = 8;
 
 /// Media on which drivers write in a volume's range alone: they have as many sectors as were handed in, and outside of the range each
 /// sector is as it was handed in. Beside them stands a mark for each unit of 4096 bytes: whether a sector of it may have changed since the
-/// changes were last taken; and how many sectors of the range, from its first on, steps may have written at all. Contracts see the media,
-/// the marks and that number.
+/// changes were last taken; and one for each unit of eight sectors of the range, counted from its first one on: whether steps may have
+/// written it at all. Contracts see the media and both lists of marks.
 #[derive(Drop)]
 pub struct Confined<N: ServiceParameters> {
     media: Media,
@@ -32,22 +32,22 @@ pub struct Confined<N: ServiceParameters> {
     // The volume's first sector, and how many it has.
     first: u32,
     count: u32,
-    // How many of them, from the first on, steps may have written.
-    reach: u32,
+    // Which units of eight sectors of the range, from the first one on, steps may have written.
+    written: Marks,
     of: PhantomData<N>,
 }
 
 impl<N: ServiceParameters> Model for Confined<N> {
-    ghost use Rattle.std.specs.Prelude.{◌≡◌, length};
-    ghost use Rattle.shared_media.specs.Confined.{KeepsBeyond};
+    ghost use Rattle.std.specs.Prelude.{◌≡◌, ◌+◌, ◌/◌, length};
+    ghost use Rattle.shared_media.specs.Confined.{KeepsBut};
     ghost use Rattle.shared_media.specs.Marking.{ConfinedState, units_of};
 
     ghost Value = { ConfinedState };
 
-    ghost view = { λ c. record { media = c.media; marks = c.marks; reach = c.reach } };
+    ghost view = { λ c. record { media = c.media; marks = c.marks; written = c.written } };
 
-    ghost invariant = { λ c. (c.first ≡ N.opening.first) × (c.count ≡ N.opening.count) × KeepsBeyond N.opening c.reach c.media
-        × (length c.marks ≡ units_of c.media) };
+    ghost invariant = { λ c. (c.first ≡ N.opening.first) × (c.count ≡ N.opening.count) × KeepsBut N.opening c.written c.media
+        × (length c.marks ≡ units_of c.media) × (length c.written ≡ (N.opening.count + 7) / 8) };
 }
 
 /// How many units media have; the last one may have fewer than eight sectors.
@@ -66,14 +66,13 @@ fn mark_sector(marks: &mut Marks, sector: Option<u32>)
     }
 }
 
-/// How many sectors of a range, from this first one on, steps may have written: so many before, and then one that may write this sector.
-fn reached_for(first: u32, sector: Option<u32>, reach: u32) -> u32
-    requires { IfSome sector (λ s. (first ≤ s) × (s < first + 4294967295)) }
-    ensures { result ≡ reached_for first sector reach }
+/// Marks the unit of a sector of a range with this first one, if there is a sector.
+fn mark_written(first: u32, written: &mut Marks, sector: Option<u32>)
+    requires { IfSome sector (λ s. first ≤ s) }
+    ensures { written.new ≡ written_for first sector written.old }
 {
-    match sector {
-        Some(sector) => (sector - first + 1).max(reach),
-        None => reach,
+    if let Some(sector) = sector {
+        written.mark((sector - first) / SECTORS);
     }
 }
 
@@ -90,21 +89,22 @@ fn put_completion(reply: &mut BlockReply, stepped: Stepped)
 
 impl<N: ServiceParameters> Confined<N> {
     /// The media as they were handed in, of which nothing is marked, and the volume's first sector and how many it has. Where no memory was
-    /// found for the marks, the media are let go.
+    /// found for all marks, the media are let go.
     #[tactic(auto, using(crate::proofs::Confining::keeps_given))]
     pub fn new(alloc: Global, media: Media, range: (u32, u32)) -> Result<Confined<N>, AllocError>
         requires range { (range.0 ≡ N.opening.first) × (range.1 ≡ N.opening.count) }
         requires media { media ≡ opening_media N.opening }
-        ensures { IfOk result (λ confined. confined ≡ fresh media) }
+        ensures { IfOk result (λ confined. confined ≡ fresh N.opening.count media) }
     {
         let (first, count) = range;
         let marks = Marks::new(alloc, units_of(&media))?;
+        let written = Marks::new(alloc, count.div_ceil(SECTORS))?;
         Ok(Confined {
             media,
             marks,
             first,
             count,
-            reach: 0,
+            written,
             of: PhantomData,
         })
     }
@@ -119,9 +119,8 @@ impl<N: ServiceParameters> Confined<N> {
     }
 
     /// Takes a driver's step, under its generation, and puts the answer of one that is done into the reply, without its endpoint. A driver
-    /// that names a sector outside of the range as the one that its step may write isn't stepped: it counts as failed. The unit of a sector
-    /// that the step may write is marked, whether the step writes it or not.
-    #[tactic(auto, using(crate::proofs::Confining::keeps_stepped, crate::proofs::Marking::long_after))]
+    /// that names a sector outside of the range as the one that its step may write isn't stepped: it counts as failed. The units of a sector
+    /// that the step may write are marked, that of the media and that of the range, whether the step writes it or not.
     pub fn step<D: BlockDriver>(
         &mut self,
         driver: &mut D,
@@ -134,8 +133,8 @@ impl<N: ServiceParameters> Confined<N> {
             → (result ≡ Stepped.Failed) × (D.state driver.new ≡ D.state driver.old) × (self.new ≡ self.old) }
         ensures marks { StaysInVolume N.opening (D.state driver.old)
             → self.new.marks ≡ marked_for (D.state driver.old).in_work self.old.marks }
-        ensures reach { StaysInVolume N.opening (D.state driver.old)
-            → self.new.reach ≡ reached_for N.opening.first (D.state driver.old).in_work self.old.reach }
+        ensures written { StaysInVolume N.opening (D.state driver.old)
+            → self.new.written ≡ written_for N.opening.first (D.state driver.old).in_work self.old.written }
         ensures changed { MarksChanges self.old self.new }
         ensures from { reply.new.from ≡ reply.old.from }
     {
@@ -144,7 +143,7 @@ impl<N: ServiceParameters> Confined<N> {
         }
         let sector = driver.in_work();
         mark_sector(&mut self.marks, sector);
-        self.reach = reached_for(self.first, sector, self.reach);
+        mark_written(self.first, &mut self.written, sector);
         let stepped = driver.step_into(&mut self.media, generation, &mut reply.bytes);
         put_completion(reply, stepped);
         stepped
@@ -152,7 +151,6 @@ impl<N: ServiceParameters> Confined<N> {
 
     /// The marked units, in ascending order, with their bytes as they stand; then none is marked. Refused where no memory was found for these
     /// units: nothing has changed then.
-    #[tactic(auto, using(crate::proofs::Marking::changes_outside))]
     pub fn take_changes(&mut self, alloc: Global) -> Result<Changes, AllocError>
         ensures taken { IfOk result (AreTaken self.old.marks (concat self.old.media.sectors)) }
         ensures cleared { OnOk result (self.new ≡ unmarked self.old) }
@@ -194,17 +192,18 @@ impl<N: ServiceParameters> Confined<N> {
         (self.first, self.count)
     }
 
-    /// The media, with no drivers on them, and how many sectors of the range, from its first on, steps may have written: each other one is
-    /// as it was handed in.
+    /// The media, with no drivers on them, and which units of eight sectors of the range, from its first on, steps may have written: each
+    /// other sector is as it was handed in.
     #[tactic(auto, using(crate::proofs::Confining::keeps_outside))]
-    pub fn into_media(self) -> (Media, u32)
+    pub fn into_media(self) -> (Media, Marks)
         ensures same { result.0 ≡ self.media }
-        ensures reach { result.1 ≡ self.reach }
-        ensures kept { KeepsBeyond N.opening result.1 result.0 }
+        ensures written { result.1 ≡ self.written }
+        ensures kept { KeepsBut N.opening result.1 result.0 }
         ensures outside { KeepsOutside N.opening result.0 }
+        ensures units { length result.1 ≡ (N.opening.count + 7) / 8 }
     {
-        let Confined { media, reach, .. } = self;
-        (media, reach)
+        let Confined { media, written, .. } = self;
+        (media, written)
     }
 
     // Whether a driver names no sector as the next to be written, or one of the volume's.

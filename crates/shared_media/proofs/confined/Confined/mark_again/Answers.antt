@@ -3,5 +3,5 @@ use Rattle.shared_media.proofs.confined.Confined.mark_again.Goals as goal
 
 pub returns-clause-changed : goal.returns-clause-changed
 returns-clause-changed g c =
-    marked_again c.args.self.now c.self.inside.media c.self.inside.marks c.mark_all.new.self c.self.inside.reach c.deref.result.now
+    marked_again c.args.self.now c.self.inside.media c.self.inside.marks c.mark_all.new.self c.self.inside.written c.deref.result.now
     c.self.view_is c.mark_all.ensures
