@@ -1,18 +1,22 @@
--- The volume's range of an image that drivers wrote up to a place.
-use Rattle.std.proofs.Common.{◌≡◌, ◌*◌, ◌+◌, ◌/◌, ◌<◌, ◌≤◌, ◌∙◌, ap, arith, length, ℕ, zero, suc, List, [], get_or, subst, sym, take, drop, inr}
+-- The volume's range of an image of which drivers wrote some units.
+use Rattle.std.proofs.Common.{◌≡◌, ◌*◌, ◌+◌, ◌/◌, ◌<◌, ◌≤◌, ◌∙◌, ap, arith, length, ℕ, zero, suc, Bool, true, false, List, [], get_or, refl, subst, sym, take, drop}
 use Rattle.std.proofs.Common.{get_or-take, get_or-drop, length-drop, zero-add}
+use Rattle.std.proofs.lemmas.Bool.{false≢true}
 use Rattle.std.proofs.lemmas.List.{length-take-le}
 use Rattle.std.specs.Prelude.{slice_index, ◌%◌}
-use Rattle.std.specs.Global.{Vec}
 use Rattle.std.specs.List.{concat}
 use Rattle.std.specs.Simd.{first_chunks}
 use Rattle.media.specs.Contents.{IsWhole, MediaState, sectors_of}
 use Rattle.media.proofs.SectorLaws.{is_same_image, sector_count}
 use Rattle.records.specs.Opening.{Opening, contents_at}
+use Rattle.changes.specs.Units.{Covers, is_marked}
+use Rattle.volume_reading.specs.declared.piece.Piece.{Piece}
 use Rattle.shared_server.specs.declared.finishing.Finish.{Finish}
+use Rattle.shared_server.specs.declared.finishing.ReadBack.{ReadBack}
 use Rattle.shared_server.specs.declared.finishing.Finish.TheVariants.{Read}
-use Rattle.shared_media.specs.Confined.{KeepsBeyond, KeepsOutside}
-use Rattle.serve.specs.Stopping.{Begins, IsAsRead, range_in}
+use Rattle.shared_media.specs.Confined.{KeepsBut, KeepsOutside}
+use Rattle.volume_reading.specs.Pieces.{ArePieces, HaveBytes}
+use Rattle.serve.specs.Stopping.{AreThere, AreWithin, HasPieces, IsAsRead, IsOther, range_in}
 
 -- a byte of a sector that was cut from bytes
 byte_of_sector : (m n o : ℕ) (bytes : List ℕ) → n < m → o < 512
@@ -29,11 +33,11 @@ in_range : (first count k : ℕ) (image : List ℕ) → k < 512 * count
     → slice_index (take (512 * count) (drop (512 * first) image)) k ≡ slice_index image (512 * first + k)
 in_range first count k image low = get_or-take (512 * count) (drop (512 * first) image) k 0 low ∙ get_or-drop (512 * first) image k 0
 
--- behind the sectors that drivers may have written it holds what was handed in
-stays_beyond : (v : Opening) (reach : ℕ) (media : MediaState) → IsWhole media.sectors → KeepsBeyond v reach media
-    → v.first + v.count ≤ length media.sectors → (k : ℕ) → reach ≤ k / 512 → k < 512 * v.count
+-- in the units that drivers didn't write it holds what was handed in
+stays_unmarked : (v : Opening) (written : List Bool) (media : MediaState) → IsWhole media.sectors → KeepsBut v written media
+    → v.first + v.count ≤ length media.sectors → (k : ℕ) → is_marked written (k / 4096) ≡ false → k < 512 * v.count
     → slice_index (range_in v (concat media.sectors)) k ≡ contents_at v k
-stays_beyond v reach media whole keeps fits k past low =
+stays_unmarked v written media whole keeps fits k off low =
     let s : ℕ = k / 512 in
     let o : ℕ = k % 512 in
     let within : o < 512 = omega arith in
@@ -41,39 +45,47 @@ stays_beyond v reach media whole keeps fits k past low =
     let given : length (sectors_of v.media) ≡ length v.media / 512 = sector_count v.media in
     let many : v.first + s < length v.media / 512 = let n = keeps.outside.number in omega (arith, n, given, below) in
     let at : 512 * (v.first + s) + o ≡ 512 * v.first + k = omega arith in
+    let unit : k / 4096 ≡ s / 8 = omega arith in
     in_range v.first v.count k (concat media.sectors) low
     ∙ ap (λ (n : ℕ). slice_index (concat media.sectors) n) (sym at)
     ∙ is_same_image.places media.sectors whole (v.first + s) o below within
-    ∙ ap (λ (l : List ℕ). slice_index l o) (keeps.outside.outside.each (v.first + s) (inr (omega (arith, past))))
+    ∙ ap (λ (l : List ℕ). slice_index l o)
+      (keeps.unmarked s (omega (arith, low)) (subst (λ (n : ℕ). is_marked written n ≡ false) unit off))
     ∙ byte_of_sector (length v.media / 512) (v.first + s) o v.media many within
     ∙ ap (λ (n : ℕ). slice_index v.media n) at
     ∙ sym (in_range v.first v.count k v.media low)
 
--- the range of an image that begins with these bytes, behind which drivers wrote none
-pub begins_with : (v : Opening) (reach : ℕ) (media : MediaState) (bytes image : List ℕ) → image ≡ concat media.sectors
-    → IsWhole media.sectors → KeepsBeyond v reach media → 512 * (v.first + v.count) ≤ length image → reach ≤ length bytes / 512
-    → take (length bytes) (range_in v image) ≡ bytes → Begins v bytes image
-begins_with v reach media bytes image is whole keeps fits few first =
+-- a unit that isn't marked where all are that others have
+uncovered : (units written : List Bool) (n : ℕ) → Covers units written → is_marked units n ≡ false → is_marked written n ≡ false
+uncovered units written n covers off = by (is_marked written n) refl where
+  by : (b : Bool) → is_marked written n ≡ b → b ≡ false
+  by true there = absurd (false≢true (sym off ∙ covers n there))
+  by false there = refl
+
+-- the range of an image that has the pieces' bytes, beside which drivers wrote none
+has_pieces : (v : Opening) (written units : List Bool) (media : MediaState) (pieces : List Piece) (image : List ℕ)
+    → image ≡ concat media.sectors → IsWhole media.sectors → KeepsBut v written media → 512 * (v.first + v.count) ≤ length image
+    → Covers units written → AreThere v pieces image → HasPieces v units pieces image
+has_pieces v written units media pieces image is whole keeps fits covers there =
     let long : length (concat media.sectors) ≡ 512 * length media.sectors = is_same_image.long media.sectors whole in
     let same : length image ≡ length (concat media.sectors) = ap (λ (l : List ℕ). length l) is in
     let inside : v.first + v.count ≤ length media.sectors = omega (arith, long, same, fits) in
     record {
       size = length-take-le (512 * v.count) (drop (512 * v.first) image) (let d = length-drop (512 * v.first) image in omega (arith, d, fits));
-      first = first;
-      rest = λ k from to.
+      there = there;
+      elsewhere = λ k low off.
           ap (λ (l : List ℕ). slice_index (range_in v l) k) is
-          ∙ stays_beyond v reach media whole keeps inside k (omega (arith, few, from)) to;
+          ∙ stays_unmarked v written media whole keeps inside k (uncovered units written (k / 4096) covers off) low;
     }
 
 -- an image that is as it was read back
-pub as_read : (v : Opening) (finish : Finish) (bytes : Vec ℕ) (media : MediaState) (reach : ℕ) (image : List ℕ) → finish ≡ Read bytes
-    → image ≡ concat media.sectors → IsWhole media.sectors → KeepsOutside v media → KeepsBeyond v reach media
-    → 512 * (v.first + v.count) ≤ length image → reach ≤ length bytes.items / 512
-    → take (length bytes.items) (range_in v image) ≡ bytes.items → IsAsRead v finish image
-as_read v finish bytes media reach image from is whole outside keeps fits few first =
+pub as_read : (v : Opening) (finish : Finish) (back : ReadBack) (media : MediaState) (written : List Bool) (image : List ℕ)
+    → finish ≡ Read back → image ≡ concat media.sectors → IsWhole media.sectors → KeepsOutside v media → KeepsBut v written media
+    → 512 * (v.first + v.count) ≤ length image → Covers back.units written → AreThere v back.pieces.items image → IsAsRead v finish image
+as_read v finish back media written image from is whole outside keeps fits covers there =
     subst (λ (f : Finish). IsAsRead v f image) (sym from) (
       record { media = media; bytes = is; whole = whole; outside = outside },
-      begins_with v reach media bytes.items image is whole keeps fits few first,
+      has_pieces v written back.units media back.pieces.items image is whole keeps fits covers there,
     )
 
 -- all sectors of its range are there, by other names of what was asked
@@ -82,11 +94,43 @@ pub has_all : (v : Opening) (first count : ℕ) (now image : List ℕ) → first
 has_all v first count now image from of there fits =
     let long : length now ≡ length image = ap (λ (l : List ℕ). length l) there in omega (arith, from, of, long, fits)
 
--- and it begins with what was read
-pub is_first : (v : Opening) (first count : ℕ) (read now bytes image : List ℕ) → first ≡ v.first → count ≡ v.count → read ≡ bytes
-    → now ≡ image → take (length read) (take (512 * count) (drop (512 * first) now)) ≡ read → take (length bytes) (range_in v image) ≡ bytes
-is_first v first count read now bytes image from of same there begins =
-    subst (λ (n : ℕ). take (length bytes) (take (512 * v.count) (drop (512 * n) image)) ≡ bytes) from
-    (subst (λ (n : ℕ). take (length bytes) (take (512 * n) (drop (512 * first) image)) ≡ bytes) of
-    (subst (λ (l : List ℕ). take (length l) (take (512 * count) (drop (512 * first) image)) ≡ l) same
-    (subst (λ (l : List ℕ). take (length read) (take (512 * count) (drop (512 * first) l)) ≡ read) there begins)))
+-- and this is that range
+pub range_is : (v : Opening) (first count : ℕ) (now image range : List ℕ) → first ≡ v.first → count ≡ v.count → now ≡ image
+    → range ≡ take (512 * count) (drop (512 * first) now) → range ≡ range_in v image
+range_is v first count now image range from of there is =
+    is ∙ ap (λ (l : List ℕ). take (512 * count) (drop (512 * first) l)) there
+    ∙ ap (λ (n : ℕ). take (512 * n) (drop (512 * first) image)) of
+    ∙ ap (λ (n : ℕ). take (512 * v.count) (drop (512 * n) image)) from
+
+-- which has so many bytes
+pub range_long : (v : Opening) (first count : ℕ) (now range : List ℕ) → count ≡ v.count → 512 * (first + count) ≤ length now
+    → range ≡ take (512 * count) (drop (512 * first) now) → length range ≡ 512 * v.count
+range_long v first count now range of fits is =
+    let long = length-take-le (512 * count) (drop (512 * first) now) (let d = length-drop (512 * first) now in omega (arith, d, fits)) in
+    ap (λ (l : List ℕ). length l) is ∙ long ∙ ap (λ (n : ℕ). 512 * n) of
+
+-- the pieces that were read back lie in it
+pub read_within : (v : Opening) (finish : Finish) (back : ReadBack) (pieces : List Piece) (range : List ℕ) → finish ≡ Read back
+    → pieces ≡ back.pieces.items → length range ≡ 512 * v.count → AreWithin (512 * v.count) finish → ArePieces 0 (length range) pieces
+read_within v finish back pieces range from same long within =
+    subst (λ (n : ℕ). ArePieces 0 n pieces) (sym long)
+    (subst (λ (l : List Piece). ArePieces 0 (512 * v.count) l) (sym same)
+    (subst (λ (f : Finish). AreWithin (512 * v.count) f) from within))
+
+-- and it has their bytes or not, by other names
+pub there_is : (v : Opening) (pieces named : List Piece) (range image : List ℕ) → named ≡ pieces → range ≡ range_in v image
+    → HaveBytes (λ k b. slice_index range k ≡ b) named → AreThere v pieces image
+there_is v pieces named range image same is h =
+    subst (λ (l : List ℕ). HaveBytes (λ k b. slice_index l k ≡ b) pieces) is
+    (subst (λ (l : List Piece). HaveBytes (λ k b. slice_index range k ≡ b) l) same h)
+
+pub there_back : (v : Opening) (pieces named : List Piece) (range image : List ℕ) → named ≡ pieces → range ≡ range_in v image
+    → AreThere v pieces image → HaveBytes (λ k b. slice_index range k ≡ b) named
+there_back v pieces named range image same is h =
+    subst (λ (l : List Piece). HaveBytes (λ k b. slice_index range k ≡ b) l) (sym same)
+    (subst (λ (l : List ℕ). HaveBytes (λ k b. slice_index l k ≡ b) pieces) (sym is) h)
+
+-- so an image isn't as it was read back
+pub other_is : (v : Opening) (finish : Finish) (back : ReadBack) (image : List ℕ) → finish ≡ Read back
+    → (AreThere v back.pieces.items image → ⊥) → IsOther v finish image
+other_is v finish back image from other = subst (λ (f : Finish). IsOther v f image) (sym from) other

@@ -1,7 +1,7 @@
 -- What a service that is stopped leaves, by how its last sync went.
-use Rattle.std.proofs.Common.{◌≡◌, ◌*◌, ◌∙◌, ◌<◌, ap, length, ℕ, List, [], Option, Result, Ok, Err, IfOk, IfErr, Bool, true, false, refl, subst}
-use Rattle.std.proofs.Common.{sym, inl, inr, get_or-take}
-use Rattle.std.proofs.lemmas.Bool.{cases_lt, false≢true}
+use Rattle.std.proofs.Common.{◌≡◌, ◌*◌, ◌/◌, ◌∙◌, ◌<◌, ℕ, List, [], Option, Result, Ok, Err, IfOk, IfErr, Bool, true, false, refl, subst}
+use Rattle.std.proofs.Common.{sym}
+use Rattle.std.proofs.lemmas.Bool.{false≢true}
 use Rattle.std.specs.Prelude.{◌↔◌, slice_index}
 use Rattle.std.specs.Bool.{OnFalse, OnTrue}
 use Rattle.std.specs.Global.{Vec}
@@ -12,8 +12,11 @@ use Rattle.records.specs.Opening.{Opening, contents_at}
 use Rattle.reissue.specs.declared.link.Link.{Ghosts as LinkWords}
 use Rattle.board.specs.View.{is_used, without}
 use Rattle.board.specs.Keeper.{AreAllFree, IsOneUsed}
+use Rattle.changes.specs.Units.{is_marked}
+use Rattle.volume_reading.specs.declared.piece.Piece.{Piece}
+use Rattle.volume_reading.proofs.Pieces.{bytes_of_in, have_both}
 use Rattle.shared_server.specs.Stopping.{AreOnDisk, IsFinished, SyncEnd, Went, WasGivenUp, WasCut, WasNotAsRead, WasNotRead}
-use Rattle.shared_server.specs.Finishing.{bytes_back, finish_end, sync_of}
+use Rattle.shared_server.specs.Finishing.{finish_end, pieces_back, sync_of, units_back}
 use Rattle.shared_server.specs.declared.finishing.Finish.{Finish}
 use Rattle.shared_server.specs.declared.finishing.Finish.TheVariants.{Read, Unread, GivenUp, Cut}
 use Rattle.shared_server.specs.declared.locked.LastSync.{LastSync}
@@ -21,7 +24,7 @@ use Rattle.shared_server.specs.declared.locked.LastSync.TheVariants as sync
 use Rattle.shared_server.proofs.BackLaws.{unread_line}
 use Rattle.shared_server.proofs.StoppingLaws.{finished_from}
 use Rattle.shared_media.specs.Confined.{IsImageOutside}
-use Rattle.serve.specs.Stopping.{Begins, IsAsRead, IsDisk, IsImageOf, IsLastImage, IsLastOfAll, IsLeftAfter, IsOther, IsRange, WhoIsLeft}
+use Rattle.serve.specs.Stopping.{AreWithin, HasPieces, IsAsRead, IsDisk, IsImageOf, IsLastImage, IsLastOfAll, IsLeftAfter, IsOther, IsRange, WhoIsLeft}
 use Rattle.serve.specs.Stopping.{WhyNotSynced, range_in, was_synced}
 use Rattle.serve.specs.declared.stopping.StopRefusal.{StopRefusal}
 use Rattle.serve.specs.declared.stopping.StopRefusal.TheVariants as stop
@@ -59,39 +62,52 @@ none_told numbers but is true same not_it h = cc
 
 -- what a server was let go with, by another name of the range's size, and beside what had been seen before
 pub finished_with : {L : Type 0} (link : LinkWords L) (numbers : L → List ℕ) (g : Geometry) (v : Opening) (earlier seen : List Mark)
-    (used : List ℕ) (how : SyncEnd) (size is : ℕ) (bytes : List ℕ) → size ≡ is → IsBeginning earlier seen
-    → IsFinished link numbers g v seen used how size bytes → IsFinished link numbers g v earlier used how is bytes
-finished_with link numbers g v earlier seen used how size is bytes same begins l =
-    subst (λ (n : ℕ). IsFinished link numbers g v earlier used how n bytes) same
-    (finished_from link numbers g v earlier seen used how size bytes begins l)
+    (used : List ℕ) (how : SyncEnd) (size is : ℕ) (units : List Bool) (pieces : List Piece) → size ≡ is → IsBeginning earlier seen
+    → IsFinished link numbers g v seen used how size units pieces → IsFinished link numbers g v earlier used how is units pieces
+finished_with link numbers g v earlier seen used how size is units pieces same begins l =
+    subst (λ (n : ℕ). IsFinished link numbers g v earlier used how n units pieces) same
+    (finished_from link numbers g v earlier seen used how size units pieces begins l)
 
 -- with which a server of a volume was let go, after a last sync that came to this
 abbrev pub Finished : {L : Type 0} → LinkWords L → (L → List ℕ) → Geometry → Opening → List Mark → List ℕ → Finish → Type 0
 Finished link numbers g v seen used finish =
-    IsFinished link numbers g v seen used (finish_end finish) (512 * v.count) (bytes_back finish)
+    IsFinished link numbers g v seen used (finish_end finish) (512 * v.count) (units_back finish) (pieces_back finish)
 
--- the range of an image is the disk, where it begins with what was read back
-is_disk_at : (v : Opening) (marks : List Mark) (bytes image : List ℕ) → AreOnDisk v (512 * v.count) marks bytes → Begins v bytes image
-    → HasTrueReplies (contents_at v) marks → (k : ℕ) → k < 512 * v.count → slice_index (range_in v image) k ≡ disk_after (contents_at v) marks k
-is_disk_at v marks bytes image back begins replies k low = elim (cases_lt k (length bytes)) [
-  | inl read ↦
-      sym (get_or-take (length bytes) (range_in v image) k 0 read)
-      ∙ ap (λ (l : List ℕ). slice_index l k) begins.first
-      ∙ back.is_disk replies k read
-  | inr past ↦ begins.rest k past low ∙ sym (back.beyond k past low)
-]
+-- the pieces that were read back lie in the volume's range
+pub are_within : {L : Type 0} (link : LinkWords L) (numbers : L → List ℕ) (g : Geometry) (v : Opening) (seen : List Mark) (used : List ℕ)
+    (finish : Finish) → Finished link numbers g v seen used finish → AreWithin (512 * v.count) finish
+are_within link numbers g v seen used (Read back) l = l.back.ordered
+are_within link numbers g v seen used Unread l = tt
+are_within link numbers g v seen used GivenUp l = tt
+are_within link numbers g v seen used Cut l = tt
 
-is_disk : (v : Opening) (marks : List Mark) (bytes image : List ℕ) → AreOnDisk v (512 * v.count) marks bytes → Begins v bytes image
-    → IsDisk v marks image
-is_disk v marks bytes image back begins =
-    record { bytes = bytes; back = back; begins = begins; is_disk = is_disk_at v marks bytes image back begins }
+-- the range of an image is the disk, where it has what was read back
+is_disk_by : (b : Bool) (v : Opening) (marks : List Mark) (units : List Bool) (pieces : List Piece) (image : List ℕ)
+    → AreOnDisk v (512 * v.count) marks units pieces → HasPieces v units pieces image → HasTrueReplies (contents_at v) marks → (k : ℕ)
+    → k < 512 * v.count → is_marked units (k / 4096) ≡ b → slice_index (range_in v image) k ≡ disk_after (contents_at v) marks k
+is_disk_by true v marks units pieces image back has replies k low is =
+    (bytes_of_in (λ n b. slice_index (range_in v image) n ≡ disk_after (contents_at v) marks n) pieces k
+    (have_both (λ n b. slice_index (range_in v image) n ≡ b) (λ n b. b ≡ disk_after (contents_at v) marks n)
+    (λ n b. slice_index (range_in v image) n ≡ disk_after (contents_at v) marks n) pieces has.there (back.is_disk replies)
+    (λ n b there on. there ∙ on)) (back.all k low is)).1
+is_disk_by false v marks units pieces image back has replies k low is = has.elsewhere k low is ∙ sym (back.elsewhere k low is)
+
+is_disk : (v : Opening) (marks : List Mark) (units : List Bool) (pieces : List Piece) (image : List ℕ)
+    → AreOnDisk v (512 * v.count) marks units pieces → HasPieces v units pieces image → IsDisk v marks image
+is_disk v marks units pieces image back has = record {
+  units = units;
+  pieces = pieces;
+  back = back;
+  has = has;
+  is_disk = λ replies k low. is_disk_by (is_marked units (k / 4096)) v marks units pieces image back has replies k low refl;
+}
 
 -- what is left of the media, and no session is left then
 left_of_all : {L : Type 0} (link : LinkWords L) (numbers : L → List ℕ) (g : Geometry) (v : Opening) (seen : List Mark) (used : List ℕ)
-    (how : SyncEnd) (size : ℕ) (bytes image : List ℕ) → IsImageOutside v image
-    → (l : IsFinished link numbers g v seen used how size bytes) → IsRange how v l.last.marks image → AreAllFree used
+    (how : SyncEnd) (size : ℕ) (units : List Bool) (pieces : List Piece) (image : List ℕ) → IsImageOutside v image
+    → (l : IsFinished link numbers g v seen used how size units pieces) → IsRange how v l.last.marks image → AreAllFree used
     → IsLastOfAll link numbers g v seen how image
-left_of_all link numbers g v seen used how size bytes image left l range free = record {
+left_of_all link numbers g v seen used how size units pieces image left l range free = record {
   image_is = record { outside = left; line = l.line; last = l.last; range = range };
   none_left = subst AreAllFree (sym l.same) free;
 }
@@ -100,9 +116,9 @@ left_of_all link numbers g v seen used how size bytes image left l range free = 
 as_read_of_all : {L : Type 0} (link : LinkWords L) (numbers : L → List ℕ) (g : Geometry) (v : Opening) (seen : List Mark) (used : List ℕ)
     (finish : Finish) (image : List ℕ) → IsAsRead v finish image → Finished link numbers g v seen used finish → AreAllFree used
     → IsLastOfAll link numbers g v seen Went image
-as_read_of_all link numbers g v seen used (Read bytes) image is l free =
-    left_of_all link numbers g v seen used Went (512 * v.count) bytes.items image is.0 l
-    (is_disk v l.last.marks bytes.items image l.back is.1) free
+as_read_of_all link numbers g v seen used (Read back) image is l free =
+    left_of_all link numbers g v seen used Went (512 * v.count) back.units back.pieces.items image is.0 l
+    (is_disk v l.last.marks back.units back.pieces.items image l.back is.1) free
 as_read_of_all link numbers g v seen used Unread image is l free = absurd is
 as_read_of_all link numbers g v seen used GivenUp image is l free = absurd is
 as_read_of_all link numbers g v seen used Cut image is l free = absurd is
@@ -111,12 +127,12 @@ as_read_of_all link numbers g v seen used Cut image is l free = absurd is
 other_of_all : {L : Type 0} (link : LinkWords L) (numbers : L → List ℕ) (g : Geometry) (v : Opening) (seen : List Mark) (used : List ℕ)
     (finish : Finish) (image : List ℕ) → IsOther v finish image → IsImageOutside v image → Finished link numbers g v seen used finish
     → AreAllFree used → IsLastOfAll link numbers g v seen WasNotAsRead image
-other_of_all link numbers g v seen used (Read bytes) image other left l free = record {
+other_of_all link numbers g v seen used (Read back) image other left l free = record {
   image_is = record {
     outside = left;
     line = l.line;
     last = record { ended = l.last.ended; marks = l.last.marks; guaranteed = l.last.guaranteed; goes_on = l.last.goes_on; tells = l.last.tells };
-    range = (bytes.items, l.back, other);
+    range = (back.units, back.pieces.items, l.back, other);
   };
   none_left = subst AreAllFree (sym l.same) free;
 }
@@ -128,12 +144,12 @@ other_of_all link numbers g v seen used Cut image other left l free = absurd oth
 unread_of_all : {L : Type 0} (link : LinkWords L) (numbers : L → List ℕ) (g : Geometry) (v : Opening) (seen : List Mark) (used : List ℕ)
     (finish : Finish) (image : List ℕ) → was_synced finish ≡ true → IsImageOutside v image → Finished link numbers g v seen used finish
     → AreAllFree used → IsLastOfAll link numbers g v seen WasNotRead image
-unread_of_all link numbers g v seen used (Read bytes) image synced left l free = record {
+unread_of_all link numbers g v seen used (Read back) image synced left l free = record {
   image_is = record { outside = left; line = l.line; last = unread_line link g v seen l.line l.last; range = tt };
   none_left = subst AreAllFree (sym l.same) free;
 }
 unread_of_all link numbers g v seen used Unread image synced left l free =
-    left_of_all link numbers g v seen used WasNotRead (512 * v.count) [] image left l tt free
+    left_of_all link numbers g v seen used WasNotRead (512 * v.count) [] [] image left l tt free
 unread_of_all link numbers g v seen used GivenUp image synced left l free = absurd (false≢true synced)
 unread_of_all link numbers g v seen used Cut image synced left l free = absurd (false≢true synced)
 
@@ -146,11 +162,11 @@ who_after link numbers g v seen used but finish (Ok image) h k l free =
     as_read_of_all link numbers g v seen used finish image.items h l free
 who_after link numbers g v seen used but finish (Err (stop.SessionsLeft left)) h k l free = absurd k
 who_after link numbers g v seen used but finish (Err (stop.GivenUp image)) h k l free =
-    left_of_all link numbers g v seen used WasGivenUp (512 * v.count) [] image.items k.1
+    left_of_all link numbers g v seen used WasGivenUp (512 * v.count) [] [] image.items k.1
     (subst (λ (f : Finish). Finished link numbers g v seen used f) k.0 l) tt free
 who_after link numbers g v seen used but finish (Err (stop.OutOfMemory left)) h k l free = absurd k
 who_after link numbers g v seen used but finish (Err (stop.LinkEnded image)) h k l free =
-    left_of_all link numbers g v seen used WasCut (512 * v.count) [] image.items k.1
+    left_of_all link numbers g v seen used WasCut (512 * v.count) [] [] image.items k.1
     (subst (λ (f : Finish). Finished link numbers g v seen used f) k.0 l) tt free
 who_after link numbers g v seen used but finish (Err (stop.NotAsRead image)) h k l free =
     other_of_all link numbers g v seen used finish image.items k.0 k.1 l free

@@ -1,11 +1,14 @@
 -- What a service that is stopped leaves.
-use Rattle.std.specs.Prelude.{◌≡◌, ◌≢◌, ◌*◌, ◌<◌, ◌≤◌, ℕ, List, length, take, slice_index, Bool, true, false, Option, Result, Ok, Err, codes}
+use Rattle.std.specs.Prelude.{◌≡◌, ◌*◌, ◌/◌, ◌<◌, ℕ, List, length, slice_index, Bool, true, false, Option, Result, Ok, Err, codes}
 use Rattle.std.specs.Global.{Vec}
 use Rattle.layout.specs.declared.Geometry.{Geometry}
 use Rattle.records.specs.Marks.{Mark}
 use Rattle.records.specs.Disk.{HasTrueReplies, disk_after}
 use Rattle.records.specs.Opening.{Opening, contents_at, opening_range, volume_bytes}
 use Rattle.reissue.specs.declared.link.Link.{Ghosts as LinkWords}
+use Rattle.changes.specs.Units.{is_marked}
+use Rattle.volume_reading.specs.declared.piece.Piece.{Piece}
+use Rattle.volume_reading.specs.Pieces.{ArePieces, HaveBytes}
 use Rattle.shared_server.specs.Stopping.{AreOnDisk, IsLastLine, SyncEnd, Went, WasGivenUp, WasCut, WasNotAsRead, WasNotRead}
 use Rattle.shared_server.specs.declared.finishing.Finish.{Finish}
 use Rattle.shared_server.specs.declared.finishing.Finish.TheVariants.{Read, Unread, GivenUp, Cut}
@@ -23,32 +26,43 @@ use Rattle.serve.specs.declared.stopping.NoImage.TheVariants as none
 abbrev pub range_in : Opening → List ℕ → List ℕ
 range_in v image = volume_bytes (opening_range v) image
 
--- The volume's range of an image begins with these bytes, and behind them it is as it was handed in.
-pub record Begins (v : Opening) (bytes image : List ℕ) : Type 0 where
+-- the volume's range of an image has the bytes of pieces at their places
+abbrev pub AreThere : Opening → List Piece → List ℕ → Type 0
+AreThere v pieces image = HaveBytes (λ k b. slice_index (range_in v image) k ≡ b) pieces
+
+-- so it has, and in each unit that isn't marked it is as it was handed in
+pub record HasPieces (v : Opening) (units : List Bool) (pieces : List Piece) (image : List ℕ) : Type 0 where
   pub size : length (range_in v image) ≡ 512 * v.count
-  pub first : take (length bytes) (range_in v image) ≡ bytes
-  pub rest : (k : ℕ) → length bytes ≤ k → k < 512 * v.count → slice_index (range_in v image) k ≡ contents_at v k
+  pub there : AreThere v pieces image
+  pub elsewhere : (k : ℕ) → k < 512 * v.count → is_marked units (k / 4096) ≡ false → slice_index (range_in v image) k ≡ contents_at v k
 
 -- an image that is as it was read back
 abbrev pub IsAsRead : Opening → Finish → List ℕ → Type 0
-IsAsRead v (Read bytes) image = IsImageOutside v image × Begins v bytes.items image
+IsAsRead v (Read back) image = IsImageOutside v image × HasPieces v back.units back.pieces.items image
 IsAsRead v Unread image = ⊥
 IsAsRead v GivenUp image = ⊥
 IsAsRead v Cut image = ⊥
 
 -- whether a last sync was answered ok
 abbrev pub was_synced : Finish → Bool
-was_synced (Read bytes) = true
+was_synced (Read back) = true
 was_synced Unread = true
 was_synced GivenUp = false
 was_synced Cut = false
 
--- bytes were read back that the volume's range of an image doesn't begin with
+-- pieces were read back, and the volume's range of an image doesn't have their bytes at all of their places
 abbrev pub IsOther : Opening → Finish → List ℕ → Type 0
-IsOther v (Read bytes) image = take (length bytes.items) (range_in v image) ≢ bytes.items
+IsOther v (Read back) image = AreThere v back.pieces.items image → ⊥
 IsOther v Unread image = ⊥
 IsOther v GivenUp image = ⊥
 IsOther v Cut image = ⊥
+
+-- the pieces that were read back, if they were, lie in a range of this size
+abbrev pub AreWithin : ℕ → Finish → Type 0
+AreWithin size (Read back) = ArePieces 0 size back.pieces.items
+AreWithin size Unread = Unit {0}
+AreWithin size GivenUp = Unit {0}
+AreWithin size Cut = Unit {0}
 
 -- why no image of a synced volume is left of the media, after a last sync that came to this
 abbrev pub IsLeftAfter : {T : Type 0} → Opening → Finish → StopRefusal T → Type 0
@@ -59,12 +73,13 @@ IsLeftAfter v finish (stop.LinkEnded image) = (finish ≡ Cut) × IsImageOutside
 IsLeftAfter v finish (stop.NotAsRead image) = IsOther v finish image.items × IsImageOutside v image.items
 IsLeftAfter v finish (stop.NotRead image) = (was_synced finish ≡ true) × IsImageOutside v image.items
 
--- Bytes were read back, with which the volume's range of an image begins, and behind which both are as they were handed in: so over true replies
--- the range is the disk, whole.
+-- Pieces were read back, whose bytes the volume's range of an image has at their places, and elsewhere both are as they were handed in: so over
+-- true replies the range is the disk, whole.
 pub record IsDisk (v : Opening) (marks : List Mark) (image : List ℕ) : Type 0 where
-  pub bytes : List ℕ
-  pub back : AreOnDisk v (512 * v.count) marks bytes
-  pub begins : Begins v bytes image
+  pub units : List Bool
+  pub pieces : List Piece
+  pub back : AreOnDisk v (512 * v.count) marks units pieces
+  pub has : HasPieces v units pieces image
   pub is_disk : HasTrueReplies (contents_at v) marks → (k : ℕ) → k < 512 * v.count
       → slice_index (range_in v image) k ≡ disk_after (contents_at v) marks k
 
@@ -75,7 +90,7 @@ IsRange Went v marks image = IsDisk v marks image
 IsRange WasGivenUp v marks image = Unit {0}
 IsRange WasCut v marks image = Unit {0}
 IsRange WasNotAsRead v marks image =
-    (bytes : List ℕ) × AreOnDisk v (512 * v.count) marks bytes × (take (length bytes) (range_in v image) ≢ bytes)
+    (units : List Bool) × (pieces : List Piece) × AreOnDisk v (512 * v.count) marks units pieces × (AreThere v pieces image → ⊥)
 IsRange WasNotRead v marks image = Unit {0}
 
 -- the image that a service leaves, and its link after a last sync that went so

@@ -273,14 +273,15 @@ impl<N: ServiceParameters, R: Threads + Wait + Copy, L: Recorder<N>, S: FileServ
         self.shared.server.lock(&self.rt).has_sessions(but)
     }
 
-    /// Stops the service: sessions that were let go without `end` are ended, then the flusher; a last sync is made, and the volume's range read
-    /// back as far as it was written; the drivers are ended, and the media are given back as an image: the bytes of all sectors, as they stand.
-    /// The media become the image; as much memory as is read back is taken until then. At the last sync no session has a number.
+    /// Stops the service: sessions that were let go without `end` are ended, then the flusher; a last sync is made, and what was written of the
+    /// volume's range read back, in units of 4096 bytes; the drivers are ended, and the media are given back as an image: the bytes of all
+    /// sectors, as they stand. The media become the image; as much memory as is read back is taken until then. At the last sync no session has a
+    /// number.
     ///
     /// It is refused: 1 SessionsLeft, where some session neither ended nor was let go, and 3 OutOfMemory, where a handle of the media is left,
     /// which both hand back the service as it was, its flusher and its drivers going on; 2 GivenUp and 4 LinkEnded, where the last sync wasn't
-    /// made, or not all was read; 5 NotAsRead, where the media aren't as the range was read; 6 NotRead, where it wasn't read back for want of
-    /// memory, or a driver may have written behind what was: these four with the image as the media stand.
+    /// made, or not all was read; 5 NotAsRead, where the media aren't as they were read; 6 NotRead, where they weren't read back for want of
+    /// memory, or a driver may have written elsewhere: these four with the image as the media stand.
     pub fn stop(self) -> Result<Vec<u8>, StopRefusal<Service<N, R, L, S>>>
         ensures image { IfOk result (λ image. IsLastImage L.Link N.geometry N.opening [] Went image.items) }
         ensures refused { IfErr result (WhyNotSynced L.Link N.geometry N.opening [] (λ left. left ≡ self)) }
@@ -297,8 +298,8 @@ impl<N: ServiceParameters, R: Threads + Wait + Copy, L: Recorder<N>, S: FileServ
         let (rt, locked, running) = self.alone(None);
         let range = running.range(&rt);
         let finish = locked.finish(alloc, range.1 as u64 * 512);
-        let (media, reach) = running.stop(&rt);
-        image_of::<N, Service<N, R, L, S>>(finish, media, reach, range)
+        let (media, written) = running.stop(&rt);
+        image_of::<N, Service<N, R, L, S>>(finish, media, written, range)
     }
 
     /// What lies under the lock, and the threads of drivers, once the flusher has ended, nobody shares what lies there, and no session has
@@ -355,8 +356,8 @@ impl<N: ServiceParameters, R: Threads + Wait + Copy, L: Recorder<N>, S: FileServ
         let (rt, locked, running) = self.alone(Some(number));
         let range = running.range(&rt);
         let finish = locked.finish_after(number, seat, alloc, range.1 as u64 * 512);
-        let (media, reach) = running.stop(&rt);
-        image_of::<N, Service<N, R, L, S>>(finish, media, reach, range)
+        let (media, written) = running.stop(&rt);
+        image_of::<N, Service<N, R, L, S>>(finish, media, written, range)
     }
 
     /// The session of this seat has ended: its number is free again.

@@ -1,12 +1,13 @@
 //! What is left of a service that was stopped.
 
-ghost use Rattle.std.specs.Prelude.{◌≡◌, IfErr, IfOk, Some};
+ghost use Rattle.std.specs.Prelude.{◌≡◌, ◌+◌, ◌*◌, ◌/◌, IfErr, IfOk, Some};
 ghost use Rattle.media.specs.Contents.{IsWhole};
-ghost use Rattle.shared_media.specs.Confined.{KeepsBeyond, KeepsOutside};
-ghost use Rattle.serve.specs.Stopping.{IsAsRead, IsImageOf, IsLeftAfter, IsNoImageOf, is_as_read as as_read, no_image_name, stop_refusal_number};
+ghost use Rattle.shared_media.specs.Confined.{KeepsBut, KeepsOutside};
+ghost use Rattle.serve.specs.Stopping.{AreWithin, IsAsRead, IsImageOf, IsLeftAfter, IsNoImageOf, is_as_read as as_read, no_image_name, stop_refusal_number};
 
-use crate::read_back::{has_range, is_at};
+use crate::read_back::{are_at, has_range, range_of};
 use board::counting::parameters::ServiceParameters;
+use changes::Marks;
 use media::Media;
 use shared_server::finishing::Finish;
 use shared_server::locked::LastSync;
@@ -102,17 +103,18 @@ fn has_whole_sectors(media: &Media)
 }
 
 /// The image of the media that a service leaves whose last sync came to this, or why it is none of a synced volume. The volume's range of the
-/// media has this first sector and so many; drivers may have written as many of them, from the first on, as they reach. Where the media don't
-/// have the whole range, it wasn't read back.
+/// media has this first sector and so many; drivers may have written in these units of eight of them. Where the media don't have the whole
+/// range, it wasn't read back.
 ///
 /// It takes no memory: the media become the image.
 pub(crate) fn image_of<N: ServiceParameters, S>(
     finish: Finish,
     media: Media,
-    reach: u32,
+    written: Marks,
     range: (u32, u32),
 ) -> Result<Vec<u8>, StopRefusal<S>>
-    requires beyond { KeepsBeyond N.opening reach media }
+    requires within { AreWithin (512 * N.opening.count) finish }
+    requires kept { KeepsBut N.opening written media }
     requires outside { KeepsOutside N.opening media }
     requires range { (range.0 ≡ N.opening.first) × (range.1 ≡ N.opening.count) }
     ensures image { IfOk result (λ image. IsAsRead N.opening finish image.items) }
@@ -122,12 +124,12 @@ pub(crate) fn image_of<N: ServiceParameters, S>(
     let image = media.into_image();
     let (first, count) = range;
     match finish {
-        Finish::Read(read) => {
+        Finish::Read(back) => {
             if !has_range(first, count, &image) {
                 Err(StopRefusal::NotRead(image))
-            } else if reach as usize > read.len() / 512 {
+            } else if !back.units.covers(&written) {
                 Err(StopRefusal::NotRead(image))
-            } else if is_at(first, count, &read, &image) {
+            } else if are_at(&back.pieces, range_of(first, count, &image)) {
                 Ok(image)
             } else {
                 Err(StopRefusal::NotAsRead(image))

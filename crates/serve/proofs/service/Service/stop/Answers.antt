@@ -1,6 +1,7 @@
 use Rattle.std.proofs.Common.{[], arith, None, refl}
+use Rattle.board.specs.Keeper.{begins_itself}
 use Rattle.shared_server.proofs.StoppingLaws.{begins_empty}
-use Rattle.serve.proofs.StoppingLaws.{Finished, finished_with, image_after, left_told, none_told, who_after, why_after}
+use Rattle.serve.proofs.StoppingLaws.{Finished, are_within, finished_with, image_after, left_told, none_told, who_after, why_after}
 use Rattle.serve.specs.Stopping.{WhoIsLeft}
 use Rattle.serve.proofs.service.Service.stop.Given.{Over}
 use Rattle.serve.proofs.service.Service.stop.Goals as goal
@@ -10,7 +11,7 @@ left_so : (g : Over) (c : goal.After-image_of g) → Finished g.L.Link g.L.Recor
     g.N.ServiceParameters.opening [] (g.L.Recorder.numbers c.alone-rt.result.1) c.finish-finish.result
 left_so g c =
     let count = c.range-range.ensures.1 in
-    finished_with g.L.Link g.L.Recorder.numbers g.N.ServiceParameters.geometry g.N.ServiceParameters.opening [] _ _ _ _ _ _
+    finished_with g.L.Link g.L.Recorder.numbers g.N.ServiceParameters.geometry g.N.ServiceParameters.opening [] _ _ _ _ _ _ _
     (omega (arith, count)) (begins_empty _) c.finish-finish.ensures.finished
 
 who : (g : Over) (c : goal.After-image_of g) → WhoIsLeft g.L.Link g.L.Recorder.numbers g.N.ServiceParameters.geometry
@@ -38,3 +39,10 @@ returns-then-has_sessions-clause-sessions g c =
 pub returns-then-is_shared-clause-sessions : goal.returns-then-is_shared-clause-sessions
 returns-then-is_shared-clause-sessions g c =
     none_told g.L.Recorder.numbers None None c.has_sessions.result refl c.if-has_sessions.false c.has_sessions.ensures.none
+
+pub image_of-requires-clause-within : goal.image_of-requires-clause-within
+image_of-requires-clause-within g c =
+    let count = c.range-range.ensures.1 in
+    are_within g.L.Link g.L.Recorder.numbers g.N.ServiceParameters.geometry g.N.ServiceParameters.opening _ _ c.finish-finish.result
+    (finished_with g.L.Link g.L.Recorder.numbers g.N.ServiceParameters.geometry g.N.ServiceParameters.opening _ _ _ _ _ _ _ _
+    (omega (arith, count)) (begins_itself _) c.finish-finish.ensures.finished)

@@ -5,7 +5,7 @@ use Rattle.board.specs.Keeper.{begins_itself}
 use Rattle.board.specs.View.{without}
 use Rattle.serve.specs.Stopping.{WhoIsLeft}
 use Rattle.serve.proofs.ClosingLaws.{closed_all}
-use Rattle.serve.proofs.StoppingLaws.{Finished, finished_with, image_after, left_told, none_told, who_after, why_after}
+use Rattle.serve.proofs.StoppingLaws.{Finished, are_within, finished_with, image_after, left_told, none_told, who_after, why_after}
 use Rattle.serve.proofs.service.Service.stop_after.Given.{Over}
 use Rattle.serve.proofs.service.Service.stop_after.Goals as goal
 
@@ -16,7 +16,7 @@ left_so : (g : Over) (c : goal.After-image_of g) (earlier : List Mark) → IsBeg
 left_so g c earlier begins =
     let count = c.range-range.ensures.1 in
     finished_with g.L.Link g.L.Recorder.numbers g.N.ServiceParameters.geometry g.N.ServiceParameters.opening earlier
-    c.into_seat-number.result.1.view.seen _ _ _ _ _ (omega (arith, count)) begins c.finish_after-finish.ensures.finished
+    c.into_seat-number.result.1.view.seen _ _ _ _ _ _ (omega (arith, count)) begins c.finish_after-finish.ensures.finished
 
 who : (g : Over) (c : goal.After-image_of g) (earlier : List Mark) → IsBeginning earlier c.into_seat-number.result.1.view.seen
     → WhoIsLeft g.L.Link g.L.Recorder.numbers g.N.ServiceParameters.geometry g.N.ServiceParameters.opening earlier
@@ -88,3 +88,10 @@ returns-clause-closed g c = (
   image_after g.L.Link g.L.Recorder.numbers g.N.ServiceParameters.geometry g.N.ServiceParameters.opening c.close_all.new.self.knows.seen
       (Some c.args.last.knows.number) c.image_of.result (who g c c.close_all.new.self.knows.seen (seen_closed g c)),
 )
+
+pub image_of-requires-clause-within : goal.image_of-requires-clause-within
+image_of-requires-clause-within g c =
+    let count = c.range-range.ensures.1 in
+    are_within g.L.Link g.L.Recorder.numbers g.N.ServiceParameters.geometry g.N.ServiceParameters.opening _ _ c.finish_after-finish.result
+    (finished_with g.L.Link g.L.Recorder.numbers g.N.ServiceParameters.geometry g.N.ServiceParameters.opening _ _ _ _ _ _ _ _
+    (omega (arith, count)) (begins_itself _) c.finish_after-finish.ensures.finished)
