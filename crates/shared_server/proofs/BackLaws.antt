@@ -28,7 +28,7 @@ use Rattle.reissue.specs.Moves.{WasRead}
 use Rattle.changes.specs.Units.{Covers, is_marked}
 use Rattle.volume_reading.specs.Reading.{LeavesDisk}
 use Rattle.volume_reading.specs.declared.piece.Piece.{Piece}
-use Rattle.volume_reading.proofs.Pieces.{have_map, same_places_in, same_places_pieces}
+use Rattle.volume_reading.proofs.Pieces.{have_map, same_places_back, same_places_in, same_places_pieces}
 use Rattle.volume_reading.specs.Pieces.{SamePlaces}
 use Rattle.file_server.specs.Over.{CallSpecification}
 use Rattle.file_server.specs.Back.{AgreesUpToCall, IsReadBack, ReadsBack, is_cut, is_given_up}
@@ -159,6 +159,7 @@ module _ (s : Serving) (end : ReadEnd) (pieces : List Piece) (after : List Told)
   back_pieces size units of elsewhere is = record {
     ordered = of.ordered;
     all = of.all;
+    only = of.only;
     read = have_map (IsReadBack s.settled marks more) (WasRead more) pieces (x.back is (contents_at v) k.own marks k.knows) (λ n b r. r.read);
     is_disk = λ true.
         let first = true_then true in
@@ -312,4 +313,5 @@ pub pieces_still : (units : List Bool) (size : ℕ) (old new : List Piece) → S
 pieces_still units size old new same of = record {
   ordered = same_places_pieces 0 size old new same of.ordered;
   all = λ k low marked. same_places_in old new k same (of.all k low marked);
+  only = λ k i. of.only k (same_places_back old new k same i);
 }

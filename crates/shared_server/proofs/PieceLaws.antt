@@ -1,5 +1,5 @@
 -- The pieces of a range that lie in marked units.
-use Rattle.std.proofs.Common.{◌≡◌, ℕ, ◌+◌, ◌*◌, ◌/◌, ◌<◌, ◌≤◌, ◌∙◌, List, [], ◌∷◌, ◌++◌, length, Bool, true, false, refl, sym, ap, subst, arith, inl, inr, max}
+use Rattle.std.proofs.Common.{◌≡◌, ℕ, ◌+◌, ◌*◌, ◌/◌, ◌<◌, ◌≤◌, ◌∙◌, ◌⊎◌, List, [], ◌∷◌, ◌++◌, length, Bool, true, false, refl, sym, ap, subst, arith, inl, inr, max}
 use Rattle.std.specs.Prelude.{◌%◌, min}
 use Rattle.std.proofs.lemmas.Bool.{cases_lt, false≢true}
 use Rattle.changes.specs.Units.{is_marked}
@@ -38,10 +38,25 @@ in_last : (ps : List Piece) (p : Piece) (k : ℕ) → p.start ≤ k → k < p.st
 in_last [] p k from to = inl (from, to)
 in_last (q ∷ ps) p k from to = inr (in_last ps p k from to)
 
+-- a place of them all is one of the first or of the last
+in_either : (ps : List Piece) (p : Piece) (k : ℕ) → IsIn (ps ++ p ∷ []) k → IsIn ps k ⊎ ((p.start ≤ k) × (k < p.start + length p.bytes.items))
+in_either [] p k i = elim i [
+  | inl h ↦ inr h
+  | inr h ↦ absurd h
+]
+in_either (q ∷ ps) p k i = elim i [
+  | inl h ↦ inl (inl h)
+  | inr h ↦ elim (in_either ps p k h) [
+    | inl first ↦ inl (inr first)
+    | inr last ↦ inr last
+  ]
+]
+
 -- the pieces in the units before this one
 pub record AreUpTo (units : List Bool) (size next : ℕ) (pieces : List Piece) : Type 0 where
   pub ordered : ArePieces 0 (min (4096 * next) size) pieces
   pub all : (k : ℕ) → k < size → k < 4096 * next → is_marked units (k / 4096) ≡ true → IsIn pieces k
+  pub only : (k : ℕ) → IsIn pieces k → is_marked units (k / 4096) ≡ true
   pub few : next ≤ (size + 4095) / 4096
 
 -- none yet
@@ -49,6 +64,7 @@ pub up_to_none : (units : List Bool) (size : ℕ) (pieces : List Piece) → piec
 up_to_none units size pieces none = subst (λ (l : List Piece). AreUpTo units size 0 l) (sym none) (record {
   ordered = tt;
   all = λ k low under is. absurd (omega (arith, under));
+  only = λ k i. absurd i;
   few = omega arith;
 })
 
@@ -63,19 +79,28 @@ up_to_next units size next pieces less none a = record {
         let same : k / 4096 ≡ next = omega (arith, there, under) in
         absurd (false≢true (sym none ∙ ap (λ (n : ℕ). is_marked units n) (sym same) ∙ is))
   ];
+  only = a.only;
   few = omega (arith, less);
 }
 
 -- units more, that are marked
 pub up_to_end : (units : List Bool) (size next end : ℕ) (pieces : List Piece) (p : Piece) → size % 512 ≡ 0 → next < end → end ≤ (size + 4095) / 4096
-    → IsPieceOf next end size p → AreUpTo units size next pieces → AreUpTo units size end (pieces ++ p ∷ [])
-up_to_end units size next end pieces p whole less few is a = record {
+    → IsPieceOf next end size p → ((n : ℕ) → next ≤ n → n < end → is_marked units n ≡ true) → AreUpTo units size next pieces
+    → AreUpTo units size end (pieces ++ p ∷ [])
+up_to_end units size next end pieces p whole less few is each a = record {
   ordered = pieces_push 0 (min (4096 * next) size) (min (4096 * end) size) pieces p (omega arith) a.ordered
       (let s = is.start in omega (arith, s)) (let s = is.start in omega (arith, s))
       (let s = is.start in let b = is.behind in omega (arith, s, b, whole, less, few)) (let b = is.behind in omega (arith, b));
   all = λ k low under marked. elim (cases_lt k (4096 * next)) [
     | inl before ↦ in_first pieces (p ∷ []) k (a.all k low before marked)
     | inr there ↦ in_last pieces p k (let s = is.start in omega (arith, s, there)) (let b = is.behind in omega (arith, b, low, under))
+  ];
+  only = λ k i. elim (in_either pieces p k i) [
+    | inl first ↦ a.only k first
+    | inr last ↦
+        let s = is.start in
+        let b = is.behind in
+        each (k / 4096) (omega (arith, s, last.0)) (omega (arith, b, last.1))
   ];
   few = few;
 }
@@ -86,6 +111,7 @@ pub up_to_all : (units : List Bool) (size next : ℕ) (pieces : List Piece) → 
 up_to_all units size next pieces past a = record {
   ordered = pieces_to 0 (min (4096 * next) size) size pieces (omega arith) a.ordered;
   all = λ k low marked. a.all k low (omega (arith, past, low)) marked;
+  only = a.only;
 }
 
 -- pieces with the same places are as many

@@ -20,10 +20,11 @@ pub record IsPieceOf (first end size : ℕ) (p : Piece) : Type 0 where
   pub start : p.start ≡ 4096 * first
   pub behind : p.start + length p.bytes.items ≡ piece_end end size
 
--- the pieces of a range of this size, in order, that have each place of it in a marked unit
+-- the pieces of a range of this size, in order, that have each place of it in a marked unit, and no other
 pub record ArePiecesOf (units : List Bool) (size : ℕ) (pieces : List Piece) : Type 0 where
   pub ordered : ArePieces 0 size pieces
   pub all : (k : ℕ) → k < size → is_marked units (k / 4096) ≡ true → IsIn pieces k
+  pub only : (k : ℕ) → IsIn pieces k → is_marked units (k / 4096) ≡ true
 
 -- how it went, in the words of contracts
 abbrev pub sync_of : LastSync → SyncEnd

@@ -53,11 +53,12 @@ SyncTells WasCut g v tree marks = gave_up marks ≡ false
 SyncTells WasNotAsRead g v tree marks = IsOnDisk g v tree marks
 SyncTells WasNotRead g v tree marks = IsOnDisk g v tree marks
 
--- These pieces of the volume's range were read, in order: they have each place in a unit that is marked, and each gave its byte; where the
--- replies were true, it is the disk's. In the other units the disk is as it was handed in, whatever the replies.
+-- These pieces of the volume's range were read, in order: they have each place in a unit that is marked, and no other, and each gave its
+-- byte; where the replies were true, it is the disk's. In the other units the disk is as it was handed in, whatever the replies.
 pub record AreOnDisk (v : Opening) (size : ℕ) (marks : List Mark) (units : List Bool) (pieces : List Piece) : Type 0 where
   pub ordered : ArePieces 0 size pieces
   pub all : (k : ℕ) → k < size → is_marked units (k / 4096) ≡ true → IsIn pieces k
+  pub only : (k : ℕ) → IsIn pieces k → is_marked units (k / 4096) ≡ true
   pub read : HaveBytes (WasRead marks) pieces
   pub is_disk : HasTrueReplies (contents_at v) marks → HaveBytes (λ k b. b ≡ disk_after (contents_at v) marks k) pieces
   pub elsewhere : (k : ℕ) → k < size → is_marked units (k / 4096) ≡ false → disk_after (contents_at v) marks k ≡ contents_at v k

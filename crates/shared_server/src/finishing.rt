@@ -1,6 +1,6 @@
 //! What comes of the last sync of a service, and the pieces of its volume that are read back.
 
-ghost use Rattle.std.specs.Prelude.{◌≡◌, ◌≤◌, ◌<◌, ◌+◌, ◌*◌, ◌-◌, ◌%◌, IfOk, false};
+ghost use Rattle.std.specs.Prelude.{◌≡◌, ◌≤◌, ◌<◌, ◌+◌, ◌*◌, ◌-◌, ◌%◌, IfOk, ℕ, false, true};
 ghost use Rattle.changes.specs.Units.{is_marked};
 ghost use Rattle.shared_server.specs.Finishing.{ArePiecesOf, IsPieceOf, piece_end};
 ghost use Rattle.volume_reading.specs.Pieces.{ArePieces};
@@ -42,6 +42,7 @@ fn end_of_run(units: &Marks, from: u32, count: u32) -> u32
     requires { from ≤ count }
     ensures within { (from ≤ result) × (result ≤ count) }
     ensures none { result ≡ from → from < count → is_marked units.now from ≡ false }
+    ensures marked { (n : ℕ) → from ≤ n → n < result → is_marked units.now n ≡ true }
 {
     for unit in from..count {
         if !units.has(unit) {

@@ -24,7 +24,7 @@ loop-next-preserved c =
           subst (λ (n : ℕ). AreUpTo units size n c.if-next-end.pieces.items) is
           (subst (λ (l : List Piece). AreUpTo units size end l) (sym (ap (λ (v : Vec Piece). v.items) w.pieces-is ∙ w.in_ok-push.ensures.items))
           (up_to_end units size next end c.loop-next.pieces.items w.in_ok-piece_of.field-0 c.requires.whole some within.1
-          w.in_ok-piece_of.ensures c.loop-next.invariant))
+          w.in_ok-piece_of.ensures c.end_of_run-end.ensures.marked c.loop-next.invariant))
       | else-next-end w ↦
           let none = w.if-next-end.false in
           let same : end ≡ next = omega (arith, within.0, none) in
