@@ -119,8 +119,8 @@ impl<N: ServiceParameters> Confined<N> {
     }
 
     /// Takes a driver's step, under its generation, and puts the answer of one that is done into the reply, without its endpoint. A driver
-    /// that names a sector outside of the range as the one that its step may write isn't stepped: it counts as failed. The units of a sector
-    /// that the step may write are marked, that of the media and that of the range, whether the step writes it or not.
+    /// that names a sector outside of the range as the one that its step may write isn't stepped: it counts as failed. The units of the
+    /// sector that the step may write are marked, that of the media and that of the range, whether the step writes it or not.
     pub fn step<D: BlockDriver>(
         &mut self,
         driver: &mut D,
