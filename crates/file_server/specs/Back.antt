@@ -1,5 +1,5 @@
 -- A server's volume read back through its link.
-use Rattle.std.specs.Prelude.{◌≡◌, ℕ, ◌<◌, List, ◌++◌, length, Bool, true, false, slice_index}
+use Rattle.std.specs.Prelude.{◌≡◌, ℕ, List, ◌++◌, Bool, true, false}
 use Rattle.tree.specs.declared.Who.{Who}
 use Rattle.tree.specs.declared.Call.{Call}
 use Rattle.tree.specs.Tree.{Tree}
@@ -10,6 +10,8 @@ use Rattle.records.specs.Told.{Told, grown, took_end}
 use Rattle.records.specs.ServerCall.{Serving, Outcome, with_outcome}
 use Rattle.reissue.specs.Calls.{Truth}
 use Rattle.reissue.specs.Moves.{WasRead}
+use Rattle.volume_reading.specs.declared.piece.Piece.{Piece}
+use Rattle.volume_reading.specs.Pieces.{HaveBytes}
 use Rattle.volume_reading.specs.Reading.{LeavesDisk}
 use Rattle.file_server.specs.declared.ReadEnd.{ReadEnd}
 use Rattle.file_server.specs.declared.ReadEnd.TheVariants.{Read, GivenUp, Cut}
@@ -39,9 +41,9 @@ pub record IsReadBack (settled : Type 0) (marks more : List Mark) (place byte : 
   pub read : WasRead more place byte
   pub is_disk : settled → (image : Contents) → HasTrueReplies image more → unsure marks place ≡ false → byte ≡ disk_after image more place
 
--- A server was let go, what was pending was waited for, and these bytes were read from the front of its range: what its link was told and gave
--- meanwhile goes on from each record that the server agreed with. Where all had been written the disk stays, over true replies.
-pub record ReadsBack (s : Serving) (end : ReadEnd) (bytes : List ℕ) (after : List Told) (was is : Truth) : Type 0 where
+-- A server was let go, what was pending was waited for, and these pieces of its range were read: what its link was told and gave meanwhile
+-- goes on from each record that the server agreed with. Where all had been written the disk stays, over true replies.
+pub record ReadsBack (s : Serving) (end : ReadEnd) (pieces : List Piece) (after : List Told) (was is : Truth) : Type 0 where
   pub told : List Told
   pub history : after ≡ told ++ s.told
   pub ended : took_end after ≡ is_cut end
@@ -51,5 +53,5 @@ pub record ReadsBack (s : Serving) (end : ReadEnd) (bytes : List ℕ) (after : L
       → is v (grown told marks)
   pub leaves : s.settled → (image : Contents) (tree : Tree) (marks : List Mark) → AgreesUpToCall s image tree marks
       → HasTrueReplies image (grown told marks) → LeavesDisk image marks (grown told marks)
-  pub back : end ≡ Read → (image : Contents) (tree : Tree) (marks : List Mark) → AgreesUpToCall s image tree marks → (k : ℕ) → k < length bytes
-      → IsReadBack s.settled marks (grown told marks) k (slice_index bytes k)
+  pub back : end ≡ Read → (image : Contents) (tree : Tree) (marks : List Mark) → AgreesUpToCall s image tree marks
+      → HaveBytes (IsReadBack s.settled marks (grown told marks)) pieces

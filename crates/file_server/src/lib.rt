@@ -1,11 +1,12 @@
 //! A file server over a link: what every one keeps, so that whoever moves its link needs to know nothing else of it.
 #![tactic(auto)]
 
-ghost use Rattle.std.specs.Prelude.{◌≡◌, ◌≢◌, ◌≤◌, ◌<◌, ◌+◌, ◌^◌, ◌%◌, ℕ, length, min, false};
+ghost use Rattle.std.specs.Prelude.{◌≡◌, ◌≢◌, ◌≤◌, ◌<◌, ◌+◌, ◌^◌, ℕ, min, false};
 ghost use Rattle.std.specs.Borrow.{Lends, sem};
 ghost use Rattle.tree.specs.declared.Call.{Call as TreeCall};
 ghost use Rattle.reissue.specs.Room.{room_needed};
 ghost use Rattle.file_server.specs.Over.{CallSpecification, AbsorbsOver, SameServing, outcome_in, outcome_of};
+ghost use Rattle.volume_reading.specs.Pieces.{ArePieces, SamePlaces};
 ghost use Rattle.file_server.specs.Back.{ReadsBack};
 
 pub mod laws;
@@ -14,7 +15,7 @@ use message::Incoming;
 use records::legal::Serve;
 use reissue::Link;
 use tree::{Call, Outcome, Reply, Who};
-use volume_reading::ReadRoom;
+use volume_reading::{Piece, ReadRoom};
 
 /// How a call ended.
 #[derive(Clone, Copy, Debug, PartialEq, Eq)]
@@ -106,17 +107,15 @@ pub trait FileServer<L: Link + Drop>: Serve + Drop {
         ensures* lends { sem 𝓛 (Lends Self.row L.row self.entry result (with_line self.entry.now)) }
         ensures value { result.now ≡ line self.old };
 
-    /// Lets the server go and reads its volume back: waits for all that is pending, and then reads the first bytes of the volume's range through
-    /// the link, as many as there is room for, a multiple of 512. It takes no memory. It ends early where the device is given up or the
-    /// link ends. Gives the link.
-    fn read_back(self, room: ReadRoom, into: &mut [u8]) -> (L, ReadEnd)
+    /// Lets the server go and reads pieces of its volume back: waits for all that is pending, and then reads each piece of the volume's
+    /// range through the link, in order. It takes no memory. It ends early where the device is given up or the link ends. Gives the link.
+    fn read_back(self, room: ReadRoom, pieces: &mut [Piece]) -> (L, ReadEnd)
         requires ready { is_ready self }
         requires few { absorbed self ≤ 2 ^ 48 }
         requires live { (Self.serving self).ended ≡ false }
-        requires whole { length into.old % 512 ≡ 0 }
-        requires most { length into.old ≤ 2 ^ 48 }
-        ensures back { ReadsBack (Self.serving self) result.1 into.new (L.history result.0) (L.truth (line self)) (L.truth result.0) }
-        ensures same_length { length into.new ≡ length into.old }
+        requires pieces { ArePieces 0 (2 ^ 48) pieces.old }
+        ensures back { ReadsBack (Self.serving self) result.1 pieces.new (L.history result.0) (L.truth (line self)) (L.truth result.0) }
+        ensures same { SamePlaces pieces.old pieces.new }
         ensures goes { L.goes_on (line self) result.0 };
 
     // the link that was put there is the link
