@@ -41,8 +41,8 @@ pub record IsReadBack (settled : Type 0) (marks more : List Mark) (place byte : 
   pub read : WasRead more place byte
   pub is_disk : settled → (image : Contents) → HasTrueReplies image more → unsure marks place ≡ false → byte ≡ disk_after image more place
 
--- A server was let go, what was pending was waited for, and these pieces of its range were read: what its link was told and gave meanwhile goes
--- on from each record that the server agreed with. Where all had been written the disk stays, over true replies.
+-- A server was let go, what was pending was waited for, and these pieces of its range were read: what its link was told and gave meanwhile
+-- goes on from each record that the server agreed with. Where all had been written the disk stays, over true replies.
 pub record ReadsBack (s : Serving) (end : ReadEnd) (pieces : List Piece) (after : List Told) (was is : Truth) : Type 0 where
   pub told : List Told
   pub history : after ≡ told ++ s.told

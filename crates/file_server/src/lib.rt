@@ -107,8 +107,8 @@ pub trait FileServer<L: Link + Drop>: Serve + Drop {
         ensures* lends { sem 𝓛 (Lends Self.row L.row self.entry result (with_line self.entry.now)) }
         ensures value { result.now ≡ line self.old };
 
-    /// Lets the server go and reads pieces of its volume back: waits for all that is pending, and then reads each piece of the volume's range
-    /// through the link, in order. It takes no memory. It ends early where the device is given up or the link ends. Gives the link.
+    /// Lets the server go and reads pieces of its volume back: waits for all that is pending, and then reads each piece of the volume's
+    /// range through the link, in order. It takes no memory. It ends early where the device is given up or the link ends. Gives the link.
     fn read_back(self, room: ReadRoom, pieces: &mut [Piece]) -> (L, ReadEnd)
         requires ready { is_ready self }
         requires few { absorbed self ≤ 2 ^ 48 }

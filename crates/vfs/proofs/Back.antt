@@ -1,11 +1,10 @@
 -- A server's volume, read back through its link.
-use Rattle.std.proofs.Common.{◌≡◌, ◌≤◌, ◌<◌, ◌+◌, ◌-◌, ◌*◌, ◌^◌, ℕ, List, [], ◌∷◌, ◌++◌, Bool, cond, length, true, false, refl, sym, ap, subst, ◌∙◌, arith, Result, Ok, Err}
-use Rattle.std.specs.Prelude.{slice_index}
+use Rattle.std.proofs.Common.{◌≡◌, ℕ, List, [], ◌∷◌, ◌++◌, refl, sym, subst, ◌∙◌, Result, Ok, Err}
 use Rattle.tree.specs.declared.Who.{Who}
 use Rattle.tree.specs.declared.Call.{Call}
 use Rattle.tree.specs.Answers.{Answer}
 use Rattle.tree.specs.Tree.{Tree}
-use Rattle.records.specs.Marks.{Mark, Took, gave_up}
+use Rattle.records.specs.Marks.{Mark, Took}
 use Rattle.records.specs.Opening.{contents_at}
 use Rattle.records.specs.ServerCall.{Outcome, Replied, with_outcome}
 use Rattle.records.specs.ServerCall as server_call
@@ -22,10 +21,13 @@ use Rattle.reissue.specs.Transfers.{link_of, table_of}
 use Rattle.cached_blocks.specs.declared.Stored.{Stored}
 use Rattle.volume_reading.specs.declared.reading.Stop.{Stop}
 use Rattle.volume_reading.specs.declared.reading.Stop.TheVariants as stop
-use Rattle.volume_reading.specs.ReadBack.{AreFor, AreReads, IsOver, AreBack, ReadsBack as RangeReadsBack}
+use Rattle.volume_reading.specs.declared.piece.Piece.{Piece}
+use Rattle.volume_reading.specs.Pieces.{HaveBytes}
+use Rattle.volume_reading.specs.ReadBack.{AreFor, IsOver, IsBack, AreBack, ReadsBack as RangeReadsBack}
+use Rattle.volume_reading.proofs.Pieces.{have_map}
 use Rattle.file_server.specs.Back.{AgreesUpToCall, IsReadBack, ReadsBack, is_cut, is_given_up}
 use Rattle.file_server.specs.declared.ReadEnd.{ReadEnd}
-use Rattle.file_server.specs.declared.ReadEnd.TheVariants.{Read, GivenUp, Cut}
+use Rattle.file_server.specs.declared.ReadEnd.TheVariants.{Read}
 use Rattle.vfs.specs.declared.server.Server.{Server}
 use Rattle.vfs.specs.OverLink.{IsReadyOver, caching_of, line_of, serving_over, transfers_of}
 use Rattle.vfs.specs.Back.{end_of}
@@ -81,18 +83,18 @@ before_call t marks who now call (Replied answer) h = before_took t marks who no
 before_call t marks who now call server_call.Cut h = h
 
 -- reading it back, by what reading its range says
-pub back_over : {L : Type 0} (words : LinkWords L) (s : Server (Stored L)) (t : Transfers L) (result : Result (Unit {0}) Stop) (bytes : List ℕ)
-    → RangeReadsBack result s.blocks.cache.shape.minor bytes (table_of (transfers_of s)) (table_of t) (words.history (line_of s)) (words.history (link_of t))
+pub back_over : {L : Type 0} (words : LinkWords L) (s : Server (Stored L)) (t : Transfers L) (result : Result (Unit {0}) Stop) (pieces : List Piece)
+    → RangeReadsBack result s.blocks.cache.shape.minor pieces (table_of (transfers_of s)) (table_of t) (words.history (line_of s)) (words.history (link_of t))
     (words.truth (line_of s)) (words.truth (link_of t))
-    → ReadsBack (serving_over words s) (end_of result) bytes (words.history (link_of t)) (words.truth (line_of s)) (words.truth (link_of t))
-back_over {L} words s t result bytes x = record {
+    → ReadsBack (serving_over words s) (end_of result) pieces (words.history (link_of t)) (words.truth (line_of s)) (words.truth (link_of t))
+back_over {L} words s t result pieces x = record {
   told = x.told;
   history = x.goes.history;
   ended = ended_so result (table_of t) (words.history (link_of t)) x.over;
   given_up = λ image tree marks a. sym (x.goes.agrees marks (table image tree marks a)).holds.given_up ∙ given_up_so result (table_of t) (words.history (link_of t)) x.over;
   truth = λ v tree marks same a k. x.goes.truth v marks same (table (contents_at v) tree marks a) k;
   leaves = λ settled image tree marks a true. x.goes.leaves (record { none = settled.no_write }) image marks (table image tree marks a) true;
-  back = λ is image tree marks a k lt. by result x.back is marks (table image tree marks a) k lt;
+  back = λ is image tree marks a. by result x.back is marks (table image tree marks a);
 }
   where
     old : Table
@@ -101,15 +103,17 @@ back_over {L} words s t result bytes x = record {
     table : (image : Contents) (tree : Tree) (marks : List Mark) → AgreesUpToCall (serving_over words s) image tree marks → Agrees old marks
     table image tree marks a = before_call old marks a.who a.now a.call a.outcome a.agrees.table
 
-    by : (q : Result (Unit {0}) Stop) → AreBack q bytes old x.told → end_of q ≡ Read → (marks : List Mark)
-        → Agrees old marks → (k : ℕ) → k < length bytes
-        → IsReadBack (serving_over words s).settled marks (grown x.told marks) k (slice_index bytes k)
-    by (Ok u) back is marks h k lt =
-        let b = back marks h k lt in
-        record { read = b.read; is_disk = λ settled image true sure. b.is_disk (record { none = settled.no_write }) image true sure }
-    by (Err stop.GaveUp) back is marks h k lt = cc
-    by (Err stop.Ended) back is marks h k lt = cc
-    by (Err stop.OutOfMemory) back is marks h k lt = cc
+    by : (q : Result (Unit {0}) Stop) → AreBack q pieces old x.told → end_of q ≡ Read → (marks : List Mark) → Agrees old marks
+        → HaveBytes (IsReadBack (serving_over words s).settled marks (grown x.told marks)) pieces
+    by (Ok u) back is marks h =
+        have_map (IsBack old marks (grown x.told marks)) (IsReadBack (serving_over words s).settled marks (grown x.told marks)) pieces (back marks h)
+        (λ k b i. record {
+          read = i.read;
+          is_disk = λ settled image replies sure. i.is_disk (record { none = settled.no_write }) image replies sure;
+        })
+    by (Err stop.GaveUp) back is marks h = cc
+    by (Err stop.Ended) back is marks h = cc
+    by (Err stop.OutOfMemory) back is marks h = cc
 
 -- its requests are for its minor
 pub are_for : {L : Type 0} (words : LinkWords L) (s : Server (Stored L)) → IsReadyOver words s
@@ -124,15 +128,15 @@ are_for_so {L} words s n t is same ready =
     (subst (λ (m : ℕ). AreFor m (table_of (transfers_of s)).pending) (sym is) (are_for words s ready))
 
 pub back_so : {L : Type 0} (words : LinkWords L) (s : Server (Stored L)) (n : ℕ) (t u : Transfers L) (l : L) (result : Result (Unit {0}) Stop) (end : ReadEnd)
-    (bytes : List ℕ) → n ≡ s.blocks.cache.shape.minor → t ≡ transfers_of s
-    → RangeReadsBack result n bytes (table_of t) (table_of u) (words.history (link_of t)) (words.history (link_of u)) (words.truth (link_of t)) (words.truth (link_of u))
+    (pieces : List Piece) → n ≡ s.blocks.cache.shape.minor → t ≡ transfers_of s
+    → RangeReadsBack result n pieces (table_of t) (table_of u) (words.history (link_of t)) (words.history (link_of u)) (words.truth (link_of t)) (words.truth (link_of u))
     → end ≡ end_of result → l ≡ link_of u
-    → ReadsBack (serving_over words s) end bytes (words.history l) (words.truth (line_of s)) (words.truth l)
-back_so {L} words s n t u l result end bytes is same x ends at =
-    subst (λ (m : L). ReadsBack (serving_over words s) end bytes (words.history m) (words.truth (line_of s)) (words.truth m)) (sym at)
-    (subst (λ (e : ReadEnd). ReadsBack (serving_over words s) e bytes (words.history (link_of u)) (words.truth (line_of s)) (words.truth (link_of u))) (sym ends)
-    (back_over words s u result bytes
-    (subst (λ (y : Transfers L). RangeReadsBack result s.blocks.cache.shape.minor bytes (table_of y) (table_of u) (words.history (link_of y)) (words.history (link_of u))
+    → ReadsBack (serving_over words s) end pieces (words.history l) (words.truth (line_of s)) (words.truth l)
+back_so {L} words s n t u l result end pieces is same x ends at =
+    subst (λ (m : L). ReadsBack (serving_over words s) end pieces (words.history m) (words.truth (line_of s)) (words.truth m)) (sym at)
+    (subst (λ (e : ReadEnd). ReadsBack (serving_over words s) e pieces (words.history (link_of u)) (words.truth (line_of s)) (words.truth (link_of u))) (sym ends)
+    (back_over words s u result pieces
+    (subst (λ (y : Transfers L). RangeReadsBack result s.blocks.cache.shape.minor pieces (table_of y) (table_of u) (words.history (link_of y)) (words.history (link_of u))
     (words.truth (link_of y)) (words.truth (link_of u))) same
-    (subst (λ (m : ℕ). RangeReadsBack result m bytes (table_of t) (table_of u) (words.history (link_of t)) (words.history (link_of u))
+    (subst (λ (m : ℕ). RangeReadsBack result m pieces (table_of t) (table_of u) (words.history (link_of t)) (words.history (link_of u))
     (words.truth (link_of t)) (words.truth (link_of u))) is x))))

@@ -1,6 +1,7 @@
-//! Reading a file server's volume back.
+//! Reading pieces of a file server's volume back.
 
-ghost use Rattle.std.specs.Prelude.{◌≡◌, ◌≢◌, ◌≤◌, ◌^◌, ◌%◌, length, false, Err};
+ghost use Rattle.std.specs.Prelude.{◌≡◌, ◌≢◌, ◌≤◌, ◌^◌, false, Err};
+ghost use Rattle.volume_reading.specs.Pieces.{ArePieces, SamePlaces};
 ghost use Rattle.file_server.specs.Back.{ReadsBack};
 ghost use Rattle.vfs.specs.Back.{end_of as end_as};
 ghost use Rattle.vfs.specs.OverLink.{IsReadyOver, line_of, serving_over};
@@ -9,7 +10,7 @@ use crate::server::Server;
 use cached_blocks::Stored;
 use file_server::ReadEnd;
 use reissue::Link;
-use volume_reading::{ReadRoom, Stop, read_back};
+use volume_reading::{Piece, ReadRoom, Stop, read_back};
 
 /// How reading a volume back ended, by how reading its range did.
 fn end_of(read: Result<(), Stop>) -> ReadEnd
@@ -25,16 +26,15 @@ fn end_of(read: Result<(), Stop>) -> ReadEnd
 }
 
 impl<L: Link> Server<Stored<L>> {
-    /// Lets the frames go, waits for all that is pending, and reads the first bytes of the volume's range through the link, as many as there
-    /// is room for. Gives the link.
-    pub fn read_back(self, room: ReadRoom, into: &mut [u8]) -> (L, ReadEnd)
+    /// Lets the frames go, waits for all that is pending, and reads pieces of the volume's range through the link, in order. Gives the
+    /// link.
+    pub fn read_back(self, room: ReadRoom, pieces: &mut [Piece]) -> (L, ReadEnd)
         requires ready { IsReadyOver L.Link self }
         requires few { self.absorbed ≤ 2 ^ 48 }
         requires live { (serving_over L.Link self).ended ≡ false }
-        requires whole { length into.old % 512 ≡ 0 }
-        requires most { length into.old ≤ 2 ^ 48 }
-        ensures back { ReadsBack (serving_over L.Link self) result.1 into.new (L.history result.0) (L.truth (line_of self)) (L.truth result.0) }
-        ensures same_length { length into.new ≡ length into.old }
+        requires pieces { ArePieces 0 (2 ^ 48) pieces.old }
+        ensures back { ReadsBack (serving_over L.Link self) result.1 pieces.new (L.history result.0) (L.truth (line_of self)) (L.truth result.0) }
+        ensures same { SamePlaces pieces.old pieces.new }
         ensures goes { L.goes_on (line_of self) result.0 }
     {
         let Server {
@@ -47,7 +47,7 @@ impl<L: Link> Server<Stored<L>> {
         } = self;
         let minor = blocks.minor();
         let mut transfers = blocks.into_transfers();
-        let end = end_of(read_back(&mut transfers, room, minor, into));
+        let end = end_of(read_back(&mut transfers, room, minor, pieces));
         (transfers.into_link(), end)
     }
 }

@@ -116,8 +116,8 @@ IsRangeEnd (Err Ended) start size bytes old new acts after =
     (took_end after ≡ true) × (new.given_up ≡ false)
     × ((marks : List Mark) → Agrees old marks → IsUnread start marks → IsCutShort start size (marks_after acts marks))
 
--- A range of so many bytes is read, from a table with nothing pending on. What was read elsewhere stays; `below` and `beyond` say what they do
--- where none of the places from its start on was read before.
+-- A range of so many bytes is read, from a table with nothing pending on. What was read elsewhere stays; where none of the places from its
+-- start on was read before, none behind it is read.
 pub record ReadsRange (result : Result (Unit {0}) Stop) (minor start size : ℕ) (bytes : List ℕ) (old new : Table) (before after : List Told)
     (was is : Truth) : Type 0 where
   pub went : Went minor old new before after was is

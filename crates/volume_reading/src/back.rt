@@ -112,9 +112,9 @@ fn read_pieces<L: Link>(
     Ok(())
 }
 
-/// Waits for all that is pending, and then reads the bytes of these pieces of the range of the media that this minor names, one piece after
-/// the other. It takes messages until all have come, the device is given up or the link ends, and none where the device was given up before.
-/// It takes no memory.
+/// Waits for all that is pending, and then reads the bytes of these pieces of the range of the media that this minor names, in order. It
+/// takes messages until all have come, the device is given up or the link ends, and none where the device was given up before. It takes no
+/// memory.
 pub fn read_back<L: Link>(
     transfers: &mut Transfers<L>,
     room: ReadRoom,

@@ -9,5 +9,5 @@ read_back-requires-clause-minor g c =
 pub returns-clause-back : goal.returns-clause-back
 returns-clause-back g c =
     back_so g.L.Link c.args.self c.minor-minor.result c.into_transfers-transfers.result c.read_back.new.transfers c.into_link.result c.read_back.result
-    c.end_of-end.result c.read_back.new.into c.minor-minor.ensures c.into_transfers-transfers.ensures c.read_back.ensures.back c.end_of-end.ensures
+    c.end_of-end.result c.read_back.new.pieces c.minor-minor.ensures c.into_transfers-transfers.ensures c.read_back.ensures.back c.end_of-end.ensures
     c.into_link.ensures
