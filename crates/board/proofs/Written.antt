@@ -1,6 +1,6 @@
 -- In a unit in which no write of a record has a byte the disk stays.
 use Rattle.std.proofs.Common.{◌≡◌, ℕ, ◌+◌, ◌*◌, ◌/◌, ◌<◌, ◌≤◌, List, [], ◌∷◌, ◌++◌, cond, refl, ◌∙◌, ap, subst, sym, arith, get_or, length, replicate}
-use Rattle.std.specs.Prelude.{max, min, nat_lt, nat_le, ◌==◌, ◌&&◌, ◌||◌, Bool, true, false, if◌then◌else◌, Option, Some, None, is_some}
+use Rattle.std.specs.Prelude.{max, min, nat_lt, nat_le, ◌==◌, ◌&&◌, Bool, true, false, if◌then◌else◌, Option, Some, None, is_some}
 use Rattle.std.proofs.lemmas.Bool.{and_parts, or_parts}
 use Rattle.std.proofs.lemmas.List.{get_or-replicate, length-replicate}
 use Rattle.std.proofs.lemmas.Bool.Decides.{nat_tests}
@@ -24,6 +24,7 @@ spares_it : (place : ℕ) (r : BlockRequest) → writes_in r (place / 4096) ≡ 
 spares_it place r none write from to = by (is_write r.kind) write none where
   lies : nat_lt (max r.position (4096 * (place / 4096))) (min (r.position + r.count) (4096 * (place / 4096) + 4096)) ≡ true
   lies = grind (arith, nat_tests)
+
   by : (b : Bool) → b ≡ true
       → (b && nat_lt (max r.position (4096 * (place / 4096))) (min (r.position + r.count) (4096 * (place / 4096) + 4096))) ≡ false → ⊥
   by true is out = false_not_true (sym out ∙ lies)

@@ -3,9 +3,9 @@
 
 pub mod keeper;
 pub mod parameters;
-pub mod written;
 pub mod recorder;
 mod recording_link;
 pub mod steady;
+pub mod written;
 
 pub use recording_link::RecordingLink;
