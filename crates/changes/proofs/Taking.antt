@@ -1,10 +1,9 @@
 -- Changes that were taken make contents the image.
-use Rattle.std.proofs.Common.{◌≡◌, ℕ, zero, suc, ◌+◌, List, [], ◌∷◌, map, Bool, true, false, get_or, refl, sym, ◌∙◌, ap, arith}
+use Rattle.std.proofs.Common.{◌≡◌, ℕ, zero, suc, ◌+◌, List, [], ◌∷◌, map, Bool, true, false, get_or, refl, arith}
 use Rattle.std.specs.List.{zip}
 use Rattle.std.proofs.lemmas.Bool.Decides.{nat_tests}
 use Rattle.stable.specs.Disk.{Contents, set, put}
-use Rattle.changes.specs.declared.taken.Changes.{Changes}
-use Rattle.changes.specs.Units.{unit_of, marked, marked_from, is_marked, AreTaken, AgreesBut, puts_of}
+use Rattle.changes.specs.Units.{unit_of, marked, marked_from, is_marked}
 use Rattle.changes.specs.Laws.{TakenIsAll}
 
 -- a unit that is as it is to be stays so where one more is set as it is to be

@@ -1,5 +1,5 @@
 -- What changes that were taken make of another image.
-use Rattle.std.specs.Prelude.{◌≡◌, ◌≤◌, ◌<◌, ℕ, ◌+◌, ◌*◌, List, [], Bool, All, length}
+use Rattle.std.specs.Prelude.{◌≡◌, ◌<◌, ℕ, ◌+◌, ◌*◌, List, [], Bool, All, length}
 use Rattle.std.specs.List.{concat}
 use Rattle.std.proofs.Common.{get_or}
 use Rattle.stable.specs.Disk.{Contents, put}

@@ -50,7 +50,7 @@ stays_unmarked v written media whole keeps fits k off low =
     ∙ ap (λ (n : ℕ). slice_index (concat media.sectors) n) (sym at)
     ∙ is_same_image.places media.sectors whole (v.first + s) o below within
     ∙ ap (λ (l : List ℕ). slice_index l o)
-      (keeps.unmarked s (omega (arith, low)) (subst (λ (n : ℕ). is_marked written n ≡ false) unit off))
+    (keeps.unmarked s (omega (arith, low)) (subst (λ (n : ℕ). is_marked written n ≡ false) unit off))
     ∙ byte_of_sector (length v.media / 512) (v.first + s) o v.media many within
     ∙ ap (λ (n : ℕ). slice_index v.media n) at
     ∙ sym (in_range v.first v.count k v.media low)

@@ -29,8 +29,8 @@ has_all_bytes start bytes range fits each =
     length-take-le (length bytes) (drop start range) (let d = length-drop start range in omega (arith, d, fits)) in
     ext_get_or 0 (take (length bytes) (drop start range)) bytes long
     (λ k low.
-      let less : k < length bytes = omega (arith, low, long) in
-      get_or-take (length bytes) (drop start range) k 0 less ∙ get_or-drop start range k 0 ∙ each k less)
+    let less : k < length bytes = omega (arith, low, long) in
+    get_or-take (length bytes) (drop start range) k 0 less ∙ get_or-drop start range k 0 ∙ each k less)
 
 -- whether a range has the bytes of a piece at its places
 pub is_at_so : (r : Bool) (start : ℕ) (bytes range : List ℕ) → start + length bytes ≤ length range

@@ -35,7 +35,7 @@ use Rattle.file_server.specs.Back.{AgreesUpToCall, IsReadBack, ReadsBack, is_cut
 use Rattle.file_server.specs.declared.ReadEnd.{ReadEnd}
 use Rattle.file_server.specs.declared.ReadEnd.TheVariants as read
 use Rattle.board.specs.declared.counting.parameters.ServiceParameters.{Ghosts as RoomWords}
-use Rattle.board.specs.Written.{AreWritten, DiskStaysUnwritten, is_written}
+use Rattle.board.specs.Written.{AreWritten, DiskStaysUnwritten}
 use Rattle.board.specs.Keeper.{begins_itself, begins_before, begins_further}
 use Rattle.shared_server.specs.Held.{IsHeld}
 use Rattle.shared_server.specs.Finishing.{ArePiecesOf, end_of}

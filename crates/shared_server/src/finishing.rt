@@ -68,11 +68,7 @@ fn piece_of(alloc: Global, first: u32, end: u32, size: u64) -> Result<Piece, All
 
 /// The pieces of a range of this size, a multiple of 512, that lie in marked units, in order, whose bytes aren't read yet. Refused where no
 /// memory was found for them.
-fn pieces_of(
-    alloc: Global,
-    units: &Marks,
-    size: u64,
-) -> Result<Vec<Piece>, AllocError>
+fn pieces_of(alloc: Global, units: &Marks, size: u64) -> Result<Vec<Piece>, AllocError>
     requires whole { size % 512 ≡ 0 }
     requires most { size ≤ 67108864 }
     ensures { IfOk result (λ pieces. ArePiecesOf units.now size pieces.items) }

@@ -1,4 +1,4 @@
-use Rattle.std.proofs.Common.{◌≡◌, ℕ, ◌∙◌, sym, refl, true, false}
+use Rattle.std.proofs.Common.{◌≡◌, ℕ, ◌∙◌, sym, refl}
 use Rattle.std.specs.Prelude.{slice_index}
 use Rattle.std.proofs.lemmas.Bool.{false≢true}
 use Rattle.serve.proofs.ReadBackLaws.{within_at, has_at, have_next, have_whole}

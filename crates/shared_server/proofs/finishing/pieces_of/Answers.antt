@@ -1,4 +1,4 @@
-use Rattle.std.proofs.Common.{◌≡◌, ◌+◌, ◌∙◌, ap, sym, subst, arith, max, ℕ, List}
+use Rattle.std.proofs.Common.{◌≡◌, ◌+◌, ◌∙◌, ap, sym, subst, arith, ℕ, List}
 use Rattle.std.specs.Global.{Vec}
 use Rattle.volume_reading.specs.declared.piece.Piece.{Piece}
 use Rattle.shared_server.proofs.PieceLaws.{AreUpTo, up_to_none, up_to_next, up_to_end, up_to_all}

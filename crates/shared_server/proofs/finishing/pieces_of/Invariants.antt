@@ -1,4 +1,4 @@
-use Rattle.std.proofs.Common.{◌+◌, ◌*◌, ◌-◌, ◌/◌}
+use Rattle.std.proofs.Common.{◌+◌, ◌-◌, ◌/◌}
 use Rattle.shared_server.proofs.PieceLaws.{AreUpTo}
 use Rattle.shared_server.proofs.finishing.pieces_of.Given as goal
 

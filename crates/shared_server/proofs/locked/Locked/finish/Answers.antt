@@ -1,4 +1,4 @@
-use Rattle.std.proofs.Common.{◌≡◌, ◌∙◌, ◌^◌, ap, arith, drop, length, refl, subst, sym, Bool, List}
+use Rattle.std.proofs.Common.{◌∙◌, ◌^◌, ap, arith, drop, length, refl, subst, sym, Bool, List}
 use Rattle.std.proofs.lemmas.List.{take_at}
 use Rattle.volume_reading.specs.declared.piece.Piece.{Piece}
 use Rattle.volume_reading.specs.Pieces.{ArePieces, SamePlaces}
