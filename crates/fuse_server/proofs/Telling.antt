@@ -45,7 +45,7 @@ use Rattle.fuse_server.specs.Making.{Making, AreMaking, MaybeClosed, given_to, i
 use Rattle.fuse_server.specs.Making.Making.{NewDirectory, NewFile, NewLink}
 use Rattle.fuse_server.specs.Reach.{IsAt}
 use Rattle.fuse_server.specs.Telling.{Telling, telling_of, tells, told_of, room_of, HasOwn, IsToldAs, ToldBehind, SetBehind, ShownAt, ShownBy, LinkGiven, LinkShown, AskedFor}
-use Rattle.fuse_server.specs.Telling.Telling.{Name, Made, Node, Changed, Target, Unlinked, Removed, Renamed, Room, ReadAt, WrittenAt, Other}
+use Rattle.fuse_server.specs.Telling.Telling.{Name, Made, Node, Changed, Target, Unlinked, Removed, Renamed, Room, ReadAt, Other}
 use Rattle.fuse_server.specs.declared.making.Owner.{Owner}
 use Rattle.fuse_server.specs.declared.said.FuseAnswer.{FuseAnswer}
 use Rattle.fuse_server.specs.declared.said.FuseAnswer.TheVariants as answer_of

@@ -1,5 +1,5 @@
 -- As many bytes are written as there is room for.
-use Rattle.std.proofs.Common.{◌≡◌, ◌<◌, ◌∙◌, ℕ, ℤ, List, [], ◌∷◌, ◌++◌, Some, None, Option, Result, Ok, Err, IfOk, false, length, min, take, refl, subst, sym}
+use Rattle.std.proofs.Common.{◌≡◌, ◌<◌, ℕ, ℤ, List, [], ◌∷◌, ◌++◌, Some, None, Option, Result, Ok, Err, false, length, min, take, refl, subst, sym}
 use Rattle.std.specs.Prelude.{pos}
 use Rattle.std.specs.Borrow.{Bor}
 use Rattle.errno.specs.declared.Errno.TheVariants.{ENOSPC}
@@ -11,24 +11,22 @@ use Rattle.talks.specs.declared.ask.Ask.TheVariants as ask
 use Rattle.talks.specs.declared.ask.Leaving.{Leaving}
 use Rattle.talks.specs.declared.heard.Heard.{Heard}
 use Rattle.talks.specs.declared.heard.Heard.TheVariants as heard_of
-use Rattle.talks.specs.declared.refused.Refused.{Refused}
 use Rattle.talks.specs.declared.refused.Refused.TheVariants.{By}
 use Rattle.talks.specs.declared.sessions.EnterRefusal.{EnterRefusal}
 use Rattle.tree.specs.declared.Call.{Call}
 use Rattle.tree.specs.declared.Call.TheVariants as call
 use Rattle.tree.specs.declared.Outcome.{Outcome}
 use Rattle.tree.specs.declared.Outcome.TheVariants as outcome
-use Rattle.tree.specs.declared.Reply.{Reply}
 use Rattle.tree.specs.declared.Reply.TheVariants as reply
 use Rattle.tree.specs.declared.Whence.TheVariants.{Set}
-use Rattle.fuse_server.specs.Asking.{SoughtFor, Talked}
+use Rattle.fuse_server.specs.Asking.{SoughtFor}
 use Rattle.fuse_server.specs.Telling.{HasOwn, ToldBehind}
 use Rattle.fuse_server.specs.Telling.Telling.{WrittenAt}
-use Rattle.fuse_server.specs.Tries.{AreTries, TriedFor, WroteSome, fewer, room_reply, sought_at, wrote_by}
+use Rattle.fuse_server.specs.Tries.{TriedFor, WroteSome, fewer, room_reply, sought_at, wrote_by}
 use Rattle.fuse_server.specs.Tries.AreTries.{AtFirst, Fewer}
 use Rattle.fuse_server.specs.declared.said.FuseAnswer.TheVariants as answer_of
 use Rattle.fuse_server.specs.declared.work.Reach.{Reach}
-use Rattle.fuse_server.proofs.Asking.{joined, never_takes, quiet_joined, stays}
+use Rattle.fuse_server.proofs.Asking.{joined, never_takes, quiet_joined}
 use Rattle.fuse_server.proofs.Losing.{quiet_loses}
 
 -- there was no room

@@ -1,5 +1,5 @@
 -- As many bytes are written as there is room for.
-use Rattle.std.specs.Prelude.{◌≡◌, ◌<◌, ◌+◌, ◌-◌, ◌*◌, ◌/◌, ◌%◌, max, ℕ, pos, List, [], ◌∷◌, length, take, Option, Some, None, Result}
+use Rattle.std.specs.Prelude.{◌<◌, ◌+◌, ◌-◌, ◌*◌, ◌/◌, ◌%◌, max, ℕ, pos, List, [], ◌∷◌, length, take, Option, Some, None, Result}
 use Rattle.std.specs.Borrow.{Bor}
 use Rattle.errno.specs.declared.Errno.TheVariants.{ENOSPC}
 use Rattle.fuse_nodes.specs.declared.node.Descriptor.{Descriptor}

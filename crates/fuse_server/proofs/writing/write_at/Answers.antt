@@ -23,3 +23,15 @@ returns-in-Err-By-ENOSPC-clause-told g c =
     c.seek.new.sessions c.calling-heard.new.sessions c.args.descriptor c.args.offset _ c.args.bytes c.in_ok-seek.field-0
     c.calling-heard.result None (to_z-of_z w64 c.args.offset c.ranges.offset) (no_room_so c.calling-heard.result told)
     c.in_ok-seek.ensures.sought c.calling-heard.ensures.heard
+
+pub returns-in_err-seek-clause-asked : goal.returns-in_err-seek-clause-asked
+returns-in_err-seek-clause-asked g c = c.seek.ensures.asked
+
+pub returns-in-Ok-clause-asked : goal.returns-in-Ok-clause-asked
+returns-in-Ok-clause-asked g c = (goes_on c.seek.ensures.asked c.calling-heard.ensures.asked)
+
+pub returns-in-Err-By-ENOSPC-clause-asked : goal.returns-in-Err-By-ENOSPC-clause-asked
+returns-in-Err-By-ENOSPC-clause-asked g c = (goes_on c.seek.ensures.asked c.calling-heard.ensures.asked)
+
+pub returns-in-Err-clause-asked : goal.returns-in-Err-clause-asked
+returns-in-Err-clause-asked g c = (goes_on c.seek.ensures.asked c.calling-heard.ensures.asked)

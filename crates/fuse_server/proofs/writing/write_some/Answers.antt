@@ -1,3 +1,4 @@
+use Rattle.fuse_server.proofs.Asking.{goes_on}
 use Rattle.std.proofs.Common.{◌∙◌, arith, w64}
 use Rattle.std.proofs.lemmas.Int.{to_z-of_z}
 use Rattle.fuse_server.specs.Reach.{CalledFrom}
@@ -18,3 +19,12 @@ tries-preserved g c = (
       c.in_ok-given.ensures.fewer c.in_ok-given.ensures.first,
   omega (arith, c.in_ok-given.ensures.shorter, c.tries.invariant.1),
 )
+
+pub returns-in_err-count-clause-asked : goal.returns-in_err-count-clause-asked
+returns-in_err-count-clause-asked g c = (goes_on c.tries.invariant.0.talked c.write_at.ensures.asked)
+
+pub returns-in_err-given-clause-asked : goal.returns-in_err-given-clause-asked
+returns-in_err-given-clause-asked g c = (goes_on c.tries.invariant.0.talked c.write_at.ensures.asked)
+
+pub returns-in-Some-clause-asked : goal.returns-in-Some-clause-asked
+returns-in-Some-clause-asked g c = (goes_on c.tries.invariant.0.talked c.write_at.ensures.asked)

@@ -1,6 +1,7 @@
+use Rattle.fuse_server.proofs.Steps.{no_step, steps_on}
 use Rattle.std.proofs.Common.{inl, refl}
 use Rattle.fuse_server.specs.Reach.{CalledFrom}
-use Rattle.fuse_server.proofs.Asking.{goes_on, by_both, by_none}
+use Rattle.fuse_server.proofs.Asking.{goes_on, by_both, by_none, on_err, stays}
 use Rattle.fuse_server.specs.Making.Making.{NewFile}
 use Rattle.fuse_server.proofs.Telling.{by_open, created_behind, file_made}
 use Rattle.fuse_server.proofs.mount.Mount.create.Goals as goal
@@ -16,3 +17,27 @@ returns-in-Ok-clause-behind g c =
     c.make_file.new.sessions))
     c.in-Ok.ensures.shown
     (file_made c.args.work.reach c.in_ok-path.path _ _ _ _ _ _ _ _ (inl refl) c.mode_of.ensures c.in_ok-owner.ensures)
+
+pub returns-in_err-owner-clause-asked : goal.returns-in_err-owner-clause-asked
+returns-in_err-owner-clause-asked g c = on_err _ (stays _ _ _ _ _)
+
+pub returns-in_err-path-clause-asked : goal.returns-in_err-path-clause-asked
+returns-in_err-path-clause-asked g c = on_err _ (stays _ _ _ _ _)
+
+pub returns-in_err-descriptor-clause-asked : goal.returns-in_err-descriptor-clause-asked
+returns-in_err-descriptor-clause-asked g c = on_err _ c.make_file.ensures.asked
+
+pub returns-in_err-owner-clause-steps : goal.returns-in_err-owner-clause-steps
+returns-in_err-owner-clause-steps g c = no_step refl
+
+pub returns-in_err-path-clause-steps : goal.returns-in_err-path-clause-steps
+returns-in_err-path-clause-steps g c = no_step refl
+
+pub returns-in_err-descriptor-clause-steps : goal.returns-in_err-descriptor-clause-steps
+returns-in_err-descriptor-clause-steps g c = c.make_file.ensures.steps
+
+pub returns-in-Ok-clause-steps : goal.returns-in-Ok-clause-steps
+returns-in-Ok-clause-steps g c = steps_on c.make_file.ensures.steps c.finish.ensures.steps
+
+pub returns-in-Err-clause-steps : goal.returns-in-Err-clause-steps
+returns-in-Err-clause-steps g c = steps_on c.make_file.ensures.steps c.finish.ensures.steps

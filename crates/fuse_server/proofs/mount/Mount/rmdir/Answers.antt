@@ -1,10 +1,10 @@
-use Rattle.std.proofs.Common.{Some, sym, subst}
+use Rattle.std.proofs.Common.{Some, sym, subst, refl}
 use Rattle.fuse_nodes.specs.Known.{Known, known_of}
 use Rattle.fuse_nodes.specs.Laws.{IsLost}
 use Rattle.fuse_nodes.proofs.Losing.{lost_is_lost}
-use Rattle.fuse_server.proofs.Asking.{goes_on, looking, looked_before, on_err}
+use Rattle.fuse_server.proofs.Asking.{goes_on, looking, looked_before, on_err, stays}
 use Rattle.fuse_server.proofs.Telling.{removed_behind}
-use Rattle.fuse_server.proofs.Steps.{step_lost}
+use Rattle.fuse_server.proofs.Steps.{step_lost, no_step}
 use Rattle.fuse_server.proofs.mount.Mount.rmdir.Goals as goal
 
 pub returns-in_err-take-clause-asked : goal.returns-in_err-take-clause-asked
@@ -19,3 +19,18 @@ returns-clause-behind g c =
 
 pub returns-clause-steps : goal.returns-clause-steps
 returns-clause-steps g c = step_lost _ c.lost.ensures
+
+pub returns-in_err-path-clause-asked : goal.returns-in_err-path-clause-asked
+returns-in_err-path-clause-asked g c = on_err _ (stays _ _ _ _ _)
+
+pub returns-in_err-was-clause-asked : goal.returns-in_err-was-clause-asked
+returns-in_err-was-clause-asked g c = on_err _ c.look.ensures.asked
+
+pub returns-in_err-path-clause-steps : goal.returns-in_err-path-clause-steps
+returns-in_err-path-clause-steps g c = no_step refl
+
+pub returns-in_err-was-clause-steps : goal.returns-in_err-was-clause-steps
+returns-in_err-was-clause-steps g c = no_step refl
+
+pub returns-in_err-take-clause-steps : goal.returns-in_err-take-clause-steps
+returns-in_err-take-clause-steps g c = no_step refl

@@ -1,3 +1,4 @@
+use Rattle.fuse_server.proofs.Steps.{no_step}
 use Rattle.std.proofs.Common.{refl}
 use Rattle.fuse_server.specs.declared.said.FuseAnswer.TheVariants as answer_of
 use Rattle.fuse_server.proofs.Telling.{plainly, synced}
@@ -11,3 +12,12 @@ returns-in-Err-done-clause-asked g c = plainly c.args.work.reach (answer_of.Refu
 
 pub returns-in-Err-clause-asked : goal.returns-in-Err-clause-asked
 returns-in-Err-clause-asked g c = plainly c.args.work.reach (answer_of.Refused c.in-Err.refused) c.ask.ensures.asked
+
+pub returns-in-Ok-done-clause-steps : goal.returns-in-Ok-done-clause-steps
+returns-in-Ok-done-clause-steps g c = no_step refl
+
+pub returns-in-Err-done-clause-steps : goal.returns-in-Err-done-clause-steps
+returns-in-Err-done-clause-steps g c = no_step refl
+
+pub returns-in-Err-clause-steps : goal.returns-in-Err-clause-steps
+returns-in-Err-clause-steps g c = no_step refl
