@@ -183,11 +183,11 @@ def projects(at, room, tell):
 
 
 def mounts(peer, tell):
-    """A full volume is unmounted and mounted."""
+    """A volume is filled, unmounted and mounted."""
     with open(peer.folder / "full", "wb") as file:
         for it in range(0, FULL, 1 << 20):
             file.write(bytes([it >> 20]) * (1 << 20))
-    tell("a full volume, unmounted behind a write", timed(peer.end)[0])
+    tell("a volume, unmounted behind 50 MiB written", timed(peer.end)[0])
     tell("a full volume, mounted", timed(peer.mount)[0])
     os.unlink(peer.folder / "full")
 
