@@ -1,5 +1,5 @@
 -- What the record of a service says once its volume was read back, behind a last sync that was answered ok.
-use Rattle.std.proofs.Common.{◌≡◌, ℕ, ◌≤◌, ◌<◌, ◌/◌, List, [], ◌∷◌, Bool, true, false, refl, sym, ◌∙◌, ap, subst, arith}
+use Rattle.std.proofs.Common.{◌≡◌, ℕ, length, ◌≤◌, ◌<◌, ◌/◌, List, [], ◌∷◌, Bool, true, false, refl, sym, ◌∙◌, ap, subst, arith}
 use Rattle.std.specs.Prelude.{◌↔◌, if◌then◌else◌}
 use Rattle.std.proofs.lemmas.Bool.{false≢true}
 use Rattle.layout.specs.declared.Geometry.{Geometry}
@@ -35,7 +35,7 @@ use Rattle.file_server.specs.Back.{AgreesUpToCall, IsReadBack, ReadsBack, is_cut
 use Rattle.file_server.specs.declared.ReadEnd.{ReadEnd}
 use Rattle.file_server.specs.declared.ReadEnd.TheVariants as read
 use Rattle.board.specs.declared.counting.parameters.ServiceParameters.{Ghosts as RoomWords}
-use Rattle.board.specs.Written.{AreWritten, DiskStaysUnwritten}
+use Rattle.board.specs.Written.{AreWritten, DiskStaysUnwritten, is_written}
 use Rattle.board.specs.Keeper.{begins_itself, begins_before, begins_further}
 use Rattle.shared_server.specs.Held.{IsHeld}
 use Rattle.shared_server.specs.Finishing.{ArePiecesOf, end_of}
@@ -123,10 +123,10 @@ pub record WasSynced (s : Serving) (truth : Truth) (g : Geometry) (v : Opening) 
   pub at_first : HasTrueReplies (contents_at v) marks → IsAtFirst g (contents_at v) own
   pub settled : HasTrueReplies (contents_at v) marks → s.settled
 
--- in the units of a range of this size that aren't marked the disk is as it was handed in
+-- the units are marked in which writes have bytes, and in those of a range of this size that aren't the disk is as it was handed in
 abbrev IsSameElsewhere : Opening → ℕ → List Mark → List Bool → Type 0
 IsSameElsewhere v size marks units =
-    (k : ℕ) → k < size → is_marked units (k / 4096) ≡ false → disk_after (contents_at v) marks k ≡ contents_at v k
+    AreWritten units marks × ((k : ℕ) → k < size → is_marked units (k / 4096) ≡ false → disk_after (contents_at v) marks k ≡ contents_at v k)
 
 -- what the record says once all was read back, or not all
 module _ (s : Serving) (end : ReadEnd) (pieces : List Piece) (after : List Told) (was is : Truth) (g : Geometry) (v : Opening) (seen marks : List Mark)
@@ -166,7 +166,8 @@ module _ (s : Serving) (end : ReadEnd) (pieces : List Piece) (after : List Told)
         have_map (IsReadBack s.settled marks more) (λ n b. b ≡ disk_after (contents_at v) more n) pieces
         (x.back is (contents_at v) k.own marks k.knows)
         (λ n b r. r.is_disk (k.settled first) (contents_at v) true (((k.tells k.own (k.at_first first)).1 first).sure.each n));
-    elsewhere = elsewhere;
+    written = elsewhere.0;
+    elsewhere = elsewhere.1;
   }
 
 -- a link has ended where the reading was cut
@@ -298,14 +299,23 @@ not_true : (b : Bool) → (b ≡ true → ⊥) → b ≡ false
 not_true true never = absurd (never refl)
 not_true false never = refl
 
--- where all units are marked that writes have bytes in
-pub same_elsewhere : (v : Opening) (size : ℕ) (marks : List Mark) (units written : List Bool) (all : Bool) → DiskStaysUnwritten
-    → size ≤ 67108864 → AreWritten written marks → ((all ≡ true) ↔ Covers units written) → all ≡ true → IsSameElsewhere v size marks units
-same_elsewhere v size marks units written all stays most are covers is k low off =
-    let n : ℕ = k / 4096 in
-    let none : is_marked written n ≡ false =
-    not_true (is_marked written n) (λ there. let marked = covers.0 is n there in false≢true (sym off ∙ marked)) in
-    stays (contents_at v) marks k (sym (are.each n (omega (arith, low, most))) ∙ none)
+-- marks that cover each other are the same
+same_mark : (units written : List Bool) (n : ℕ) → Covers units written → Covers written units → is_marked units n ≡ is_marked written n
+same_mark units written n over under = by (is_marked units n) refl where
+  by : (b : Bool) → is_marked units n ≡ b → b ≡ is_marked written n
+  by true there = sym (under n there)
+  by false none = sym (not_true (is_marked written n) (λ there. false≢true (sym none ∙ over n there)))
+
+-- where the units are marked that writes have bytes in
+pub same_elsewhere : (v : Opening) (size : ℕ) (marks : List Mark) (units written : List Bool) (same : Bool) → DiskStaysUnwritten
+    → size ≤ 67108864 → length units ≡ 16384 → AreWritten written marks
+    → ((same ≡ true) ↔ (Covers units written × Covers written units)) → same ≡ true → IsSameElsewhere v size marks units
+same_elsewhere v size marks units written same stays most long are covers is =
+    let each : (n : ℕ) → n < 16384 → is_marked units n ≡ is_written marks n =
+    λ n low. same_mark units written n (covers.0 is).0 (covers.0 is).1 ∙ are.each n low in (
+      record { number = long; each = each },
+      λ k low off. stays (contents_at v) marks k (sym (each (k / 4096) (omega (arith, low, most))) ∙ off),
+    )
 
 -- the pieces that were to be read, once they were
 pub pieces_still : (units : List Bool) (size : ℕ) (old new : List Piece) → SamePlaces old new → ArePiecesOf units size old

@@ -11,14 +11,10 @@ use Rattle.shared_server.specs.declared.locked.LastSync.TheVariants as sync
 use Rattle.shared_server.specs.declared.finishing.Finish.{Finish}
 use Rattle.shared_server.specs.declared.finishing.Finish.TheVariants.{Read, Unread, GivenUp, Cut}
 
--- where the piece of a range of this size ends that lies in the units before this one
-abbrev pub piece_end : ℕ → ℕ → ℕ
-piece_end end size = min (4096 * end) size
-
 -- the piece of a range of this size that lies in units from the first to before the end
 pub record IsPieceOf (first end size : ℕ) (p : Piece) : Type 0 where
   pub start : p.start ≡ 4096 * first
-  pub behind : p.start + length p.bytes.items ≡ piece_end end size
+  pub behind : p.start + length p.bytes.items ≡ min (4096 * end) size
 
 -- the pieces of a range of this size, in order, that have each place of it in a marked unit, and no other
 pub record ArePiecesOf (units : List Bool) (size : ℕ) (pieces : List Piece) : Type 0 where

@@ -13,6 +13,7 @@ use Rattle.records.specs.Legal.{IsAtFirst, IsSynced, tree_after}
 use Rattle.reissue.specs.declared.link.Link.{Ghosts as LinkWords}
 use Rattle.reissue.specs.Moves.{WasRead}
 use Rattle.changes.specs.Units.{is_marked}
+use Rattle.board.specs.Written.{AreWritten}
 use Rattle.volume_reading.specs.declared.piece.Piece.{Piece}
 use Rattle.volume_reading.specs.Pieces.{ArePieces, HaveBytes, IsIn}
 
@@ -53,9 +54,11 @@ SyncTells WasCut g v tree marks = gave_up marks ≡ false
 SyncTells WasNotAsRead g v tree marks = IsOnDisk g v tree marks
 SyncTells WasNotRead g v tree marks = IsOnDisk g v tree marks
 
--- These pieces of the volume's range were read, in order: they have each place in a unit that is marked, and no other, and each gave its
--- byte; where the replies were true, it is the disk's. In the other units the disk is as it was handed in, whatever the replies.
+-- The units are marked in which writes have bytes. These pieces of the volume's range were read, in order: they have each place in a marked
+-- unit, and no other, and each gave its byte; where the replies were true, it is the disk's. In the other units the disk is as it was
+-- handed in, whatever the replies.
 pub record AreOnDisk (v : Opening) (size : ℕ) (marks : List Mark) (units : List Bool) (pieces : List Piece) : Type 0 where
+  pub written : AreWritten units marks
   pub ordered : ArePieces 0 size pieces
   pub all : (k : ℕ) → k < size → is_marked units (k / 4096) ≡ true → IsIn pieces k
   pub only : (k : ℕ) → IsIn pieces k → is_marked units (k / 4096) ≡ true

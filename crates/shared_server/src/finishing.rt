@@ -1,9 +1,8 @@
 //! What comes of the last sync of a service, and the pieces of its volume that are read back.
 
-ghost use Rattle.std.specs.Prelude.{◌≡◌, ◌≤◌, ◌<◌, ◌+◌, ◌*◌, ◌-◌, ◌%◌, IfOk, ℕ, false, true};
-ghost use Rattle.changes.specs.Units.{is_marked};
-ghost use Rattle.shared_server.specs.Finishing.{ArePiecesOf, IsPieceOf, piece_end};
-ghost use Rattle.volume_reading.specs.Pieces.{ArePieces};
+ghost use Rattle.std.specs.Prelude.{◌≡◌, ◌≤◌, ◌<◌, ◌+◌, ◌*◌, ◌-◌, ◌%◌, ◌↔◌, IfOk, ℕ, false, true};
+ghost use Rattle.changes.specs.Units.{Covers, is_marked};
+ghost use Rattle.shared_server.specs.Finishing.{ArePiecesOf, IsPieceOf};
 
 use changes::Marks;
 use std::alloc::{AllocError, Global};
@@ -29,7 +28,8 @@ pub struct ReadBack {
 pub enum Finish {
     /// The sync was answered ok, and these pieces of the range were read back: no write that was issued has a byte elsewhere.
     Read(ReadBack),
-    /// The sync was answered ok, and the range wasn't read back: no memory was found for it.
+    /// The sync was answered ok, and what was written wasn't read back, or not all: no memory was found for it, no volume is so large as the
+    /// range, or more was written meanwhile.
     Unread,
     /// The device was given up.
     GivenUp,
@@ -102,4 +102,11 @@ pub(crate) fn room_for(
     let pieces = pieces_of(alloc, units, size)?;
     let units = units.copied(alloc)?;
     Ok((room, ReadBack { units, pieces }))
+}
+
+/// Whether the same units are marked.
+pub(crate) fn are_same(units: &Marks, others: &Marks) -> bool
+    ensures { (result ≡ true) ↔ (Covers units.now others.now × Covers others.now units.now) }
+{
+    units.covers(others) && others.covers(units)
 }

@@ -15,7 +15,7 @@ ghost use Rattle.shared_server.specs.Finishing.{finish_end, pieces_back, units_b
 ghost use Rattle.board.specs.Keeper.{AreAllUsed, IsLowestFree, IsOneFree, IsOneUsed};
 
 use crate::calling::make_call;
-use crate::finishing::{Finish, MOST, room_for};
+use crate::finishing::{Finish, MOST, are_same, room_for};
 use crate::flushing::{take_aside, take_flush};
 use crate::left_open::{is_cut, was_done};
 use crate::refusal::SessionRefusal;
@@ -152,7 +152,7 @@ impl<N: ServiceParameters, L: Recorder<N>, S: FileServer<L>> Locked<N, L, S> {
 
     /// A last sync, after which the server is let go with its link. Where it was answered ok, the pieces of the volume's range, whose size in
     /// bytes is given, in which writes have bytes are read back through the link, in units of 4096 bytes: `Read` where all that went, `Unread`
-    /// where no memory was found for them, or no volume is so large. `GivenUp` or `Cut` where the device was given up or the link ended in
+    /// where no memory was found for them, no volume is so large, or more was written meanwhile. `GivenUp` or `Cut` where the device was given up or the link ended in
     /// either. The numbers of sessions stay.
     pub fn finish(self, alloc: Global, size: u64) -> Finish
         requires whole { size % 512 ≡ 0 }
@@ -182,11 +182,11 @@ impl<N: ServiceParameters, L: Recorder<N>, S: FileServer<L>> Locked<N, L, S> {
             return Finish::Unread;
         };
         let (link, end) = server.read_back(room, &mut back.pieces);
-        let is_all = back.units.covers(link.written());
+        let is_same = are_same(&back.units, link.written());
         match end {
             ReadEnd::GivenUp => Finish::GivenUp,
             ReadEnd::Cut => Finish::Cut,
-            ReadEnd::Read if !is_all => Finish::Unread,
+            ReadEnd::Read if !is_same => Finish::Unread,
             ReadEnd::Read => Finish::Read(back),
         }
     }

@@ -183,6 +183,7 @@ returns g c = record {
       ∙ ap g.L.Recorder.numbers c.self.view_is)
       c.in-Read.is of
       (same_elsewhere g.N.ServiceParameters.opening c.args.size (g.L.Recorder.marks c.read_back-link.result.0) c.in-Ok.back.units
-      c.written-2.result.now c.covers-is_all.result c.disk_stays_unwritten.ensures c.if-size-gt-MOST.false c.written-2.ensures
-      c.covers-is_all.ensures c.if-not-is_all.false));
+      c.written-2.result.now c.are_same-is_same.result c.disk_stays_unwritten.ensures c.if-size-gt-MOST.false
+      (ap (λ (u : List Bool). length u) c.in-Ok.ensures.units ∙ c.written.ensures.number) c.written-2.ensures
+      c.are_same-is_same.ensures c.if-not-is_same.false));
 }
