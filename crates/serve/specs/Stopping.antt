@@ -73,8 +73,8 @@ IsLeftAfter v finish (stop.LinkEnded image) = (finish ≡ Cut) × IsImageOutside
 IsLeftAfter v finish (stop.NotAsRead image) = IsOther v finish image.items × IsImageOutside v image.items
 IsLeftAfter v finish (stop.NotRead image) = (was_synced finish ≡ true) × IsImageOutside v image.items
 
--- Pieces were read back, whose bytes the volume's range of an image has at their places, and elsewhere both are as they were handed in: so over
--- true replies the range is the disk, whole.
+-- Pieces were read back, whose bytes the volume's range of an image has at their places, and elsewhere both are as they were handed in: so
+-- over true replies the range is the disk, whole.
 pub record IsDisk (v : Opening) (marks : List Mark) (image : List ℕ) : Type 0 where
   pub units : List Bool
   pub pieces : List Piece
@@ -83,8 +83,8 @@ pub record IsDisk (v : Opening) (marks : List Mark) (image : List ℕ) : Type 0 
   pub is_disk : HasTrueReplies (contents_at v) marks → (k : ℕ) → k < 512 * v.count
       → slice_index (range_in v image) k ≡ disk_after (contents_at v) marks k
 
--- What the volume's range of an image is beside what was read back: where all went, it is as read, and over true replies the disk. Where it isn't
--- as read, some byte differs from the one that was.
+-- What the volume's range of an image is beside what was read back: where all went, it is as read, and over true replies the disk. Where it
+-- isn't as read, some byte differs from the one that was.
 abbrev pub IsRange : SyncEnd → Opening → List Mark → List ℕ → Type 0
 IsRange Went v marks image = IsDisk v marks image
 IsRange WasGivenUp v marks image = Unit {0}
@@ -101,9 +101,9 @@ pub record IsLastImage {L : Type 0} (link : LinkWords L) (g : Geometry) (v : Ope
   pub last : IsLastLine link g v seen how line
   pub range : IsRange how v last.marks image
 
--- Why a service that is stopped gives no image of a synced volume. While a session is left, or a handle of the media, it comes back, as it has
--- to; else a last sync was tried, which the device's giving up or the link's end kept from being made, or the media aren't as they were read, or
--- weren't read.
+-- Why a service that is stopped gives no image of a synced volume. While a session is left, or a handle of the media, it comes back, as it
+-- has to; else a last sync was tried, which the device's giving up or the link's end kept from being made, or the media aren't as they were
+-- read, or weren't read.
 abbrev pub WhyNotSynced : {L T : Type 0} → LinkWords L → Geometry → Opening → List Mark → (T → Type 0) → StopRefusal T → Type 0
 WhyNotSynced link g v seen is_back (stop.SessionsLeft left) = is_back left
 WhyNotSynced link g v seen is_back (stop.GivenUp image) = IsLastImage link g v seen WasGivenUp image.items
@@ -118,8 +118,8 @@ pub record IsLastOfAll {L : Type 0} (link : LinkWords L) (numbers : L → List �
   pub image_is : IsLastImage link g v seen how image
   pub none_left : AreAllFree (numbers image_is.line)
 
--- Which sessions are left of a service that was to be stopped, but for this one, by its link as it was then. It is refused for a session exactly
--- where one has a number: else none has, and after a last sync none has at all.
+-- Which sessions are left of a service that was to be stopped, but for this one, by its link as it was then. It is refused for a session
+-- exactly where one has a number: else none has, and after a last sync none has at all.
 abbrev pub WhoIsLeft : {L T : Type 0} → LinkWords L → (L → List ℕ) → Geometry → Opening → List Mark → Option ℕ
     → Result (Vec ℕ) (StopRefusal T) → Type 0
 WhoIsLeft link numbers g v seen but (Ok image) = IsLastOfAll link numbers g v seen Went image.items

@@ -243,24 +243,24 @@ impl<N: ServiceParameters, R: Threads + Wait + Copy, L: Recorder<N>, S: FileServ
     }
 
     /// Takes the changes of the media since they were last taken, since the service was made at first: the units of 4096 bytes that drivers
-    /// may have written since, in ascending order, with their bytes as they stand. They are units of an image as `image` gives one. Behind a
-    /// sync that was done, and before a further call is made, they make the image of the changes taken before the volume as it was synced.
-    /// It waits for the step of a driver, and for no call. Refused where no memory was found for these units: the next call takes them. The
-    /// service goes on in each case.
+    /// may have written since, in ascending order, with their bytes as they stand. They are units of an image as `image` gives one. Behind
+    /// a sync that was done, and before a further call is made, they make the image of the changes taken before the volume as it was
+    /// synced. It waits for the step of a driver, and for no call. Refused where no memory was found for these units: the next call takes
+    /// them. The service goes on in each case.
     pub fn changes(&self, alloc: Global) -> Result<Changes, AllocError>
         ensures { IfOk result (AreChangesOutside N.opening) }
     {
         self.running.media().changes(&self.rt, alloc)
     }
 
-    /// Says that changes which were taken were not kept, as where an image file could not be written: the next call of `changes` takes their
-    /// units again. It waits for the step of a driver, and for no call.
+    /// Says that changes which were taken were not kept, as where an image file could not be written: the next call of `changes` takes
+    /// their units again. It waits for the step of a driver, and for no call.
     pub fn mark_again(&self, changes: &Changes) {
         self.running.media().mark_again(&self.rt, changes);
     }
 
-    /// The media, for another thread that takes their changes. It is to be let go before the service is stopped. Refused where no memory was
-    /// found.
+    /// The media, for another thread that takes their changes. It is to be let go before the service is stopped. Refused where no memory
+    /// was found.
     pub fn media(&self) -> Result<MediaHandle<N>, AllocError> {
         self.running.media().another()
     }
@@ -273,15 +273,15 @@ impl<N: ServiceParameters, R: Threads + Wait + Copy, L: Recorder<N>, S: FileServ
         self.shared.server.lock(&self.rt).has_sessions(but)
     }
 
-    /// Stops the service: sessions that were let go without `end` are ended, then the flusher; a last sync is made, and what was written of the
-    /// volume's range read back, in units of 4096 bytes; the drivers are ended, and the media are given back as an image: the bytes of all
-    /// sectors, as they stand. The media become the image; as much memory as is read back is taken until then. At the last sync no session has a
-    /// number.
+    /// Stops the service: sessions that were let go without `end` are ended, then the flusher; a last sync is made, and what was written of
+    /// the volume's range read back, in units of 4096 bytes; the drivers are ended, and the media are given back as an image: the bytes of
+    /// all sectors, as they stand. The media become the image; as much memory as is read back is taken until then. At the last sync no
+    /// session has a number.
     ///
-    /// It is refused: 1 SessionsLeft, where some session neither ended nor was let go, and 3 OutOfMemory, where a handle of the media is left,
-    /// which both hand back the service as it was, its flusher and its drivers going on; 2 GivenUp and 4 LinkEnded, where the last sync wasn't
-    /// made, or not all was read; 5 NotAsRead, where the media aren't as they were read; 6 NotRead, where they weren't read back for want of
-    /// memory, or a driver may have written elsewhere: these four with the image as the media stand.
+    /// It is refused: 1 SessionsLeft, where some session neither ended nor was let go, and 3 OutOfMemory, where a handle of the media is
+    /// left, which both hand back the service as it was, its flusher and its drivers going on; 2 GivenUp and 4 LinkEnded, where the last
+    /// sync wasn't made, or not all was read; 5 NotAsRead, where the media aren't as they were read; 6 NotRead, where they weren't read
+    /// back for want of memory, or a driver may have written elsewhere: these four with the image as the media stand.
     pub fn stop(self) -> Result<Vec<u8>, StopRefusal<Service<N, R, L, S>>>
         ensures image { IfOk result (λ image. IsLastImage L.Link N.geometry N.opening [] Went image.items) }
         ensures refused { IfErr result (WhyNotSynced L.Link N.geometry N.opening [] (λ left. left ≡ self)) }

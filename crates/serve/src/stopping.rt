@@ -24,11 +24,11 @@ pub enum StopRefusal<S> {
     OutOfMemory(S),
     /// The link to the drivers has ended, so not all may have been written. With it comes the image, as the media stand.
     LinkEnded(Vec<u8>),
-    /// The volume was synced, and the media aren't as it was read back then: a driver lost writes, and didn't say so. With it comes the image,
-    /// as the media stand.
+    /// The volume was synced, and the media aren't as it was read back then: a driver lost writes, and didn't say so. With it comes the
+    /// image, as the media stand.
     NotAsRead(Vec<u8>),
-    /// The volume was synced, and not read back: no memory was found for that, or a driver may have written where no request asked it to. With it
-    /// comes the image, as the media stand.
+    /// The volume was synced, and not read back: no memory was found for that, or a driver may have written where no request asked it to.
+    /// With it comes the image, as the media stand.
     NotRead(Vec<u8>),
 }
 
@@ -102,9 +102,9 @@ fn has_whole_sectors(media: &Media)
     let _ = media.sectors();
 }
 
-/// The image of the media that a service leaves whose last sync came to this, or why it is none of a synced volume. The volume's range of the
-/// media has this first sector and so many; drivers may have written in these units of eight of them. Where the media don't have the whole
-/// range, it wasn't read back.
+/// The image of the media that a service leaves whose last sync came to this, or why it is none of a synced volume. The volume's range of
+/// the media has this first sector and so many; drivers may have written in these units of eight of them. Where the media don't have the
+/// whole range, it wasn't read back.
 ///
 /// It takes no memory: the media become the image.
 pub(crate) fn image_of<N: ServiceParameters, S>(

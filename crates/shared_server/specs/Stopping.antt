@@ -21,8 +21,8 @@ use Rattle.volume_reading.specs.Pieces.{ArePieces, HaveBytes, IsIn}
 abbrev pub syncer : Who
 syncer = record { session = 0; uid = 0; gid = 0 }
 
--- How the last sync of a service went: it was answered ok, and the volume read back; the device was given up, or the link ended, in either; all
--- that went, and the media then weren't as they had been read; or it was answered ok, and the volume not read back.
+-- How the last sync of a service went: it was answered ok, and the volume read back; the device was given up, or the link ended, in either;
+-- all that went, and the media then weren't as they had been read; or it was answered ok, and the volume not read back.
 pub data SyncEnd : Type 0 where
   Went : SyncEnd
   WasGivenUp : SyncEnd
@@ -39,14 +39,15 @@ abbrev pub has_ended : SyncEnd → Bool
 has_ended WasCut = true
 has_ended _ = false
 
--- what the record says of a sync that was answered ok: the device wasn't given up, and where the replies were true the disk alone holds the tree
+-- what the record says of a sync that was answered ok: the device wasn't given up, and where the replies were true the disk alone holds the
+-- tree
 abbrev pub IsOnDisk : Geometry → Opening → Tree → List Mark → Type 0
 IsOnDisk g v tree marks =
     (gave_up marks ≡ false)
     × (HasTrueReplies (contents_at v) marks → IsSynced g (contents_at v) marks (tree_after g tree (Took syncer 0 Sync done ∷ marks)))
 
--- What it says then: that, also where the media aren't as read, or it wasn't read back; where the device was given up, over true replies, that it
--- was; of a cut that it wasn't.
+-- What it says then: that, also where the media aren't as read, or it wasn't read back; where the device was given up, over true replies,
+-- that it was; of a cut that it wasn't.
 abbrev pub SyncTells : SyncEnd → Geometry → Opening → Tree → List Mark → Type 0
 SyncTells Went g v tree marks = IsOnDisk g v tree marks
 SyncTells WasGivenUp g v tree marks = HasTrueReplies (contents_at v) marks → gave_up marks ≡ true
@@ -71,8 +72,8 @@ abbrev pub AreBack : SyncEnd → Opening → ℕ → List Mark → List Bool →
 AreBack Went v size marks units pieces = AreOnDisk v size marks units pieces
 AreBack _ v size marks units pieces = Unit {0}
 
--- A service's link after the last sync, which went so: it has ended where the sync was cut, and guarantees a record that goes on from what was
--- seen, and says how the sync went, whichever tree the volume held as it was handed in.
+-- A service's link after the last sync, which went so: it has ended where the sync was cut, and guarantees a record that goes on from what
+-- was seen, and says how the sync went, whichever tree the volume held as it was handed in.
 pub record IsLastLine {L : Type 0} (link : LinkWords L) (g : Geometry) (v : Opening) (seen : List Mark) (how : SyncEnd) (line : L) : Type 0 where
   pub ended : took_end (link.history line) ≡ has_ended how
   pub marks : List Mark
@@ -80,8 +81,8 @@ pub record IsLastLine {L : Type 0} (link : LinkWords L) (g : Geometry) (v : Open
   pub goes_on : IsBeginning seen marks
   pub tells : (tree : Tree) → IsAtFirst g (contents_at v) tree → SyncTells how g v tree marks
 
--- A server was let go after a last sync, which went so, with these pieces of its range of this size read back, which lie in these units: its
--- link then, at which sessions had these numbers.
+-- A server was let go after a last sync, which went so, with these pieces of its range of this size read back, which lie in these units:
+-- its link then, at which sessions had these numbers.
 pub record IsFinished {L : Type 0} (link : LinkWords L) (numbers : L → List ℕ) (g : Geometry) (v : Opening) (seen : List Mark) (used : List ℕ)
     (how : SyncEnd) (size : ℕ) (units : List Bool) (pieces : List Piece) : Type 0 where
   pub line : L

@@ -28,8 +28,8 @@ pub struct ReadBack {
 pub enum Finish {
     /// The sync was answered ok, and these pieces of the range were read back: no write that was issued has a byte elsewhere.
     Read(ReadBack),
-    /// The sync was answered ok, and what was written wasn't read back, or not all: no memory was found for it, no volume is so large as the
-    /// range, or more was written meanwhile.
+    /// The sync was answered ok, and what was written wasn't read back, or not all: no memory was found for it, no volume is so large as
+    /// the range, or more was written meanwhile.
     Unread,
     /// The device was given up.
     GivenUp,
@@ -52,8 +52,8 @@ fn end_of_run(units: &Marks, from: u32, count: u32) -> u32
     count
 }
 
-/// The piece of a range of this size that lies in units from `first` to before `end`, whose bytes aren't read yet. Refused where no memory was
-/// found.
+/// The piece of a range of this size that lies in units from `first` to before `end`, whose bytes aren't read yet. Refused where no memory
+/// was found.
 fn piece_of(alloc: Global, first: u32, end: u32, size: u64) -> Result<Piece, AllocError>
     requires some { first < end }
     requires starts { 4096 * first < size }

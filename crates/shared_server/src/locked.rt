@@ -150,10 +150,10 @@ impl<N: ServiceParameters, L: Recorder<N>, S: FileServer<L>> Locked<N, L, S> {
         self.server.link().has_sessions(but)
     }
 
-    /// A last sync, after which the server is let go with its link. Where it was answered ok, the pieces of the volume's range, whose size in
-    /// bytes is given, in which writes have bytes are read back through the link, in units of 4096 bytes: `Read` where all that went, `Unread`
-    /// where no memory was found for them, no volume is so large, or more was written meanwhile. `GivenUp` or `Cut` where the device was given up or the link ended in
-    /// either. The numbers of sessions stay.
+    /// A last sync, after which the server is let go with its link. Where it was answered ok, the pieces of the volume's range, whose size
+    /// in bytes is given, in which writes have bytes are read back through the link, in units of 4096 bytes: `Read` where all that went,
+    /// `Unread` where no memory was found for them, no volume is so large, or more was written meanwhile. `GivenUp` or `Cut` where the
+    /// device was given up or the link ended in either. The numbers of sessions stay.
     pub fn finish(self, alloc: Global, size: u64) -> Finish
         requires whole { size % 512 ≡ 0 }
         ensures finished { IsFinished L.Link L.numbers N.geometry N.opening (L.marks self) (L.numbers self) (finish_end result) size
