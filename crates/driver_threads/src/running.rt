@@ -4,6 +4,7 @@ ghost use Rattle.std.specs.Prelude.{◌≡◌, ◌+◌, ◌/◌, [], IfOk, lengt
 ghost use Rattle.std.specs.Arc.{arc_value};
 ghost use Rattle.records.specs.Opening.{Opening};
 ghost use Rattle.true_replies.specs.Events.{opening_media};
+ghost use Rattle.changes.specs.Units.{puts_of};
 ghost use Rattle.shared_media.specs.Confined.{IsImageOutside, KeepsBut, KeepsOutside};
 ghost use Rattle.shared_media.specs.Marking.{AreChangesOutside};
 
@@ -26,7 +27,7 @@ use reincarnate::Reincarnation;
 use reissue::link::Link;
 use shared_media::confined::Confined;
 use std::alloc::{AllocError, Global};
-use std::sync::{Arc, Mutex, Wait};
+use std::sync::{Arc, Mutex, MutexGuard, Wait};
 use std::thread::{JoinHandle, Threads};
 
 /// How many messages the lines of the server and of the reincarnation server hold (own).
@@ -53,10 +54,15 @@ impl<N: ServiceParameters> MediaHandle<N> {
     /// one. It waits for the step of a driver, and drivers wait for it, while these units alone are copied. Refused where no memory was
     /// found for them: the next call takes them.
     pub fn changes<R: Wait>(&self, rt: &R, alloc: Global) -> Result<Changes, AllocError>
-        ensures { IfOk result (AreChangesOutside N.opening) }
+        ensures { IfOk result (λ changes. AreChangesOutside N.opening (puts_of changes)) }
     {
         let mut media = self.media.lock(rt);
         (&mut *media).take_changes(alloc)
+    }
+
+    /// The media, once no other thread has them: drivers wait until the guard is let go.
+    pub fn lock<R: Wait>(&self, rt: &R) -> MutexGuard<'_, Confined<N>> {
+        self.media.lock(rt)
     }
 
     /// Says that changes which were taken were not kept: the next call of `changes` takes their units again.

@@ -1,7 +1,6 @@
 -- The units in which an image file differs from an image, while they are looked for.
-use Rattle.std.proofs.Common.{◌≡◌, inl, inr, ℕ, ◌+◌, ◌<◌, ◌≤◌, List, [], ◌∷◌, ◌++◌, length, take, drop, min, replicate, ◌*◌, ◌-◌, refl, sym, ◌∙◌, ap, arith, Option, Some, None}
-use Rattle.std.specs.List.{zip}
-use Rattle.std.proofs.lemmas.List.{append-nil, length_push, length-drop, length-take, take_all}
+use Rattle.std.proofs.Common.{◌≡◌, inl, inr, ℕ, ◌+◌, ◌<◌, ◌≤◌, List, [], ◌∷◌, ◌++◌, length, take, drop, min, replicate, ◌*◌, ◌-◌, sym, ◌∙◌, ap, arith, Option, Some, None}
+use Rattle.std.proofs.lemmas.List.{append-nil, map-append, length_push, length-drop, length-take, take_all}
 use Rattle.std.proofs.lemmas.Bool.{cases_eq, cases_order}
 use Rattle.std.proofs.lemmas.Bool.Decides.{nat_tests}
 use Rattle.stable.specs.declared.Which.TheVariants.{Image}
@@ -9,7 +8,7 @@ use Rattle.stable.specs.Disk.{Contents, Changes, set, put}
 use Rattle.stable.specs.Runs.{Known, Knows, Reads}
 use Rattle.redo.proofs.Units.{set_same, set_other, put-append}
 use Rattle.changes.specs.Units.{unit_of}
-use Rattle.image_file.specs.Images.{ShowsImage, with_units}
+use Rattle.image_file.specs.Images.{ShowsImage, units_of, with_units}
 
 -- a unit that doesn't end behind an image has the image's bytes alone
 pub whole_unit : (image rest unit : List ℕ) (n first : ℕ) → first ≡ min (n * 4096) (length image)
@@ -67,31 +66,21 @@ makes_same ws count image unit held c was is shows same n = elim (cases_eq n cou
       ∙ sym (with_below (count + 1) image c n (omega arith))
 ]
 
-zip_push : (ns : List ℕ) (us : List (List ℕ)) (n : ℕ) (u : List ℕ) → length ns ≡ length us → zip (ns ++ n ∷ []) (us ++ u ∷ []) ≡ zip ns us ++ (n, u) ∷ []
-zip_push [] [] n u same = refl
-zip_push [] (v ∷ us) n u same = cc
-zip_push (m ∷ ns) [] n u same = cc
-zip_push (m ∷ ns) (v ∷ us) n u same = ap (λ (l : Changes). (m, v) ∷ l) (zip_push ns us n u (omega arith))
-
 -- the next unit is put
-pub makes_more : (ns ns' : List ℕ) (us us' : List (List ℕ)) (count : ℕ) (image unit : List ℕ) (c : Contents) → length ns ≡ length us → ns' ≡ ns ++ count ∷ [] → us' ≡ us ++ unit ∷ []
-    → Makes (zip ns us) count image c → unit ≡ unit_of image count → Makes (zip ns' us') (count + 1) image c
-makes_more ns ns' us us' count image unit c long is_ns is_us was is n =
-    let ws : Changes = zip ns us in
-    let all : zip ns' us' ≡ ws ++ (count, unit) ∷ [] = ap (λ (l : List ℕ). zip l us') is_ns ∙ ap (λ (l : List (List ℕ)). zip (ns ++ count ∷ []) l) is_us ∙ zip_push ns us count unit long in
-    let first : put (zip ns' us') c n ≡ set (put ws c) (count, unit) n = ap (λ (l : Changes). put l c n) all ∙ ap (λ (d : Contents). d n) (put-append ws ((count, unit) ∷ []) c) in
+pub makes_more : (ns ns' : List ℕ) (count : ℕ) (image : List ℕ) (c : Contents) → ns' ≡ ns ++ count ∷ [] → Makes (units_of image ns) count image c → Makes (units_of image ns') (count + 1) image c
+makes_more ns ns' count image c is_ns was n =
+    let ws : Changes = units_of image ns in
+    let unit : List ℕ = unit_of image count in
+    let all : units_of image ns' ≡ ws ++ (count, unit) ∷ [] = ap (units_of image) is_ns ∙ map-append (λ (n : ℕ). (n, unit_of image n)) ns (count ∷ []) in
+    let first : put (units_of image ns') c n ≡ set (put ws c) (count, unit) n = ap (λ (l : Changes). put l c n) all ∙ ap (λ (d : Contents). d n) (put-append ws ((count, unit) ∷ []) c) in
     elim (cases_eq n count) [
       | inl here ↦
           first
           ∙ set_same (put ws c) (count, unit) n here
-          ∙ is
           ∙ ap (unit_of image) (sym here)
           ∙ sym (with_below (count + 1) image c n (omega arith))
       | inr other ↦ first ∙ set_other (put ws c) (count, unit) n other ∙ was n ∙ with_other count image c n other
     ]
-
-pub long_more : (ns ns' : List ℕ) (us us' : List (List ℕ)) (n : ℕ) (u : List ℕ) → length ns ≡ length us → ns' ≡ ns ++ n ∷ [] → us' ≡ us ++ u ∷ [] → length ns' ≡ length us'
-long_more ns ns' us us' n u same is_ns is_us = ap length is_ns ∙ length_push ns n ∙ ap (λ (k : ℕ). k + 1) same ∙ sym (length_push us u) ∙ sym (ap length is_us)
 
 pub few_more : (ns ns' : List ℕ) (n count : ℕ) → length ns ≤ count → ns' ≡ ns ++ n ∷ [] → length ns' ≤ count + 1
 few_more ns ns' n count few is = omega (arith, ap length is, length_push ns n)

@@ -2,3 +2,4 @@ mod Calls
 mod Putting
 mod Bytes
 mod Comparing
+mod Lying

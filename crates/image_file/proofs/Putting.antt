@@ -1,6 +1,5 @@
 -- Each moment of a put.
-use Rattle.std.proofs.Common.{◌≡◌, ◌⊎◌, inl, inr, ⊎_elim, ℕ, ◌<◌, List, [], ◌∷◌, ◌++◌, length, map, arith, refl, sym, ◌∙◌, subst, Option, Some, None, Result, Ok, Err, OnOk, OnErr, false}
-use Rattle.std.specs.List.{zip}
+use Rattle.std.proofs.Common.{◌≡◌, ◌⊎◌, inl, inr, ⊎_elim, ℕ, ◌<◌, List, [], ◌∷◌, ◌++◌, length, map, arith, refl, sym, ◌∙◌, ap, subst, Option, Some, None, Result, Ok, Err, OnOk, OnErr, false}
 use Rattle.stable.specs.declared.Which.TheVariants.{Log, Image}
 use Rattle.stable.specs.Disk.{Contents, Changes, Step, Write, Sync, put, Touches, Keeps, Disk, Event, Did, done, run}
 use Rattle.stable.specs.Runs.{Known, now, Happens, Follows, Knows, EachMoment}
@@ -12,7 +11,7 @@ use Rattle.redo.proofs.Units.{put_agrees}
 use Rattle.redo.proofs.Moments.{run-append}
 use Rattle.redo.proofs.CommitLaws.{finds_either, image_as, image_either, rest_current}
 use Rattle.redo.proofs.RecoverLaws.{current_recoverable, rest_as}
-use Rattle.image_file.specs.Images.{IsImageSound, ShowsImage}
+use Rattle.image_file.specs.Images.{IsImageSound, ShowsImage, units_of, with_image}
 use Rattle.image_file.specs.Puts.{put_plan, long_plan, FindsBetween, CurrentWithEither}
 use Rattle.image_file.proofs.Calls.{each_as, each_then}
 
@@ -24,22 +23,19 @@ knows_both : (P Q R : Disk → Type 0) → ((d : Disk) → P d → Q d → R d) 
 knows_both P Q R to None h i = absurd h
 knows_both P Q R to (Some k) h i = to (now k) h i
 
+-- changes whose numbers there are none of
+pub none_of : (ns : List ℕ) (ws : Changes) → ns ≡ map (λ (w : ℕ × List ℕ). w.0) ws → length ns ≡ 0 → ws ≡ []
+none_of ns [] is none = refl
+none_of ns (w ∷ ws) is none = absurd (omega (arith, none, ap length is))
+
 -- plans of changes that there are
-pub plan_of_some : (name at : ℕ) (numbers : List ℕ) (units : List (List ℕ)) → 0 < length numbers → length numbers ≡ length units → log_plan name at (zip numbers units) ≡ put_plan name at (zip numbers units)
-plan_of_some name at [] units some same = absurd (omega (arith, some))
-plan_of_some name at (n ∷ numbers) [] some same = absurd (omega (arith, same))
-plan_of_some name at (n ∷ numbers) (u ∷ units) some same = refl
+pub plan_of_some : (name at : ℕ) (ns : List ℕ) (ws : Changes) → ns ≡ map (λ (w : ℕ × List ℕ). w.0) ws → 0 < length ns → log_plan name at ws ≡ put_plan name at ws
+plan_of_some name at ns [] is some = absurd (omega (arith, some, ap length is))
+plan_of_some name at ns (w ∷ ws) is some = refl
 
-pub long_of_some : (name : ℕ) (log : Contents) (numbers : List ℕ) (units : List (List ℕ)) → 0 < length numbers → length numbers ≡ length units
-    → recover_plan name log ++ log_plan name 0 (zip numbers units) ≡ long_plan name log (zip numbers units)
-long_of_some name log [] units some same = absurd (omega (arith, some))
-long_of_some name log (n ∷ numbers) [] some same = absurd (omega (arith, same))
-long_of_some name log (n ∷ numbers) (u ∷ units) some same = refl
-
--- no changes
-pub none_zip : (numbers : List ℕ) (units : List (List ℕ)) → length numbers ≡ 0 → zip numbers units ≡ []
-none_zip [] units none = refl
-none_zip (n ∷ numbers) units none = absurd (omega (arith, none))
+pub long_of_some : (name : ℕ) (log : Contents) (ns : List ℕ) (ws : Changes) → ns ≡ map (λ (w : ℕ × List ℕ). w.0) ws → 0 < length ns → recover_plan name log ++ log_plan name 0 ws ≡ long_plan name log ws
+long_of_some name log ns [] is some = absurd (omega (arith, some, ap length is))
+long_of_some name log ns (w ∷ ws) is some = refl
 
 -- an image among two that are one
 wide_either : (z x y : Contents) → IsEither z x x → IsEither z x y
@@ -187,6 +183,10 @@ module _ (name : ℕ) (before after mid : Contents) (same : (n : ℕ) → mid n 
 
   pub image_rests : (o : Option Known) → Knows (IsAtRest mid) o → Knows (IsAtRest after) o
   image_rests o h = knows_as (IsAtRest mid) (IsAtRest after) (rest_as mid after same) o h
+
+-- what units of an image make of contents, by the same numbers
+pub made_by : (image ns ns' : List ℕ) (before : Contents) → ns' ≡ ns → ((n : ℕ) → put (units_of image ns) before n ≡ with_image image before n) → (n : ℕ) → put (units_of image ns') before n ≡ with_image image before n
+made_by image ns ns' before is made n = ap (λ (l : List ℕ). put (units_of image l) before n) is ∙ made n
 
 -- a fact of one value is one of another that is the same
 pub at_first : {K : Type 0} (m s : K) → m ≡ s → (P : K → Type 0) → P m → P s

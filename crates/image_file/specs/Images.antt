@@ -1,8 +1,12 @@
 -- The units of an image in a file, and an image that is read through a log.
-use Rattle.std.specs.Prelude.{◌≡◌, ℕ, ◌-◌, ◌*◌, List, length, take, Some, nat_lt, if◌then◌else◌, false}
-use Rattle.stable.specs.Disk.{Contents, Disk}
+use Rattle.std.specs.Prelude.{◌≡◌, ℕ, ◌-◌, ◌*◌, List, length, map, take, Some, nat_lt, if◌then◌else◌, false}
+use Rattle.stable.specs.Disk.{Contents, Changes, Disk}
 use Rattle.changes.specs.Units.{padded, unit_of, units_in}
 use Rattle.redo.specs.Record.{recovered}
+
+-- the changes that put these units of an image
+abbrev pub units_of : List ℕ → List ℕ → Changes
+units_of image numbers = map (λ n. (n, unit_of image n)) numbers
 
 -- these contents, with so many units of an image in front
 abbrev pub with_units : ℕ → List ℕ → Contents → Contents

@@ -1,13 +1,13 @@
 //! The units in which an image file differs from an image.
 
-ghost use Rattle.std.specs.Prelude.{◌≡◌, ℕ, List, [], IfOk};
+ghost use Rattle.std.specs.Prelude.{◌≡◌, ◌<◌, ◌^◌, ℕ, List, [], length, IfOk};
 ghost use Rattle.std.specs.Str.{bytes_eq};
 ghost use Rattle.stable.specs.Disk.{put};
 ghost use Rattle.stable.specs.Runs.{Happens, Knows};
-ghost use Rattle.changes.specs.Units.{puts_of, unit_of, units_in};
-ghost use Rattle.image_file.specs.Images.{ShowsImage, with_image};
+ghost use Rattle.changes.specs.Units.{unit_of, units_in};
+ghost use Rattle.image_file.specs.Images.{ShowsImage, units_of, with_image};
 
-use changes::{Changes, unit_at};
+use changes::unit_at;
 use stable::{Storage, UNIT, Which};
 use std::alloc::Global;
 use std::io;
@@ -40,24 +40,23 @@ fn has_bytes(image: &[u8], n: u32, held: &[u8; UNIT]) -> bool
     }
 }
 
-/// The units of an image that the image file doesn't show, with the image's bytes. It takes memory for these alone.
+/// The numbers of an image's units that the image file doesn't show. It takes memory for these alone.
 pub(crate) fn differing<S: Storage>(
     alloc: Global,
     storage: &mut S,
     image: &[u8],
-) -> io::Result<Changes>
+) -> io::Result<Vec<u32>>
     ensures same { Happens [] (S.known storage.old) (S.known storage.new) }
+    ensures few { IfOk result (λ numbers. length numbers.items < 2 ^ 32) }
     ensures differ { (c : ℕ → List ℕ) → Knows (ShowsImage c) (S.known storage.old)
-        → IfOk result (λ changes. (n : ℕ) → put (puts_of changes) c n ≡ with_image image.now c n) }
+        → IfOk result (λ numbers. (n : ℕ) → put (units_of image.now numbers.items) c n ≡ with_image image.now c n) }
 {
     let mut numbers = Vec::new(alloc);
-    let mut units = Vec::new(alloc);
     for n in 0..count_units(image)? {
         let held = storage.read(Which::Image, n as u64)?;
         if !has_bytes(image, n, &held) {
             numbers.push(n)?;
-            units.push(unit_at(image, n))?;
         }
     }
-    Ok(Changes { numbers, units })
+    Ok(numbers)
 }

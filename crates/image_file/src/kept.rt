@@ -3,7 +3,6 @@
 ghost use Rattle.std.specs.Prelude.{◌≡◌, ◌≢◌, ◌<◌, ◌≤◌, ◌^◌, ℕ, List, length, map, IfOk, OnOk, OnErr, Some, Err, true, false};
 ghost use Rattle.stable.specs.Disk.{put, Did};
 ghost use Rattle.stable.specs.Runs.{Known, now, Knows, EachMoment, Happens, Follows};
-ghost use Rattle.changes.specs.Units.{puts_of};
 ghost use Rattle.redo.specs.Record.{most, standing, Foreign};
 ghost use Rattle.redo.specs.Plans.{log_plan, recover_plan};
 ghost use Rattle.redo.specs.UnderWay.{IsAtRest, IsCurrent, IsUnderWay};
@@ -11,10 +10,10 @@ ghost use Rattle.redo.specs.Laws.{FindsEither, IsRecoverable, RestsWithEither};
 ghost use Rattle.image_file.specs.Images.{IsImageSound, with_image};
 ghost use Rattle.image_file.specs.Puts.{CurrentWithEither, FindsBetween, IsForeign, long_plan, put_plan};
 
+use crate::changed::InPlace;
 use crate::differing::differing;
 use crate::refusal::OpenRefusal;
-use changes::Changes;
-use redo::{MOST, Recovered, log, recover};
+use redo::{MOST, Puts, Recovered, log, recover};
 use stable::Storage;
 use std::alloc::Global;
 use std::io;
@@ -116,50 +115,44 @@ impl<S: Storage + Drop> Kept<S> {
     }
 
     /// Logs changes, where the log has room.
-    fn append(&mut self, changes: &Changes) -> io::Result<()>
+    fn append<P: Puts>(&mut self, changes: &P) -> io::Result<()>
         requires { self.old.at < most }
         ensures name { self.new.name ≡ self.old.name }
         ensures settled { OnOk result (self.new.unsettled ≡ false) }
         ensures unsettled { OnErr result (self.new.unsettled ≡ true) }
-        ensures follows { Follows (log_plan self.old.name self.old.at (puts_of changes.now))
+        ensures follows { Follows (log_plan self.old.name self.old.at (P.puts changes.now))
             (S.known self.old.storage) (S.known self.new.storage) result }
         ensures any_moment { (image : ℕ → List ℕ) → Knows (IsCurrent self.old.name self.old.at image) (S.known self.old.storage)
-            → EachMoment (IsUnderWay self.old.name image (put (puts_of changes.now) image))
+            → EachMoment (IsUnderWay self.old.name image (put (P.puts changes.now) image))
             (S.known self.old.storage) (S.known self.new.storage) }
         ensures ok { (image : ℕ → List ℕ) → Knows (IsCurrent self.old.name self.old.at image) (S.known self.old.storage)
-            → OnOk result (Knows (IsCurrent self.old.name self.new.at (put (puts_of changes.now) image)) (S.known self.new.storage)) }
+            → OnOk result (Knows (IsCurrent self.old.name self.new.at (put (P.puts changes.now) image)) (S.known self.new.storage)) }
     {
         self.unsettled = true;
-        let next = log(
-            &mut self.storage,
-            self.name,
-            self.at,
-            &changes.numbers,
-            &changes.units,
-        )?;
+        let next = log(&mut self.storage, self.name, self.at, changes)?;
         self.at = next;
         self.unsettled = false;
         Ok(())
     }
 
     /// Puts changes, where no put has failed.
-    fn put_settled(&mut self, changes: &Changes) -> io::Result<()>
+    fn put_settled<P: Puts>(&mut self, changes: &P) -> io::Result<()>
         requires { self.old.unsettled ≡ false }
         ensures name { self.new.name ≡ self.old.name }
         ensures settled { OnOk result (self.new.unsettled ≡ false) }
         ensures unsettled { OnErr result (self.new.unsettled ≡ true) }
-        ensures follows { self.old.at < most → Follows (put_plan self.old.name self.old.at (puts_of changes.now))
+        ensures follows { self.old.at < most → Follows (put_plan self.old.name self.old.at (P.puts changes.now))
             (S.known self.old.storage) (S.known self.new.storage) result }
         ensures follows_long { most ≤ self.old.at → (k : Known) → S.known self.old.storage ≡ Some k → (now k).log.failed ≡ false
-            → Follows (long_plan self.old.name (now k).log.shows (puts_of changes.now))
+            → Follows (long_plan self.old.name (now k).log.shows (P.puts changes.now))
             (S.known self.old.storage) (S.known self.new.storage) result }
         ensures any_moment { (image : ℕ → List ℕ) → Knows (IsCurrent self.old.name self.old.at image) (S.known self.old.storage)
-            → EachMoment (IsUnderWay self.old.name image (put (puts_of changes.now) image))
+            → EachMoment (IsUnderWay self.old.name image (put (P.puts changes.now) image))
             (S.known self.old.storage) (S.known self.new.storage) }
         ensures ok { (image : ℕ → List ℕ) → Knows (IsCurrent self.old.name self.old.at image) (S.known self.old.storage)
-            → OnOk result (Knows (IsCurrent self.old.name self.new.at (put (puts_of changes.now) image)) (S.known self.new.storage)) }
+            → OnOk result (Knows (IsCurrent self.old.name self.new.at (put (P.puts changes.now) image)) (S.known self.new.storage)) }
     {
-        if changes.numbers.is_empty() {
+        if changes.numbers().is_empty() {
             return Ok(());
         }
         let has_room = self.at < MOST;
@@ -179,35 +172,35 @@ impl<S: Storage + Drop> Kept<S> {
     /// After an error the image is the one before or the one after, and the next put first does what the log asks for: where that fails, it
     /// fails too. The units of a put that failed are to be in the next one (`mark_again` of a service marks them), since their bytes may
     /// stand in the file or not.
-    pub fn put(&mut self, changes: &Changes) -> io::Result<()>
+    pub fn put<P: Puts>(&mut self, changes: &P) -> io::Result<()>
         ensures name { self.new.name ≡ self.old.name }
         ensures settled { OnOk result (self.new.unsettled ≡ false) }
         ensures unsettled { OnErr result (self.new.unsettled ≡ true) }
         ensures follows { self.old.unsettled ≡ false → self.old.at < most
-            → Follows (put_plan self.old.name self.old.at (puts_of changes.now))
+            → Follows (put_plan self.old.name self.old.at (P.puts changes.now))
             (S.known self.old.storage) (S.known self.new.storage) result }
         ensures follows_long { self.old.unsettled ≡ false → most ≤ self.old.at
             → (k : Known) → S.known self.old.storage ≡ Some k → (now k).log.failed ≡ false
-            → Follows (long_plan self.old.name (now k).log.shows (puts_of changes.now))
+            → Follows (long_plan self.old.name (now k).log.shows (P.puts changes.now))
             (S.known self.old.storage) (S.known self.new.storage) result }
         ensures any_moment { (image : ℕ → List ℕ) → self.old.unsettled ≡ false
             → Knows (IsCurrent self.old.name self.old.at image) (S.known self.old.storage)
-            → EachMoment (FindsEither self.old.name image (put (puts_of changes.now) image))
+            → EachMoment (FindsEither self.old.name image (put (P.puts changes.now) image))
             (S.known self.old.storage) (S.known self.new.storage) }
         ensures ok { (image : ℕ → List ℕ) → self.old.unsettled ≡ false
             → Knows (IsCurrent self.old.name self.old.at image) (S.known self.old.storage)
-            → OnOk result (Knows (IsCurrent self.old.name self.new.at (put (puts_of changes.now) image)) (S.known self.new.storage)) }
+            → OnOk result (Knows (IsCurrent self.old.name self.new.at (put (P.puts changes.now) image)) (S.known self.new.storage)) }
         ensures failed { (image : ℕ → List ℕ) → self.old.unsettled ≡ false
             → Knows (IsCurrent self.old.name self.old.at image) (S.known self.old.storage)
-            → OnErr result (Knows (IsUnderWay self.old.name image (put (puts_of changes.now) image)) (S.known self.new.storage)) }
+            → OnErr result (Knows (IsUnderWay self.old.name image (put (P.puts changes.now) image)) (S.known self.new.storage)) }
         ensures again_any_moment { (before after : ℕ → List ℕ) → self.old.unsettled ≡ true
             → Knows (IsRecoverable self.old.name before after) (S.known self.old.storage)
-            → EachMoment (FindsBetween self.old.name (puts_of changes.now) before after)
+            → EachMoment (FindsBetween self.old.name (P.puts changes.now) before after)
             (S.known self.old.storage) (S.known self.new.storage) }
         ensures again_ok { (before after : ℕ → List ℕ) → self.old.unsettled ≡ true
             → Knows (IsRecoverable self.old.name before after) (S.known self.old.storage)
-            → OnOk result (Knows (CurrentWithEither self.old.name self.new.at (put (puts_of changes.now) before)
-            (put (puts_of changes.now) after)) (S.known self.new.storage)) }
+            → OnOk result (Knows (CurrentWithEither self.old.name self.new.at (put (P.puts changes.now) before)
+            (put (P.puts changes.now) after)) (S.known self.new.storage)) }
     {
         let failed = self.unsettled;
         if !failed {
@@ -237,8 +230,8 @@ impl<S: Storage + Drop> Kept<S> {
     }
 
     /// Puts the units of an image that the file doesn't show, whatever changed before, and settles them: once it is `Ok`, the file is the
-    /// image, unit for unit. Behind the image's units the file stays as it is. It takes memory for the units that differ. Where nothing was
-    /// put before and no unit differs, it waits for no sync.
+    /// image, unit for unit. Behind the image's units the file stays as it is. It takes four bytes of memory for each unit that differs. Where
+    /// nothing was put before and no unit differs, it waits for no sync.
     ///
     /// InvalidInput where the image has 2^32 units or more. After an error it is as after one of `put`.
     pub fn put_image(&mut self, image: &[u8]) -> io::Result<()>
@@ -255,8 +248,11 @@ impl<S: Storage + Drop> Kept<S> {
             → OnOk result (Knows (IsAtRest (with_image image.now before)) (S.known self.new.storage)) }
     {
         self.settle_puts()?;
-        let changes = differing(self.alloc, &mut self.storage, image)?;
-        self.put_settled(&changes)?;
+        let numbers = differing(self.alloc, &mut self.storage, image)?;
+        self.put_settled(&InPlace {
+            numbers: &numbers,
+            image,
+        })?;
         self.settle_puts()
     }
 }

@@ -2,11 +2,14 @@
 //! was answered ok, or of the one under way, whole.
 #![tactic(auto)]
 
+mod changed;
 mod differing;
 mod kept;
 mod reading;
 mod refusal;
 
+pub use changed::{Copies, InPlace};
 pub use kept::Kept;
 pub use reading::read_through;
+pub use redo::Puts;
 pub use refusal::OpenRefusal;

@@ -1,5 +1,6 @@
 -- What a service gives, as an application has it.
-use Rattle.std.proofs.Common.{ℕ, List, Result, Ok, Err, IfOk, IfErr, subst, sym}
+use Rattle.std.proofs.Common.{◌≡◌, ◌∙◌, ℕ, List, Result, Ok, Err, IfOk, IfErr, length, subst, sym}
+use Rattle.std.specs.Prelude.{Option}
 use Rattle.layout.specs.declared.Geometry.{Geometry}
 use Rattle.tree.specs.Tree.{Tree}
 use Rattle.records.specs.Marks.{Mark}
@@ -9,13 +10,18 @@ use Rattle.records.specs.Session.{SessionState, IsMadeFor}
 use Rattle.reissue.specs.declared.link.Link.{Ghosts as LinkWords}
 use Rattle.bdev.specs.DriverState.{DriverState}
 use Rattle.reincarnate.specs.declared.policy.Policy.{Policy}
+use Rattle.reincarnate.specs.declared.policy.Setup.{Setup}
 use Rattle.shared_server.specs.Held.{HoldsIfTrue, IsAdmitted, IsGood, IsGuaranteed}
 use Rattle.shared_server.specs.declared.locked.LastSync.{LastSync}
 use Rattle.shared_server.specs.declared.refusal.SessionRefusal.TheVariants.{TooMany, Stopped, OutOfMemory}
+use Rattle.service_start.specs.Servable.{HasServed}
+use Rattle.archive.specs.Behind.{Puts}
+use Rattle.archive.specs.Kept.{IsKeptAfter}
+use Rattle.lecternowl.specs.declared.keeping.Kept.{Kept}
 use Rattle.lecternowl.specs.declared.tasks.Came.{Came}
 use Rattle.lecternowl.specs.declared.refusal.ServeRefusal.{ServeRefusal}
 use Rattle.lecternowl.specs.declared.refusal.ServeRefusal.TheVariants.{Start, NoSession, NoImage}
-use Rattle.lecternowl.specs.Serving.{AreDone, IsLeft, IsNotDone, IsOpened}
+use Rattle.lecternowl.specs.Serving.{AreDone, AreKept, IsLeft, IsNotDone, IsOpened}
 
 -- ---- sessions
 
@@ -34,6 +40,30 @@ all_opened link runs_on marks numbers policy supply g v uid gid (Ok s) admitted 
 }
 all_opened link runs_on marks numbers policy supply g v uid gid (Err e) admitted guaranteed volume sound = tt
 
+-- ---- as many outputs as tasks
+
+pub done_of : {O S T : Type 0} (E : List Mark → Type 0) (g : Geometry) (v : Opening) (outputs : List S) (tasks : List T) (came : Came O)
+    → length outputs ≡ length tasks → AreDone E g v outputs came → AreDone E g v tasks came
+done_of E g v outputs tasks came many h = record { each = h.each ∙ many; left = h.left }
+
+-- ---- with an archive
+
+-- what it began as is what it was given
+pub kept_of : {A O S T : Type 0} (E : List Mark → Type 0) (puts : Puts A) (g : Geometry) (v : Opening) (outputs : List S) (tasks : List T)
+    (first before : Option A) (came : Came O) (archive : Option A) → length outputs ≡ length tasks → AreDone E g v outputs came
+    → first ≡ before → IsKeptAfter puts g v first archive
+    → AreKept E puts g v tasks before (record { came = came; archive = archive })
+kept_of E puts g v outputs tasks first before came archive many done is kept = record {
+  done = done_of E g v outputs tasks came many done;
+  archive = subst (λ o. IsKeptAfter puts g v o archive) is kept;
+}
+
+-- what is said of tasks with an archive is said of them without one
+pub served_done : {A O T : Type 0} (E : List Mark → Type 0) (puts : Puts A) (image : List ℕ) (setup : Setup) (supply : List DriverState)
+    (tasks : List T) (before : Option A) (kept : Kept O A) → HasServed image setup supply (λ g v. AreKept E puts g v tasks before kept)
+    → HasServed image setup supply (λ g v. AreDone E g v tasks kept.came)
+served_done E puts image setup supply tasks before kept (g, range, servable, h) = (g, range, servable, h.done)
+
 -- ---- the same, where less is said of a link that has ended
 
 module _ (E F : List Mark → Type 0) (over : (seen : List Mark) → E seen → F seen) where
@@ -41,11 +71,15 @@ module _ (E F : List Mark → Type 0) (over : (seen : List Mark) → E seen → 
   left_as g v last image h =
       record { outside = h.outside; marks = h.marks; tells = h.tells; range = h.range; ended = λ is. over h.marks (h.ended is) }
 
-  pub done_as : {O T X : Type 0} (g : Geometry) (v : Opening) (tasks : List T) (result : Result (Result (Came O) ServeRefusal) X)
-      → IfOk result (λ o. IfOk o (AreDone E g v tasks)) → IfOk result (λ o. IfOk o (AreDone F g v tasks))
-  done_as g v tasks (Ok (Ok came)) h = record { each = h.each; left = left_as g v came.last_sync came.image.items h.left }
-  done_as g v tasks (Ok (Err e)) h = tt
-  done_as g v tasks (Err e) h = tt
+  pub done_as : {A O T X : Type 0} (puts : Puts A) (g : Geometry) (v : Opening) (tasks : List T) (before : Option A)
+      (result : Result (Result (Kept O A) ServeRefusal) X) → IfOk result (λ o. IfOk o (AreKept E puts g v tasks before))
+      → IfOk result (λ o. IfOk o (AreKept F puts g v tasks before))
+  done_as puts g v tasks before (Ok (Ok kept)) h = record {
+    done = record { each = h.done.each; left = left_as g v kept.came.last_sync kept.came.image.items h.done.left };
+    archive = h.archive;
+  }
+  done_as puts g v tasks before (Ok (Err e)) h = tt
+  done_as puts g v tasks before (Err e) h = tt
 
   refusal_as : (refusal : ServeRefusal) → IsNotDone E refusal → IsNotDone F refusal
   refusal_as (NoSession Stopped) h = (h.0, over h.0 h.1)
@@ -54,8 +88,8 @@ module _ (E F : List Mark → Type 0) (over : (seen : List Mark) → E seen → 
   refusal_as (NoImage why) h = tt
   refusal_as (Start refusal) h = absurd h
 
-  pub undone_as : {O X : Type 0} (result : Result (Result (Came O) ServeRefusal) X) → IfOk result (λ o. IfErr o (IsNotDone E))
+  pub undone_as : {O X : Type 0} (result : Result (Result O ServeRefusal) X) → IfOk result (λ o. IfErr o (IsNotDone E))
       → IfOk result (λ o. IfErr o (IsNotDone F))
-  undone_as (Ok (Ok came)) h = tt
+  undone_as (Ok (Ok kept)) h = tt
   undone_as (Ok (Err refusal)) h = refusal_as refusal h
   undone_as (Err e) h = tt

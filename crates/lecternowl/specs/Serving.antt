@@ -1,5 +1,5 @@
 -- A service for an application: its sessions, what it leaves, and why it gives nothing.
-use Rattle.std.specs.Prelude.{◌≡◌, ℕ, List, length}
+use Rattle.std.specs.Prelude.{◌≡◌, ℕ, List, Option, length}
 use Rattle.layout.specs.declared.Geometry.{Geometry}
 use Rattle.tree.specs.Tree.{Tree}
 use Rattle.records.specs.Marks.{Mark}
@@ -21,7 +21,10 @@ use Rattle.shared_media.specs.Confined.{IsImageOutside}
 use Rattle.serve.specs.Stopping.{IsRange, no_image_name}
 use Rattle.service_start.specs.StartupRefusals.{start_refusal_text}
 use Rattle.service_start.specs.Servable.{IsNotServable}
+use Rattle.archive.specs.Behind.{Puts}
+use Rattle.archive.specs.Kept.{IsKeptAfter}
 use Rattle.lecternowl.specs.declared.tasks.Came.{Came}
+use Rattle.lecternowl.specs.declared.keeping.Kept.{Kept}
 use Rattle.lecternowl.specs.declared.refusal.ServeRefusal.{ServeRefusal}
 use Rattle.lecternowl.specs.declared.refusal.ServeRefusal.TheVariants.{Start, NoSession, NoImage}
 
@@ -52,6 +55,12 @@ pub record IsLeft (Ended : List Mark → Type 0) (g : Geometry) (v : Opening) (l
 pub record AreDone {O T : Type 0} (Ended : List Mark → Type 0) (g : Geometry) (v : Opening) (tasks : List T) (came : Came O) : Type 0 where
   pub each : length came.outputs.items ≡ length tasks
   pub left : IsLeft Ended g v came.last_sync came.image.items
+
+-- The same with an archive: nothing was put into it but changes of the media behind syncs that were done. Without one nothing is said of it.
+pub record AreKept {A O T : Type 0} (Ended : List Mark → Type 0) (puts : Puts A) (g : Geometry) (v : Opening) (tasks : List T)
+    (before : Option A) (kept : Kept O A) : Type 0 where
+  pub done : AreDone Ended g v tasks kept.came
+  pub archive : IsKeptAfter puts g v before kept.archive
 
 -- why tasks weren't done on a service that started: it made no session for one, by what is said of a link that has ended; or left no image
 abbrev pub IsNotDone : (List Mark → Type 0) → ServeRefusal → Type 0

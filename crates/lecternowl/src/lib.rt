@@ -10,6 +10,9 @@
 
 mod answers;
 mod files;
+mod keeping;
+mod kept_sessions;
+mod open_image;
 mod refusal;
 mod served;
 mod sessions;
@@ -33,20 +36,25 @@ pub use reincarnate::policy::{Policy, Setup};
 
 // a service, and its sessions
 pub use answers::CallError;
+pub use archive::{Archive, FileArchive};
 pub use board::Device;
 pub use files::Files;
+pub use keeping::Kept;
+pub use locked_image::FilesRefusal;
+pub use open_image::{InFile, OpenImage};
 pub use refusal::ServeRefusal;
 pub use serve::stopping::NoImage;
 pub use served::Served;
 pub use service_start::volume_mount::StartRefusal;
 pub use shared_server::locked::LastSync;
 pub use shared_server::refusal::SessionRefusal;
-pub use start::serve;
+pub use start::{serve, serve_kept};
 pub use tasks::{Came, Task};
 pub use tree::{
     Attributes, Call, Entry, LinkTarget, MAX_TRANSFER, OpenFlags, Outcome, Reply, Statfs, User,
     Whence, Who,
 };
+pub use volume_commands::handing::{Handing, NotHanded};
 
 // runs of schedules
 pub use schedule::Event;

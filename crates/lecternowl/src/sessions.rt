@@ -1,5 +1,7 @@
 //! Sessions and services of `serve`, as an application has them.
 
+ghost use Rattle.std.specs.Prelude.{◌≡◌, Ok};
+
 use crate::files::Files;
 use crate::served::Served;
 use board::Device;
@@ -29,6 +31,8 @@ impl<N: ServiceParameters, R: Wait + Copy, L: Recorder<N>, S: FileServer<L>> Fil
     ghost words = { L.Link };
 
     ghost marks = { L.marks };
+
+    ghost put = { λ r. r ≡ Ok tt };
 
     fn call(&mut self, now: u32, call: &Call<'_>) -> Outcome {
         Session::call(self, now, call)

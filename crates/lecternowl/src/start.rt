@@ -1,15 +1,17 @@
 //! Starting a service on the volume of an image, for tasks.
 
-ghost use Rattle.std.specs.Prelude.{◌≡◌, IfErr, IfOk, map};
+ghost use Rattle.std.specs.Prelude.{◌≡◌, IfErr, IfOk, Some, map};
 ghost use Rattle.std.specs.Arc.{arc_value};
 ghost use Rattle.shared_server.specs.Held.{HasEnded};
 ghost use Rattle.service_start.specs.Servable.{HasServed, IsClean, IsNotServable};
 ghost use Rattle.service_start.specs.Spent.{IsSpent};
 ghost use Rattle.service_start.specs.Started.{IsAtHand, IsStarted};
-ghost use Rattle.lecternowl.specs.Serving.{AreDone, IsNotDone, IsNotServed};
+ghost use Rattle.lecternowl.specs.Serving.{AreDone, AreKept, IsNotDone, IsNotServed};
 
+use crate::keeping::{Keeping, Kept, NoArchive, do_on};
 use crate::refusal::ServeRefusal;
-use crate::tasks::{Came, Task, do_all};
+use crate::tasks::{Came, Task};
+use archive::Archive;
 use bdev::BlockDriver;
 use board::counting::parameters::ServiceParameters;
 use board::counting::recorder::Recorder;
@@ -36,6 +38,7 @@ fn open_and_do<
     R: Threads + Wait + Copy + Send + Sync + 'static,
     L: Recorder<N> + Send + 'static,
     G: Gate + 'static,
+    A: Archive + Drop + Send + 'static,
     T: Task,
 >(
     alloc: Global,
@@ -48,16 +51,18 @@ fn open_and_do<
     running: Running<N>,
     gate: Arc<G>,
     tasks: Vec<T>,
-) -> Result<Result<Came<T::Output>, ServeRefusal>, AllocError>
+    keeping: Keeping<A>,
+) -> Result<Result<Kept<T::Output, A>, ServeRefusal>, AllocError>
     requires started { IsStarted N.ServiceParameters L.Link L.runs_on L.marks (arc_value board) link minor frames }
     requires clean { IsClean N.ServiceParameters clean.geometry }
-    ensures done { IfOk result (λ o. IfOk o (AreDone (HasEnded L.Link N.opening) N.geometry N.opening tasks.items)) }
+    ensures done { IfOk result (λ o. IfOk o (AreKept (HasEnded L.Link N.opening) A.puts N.geometry N.opening tasks.items
+        keeping.archive)) }
     ensures undone { IfOk result (λ o. IfErr o (IsNotDone (HasEnded L.Link N.opening))) }
 {
     match opened_server::<N, L>(alloc, link, minor, clean, frames) {
         Ok(server) => {
             let service = Service::over(alloc, rt, board, server, running, gate)?;
-            Ok(do_all(alloc, &rt, service, tasks))
+            do_on(alloc, rt, service, tasks, keeping)
         }
         Err(error) => {
             let _ = running.stop(&rt);
@@ -71,6 +76,7 @@ fn start_and_do<
     N: ServiceParameters + Send + Sync + 'static,
     R: Threads + Wait + Copy + Send + Sync + 'static,
     D: BlockDriver + 'static,
+    A: Archive + Drop + Send + 'static,
     T: Task,
 >(
     alloc: Global,
@@ -81,12 +87,13 @@ fn start_and_do<
     setup: &Setup,
     supply: Vec<D>,
     tasks: Vec<T>,
-) -> Result<Result<Came<T::Output>, ServeRefusal>, AllocError>
+    keeping: Keeping<A>,
+) -> Result<Result<Kept<T::Output, A>, ServeRefusal>, AllocError>
     requires at_hand { IsAtHand N.ServiceParameters board seat setup.now (map D.state supply.items) checked.prepared.media
         checked.prepared.range }
     requires clean { IsClean N.ServiceParameters checked.clean.geometry }
-    ensures done { IfOk result (λ o. HasServed N.opening.media setup.now (map D.state supply.items) (λ g v. IfOk o (AreDone IsSpent g v
-        tasks.items))) }
+    ensures done { IfOk result (λ o. HasServed N.opening.media setup.now (map D.state supply.items) (λ g v. IfOk o (AreKept IsSpent A.puts
+        g v tasks.items keeping.archive))) }
     ensures undone { IfOk result (λ o. IfErr o (IsNotDone IsSpent)) }
 {
     let CheckedImage { prepared, clean } = checked;
@@ -107,6 +114,7 @@ fn start_and_do<
         running,
         gate,
         tasks,
+        keeping,
     )
 }
 
@@ -118,6 +126,7 @@ fn start_and_do<
 ///
 /// It is refused as [`ServeRefusal`] says, and then no image comes. That the last sync was cut, or a session was refused as `Stopped`, is
 /// told only once the link to the drivers had ended (`do_all`); here no link is named any more.
+#[tactic(auto, using(crate::proofs::ServedLaws::served_done))]
 pub fn serve<R: Threads + Wait + Copy + Send + Sync + 'static, D: BlockDriver + 'static, T: Task>(
     alloc: Global,
     rt: R,
@@ -130,27 +139,95 @@ pub fn serve<R: Threads + Wait + Copy + Send + Sync + 'static, D: BlockDriver + 
         HasServed image.items setup.now (map D.state supply.items) (λ g v. AreDone IsSpent g v tasks.items came)) }
     ensures refused { IfErr result (IsNotServed IsSpent image.items setup.now (map D.state supply.items)) }
 {
-    match start(alloc, rt, image, setup, supply, tasks) {
-        Ok(came) => came,
-        Err(refusal) => Err(ServeRefusal::Start(refusal)),
+    let keeping = Keeping::<NoArchive> {
+        archive: None,
+        sync_every: 0,
+    };
+    match serve_on(alloc, rt, image, setup, supply, tasks, keeping) {
+        Ok(kept) => Ok(kept.came),
+        Err(refusal) => Err(refusal),
     }
 }
 
-/// The same, a start that was refused apart.
-fn start<R: Threads + Wait + Copy + Send + Sync + 'static, D: BlockDriver + 'static, T: Task>(
+/// The same, and what the tasks change goes into an archive: behind each sync of theirs that was done, and every so many seconds, by a
+/// session more; 0: behind theirs alone. A sync answers once the archive took the changes, and is refused as the archive refuses them. What
+/// changed behind the last of these syncs stands in the image alone that is left.
+///
+/// Where it is refused the archive is let go. What was put into it before is there.
+pub fn serve_kept<
+    R: Threads + Wait + Copy + Send + Sync + 'static,
+    D: BlockDriver + 'static,
+    T: Task,
+    A: Archive + Drop + Send + 'static,
+>(
     alloc: Global,
     rt: R,
     image: Vec<u8>,
     setup: &Setup,
     supply: Vec<D>,
     tasks: Vec<T>,
-) -> Result<Result<Came<T::Output>, ServeRefusal>, StartRefusal>
-    ensures done { IfOk result (λ o. HasServed image.items setup.now (map D.state supply.items) (λ g v. IfOk o (AreDone IsSpent g v
-        tasks.items))) }
+    archive: A,
+    sync_every: u32,
+) -> Result<Kept<T::Output, A>, ServeRefusal>
+    ensures done { IfOk result (λ kept. HasServed image.items setup.now (map D.state supply.items)
+        (λ g v. AreKept IsSpent A.puts g v tasks.items (Some archive) kept)) }
+    ensures refused { IfErr result (IsNotServed IsSpent image.items setup.now (map D.state supply.items)) }
+{
+    let keeping = Keeping {
+        archive: Some(archive),
+        sync_every,
+    };
+    serve_on(alloc, rt, image, setup, supply, tasks, keeping)
+}
+
+/// The same with an archive or without one.
+fn serve_on<
+    R: Threads + Wait + Copy + Send + Sync + 'static,
+    D: BlockDriver + 'static,
+    T: Task,
+    A: Archive + Drop + Send + 'static,
+>(
+    alloc: Global,
+    rt: R,
+    image: Vec<u8>,
+    setup: &Setup,
+    supply: Vec<D>,
+    tasks: Vec<T>,
+    keeping: Keeping<A>,
+) -> Result<Kept<T::Output, A>, ServeRefusal>
+    ensures done { IfOk result (λ kept. HasServed image.items setup.now (map D.state supply.items)
+        (λ g v. AreKept IsSpent A.puts g v tasks.items keeping.archive kept)) }
+    ensures refused { IfErr result (IsNotServed IsSpent image.items setup.now (map D.state supply.items)) }
+{
+    match start(alloc, rt, image, setup, supply, tasks, keeping) {
+        Ok(came) => came,
+        Err(refusal) => Err(ServeRefusal::Start(refusal)),
+    }
+}
+
+/// The same, a start that was refused apart.
+fn start<
+    R: Threads + Wait + Copy + Send + Sync + 'static,
+    D: BlockDriver + 'static,
+    T: Task,
+    A: Archive + Drop + Send + 'static,
+>(
+    alloc: Global,
+    rt: R,
+    image: Vec<u8>,
+    setup: &Setup,
+    supply: Vec<D>,
+    tasks: Vec<T>,
+    keeping: Keeping<A>,
+) -> Result<Result<Kept<T::Output, A>, ServeRefusal>, StartRefusal>
+    ensures done { IfOk result (λ o. HasServed image.items setup.now (map D.state supply.items) (λ g v. IfOk o (AreKept IsSpent A.puts g v
+        tasks.items keeping.archive))) }
     ensures undone { IfOk result (λ o. IfErr o (IsNotDone IsSpent)) }
     ensures refused { IfErr result (IsNotServable image.items setup.now (map D.state supply.items)) }
 {
     let checked = prepare_checked(alloc, image, setup, &supply)?;
     let (board, seat) = Board::new(alloc)?;
-    Ok(start_and_do::<Brand, R, D, T>(alloc, rt, board, seat, checked, setup, supply, tasks)?)
+    Ok(start_and_do::<Brand, R, D, A, T>(
+        alloc, rt, board, seat, checked, setup, supply, tasks, keeping,
+    )?)
 }

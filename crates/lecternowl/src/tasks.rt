@@ -84,7 +84,44 @@ fn run_each<R: Threads + Sync, F: Files + Send, T: Task>(
     thread::map_vec(rt, turns, &|turn: Turn<F, T>| -> T::Output { take(turn) })
 }
 
+/// Does each task in a session and a thread of its own: what each gave, in their order. Refused before any is begun: a session is refused,
+/// or no memory or no thread was found.
+pub(crate) fn do_each<R: Threads + Sync, S: Served, T: Task>(
+    alloc: Global,
+    rt: &R,
+    service: &S,
+    tasks: Vec<T>,
+) -> Result<Vec<T::Output>, SessionRefusal>
+    ensures each { IfOk result (λ outputs. vec_len outputs ≡ vec_len tasks) }
+    ensures refused { IfErr result (IsNotOpened S.Session.words S.Session.opening) }
+{
+    let turns = admit_all(alloc, service, tasks)?;
+    match run_each(rt, turns) {
+        Ok(outputs) => Ok(outputs),
+        Err(_) => Err(SessionRefusal::OutOfMemory),
+    }
+}
+
+/// Stops a service whose tasks gave these outputs.
+pub(crate) fn stop_with<S: Served, O: Drop>(
+    service: S,
+    outputs: Vec<O>,
+) -> Result<Came<O>, ServeRefusal>
+    ensures done { IfOk result (AreDone (HasEnded S.Session.words S.Session.opening) S.Session.sizes S.Session.opening outputs.items) }
+    ensures undone { IfErr result (IsNotDone (HasEnded S.Session.words S.Session.opening)) }
+{
+    match service.stop() {
+        Ok((last_sync, image)) => Ok(Came {
+            outputs,
+            last_sync,
+            image,
+        }),
+        Err(why) => Err(ServeRefusal::NoImage(why)),
+    }
+}
+
 /// Does each task in a session and a thread of its own, and stops the service.
+#[tactic(auto, using(crate::proofs::ServedLaws::done_of))]
 pub(crate) fn do_all<R: Threads + Sync, S: Served, T: Task>(
     alloc: Global,
     rt: &R,
@@ -94,19 +131,8 @@ pub(crate) fn do_all<R: Threads + Sync, S: Served, T: Task>(
     ensures done { IfOk result (AreDone (HasEnded S.Session.words S.Session.opening) S.Session.sizes S.Session.opening tasks.items) }
     ensures undone { IfErr result (IsNotDone (HasEnded S.Session.words S.Session.opening)) }
 {
-    let turns = match admit_all(alloc, &service, tasks) {
-        Ok(turns) => turns,
-        Err(refusal) => return Err(ServeRefusal::NoSession(refusal)),
-    };
-    let Ok(outputs) = run_each(rt, turns) else {
-        return Err(ServeRefusal::NoSession(SessionRefusal::OutOfMemory));
-    };
-    match service.stop() {
-        Ok((last_sync, image)) => Ok(Came {
-            outputs,
-            last_sync,
-            image,
-        }),
-        Err(why) => Err(ServeRefusal::NoImage(why)),
+    match do_each(alloc, rt, &service, tasks) {
+        Ok(outputs) => stop_with(service, outputs),
+        Err(refusal) => Err(ServeRefusal::NoSession(refusal)),
     }
 }

@@ -1,5 +1,6 @@
 //! The image that a mount keeps: what it begins with, and what is left of it.
 
+use archive::FileArchive;
 use host::play_words::mount::MountWords;
 use host::whole_file::read_front;
 use image_file::Kept;
@@ -9,7 +10,6 @@ use locked_image::locked::LockedImage;
 use locked_image::reading::read_image;
 use locked_image::reasons::why;
 use locked_image::storing::ImageFiles;
-use mount_service::file_archive::FileArchive;
 use mount_service::handing::hand_left;
 use mount_service::mount::{Ended, MountStatus};
 use output::tell;

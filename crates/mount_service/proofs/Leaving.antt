@@ -11,8 +11,9 @@ use Rattle.shared_server.specs.declared.locked.LastSync.{LastSync}
 use Rattle.message_stream.specs.declared.answering.StreamRefusal.{StreamRefusal}
 use Rattle.serve.specs.declared.stopping.NoImage.{NoImage}
 use Rattle.serve.specs.Stopping.{IsLastImage}
-use Rattle.mount_service.specs.Spoken.{Puts, Speaks, IsSpoken}
-use Rattle.mount_service.specs.Kept.{IsKeptAfter}
+use Rattle.archive.specs.Behind.{Puts}
+use Rattle.mount_service.specs.Spoken.{Speaks, IsSpoken}
+use Rattle.archive.specs.Kept.{IsKeptAfter}
 use Rattle.mount_service.specs.Left.{IsLeftBy}
 use Rattle.mount_service.specs.declared.program.Came.{Came}
 use Rattle.mount_service.specs.declared.program.Streams.{Streams}

@@ -1,8 +1,6 @@
-mod Answering
-mod Keeping
 mod Meeting
 mod Owning
-mod Putting
 mod Speaking
 mod Leaving
 mod Ends
+mod Kept

@@ -7,7 +7,8 @@ use Rattle.tree.specs.declared.Outcome.{Outcome}
 use Rattle.records.specs.Marks.{Mark}
 use Rattle.records.specs.Opening.{Opening}
 use Rattle.records.specs.Session.{SessionState}
-use Rattle.mount_service.specs.Spoken.{Puts, IsAnswered, IsOwnAnswer, Users, users}
+use Rattle.archive.specs.Behind.{Puts}
+use Rattle.mount_service.specs.Spoken.{IsAnswered, IsOwnAnswer, Users, users}
 
 or_else : {X : Type 0} → X → Option X → X
 or_else d None = d

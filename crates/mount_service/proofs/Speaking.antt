@@ -6,7 +6,8 @@ use Rattle.records.specs.Marks.{Mark, IsBeginning}
 use Rattle.records.specs.Opening.{Opening}
 use Rattle.message_stream.specs.Answered.{IsAnsweredAll}
 use Rattle.message_stream.specs.Exchanges.{by_both}
-use Rattle.mount_service.specs.Spoken.{Puts, Speaks, IsSpoken, MayAnswer, IsEntered, HaveLeft, HaveSeen, Users, users}
+use Rattle.archive.specs.Behind.{Puts}
+use Rattle.mount_service.specs.Spoken.{Speaks, IsSpoken, MayAnswer, IsEntered, HaveLeft, HaveSeen, Users, users}
 
 pub spoken_ok : {A W E : Type 0} (result : Result (Unit {0}) E) (puts : Puts A) (fewest : ℕ) (speaks : Speaks W) (first : W) (g : Geometry)
     (v : Opening) (stream old new : Option (List ℕ)) (s t : Users) (begun : List Mark) (kept : Bool) (marks : List Mark)

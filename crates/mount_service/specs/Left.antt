@@ -11,8 +11,9 @@ use Rattle.shared_server.specs.declared.locked.LastSync.{LastSync}
 use Rattle.shared_media.specs.Confined.{IsImageOutside}
 use Rattle.serve.specs.Stopping.{IsRange}
 use Rattle.message_stream.specs.declared.answering.StreamRefusal.{StreamRefusal}
-use Rattle.mount_service.specs.Spoken.{Puts, Speaks, IsSpoken}
-use Rattle.mount_service.specs.Kept.{IsKeptAfter}
+use Rattle.archive.specs.Behind.{Puts}
+use Rattle.mount_service.specs.Spoken.{Speaks, IsSpoken}
+use Rattle.archive.specs.Kept.{IsKeptAfter}
 
 -- A service on this volume answered the messages of a stream, all of it where it says so, and left an image, whose media have as many
 -- sectors as were handed in, and outside of the volume each as it was handed in. One record goes on from what each session had seen, and

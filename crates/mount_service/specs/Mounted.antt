@@ -9,7 +9,8 @@ use Rattle.shared_server.specs.declared.locked.LastSync.TheVariants as sync
 use Rattle.service_start.specs.Servable.{HasServed, IsNotServable}
 use Rattle.message_stream.specs.declared.answering.StreamRefusal.{StreamRefusal}
 use Rattle.mount_service.specs.Left.{IsLeftBy}
-use Rattle.mount_service.specs.Spoken.{Puts, Speaks}
+use Rattle.archive.specs.Behind.{Puts}
+use Rattle.mount_service.specs.Spoken.{Speaks}
 use Rattle.mount_service.specs.declared.mount.MountStatus.{MountStatus}
 use Rattle.mount_service.specs.declared.mount.MountStatus.TheVariants.{Done, Refused, GivenUp, Cut, NotAsRead}
 use Rattle.mount_service.specs.declared.mount.MountRefusal.{MountRefusal}

@@ -1,85 +1,28 @@
--- What the sessions of a service answer, the changes that are put behind syncs, and so what is spoken on its streams.
+-- What the sessions of a mount answer, and so what is spoken on its streams.
 use Rattle.std.specs.Prelude.{⊤, ◌≡◌, ◌≢◌, ◌⊎◌, ◌++◌, ℕ, Bool, true, false, List, [], ◌∷◌, slice_get, slice_set}
 use Rattle.std.specs.Prelude.{Option, Some, Result, Ok, Err}
 use Rattle.std.specs.List.{remove}
 use Rattle.layout.specs.declared.Geometry.{Geometry}
-use Rattle.errno.specs.declared.Errno.{Errno}
-use Rattle.errno.specs.declared.Errno.TheVariants.{EINVAL, ENOMEM}
+use Rattle.errno.specs.declared.Errno.TheVariants.{EINVAL}
 use Rattle.tree.specs.declared.Call.{Call}
-use Rattle.tree.specs.declared.Call.TheVariants.{Sync}
 use Rattle.tree.specs.declared.Outcome.{Outcome}
 use Rattle.tree.specs.declared.Outcome.TheVariants.{Reply}
-use Rattle.tree.specs.declared.Reply.TheVariants.{Done, Refused}
+use Rattle.tree.specs.declared.Reply.TheVariants.{Refused}
 use Rattle.records.specs.Marks.{Mark, IsBeginning}
-use Rattle.records.specs.Opening.{Opening, contents_at}
-use Rattle.records.specs.Session.{SessionState, SessionCallKeeps, caller_of}
-use Rattle.file_server.specs.Over.{outcome_of}
-use Rattle.shared_server.specs.Held.{HoldsIfTrue}
-use Rattle.changes.specs.declared.taken.Changes.{Changes}
-use Rattle.changes.specs.Units.{puts_of}
-use Rattle.shared_media.specs.Marking.{AreChangesOutside}
+use Rattle.records.specs.Opening.{Opening}
+use Rattle.records.specs.Session.{SessionState}
+use Rattle.archive.specs.Called.{IsAnsweredBy}
+use Rattle.archive.specs.Behind.{Puts, IsAnsweredKept}
 use Rattle.talks.specs.declared.ask.Leaving.{Leaving}
 use Rattle.talks.specs.declared.ask.Leaving.TheVariants as leaving
 use Rattle.talks.specs.declared.sessions.EnterRefusal.{EnterRefusal}
 use Rattle.message_stream.specs.Answered.{IsAnsweredAll}
 use Rattle.message_stream.specs.Exchanges.{by_both}
 
--- A session of a service on this volume made a call, and was answered so: the answer is the last mark of what it has then seen. Where the
--- replies of drivers in that are true, the volume held a tree as it was handed in, and whichever that was, what was seen is legal from that
--- on: so the answer is the file tree's.
-pub record IsAnsweredBy (g : Geometry) (v : Opening) (before : SessionState) (now : ℕ) (call : Call) (outcome : Outcome)
-    (after : SessionState) : Type 0 where
-  pub keeps : SessionCallKeeps g (contents_at v) before (caller_of before) now call (outcome_of outcome) after
-  pub holds : HoldsIfTrue g v after.knows.seen
-
--- how changes may be put into an archive: the state before, units' numbers with their bytes, what is answered, the state after
-abbrev pub Puts : Type 0 → Type 1
-Puts A = A → List (ℕ × List ℕ) → Result (Unit {0}) Errno → A → Type 0
-
--- Changes of the media were put into an archive, and this was answered: changes of an image of as many sectors as were handed in, and
--- outside of the volume each as it was handed in.
-pub record IsPut {A : Type 0} (puts : Puts A) (v : Opening) (s : A) (answer : Result (Unit {0}) Errno) (t : A) : Type 0 where
-  pub changes : Changes
-  pub outside : AreChangesOutside v changes
-  pub put : puts s (puts_of changes) answer t
-
--- what came of the changes behind a sync: they were put into the archive, or no memory was found for them
-abbrev pub IsArchived : {A : Type 0} → Puts A → Opening → Result (Unit {0}) Errno → Type 0
-IsArchived {A} puts v answer = ((s : A) × (t : A) × IsPut puts v s answer t) ⊎ (answer ≡ Err ENOMEM)
-
--- what the sync is answered then
-abbrev pub outcome_then : Result (Unit {0}) Errno → Outcome
-outcome_then (Ok done) = Reply Done
-outcome_then (Err e) = Reply (Refused e)
-
--- a call was a sync, and was done
-abbrev pub IsSynced : Call → Outcome → Type 0
-IsSynced call outcome = (call ≡ Sync) × (outcome ≡ Reply Done)
-
--- a session made a sync, which was done, and behind it changes were put into the archive: what came of that is answered
-pub record IsAnsweredSync {A : Type 0} (puts : Puts A) (g : Geometry) (v : Opening) (before : SessionState) (now : ℕ) (call : Call)
-    (outcome : Outcome) (after : SessionState) : Type 0 where
-  pub sync : call ≡ Sync
-  pub done : IsAnsweredBy g v before now Sync (Reply Done) after
-  pub put : Result (Unit {0}) Errno
-  pub archived : IsArchived puts v put
-  pub answer : outcome ≡ outcome_then put
-
--- what a session is answered where there is an archive: such a sync, or a call that was no sync, or none that was done
-abbrev pub IsAnsweredKept : {A : Type 0} → Puts A → Geometry → Opening → SessionState → ℕ → Call → Outcome → SessionState → Type 0
-IsAnsweredKept puts g v before now call outcome after =
-    (IsAnsweredBy g v before now call outcome after × ¬ (IsSynced call outcome)) ⊎ IsAnsweredSync puts g v before now call outcome after
-
--- the same, with an archive or without
+-- what a session is answered, with an archive or without
 abbrev pub IsAnswered : {A : Type 0} → Puts A → Geometry → Opening → Bool → SessionState → ℕ → Call → Outcome → SessionState → Type 0
 IsAnswered puts g v true before now call outcome after = IsAnsweredKept puts g v before now call outcome after
 IsAnswered puts g v false before now call outcome after = IsAnsweredBy g v before now call outcome after
-
--- A sync that is answered ok where there is an archive: the session was answered ok, and behind that the archive took changes.
-abbrev pub OkMeansPut : {A : Type 0} → Puts A → Type 0
-OkMeansPut {A} puts = (g : Geometry) (v : Opening) (before : SessionState) (now : ℕ) (after : SessionState)
-    → IsAnswered puts g v true before now Sync (Reply Done) after
-    → IsAnsweredBy g v before now Sync (Reply Done) after × ((s : A) × (t : A) × IsPut puts v s (Ok tt) t)
 
 -- the sessions of a mount, each with what it has seen, in the order in which they were made; what the mount's own session has seen, which
 -- makes no call, and meets each that ends; and whether there is an archive

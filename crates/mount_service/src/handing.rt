@@ -6,9 +6,9 @@ ghost use Rattle.volume_commands.specs.Handing.{HoldsTreeIn, IsHandedOn, TellsHa
 ghost use Rattle.serve.specs.Stopping.{is_as_read as as_read};
 ghost use Rattle.mount_service.specs.Ending.{IsEndedIn, status_after};
 
-use crate::archive::Archive;
 use crate::mount::{Ended, MountStatus};
 use crate::program::{Came, Streams};
+use archive::Archive;
 use output::{Told, tell};
 use serve::stopping::is_as_read;
 use std::alloc::Global;

@@ -3,9 +3,9 @@
 ghost use Rattle.std.specs.Prelude.{◌≡◌, IfErr, IfNone, IfOk, IfSome, map};
 ghost use Rattle.mount_service.specs.Mounted.{IsMounted, IsRefused, IsStatus, IsUnmounted, status_number};
 
-use crate::archive::Archive;
 use crate::program::{Came, LastSync, Streams};
 use crate::starting::answer_messages;
+use archive::Archive;
 use bdev::BlockDriver;
 use gate::Gate;
 use message_stream::answering::StreamRefusal;

@@ -6,10 +6,8 @@ ghost use Rattle.shared_server.specs.Finishing.{sync_of};
 ghost use Rattle.mount_service.specs.Left.{IsLeftBy};
 ghost use Rattle.mount_service.specs.Spoken.{IsSpoken};
 
-use crate::archive::Archive;
-use crate::keeper::Keeper;
 use crate::sessions::ServiceSessions;
-use crate::shared_archive::{Begins, SharedArchive};
+use archive::{Archive, Begins, Keeper, SharedArchive};
 use board::counting::parameters::ServiceParameters;
 use board::counting::recorder::Recorder;
 use file_server::FileServer;
@@ -17,7 +15,6 @@ use message_stream::answering::{StreamRefusal, answer_all};
 use serve::service::{Service, Shared};
 use serve::session::Session;
 use serve::stopping::{NoImage, image_left};
-use shared_server::refusal::SessionRefusal;
 use std::alloc::{AllocError, Global};
 use std::io::{BufRead, Write};
 use std::marker::Brand;
@@ -145,41 +142,13 @@ fn answer_and_keep<
     let shared = SharedArchive::<N, R, F, A>::new(alloc, rt, service.media()?, archive);
     let shared = Arc::new(alloc, shared)?;
     let asked = Arc::try_clone(&shared)?;
-    let keeper = keeper_of(alloc, &rt, &service, &shared, streams.sync_every)?;
+    let keeper = Keeper::start(alloc, &rt, &service, &shared, streams.sync_every)?;
     let (answered, own) = answer_by(alloc, &service, own, &mut streams, Some(asked));
     if let Some(keeper) = keeper {
         keeper.end(&rt);
     }
     streams.archive = SharedArchive::into_archive(shared);
     Ok(came_of(service, own, streams, answered))
-}
-
-/// The keeper of an archive, which makes a sync every so many seconds; none where that is 0, or where the link to the drivers has ended.
-fn keeper_of<
-    N: ServiceParameters + Send + Sync + 'static,
-    R: Threads + Wait + Copy + Send + Sync + 'static,
-    L: Recorder<N> + Send + 'static,
-    S: FileServer<L> + Send + 'static,
-    F: Begins<A> + Send + Sync + 'static,
-    A: Archive + Drop + Send + 'static,
->(
-    alloc: Global,
-    rt: &R,
-    service: &Service<N, R, L, S>,
-    shared: &Arc<SharedArchive<N, R, F, A>>,
-    every: u32,
-) -> Result<Option<Keeper>, AllocError> {
-    if every == 0 {
-        return Ok(None);
-    }
-    match service.session(0, 0) {
-        Ok(session) => {
-            let shared = Arc::try_clone(shared)?;
-            Ok(Some(Keeper::start(alloc, rt, shared, session, every)?))
-        }
-        Err(SessionRefusal::OutOfMemory) => Err(AllocError),
-        Err(_) => Ok(None),
-    }
 }
 
 /// Answers the messages of a stream by sessions of this service, which end then; the mount's own goes on, and has seen all that they had.

@@ -3,12 +3,10 @@
 ghost use Rattle.std.specs.Prelude.{◌≡◌, ◌≢◌, ◌↔◌, ℕ, [], IfNone, IfSome, IsTrue, Some, is_some, slice_get};
 ghost use Rattle.records.specs.Marks.{IsBeginning};
 ghost use Rattle.records.specs.Session.{SessionState};
-ghost use Rattle.tree.specs.declared.Call.TheVariants.{Sync};
 ghost use Rattle.mount_service.specs.Spoken.{HaveSeen, IsAnswered};
 ghost use Rattle.talks.specs.declared.ask.Leaving.{Leaving};
 
-use crate::archive::Archive;
-use crate::shared_archive::{Begins, SharedArchive};
+use archive::{Archive, Begins, SharedArchive};
 use board::counting::parameters::ServiceParameters;
 use board::counting::recorder::Recorder;
 use errno::Errno;
@@ -201,11 +199,7 @@ fn call_and_keep<
     let Some(shared) = shared else {
         return session.call(now, call);
     };
-    if is_sync(call) {
-        shared.sync(session, now)
-    } else {
-        shared.call_in_turn(session, now, call)
-    }
+    shared.call(session, now, call)
 }
 
 /// The place of the session of this number.
@@ -234,13 +228,6 @@ fn end_all<N: ServiceParameters, R: Wait + Copy, L: Recorder<N>, S: FileServer<L
         own.meet(&mut session);
         session.end();
     }
-}
-
-/// Whether a call is a sync.
-fn is_sync(call: &Call<'_>) -> bool
-    ensures { IsTrue result ↔ (call.now ≡ Sync) }
-{
-    matches!(call, Call::Sync)
 }
 
 /// Why a service made no session, as a connection has it.

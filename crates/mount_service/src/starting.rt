@@ -8,8 +8,8 @@ ghost use Rattle.service_start.specs.Started.{IsAtHand, IsStarted};
 ghost use Rattle.service_start.specs.Servable.{HasServed, IsClean, IsNotServable};
 ghost use Rattle.mount_service.specs.Left.{IsLeftBy};
 
-use crate::archive::Archive;
 use crate::program::{Came, Streams, answer_on};
+use archive::Archive;
 use bdev::BlockDriver;
 use board::counting::parameters::ServiceParameters;
 use board::counting::recorder::Recorder;

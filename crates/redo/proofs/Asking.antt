@@ -1,11 +1,10 @@
 -- How a record stands, by what its gate and head ask for.
-use Rattle.std.proofs.Common.{◌≡◌, ◌⊎◌, inl, inr, ℕ, suc, ◌+◌, ◌-◌, ◌<◌, List, [], ◌∷◌, ◌++◌, refl, sym, ◌∙◌, ap, arith, Bool, true, false, ◌&&◌, ◌==◌, if◌then◌else◌}
+use Rattle.std.proofs.Common.{◌≡◌, ◌⊎◌, inl, inr, ℕ, suc, ◌+◌, ◌-◌, ◌<◌, List, [], ◌++◌, refl, sym, ◌∙◌, ap, arith, Bool, true, false, ◌&&◌, ◌==◌, if◌then◌else◌}
 use Rattle.std.specs.Str.{bytes_eq}
-use Rattle.std.proofs.lemmas.List.{append-nil}
 use Rattle.stable.specs.Disk.{Contents, Changes as Puts}
 use Rattle.redo.specs.declared.recovering.Asked.{Asked}
 use Rattle.redo.specs.declared.recovering.Asked.TheVariants.{NothingMore, Changes, Another}
-use Rattle.redo.specs.Record.{closed, is_head, name_in, count_in, changes_in, record_standing, record_units, from, said_from, next_place, says_of, standing, all_said, most, Standing, Nothing, Redo, Foreign}
+use Rattle.redo.specs.Record.{closed, is_head, name_in, count_in, changes_in, record_standing, record_units, from, said_from, says_of, standing, all_said, most, Standing, Nothing, Redo, Foreign}
 use Rattle.redo.specs.Plans.{to_gate, to_recover}
 use Rattle.redo.specs.Asked.{asks_of, stands}
 use Rattle.redo.proofs.Records.{said_next, said_nothing, said_foreign}

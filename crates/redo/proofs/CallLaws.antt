@@ -1,6 +1,6 @@
 -- What the laws say of calls.
-use Rattle.std.proofs.Common.{◌≡◌, ℕ, ◌+◌, ◌^◌, ◌<◌, length, sym, subst, Option, Some, Result, OnOk, false}
-use Rattle.stable.specs.Disk.{Contents, Changes, put, run}
+use Rattle.std.proofs.Common.{◌≡◌, ℕ, ◌+◌, ◌^◌, ◌<◌, length, Option, Some, Result, OnOk, false}
+use Rattle.stable.specs.Disk.{Contents, Changes, put}
 use Rattle.stable.specs.Runs.{Known, now, Follows, Knows, EachMoment}
 use Rattle.redo.specs.Record.{record_units, most}
 use Rattle.redo.specs.Plans.{log_plan, recover_plan}

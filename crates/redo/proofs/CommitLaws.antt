@@ -4,18 +4,18 @@ use Rattle.std.specs.List.{AllByRecursion}
 use Rattle.std.specs.Str.{bytes_eq}
 use Rattle.std.proofs.lemmas.Slice.Eq.{bytes_eq-Decides}
 use Rattle.std.proofs.lemmas.Bool.{cases_eq, cases_lt}
-use Rattle.std.proofs.lemmas.List.{append-nil, length-map, map-append}
+use Rattle.std.proofs.lemmas.List.{length-map, map-append}
 use Rattle.stable.specs.declared.Which.TheVariants.{Log, Image}
-use Rattle.stable.specs.Disk.{Contents, Changes, Step, Write, Sync, numbered, set, put, Touches, Held, FileState, Keeps, Disk, MayLeave, Leaves, run, done, Did}
+use Rattle.stable.specs.Disk.{Contents, Changes, Step, Write, Sync, numbered, set, put, Touches, Held, FileState, Keeps, Disk, MayLeave, Leaves, done}
 use Rattle.redo.specs.Record.{head, closed, body, directory, directory_units, first_data, record_units, record_standing, from, most, recovered, Nothing}
-use Rattle.redo.specs.Runs.{Run, singly, spread}
-use Rattle.redo.specs.Plans.{run_write, body_writes, to_write, to_gate, to_image, log_plan}
+use Rattle.redo.specs.Runs.{Run, singly, by_sixteen, spread}
+use Rattle.redo.specs.Plans.{run_write, runs_of, body_writes, to_write, to_gate, to_image, log_plan}
 use Rattle.redo.specs.UnderWay.{Fits, AnyHow, changes_of, place, IsRecord, AreRecords, Begins, IsSure, IsAtRest, Makes, IsShut, IsLogged, IsWritten, IsEither, IsUnderWay, IsUnderWayBy, IsCurrent}
 use Rattle.redo.specs.Laws.{IsImage, Finds, FindsEither}
-use Rattle.redo.proofs.Units.{set_same, set_other, put_agrees, put_other, put-append, put_or_touches, touches_or_not, touches_first, touches_last, touched, not_below, numbered-append, put_append_last, spread_singly, spread-append}
+use Rattle.redo.proofs.Units.{set_same, set_other, put_agrees, put_other, put-append, put_or_touches, touches_or_not, touches_first, touches_last, touched, not_below, numbered-append, put_append_last, spread_singly, spread_sixteen, spread-append}
 use Rattle.redo.proofs.Spelled.{length-directory, length-body, standing_closed, standing_other, open_same, record_written}
 use Rattle.redo.proofs.Records.{found_so, place-append, changes_last, records_more, record_behind, records_few}
-use Rattle.redo.proofs.Moments.{all_done, Reaches, reaches_then, run_all, at_moment, Moves, Within, along, all_moves, all_then, log_within, image_within, log_kept, image_kept}
+use Rattle.redo.proofs.Moments.{all_done, Reaches, reaches_then, Moves, Within, along, all_moves, all_then, log_within, image_within, log_kept, image_kept}
 
 pub leaves_kept : (f : FileState) (left : Contents) (n : ℕ) (v : List ℕ) → MayLeave f left → Keeps f n v → left n ≡ v
 leaves_kept f left n v leaves k = leaves n k.sure ∙ k.is
@@ -178,12 +178,15 @@ sound_still (Sync Image ∷ steps) d = sound_still steps (done d (Sync Image))
 abbrev pub body_runs : ℕ → ℕ → List ℕ → List (List ℕ) → List Run
 body_runs name at ns units =
     (at + 1, head name (length ns) ∷ []) ∷ singly (numbered (at + 2) (directory (directory_units (length ns)) ns))
-    ++ (at + first_data (length ns), units) ∷ (at + record_units (length ns), closed ∷ []) ∷ []
+    ++ (by_sixteen (runs_of (length units)) (at + first_data (length ns)) units ++ (at + record_units (length ns), closed ∷ []) ∷ [])
 
 pub body_runs_are : (name at : ℕ) (ns : List ℕ) (units : List (List ℕ)) → body_writes name at ns units ≡ map (run_write Log) (body_runs name at ns units)
 body_runs_are name at ns units =
-    ap (λ (l : List Step). Write Log (at + 1) (head name (length ns) ∷ []) ∷ l)
-    (sym (map-append (run_write Log) (singly (numbered (at + 2) (directory (directory_units (length ns)) ns))) ((at + first_data (length ns), units) ∷ (at + record_units (length ns), closed ∷ []) ∷ [])))
+    let dirs : List Run = singly (numbered (at + 2) (directory (directory_units (length ns)) ns)) in
+    let data_runs : List Run = by_sixteen (runs_of (length units)) (at + first_data (length ns)) units in
+    let gate : List Run = (at + record_units (length ns), closed ∷ []) ∷ [] in
+    ap (λ (l : List Step). Write Log (at + 1) (head name (length ns) ∷ []) ∷ (map (run_write Log) dirs ++ l)) (sym (map-append (run_write Log) data_runs gate))
+    ∙ ap (λ (l : List Step). Write Log (at + 1) (head name (length ns) ∷ []) ∷ l) (sym (map-append (run_write Log) dirs (data_runs ++ gate)))
 
 -- the units of a record behind its gate, and the gate behind it
 abbrev pub behind : ℕ → ℕ → Changes → Changes
@@ -198,10 +201,14 @@ body_spread name at changes =
     let dirs : List (List ℕ) = directory (directory_units count) ns in
     let long : length dirs ≡ directory_units count = length-directory (directory_units count) ns in
     let all : length units ≡ count = length-map changes (λ (w : ℕ × List ℕ). w.1) in
-    ap (λ (k : ℕ). (at + 1, head name k) ∷ spread (singly (numbered (at + 2) (directory (directory_units k) ns)) ++ (at + first_data k, units) ∷ (at + record_units k, closed ∷ []) ∷ [])) counted
+    let data_runs : List Run = by_sixteen (runs_of (length units)) (at + first_data count) units in
+    let gate : List Run = (at + record_units count, closed ∷ []) ∷ [] in
+    let few : length units ≤ 16 * runs_of (length units) = omega arith in
+    ap (λ (k : ℕ). (at + 1, head name k) ∷ spread (singly (numbered (at + 2) (directory (directory_units k) ns)) ++ (by_sixteen (runs_of (length units)) (at + first_data k) units ++ (at + record_units k, closed ∷ []) ∷ []))) counted
     ∙ ap (λ (l : Changes). (at + 1, head name count) ∷ l) (
-    spread-append (singly (numbered (at + 2) dirs)) ((at + first_data count, units) ∷ (at + record_units count, closed ∷ []) ∷ [])
-    ∙ ap (λ (l : Changes). l ++ (numbered (at + first_data count) units ++ (at + record_units count, closed) ∷ [])) (spread_singly (numbered (at + 2) dirs))
+    spread-append (singly (numbered (at + 2) dirs)) (data_runs ++ gate)
+    ∙ ap (λ (l : Changes). l ++ spread (data_runs ++ gate)) (spread_singly (numbered (at + 2) dirs))
+    ∙ ap (λ (l : Changes). numbered (at + 2) dirs ++ l) (spread-append data_runs gate ∙ ap (λ (l : Changes). l ++ (at + record_units count, closed) ∷ []) (spread_sixteen (runs_of (length units)) (at + first_data count) units few))
     ∙ ap (λ (k : ℕ). numbered (at + 2) dirs ++ (numbered k units ++ (at + record_units count, closed) ∷ [])) (let e : at + first_data count ≡ at + 2 + length dirs = omega (arith, long) in e)
     ∙ ap (λ (k : ℕ). numbered (at + 2) dirs ++ (numbered (at + 2 + length dirs) units ++ (k, closed) ∷ [])) (let e : at + record_units count ≡ at + 2 + length dirs + length units = omega (arith, long, all) in e)
     ∙ ap (λ (l : Changes). numbered (at + 2) dirs ++ l) (sym (numbered-append units (closed ∷ []) (at + 2 + length dirs)))

@@ -2,7 +2,7 @@
 use Rattle.std.proofs.Common.{◌≡◌, ℕ, zero, suc, ◌+◌, ◌-◌, ◌*◌, ◌<◌, ◌≤◌, List, [], ◌∷◌, ◌++◌, length, refl, sym, ◌∙◌, ap, subst, arith, append_assoc, Some}
 use Rattle.std.proofs.lemmas.List.{append-nil}
 use Rattle.stable.specs.Disk.{Contents, Changes, put}
-use Rattle.redo.specs.Record.{count_in, record_units, record_standing, Standing, Nothing, Redo, Foreign, from, next_place, with_rest, says_of, said_from, most, all_said, standing, redone, recovered}
+use Rattle.redo.specs.Record.{record_units, record_standing, Standing, Nothing, Redo, Foreign, from, next_place, with_rest, says_of, said_from, most, all_said, standing, redone, recovered}
 use Rattle.redo.specs.UnderWay.{place, changes_of, IsRecord, AreRecords}
 
 said_more : (k name : ℕ) (log : Contents) (at : ℕ) → said_from (suc k) name log at ≡ with_rest (record_standing name (from at log)) (said_from k name log (next_place log at))

@@ -1,19 +1,19 @@
 -- Each moment of a recovery.
-use Rattle.std.proofs.Common.{◌≡◌, ◌⊎◌, inl, inr, ⊎_elim, ℕ, ◌+◌, ◌<◌, ◌≤◌, List, [], ◌∷◌, ◌++◌, length, refl, sym, ◌∙◌, ap, subst, arith, Bool, true, false, Some, if◌then◌else◌}
+use Rattle.std.proofs.Common.{◌≡◌, ◌⊎◌, inl, inr, ⊎_elim, ℕ, ◌+◌, ◌<◌, List, [], ◌∷◌, ◌++◌, refl, sym, ◌∙◌, ap, subst, arith, Bool, true, false, Some, if◌then◌else◌}
 use Rattle.std.specs.Str.{bytes_eq}
 use Rattle.std.proofs.lemmas.Bool.{cases_eq}
 use Rattle.std.proofs.lemmas.Slice.Eq.{bytes_eq-Decides}
 use Rattle.stable.specs.declared.Which.TheVariants.{Log}
 use Rattle.stable.specs.Disk.{Contents, Changes, Step, Sync, put, Held, Kept, Written, Stale, kept, FileState, Keeps, Disk, Leaves, MayLeave, Reopens, Opens, on_disk, restarted, done}
-use Rattle.redo.specs.Record.{closed, recovered, redone, record_standing, from, standing, Standing}
+use Rattle.redo.specs.Record.{closed, recovered, redone, standing, Standing}
 use Rattle.redo.specs.Runs.{singly}
 use Rattle.redo.specs.Plans.{to_gate, to_recover, recover_plan}
 use Rattle.redo.specs.UnderWay.{AnyHow, changes_of, place, AreRecords, IsSure, IsAtRest, IsLogged, IsWritten, IsEither, IsUnderWay, IsUnderWayBy, IsCurrent}
-use Rattle.redo.specs.Laws.{IsImage, Finds, FindsEither, IsRecoverable, RecoveryIsSafe, RecoveriesAreSafe, CrashesAreSafe, SettlingIsSafe}
+use Rattle.redo.specs.Laws.{IsImage, IsRecoverable, RecoveryIsSafe, RecoveriesAreSafe, CrashesAreSafe, SettlingIsSafe}
 use Rattle.redo.proofs.Units.{spread_singly}
-use Rattle.redo.proofs.Records.{stand_of, stands_so, found_so}
+use Rattle.redo.proofs.Records.{stand_of, stands_so}
 use Rattle.redo.proofs.Moments.{Along, Reaches, run_all, at_moment, Moves, along, all_moves}
-use Rattle.redo.proofs.CommitLaws.{remade, shut_nothing, logged_still, written_still, shut_still, logged_finds, finds_either, sound_still, gate_other, first_left, left_all, few_first, far, gate_written, made_sure, settled}
+use Rattle.redo.proofs.CommitLaws.{remade, shut_nothing, logged_still, written_still, shut_still, logged_finds, finds_either, sound_still, gate_other, left_all, few_first, far, gate_written, made_sure, settled}
 
 bool_cases : (b : Bool) → (b ≡ true) ⊎ (b ≡ false)
 bool_cases true = inl refl

@@ -4,7 +4,7 @@ use Rattle.stable.specs.Disk.{Contents, Changes, put, Did, Disk, run}
 use Rattle.redo.specs.Record.{record_units, most}
 use Rattle.redo.specs.Plans.{log_plan, recover_plan}
 use Rattle.redo.specs.UnderWay.{Fits, AnyHow, IsUnderWay, IsCurrent}
-use Rattle.redo.specs.Laws.{Act, Put, Settle, AreFit, act_plan, act_place, act_image, disk_after, place_after, image_after, LoggingIsSafe, CommitsAreSafe, RunsAreSafe}
+use Rattle.redo.specs.Laws.{Act, Put, Settle, AreFit, disk_after, place_after, image_after, LoggingIsSafe, CommitsAreSafe, RunsAreSafe}
 use Rattle.redo.proofs.Moments.{at_moment, run_all}
 use Rattle.redo.proofs.CommitLaws.{current_committed, rest_current, finds_either}
 use Rattle.redo.proofs.RecoverLaws.{settling_is_safe}

@@ -1,5 +1,5 @@
 -- A record that was written says what was written.
-use Rattle.std.proofs.Common.{◌≡◌, ◌⊎◌, inl, inr, ℕ, zero, suc, ◌+◌, ◌-◌, ◌*◌, ◌/◌, ◌^◌, ◌<◌, ◌≤◌, List, [], ◌∷◌, ◌++◌, length, map, take, drop, replicate, refl, sym, ◌∙◌, ap, arith, append_assoc, length-append, Bool, true, false, ◌&&◌, if◌then◌else◌, codes}
+use Rattle.std.proofs.Common.{◌≡◌, inl, inr, ℕ, zero, suc, ◌+◌, ◌-◌, ◌*◌, ◌/◌, ◌^◌, ◌<◌, ◌≤◌, List, [], ◌∷◌, ◌++◌, length, map, take, drop, replicate, refl, sym, ◌∙◌, ap, arith, append_assoc, length-append, Bool, true, false, ◌&&◌, if◌then◌else◌, codes}
 use Rattle.std.specs.Int.{to_be_bytes, from_be_bytes, w32, w64}
 use Rattle.std.specs.List.{flat_map, zip, AllByRecursion}
 use Rattle.std.specs.Str.{bytes_eq}
@@ -9,7 +9,7 @@ use Rattle.std.proofs.lemmas.Bool.Decides.{Decides-eqb}
 use Rattle.std.proofs.lemmas.Slice.Eq.{bytes_eq-Decides}
 use Rattle.std.proofs.lemmas.List.{take_at, drop_at, take_all, append-nil, length-map, length-drop, length-take-le, take-append-drop}
 use Rattle.std.proofs.Math.Seq.{take-append-add, take-append_seam}
-use Rattle.stable.specs.Disk.{Contents, Changes, set, put, numbered, Touches}
+use Rattle.stable.specs.Disk.{Contents, Changes, set, put, numbered}
 use Rattle.redo.specs.Record.{head, closed, name_in, count_in, is_head, directory_units, numbers_unit, directory, numbers_in, window, numbers_of, body, changes_in, from, record_units, record_standing, record_open, Standing, Nothing, Redo, Foreign}
 use Rattle.redo.specs.UnderWay.{Fits, IsRecord}
 use Rattle.redo.proofs.Units.{set_same, put_agrees, put_append_other, put_shift, touched, not_past, not_below, put_other, window_same, window_first, window_rest}

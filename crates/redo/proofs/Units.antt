@@ -1,10 +1,11 @@
 -- Contents after changes, unit by unit.
-use Rattle.std.proofs.Common.{◌≡◌, ◌⊎◌, inl, inr, ℕ, zero, suc, ◌+◌, ◌<◌, ◌≤◌, ◌==◌, Bool, true, false, if◌then◌else◌, List, [], ◌∷◌, ◌++◌, length, refl, sym, ◌∙◌, ap, arith, append_assoc}
-use Rattle.std.proofs.lemmas.Bool.{cases_eq}
+use Rattle.std.proofs.Common.{◌≡◌, ◌⊎◌, inl, inr, ℕ, zero, suc, ◌+◌, ◌*◌, ◌<◌, ◌≤◌, List, [], ◌∷◌, ◌++◌, length, take, drop, refl, sym, ◌∙◌, ap, arith, append_assoc}
+use Rattle.std.proofs.lemmas.Bool.{cases_eq, cases_lt}
+use Rattle.std.proofs.lemmas.List.{drop_all, length-drop, length-take-le, take-append-drop}
 use Rattle.std.proofs.lemmas.Bool.Decides.{nat_tests}
 use Rattle.stable.specs.Disk.{Contents, Changes, set, put, numbered, Touches, Held, Written, Stale, FileState, hold, mark, Keeps, file_written, file_spoilt, file_synced, file_unsynced, kept, lost}
 use Rattle.redo.specs.Record.{window, from}
-use Rattle.redo.specs.Runs.{Run, spread, singly}
+use Rattle.redo.specs.Runs.{Run, by_sixteen, spread, singly}
 
 pub set_same : (c : Contents) (w : ℕ × List ℕ) (n : ℕ) → n ≡ w.0 → set c w n ≡ w.1
 set_same c w n is = grind (arith, nat_tests)
@@ -209,6 +210,20 @@ written_twice f xs ys =
 pub spread_singly : (ws : Changes) → spread (singly ws) ≡ ws
 spread_singly [] = refl
 spread_singly (w ∷ ws) = ap (λ (l : Changes). w ∷ l) (spread_singly ws)
+
+-- runs of sixteen are the units, if there are runs enough
+pub spread_sixteen : (k at : ℕ) (units : List (List ℕ)) → length units ≤ 16 * k → spread (by_sixteen k at units) ≡ numbered at units
+spread_sixteen zero at [] le = refl
+spread_sixteen zero at (u ∷ units) le = absurd (omega arith)
+spread_sixteen (suc k) at units le =
+    let first : List (List ℕ) = take 16 units in
+    let rest : List (List ℕ) = drop 16 units in
+    ap (λ (l : Changes). numbered at first ++ l) (spread_sixteen k (at + 16) rest (omega (arith, length-drop 16 units)) ∙ elim (cases_lt 16 (length units)) [
+      | inl many ↦ ap (λ (p : ℕ). numbered (at + p) rest) (sym (length-take-le 16 units (omega (arith, many))))
+      | inr few ↦ ap (λ (l : List (List ℕ)). numbered (at + 16) l) (drop_all 16 units few) ∙ ap (λ (l : List (List ℕ)). numbered (at + length first) l) (sym (drop_all 16 units few))
+    ])
+    ∙ sym (numbered-append first rest at)
+    ∙ ap (λ (l : List (List ℕ)). numbered at l) (take-append-drop 16 units)
 
 pub spread-append : (xs ys : List Run) → spread (xs ++ ys) ≡ spread xs ++ spread ys
 spread-append [] ys = refl

@@ -1,16 +1,16 @@
 -- The next step of each loop that writes, and the parts of the plans.
-use Rattle.std.proofs.Common.{◌≡◌, inl, inr, length-append, ℕ, suc, ◌+◌, ◌-◌, ◌*◌, ◌/◌, ◌^◌, ◌<◌, ◌≤◌, min, List, [], ◌∷◌, ◌++◌, length, map, take, drop, get_or, replicate, refl, sym, ◌∙◌, ap, subst, arith, add-one, append_assoc, codes}
+use Rattle.std.proofs.Common.{◌≡◌, inl, inr, length-append, ℕ, suc, ◌+◌, ◌-◌, ◌*◌, ◌/◌, ◌^◌, ◌<◌, ◌≤◌, min, List, [], ◌∷◌, ◌++◌, length, map, take, drop, get_or, set, replicate, refl, sym, ◌∙◌, ap, subst, arith, add-one, append_assoc, codes}
 use Rattle.std.specs.Int.{to_be_bytes, w32, w64}
-use Rattle.std.specs.List.{flat_map, zip, AllByRecursion}
+use Rattle.std.specs.List.{flat_map, AllByRecursion}
 use Rattle.std.proofs.Math.Seq.{drop-cons, drop-append-add}
-use Rattle.std.proofs.lemmas.List.{take_all, drop_all, length-drop, length-take-le, take_at, append-nil, drop-replicate}
+use Rattle.std.proofs.lemmas.List.{take_all, drop_all, length-drop, length-map, length-take-le, take_at, take_more_set, get_or-drop, drop-drop, append-nil, drop-replicate}
 use Rattle.std.proofs.lemmas.Grind.{take_at_read, flat_map-append}
 use Rattle.std.proofs.lemmas.Bool.{cases_lt}
 use Rattle.stable.specs.declared.Which.TheVariants.{Log}
-use Rattle.stable.specs.Disk.{Write, Sync, numbered}
+use Rattle.stable.specs.Disk.{Changes, Write, Sync, numbered}
 use Rattle.redo.specs.Record.{directory, numbers_unit, head}
-use Rattle.redo.specs.Runs.{singly}
-use Rattle.redo.specs.Plans.{run_write, directory_writes, body_writes, to_gate, log_plan}
+use Rattle.redo.specs.Runs.{singly, by_sixteen}
+use Rattle.redo.specs.Plans.{run_write, directory_writes, runs_of, unit_writes, body_writes, to_gate, log_plan}
 use Rattle.redo.specs.UnderWay.{Fits}
 
 pub one_less : (ns : List ℕ) (i : ℕ) → i < length ns → drop i ns ≡ get_or ns i 0 ∷ drop (i + 1) ns
@@ -118,35 +118,64 @@ number_next ns unit bytes i lt few is_bytes is =
     ∙ ap (λ (l : List ℕ). front ++ bytes ++ l) rest_is
     ∙ ap (λ (l : List ℕ). l ++ replicate (4096 - 4 * (i + 1)) 0) (sym more)
 
-firsts : (ns : List ℕ) (units : List (List ℕ)) → length ns ≡ length units → map (λ (w : ℕ × List ℕ). w.0) (zip ns units) ≡ ns
-firsts [] units is = refl
-firsts (n ∷ ns) [] is = cc
-firsts (n ∷ ns) (u ∷ units) is = ap (λ (l : List ℕ). n ∷ l) (firsts ns units (omega arith))
+numbers_fit : (ws : Changes) → ((i : ℕ) → get_or (map (λ (w : ℕ × List ℕ). w.0) ws) i 0 < 2 ^ 32) → AllByRecursion (λ w. w.0 < 2 ^ 32) ws
+numbers_fit [] fit = tt
+numbers_fit (w ∷ ws) fit = (fit 0, numbers_fit ws (λ i. fit (suc i)))
 
-seconds : (ns : List ℕ) (units : List (List ℕ)) → length ns ≡ length units → map (λ (w : ℕ × List ℕ). w.1) (zip ns units) ≡ units
-seconds [] [] is = refl
-seconds [] (u ∷ units) is = cc
-seconds (n ∷ ns) [] is = cc
-seconds (n ∷ ns) (u ∷ units) is = ap (λ (l : List (List ℕ)). u ∷ l) (seconds ns units (omega arith))
+pub count_numbers : (ns : List ℕ) (ws : Changes) → ns ≡ map (λ (w : ℕ × List ℕ). w.0) ws → length ns ≡ length ws
+count_numbers ns ws is = ap length is ∙ length-map ws (λ (w : ℕ × List ℕ). w.0)
 
-pub length-changes : (ns : List ℕ) (units : List (List ℕ)) → length ns ≡ length units → length (zip ns units) ≡ length ns
-length-changes [] units is = refl
-length-changes (n ∷ ns) [] is = cc
-length-changes (n ∷ ns) (u ∷ units) is = ap suc (length-changes ns units (omega arith))
-
-numbers_fit : (ns : List ℕ) (units : List (List ℕ)) → ((i : ℕ) → get_or ns i 0 < 2 ^ 32) → AllByRecursion (λ w. w.0 < 2 ^ 32) (zip ns units)
-numbers_fit [] units fit = tt
-numbers_fit (n ∷ ns) [] fit = tt
-numbers_fit (n ∷ ns) (u ∷ units) fit = (fit 0, numbers_fit ns units (λ i. fit (suc i)))
-
-pub changes_fit : (ns : List ℕ) (units : List (List ℕ)) → length ns ≡ length units → length ns < 2 ^ 32 → ((i : ℕ) → get_or ns i 0 < 2 ^ 32) → Fits (zip ns units)
-changes_fit ns units is few fit = record { few = omega (arith, length-changes ns units is); numbers = numbers_fit ns units fit }
+pub changes_fit : (ns : List ℕ) (ws : Changes) → ns ≡ map (λ (w : ℕ × List ℕ). w.0) ws → length ns < 2 ^ 32 → ((i : ℕ) → get_or ns i 0 < 2 ^ 32) → Fits ws
+changes_fit ns ws is few fit = record {
+  few = omega (arith, few, count_numbers ns ws is);
+  numbers = numbers_fit ws (λ i. subst (λ (l : List ℕ). get_or l i 0 < 2 ^ 32) is (fit i));
+}
 
 -- the parts of what is logged
-pub log_parts : (name at : ℕ) (ns : List ℕ) (units : List (List ℕ)) → length ns ≡ length units
-    → log_plan name at (zip ns units) ≡ body_writes name at ns units ++ (Sync Log ∷ to_gate at (head name (length ns)))
-log_parts name at ns units is =
-    ap (λ (l : List ℕ). (body_writes name at l (map (λ (w : ℕ × List ℕ). w.1) (zip ns units)) ++ Sync Log ∷ []) ++ to_gate at (head name (length (zip ns units)))) (firsts ns units is)
-    ∙ ap (λ (l : List (List ℕ)). (body_writes name at ns l ++ Sync Log ∷ []) ++ to_gate at (head name (length (zip ns units)))) (seconds ns units is)
-    ∙ ap (λ (k : ℕ). (body_writes name at ns units ++ Sync Log ∷ []) ++ to_gate at (head name k)) (length-changes ns units is)
-    ∙ append_assoc (body_writes name at ns units) (Sync Log ∷ []) (to_gate at (head name (length ns)))
+pub log_parts : (name at : ℕ) (ns : List ℕ) (ws : Changes) (first : List ℕ) → ns ≡ map (λ (w : ℕ × List ℕ). w.0) ws → first ≡ head name (length ws)
+    → log_plan name at ws ≡ body_writes name at ns (map (λ (w : ℕ × List ℕ). w.1) ws) ++ (Sync Log ∷ to_gate at first)
+log_parts name at ns ws first is_ns is_first =
+    let us : List (List ℕ) = map (λ (w : ℕ × List ℕ). w.1) ws in
+    ap (λ (l : List ℕ). (body_writes name at l us ++ Sync Log ∷ []) ++ to_gate at (head name (length ws))) (sym is_ns)
+    ∙ ap (λ (h : List ℕ). (body_writes name at ns us ++ Sync Log ∷ []) ++ to_gate at h) (sym is_first)
+    ∙ append_assoc (body_writes name at ns us) (Sync Log ∷ []) (to_gate at first)
+
+-- one unit more of a run
+pub run_next : (units all : List (List ℕ)) (from i : ℕ) (u : List ℕ) → i < length units → from + i < length all → u ≡ get_or all (from + i) []
+    → take i units ≡ take i (drop from all) → take (i + 1) (set units i u) ≡ take (i + 1) (drop from all)
+run_next units all from i u there more is so =
+    take_more_set units i u there
+    ∙ ap (λ (l : List (List ℕ)). l ++ u ∷ []) so
+    ∙ ap (λ (v : List ℕ). take i (drop from all) ++ v ∷ []) (is ∙ sym (get_or-drop from all i []))
+    ∙ sym ((take_at_read (drop from all) i [] (omega (arith, more, length-drop from all))).1)
+
+-- one run of units more
+pub units_left : (units : List (List ℕ)) (at size : ℕ) → 0 < length units → size ≡ min (length units) 16
+    → unit_writes at units ≡ Write Log at (take size units) ∷ unit_writes (at + size) (drop size units)
+units_left units at size some is = elim (cases_lt 16 (length units)) [
+  | inl many ↦
+      let whole : size ≡ 16 = omega (arith, is, many) in
+      let rest : length (drop 16 units) ≡ length units - 16 = length-drop 16 units in
+      let fewer : runs_of (length units) ≡ suc (runs_of (length (drop 16 units))) = omega (arith, rest, many) in
+      ap (λ (k : ℕ). map (run_write Log) (by_sixteen k at units)) fewer
+      ∙ ap (λ (k : ℕ). Write Log at (take k units) ∷ unit_writes (at + k) (drop k units)) (sym whole)
+  | inr few ↦
+      let all : size ≡ length units = omega (arith, is, few) in
+      let one : runs_of (length units) ≡ 1 = omega (arith, some, few) in
+      ap (λ (k : ℕ). map (run_write Log) (by_sixteen k at units)) one
+      ∙ ap (λ (l : List (List ℕ)). Write Log at l ∷ []) (take_all 16 units (omega (arith, few)) ∙ sym (take_all size units (omega (arith, all))))
+      ∙ ap (λ (l : List (List ℕ)). Write Log at (take size units) ∷ unit_writes (at + size) l) (sym (drop_all size units (omega (arith, all))))
+]
+
+-- the same, of those from one of them on
+pub units_next : (all : List (List ℕ)) (at done size : ℕ) → done < length all → size ≡ min (length all - done) 16
+    → unit_writes (at + done) (drop done all) ≡ Write Log (at + done) (take size (drop done all)) ∷ unit_writes (at + (done + size)) (drop (done + size) all)
+units_next all at done size more is =
+    let rest : length (drop done all) ≡ length all - done = length-drop done all in
+    units_left (drop done all) (at + done) size (omega (arith, rest, more)) (is ∙ ap (λ (k : ℕ). min k 16) (sym rest))
+    ∙ ap (λ (l : List (List ℕ)). Write Log (at + done) (take size (drop done all)) ∷ unit_writes (at + done + size) l) (drop-drop size done all)
+    ∙ ap (λ (k : ℕ). Write Log (at + done) (take size (drop done all)) ∷ unit_writes k (drop (done + size) all)) (let e : at + done + size ≡ at + (done + size) = omega arith in e)
+
+-- none are left behind the last one
+pub units_none : (all : List (List ℕ)) (at done : ℕ) → length all ≤ done → unit_writes (at + done) (drop done all) ≡ []
+units_none all at done none = ap (λ (l : List (List ℕ)). unit_writes (at + done) l) (drop_all done all none)

@@ -1,6 +1,6 @@
 -- What a crash leaves of commits.
-use Rattle.std.specs.Prelude.{◌≡◌, ◌⊎◌, ℕ, ◌+◌, ◌<◌, ◌^◌, List, [], map, length, false, Option, Some, None, ◌∷◌, ◌++◌, ⊤}
-use Rattle.stable.specs.Disk.{Contents, Changes, put, Event, Did, Disk, Held, Stale, run, Leaves, Reopens, restarted, Step}
+use Rattle.std.specs.Prelude.{◌≡◌, ◌⊎◌, ℕ, ◌+◌, ◌<◌, ◌^◌, List, [], map, length, false, Option, Some, None, ◌∷◌, ⊤}
+use Rattle.stable.specs.Disk.{Contents, put, Event, Did, Disk, Stale, run, Leaves, Reopens, restarted, Step}
 use Rattle.stable.specs.Runs.{IsMoment}
 use Rattle.redo.specs.Record.{recovered, record_units, most}
 use Rattle.redo.specs.Plans.{log_plan, recover_plan}

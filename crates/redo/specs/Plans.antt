@@ -1,11 +1,11 @@
 -- What is done to the two files, step by step.
-use Rattle.std.specs.Prelude.{ℕ, ◌+◌, List, [], ◌∷◌, ◌++◌, length, map, if◌then◌else◌}
+use Rattle.std.specs.Prelude.{ℕ, ◌+◌, ◌/◌, List, [], ◌∷◌, ◌++◌, length, map, if◌then◌else◌}
 use Rattle.stable.specs.declared.Which.{Which}
 use Rattle.stable.specs.declared.Which.TheVariants.{Log, Image}
 use Rattle.std.specs.Str.{bytes_eq}
 use Rattle.stable.specs.Disk.{Contents, Changes, Step, Write, Sync, numbered}
 use Rattle.redo.specs.Record.{head, closed, directory_units, directory, first_data, record_units, standing, Standing, Nothing, Redo, Foreign}
-use Rattle.redo.specs.Runs.{Run, singly}
+use Rattle.redo.specs.Runs.{Run, singly, by_sixteen}
 
 -- a run is written by one call
 abbrev pub run_write : Which → Run → Step
@@ -15,11 +15,19 @@ run_write file r = Write file r.0 r.1
 abbrev pub directory_writes : ℕ → List ℕ → List Step
 directory_writes at ns = map (run_write Log) (singly (numbered at (directory (directory_units (length ns)) ns)))
 
+-- how many runs of sixteen so many units make
+abbrev pub runs_of : ℕ → ℕ
+runs_of count = (count + 15) / 16
+
+-- units are written to the log, from one on, sixteen by a call
+abbrev pub unit_writes : ℕ → List (List ℕ) → List Step
+unit_writes at units = map (run_write Log) (by_sixteen (runs_of (length units)) at units)
+
 -- what is written to the log behind the gate at this place: the head, each unit of the directory, all bytes, and the next gate, closed
 abbrev pub body_writes : ℕ → ℕ → List ℕ → List (List ℕ) → List Step
 body_writes name at ns units =
     Write Log (at + 1) (head name (length ns) ∷ []) ∷ directory_writes (at + 2) ns
-    ++ Write Log (at + first_data (length ns)) units ∷ Write Log (at + record_units (length ns)) (closed ∷ []) ∷ []
+    ++ (unit_writes (at + first_data (length ns)) units ++ Write Log (at + record_units (length ns)) (closed ∷ []) ∷ [])
 
 -- a record is written behind its closed gate
 abbrev pub to_write : ℕ → ℕ → Changes → List Step

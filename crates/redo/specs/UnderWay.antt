@@ -3,7 +3,7 @@ use Rattle.std.specs.Prelude.{◌≡◌, ◌⊎◌, ℕ, ◌+◌, ◌<◌, ◌�
 use Rattle.std.specs.List.{AllByRecursion}
 use Rattle.std.specs.Str.{bytes_eq}
 use Rattle.stable.specs.Disk.{Contents, Changes, put, Touches, Held, FileState, Keeps, Disk}
-use Rattle.redo.specs.Record.{head, closed, count_in, record_units, record_standing, Redo, from, most}
+use Rattle.redo.specs.Record.{closed, count_in, record_units, record_standing, Redo, from, most}
 
 -- changes that a record can say: their numbers, and how many there are, in 32 bits
 pub record Fits (changes : List (ℕ × List ℕ)) : Type 0 where

@@ -5,6 +5,7 @@
 mod committing;
 mod log_reading;
 mod parts;
+mod puts;
 mod recovering;
 
 ghost use Rattle.std.specs.Prelude.{ℕ, List};
@@ -13,6 +14,7 @@ ghost use Rattle.redo.specs.Costs.{Costs};
 
 pub use committing::log;
 pub use log_reading::{Logged, read_log};
+pub use puts::Puts;
 pub use recovering::{MOST, Recovered, recover};
 
 /// At each moment of a commit a crash leaves the image before or the image after; behind it, and at each moment of its settling, the image

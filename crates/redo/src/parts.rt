@@ -1,16 +1,22 @@
 //! The parts of a record.
 
-ghost use Rattle.std.specs.Prelude.{◌≡◌, ◌≤◌, ◌<◌, ◌+◌, ◌^◌, ◌++◌, length, take, drop};
+ghost use Rattle.std.specs.Prelude.{◌≡◌, ◌≤◌, ◌<◌, ◌+◌, ◌^◌, ◌++◌, [], ◌∷◌, length, map, take, drop};
+ghost use Rattle.stable.specs.declared.Which.TheVariants.{Log};
+ghost use Rattle.stable.specs.Disk.{Write};
 ghost use Rattle.stable.specs.Runs.{Follows};
 ghost use Rattle.redo.specs.Record.{numbers_unit as numbers_unit_of, head as head_of, first_data as first_data_of};
 ghost use Rattle.redo.specs.Record.{record_units as record_units_of};
-ghost use Rattle.redo.specs.Plans.{directory_writes};
+ghost use Rattle.redo.specs.Plans.{directory_writes, unit_writes};
 
+use crate::puts::Puts;
 use stable::{Storage, UNIT, Which};
 use std::io;
 
 /// How many numbers are in a unit of the directory (own): 4096 bytes hold 1024 of four bytes.
 const NUMBERS: usize = 1024;
+
+/// How many changed units are written by one call at most (own): so many are copied at a time.
+const AT_ONCE: usize = 16;
 
 /// Puts bytes at a place of a unit.
 fn put_bytes(unit: &mut [u8; UNIT], at: usize, bytes: &[u8])
@@ -74,6 +80,46 @@ pub(crate) fn write_directory<S: Storage>(
         storage.write(Which::Log, at, &[numbers_unit(front)])?;
         rest = after;
         at += 1;
+    }
+    Ok(())
+}
+
+/// Writes the bytes of some neighbouring changes to the log, from a unit on, by one call.
+fn write_run<S: Storage, P: Puts>(
+    storage: &mut S,
+    first: u64,
+    changes: &P,
+    from: usize,
+    size: usize,
+) -> io::Result<()>
+    requires few { size ≤ 16 }
+    requires there { from + size ≤ length (P.puts changes.now) }
+    requires count { length (P.puts changes.now) < 2 ^ 32 }
+    ensures { Follows (Write Log first (take size (drop from (map (λ w. w.1) (P.puts changes.now)))) ∷ [])
+        (S.known storage.old) (S.known storage.new) result }
+{
+    let mut units = [[0; UNIT]; AT_ONCE];
+    for i in 0..size {
+        units[i] = changes.unit(from + i);
+    }
+    storage.write(Which::Log, first, &units[..size])
+}
+
+/// Writes the bytes of changes to the log, from a unit on, sixteen units by a call.
+pub(crate) fn write_units<S: Storage, P: Puts>(
+    storage: &mut S,
+    first: u64,
+    changes: &P,
+) -> io::Result<()>
+    requires room { first < 2 ^ 33 }
+    ensures { Follows (unit_writes first (map (λ w. w.1) (P.puts changes.now))) (S.known storage.old) (S.known storage.new) result }
+{
+    let count = changes.numbers().len();
+    let mut done: usize = 0;
+    while done < count {
+        let size = (count - done).min(AT_ONCE);
+        write_run(storage, first + done as u64, changes, done, size)?;
+        done += size;
     }
     Ok(())
 }

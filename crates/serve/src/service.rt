@@ -11,6 +11,7 @@ ghost use Rattle.records.specs.Session.{SessionState};
 ghost use Rattle.board.specs.View.{without};
 ghost use Rattle.board.specs.Keeper.{AreAllFree, IsOneUsed};
 ghost use Rattle.shared_media.specs.Confined.{IsImageOutside};
+ghost use Rattle.changes.specs.Units.{puts_of};
 ghost use Rattle.shared_media.specs.Marking.{AreChangesOutside};
 ghost use Rattle.serve.specs.Closing.{HasClosed};
 ghost use Rattle.serve.specs.Stopping.{IsLastImage, WhoIsLeft, WhyNotSynced};
@@ -248,7 +249,7 @@ impl<N: ServiceParameters, R: Threads + Wait + Copy, L: Recorder<N>, S: FileServ
     /// synced. It waits for the step of a driver, and for no call. Refused where no memory was found for these units: the next call takes
     /// them. The service goes on in each case.
     pub fn changes(&self, alloc: Global) -> Result<Changes, AllocError>
-        ensures { IfOk result (AreChangesOutside N.opening) }
+        ensures { IfOk result (λ changes. AreChangesOutside N.opening (puts_of changes)) }
     {
         self.running.media().changes(&self.rt, alloc)
     }

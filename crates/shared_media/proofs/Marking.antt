@@ -1,5 +1,7 @@
 -- A step marks what it changes.
-use Rattle.std.proofs.Common.{◌≡◌, ℕ, ◌+◌, ◌*◌, ◌/◌, ◌<◌, inl, inr, List, [], length, Bool, true, false, refl, sym, subst, ◌∙◌, ap, arith, length-set, get_or-set_same, Option, Some, None}
+use Rattle.std.proofs.Common.{◌≡◌, ℕ, ◌+◌, ◌*◌, ◌/◌, ◌<◌, inl, inr, List, [], ◌∷◌, length, map, zip, Bool, true, false, refl, sym, subst, ◌∙◌, ap, arith, length-set, get_or-set_same, replicate, Option, Some, None, Result, Ok, Err, IfOk}
+use Rattle.std.specs.Global.{Vec}
+use Rattle.std.proofs.lemmas.List.{length-replicate}
 use Rattle.std.specs.List.{concat}
 use Rattle.std.proofs.lemmas.Bool.{false≢true}
 use Rattle.message.specs.declared.Kind.{Kind}
@@ -13,10 +15,10 @@ use Rattle.bdev.specs.declared.Run.{Run}
 use Rattle.bdev.specs.DriverState.{DriverState, Work, chunk}
 use Rattle.bdev.specs.Promises.{StepKeeps, StepsAt, MovesBytes, IsNext}
 use Rattle.changes.specs.declared.taken.Changes.{Changes}
-use Rattle.changes.specs.Units.{units_in, is_marked, with_mark, with_marks, AreTaken}
+use Rattle.changes.specs.Units.{units_in, is_marked, marked, with_mark, with_marks, AreTaken, puts_of, unit_of}
 use Rattle.changes.proofs.Marking.{length-with_marks, still_set, still_marks}
 use Rattle.shared_media.specs.Confined.{KeepsBut}
-use Rattle.shared_media.specs.Marking.{ConfinedState, MarksChanges, AreChangesOutside, units_of, marked_for}
+use Rattle.shared_media.specs.Marking.{ConfinedState, MarksChanges, AreChangesOutside, of_image, units_of, marked_for}
 use Rattle.shared_media.proofs.Confining.{keeps_outside}
 
 -- media with marks, and those of the units that were written, of which the lemmas on marks ask nothing
@@ -58,6 +60,9 @@ marked_again old m marks marks' units ns from is =
     subst (λ (x : ConfinedState). MarksChanges x (with_units m marks' units)) from
     (subst (λ (l : List Bool). MarksChanges (with_units m marks units) (with_units m l units)) (sym is)
     (record { number = refl; same = λ n off. refl; still = still_marks ns marks }))
+
+pub long_unmarked : (m : MediaState) → length (replicate (units_of m) false) ≡ units_of m
+long_unmarked m = length-replicate (units_of m) false
 
 pub long_again : (m : MediaState) (marks : List Bool) (ns : List ℕ) → length marks ≡ units_of m → length (with_marks marks ns) ≡ units_of m
 long_again m marks ns long = length-with_marks ns marks ∙ long
@@ -113,15 +118,43 @@ long_after b m g step a m' marks marks' keeps long is =
     let number : length m'.sectors ≡ length m.sectors = (stepped b b.work m g step a m' marks keeps.steps long).number in
     ap length is ∙ length-marked_for b.in_work marks ∙ long ∙ ap (λ k. (k + 7) / 8) (sym number)
 
--- the changes taken of media that are as they were handed in outside of the volume
-pub changes_outside : (v : Opening) (units : List Bool) (m : MediaState) (marks : List Bool) (changes : Changes) → KeepsBut v units m
-    → IsWhole m.sectors → length marks ≡ units_of m → AreTaken marks (concat m.sectors) changes → AreChangesOutside v changes
-changes_outside v units m marks changes kept whole long taken =
+-- the marked units of media that are as they were handed in outside of the volume
+pub marked_outside : (v : Opening) (units : List Bool) (m : MediaState) (marks : List Bool) → KeepsBut v units m → IsWhole m.sectors
+    → length marks ≡ units_of m → AreChangesOutside v (of_image (concat m.sectors) (marked marks))
+marked_outside v units m marks kept whole long =
     let bytes : length (concat m.sectors) ≡ 512 * length m.sectors = length-concat m.sectors whole.each in
     record {
       image = concat m.sectors;
       outside = record { media = m; bytes = refl; whole = whole; outside = keeps_outside v units m kept };
       marks = marks;
       as_many = let same : units_in (concat m.sectors) ≡ units_of m = omega arith in long ∙ sym same;
-      taken = taken;
+      taken = refl;
     }
+
+-- the numbers of those, where memory was found for them
+pub in_place_outside : {E : Type 0} (v : Opening) (units : List Bool) (m : MediaState) (marks : List Bool) (confined : ConfinedState)
+    (result : Result (Vec ℕ) E) → with_units m marks units ≡ confined → KeepsBut v units m → IsWhole m.sectors
+    → length marks ≡ units_of m → IfOk result (λ numbers. numbers.items ≡ marked marks)
+    → IfOk result (λ numbers. AreChangesOutside v (of_image (concat confined.media.sectors) numbers.items))
+in_place_outside v units m marks confined (Ok numbers) from kept whole long is =
+    subst (λ (c : ConfinedState). AreChangesOutside v (of_image (concat c.media.sectors) numbers.items)) from
+    (subst (λ (l : List ℕ). AreChangesOutside v (of_image (concat m.sectors) l)) (sym is) (marked_outside v units m marks kept whole long))
+in_place_outside v units m marks confined (Err e) from kept whole long is = tt
+
+-- numbers beside what is made of each are the pairs of both
+zip_map : (f : ℕ → List ℕ) (ns : List ℕ) → zip ns (map f ns) ≡ map (λ n. (n, f n)) ns
+zip_map f [] = refl
+zip_map f (n ∷ ns) = ap (λ l. (n, f n) ∷ l) (zip_map f ns)
+
+-- changes that were taken of an image are its marked units
+taken_of : (marks : List Bool) (image : List ℕ) (changes : Changes) → AreTaken marks image changes
+    → puts_of changes ≡ of_image image (marked marks)
+taken_of marks image changes taken =
+    ap (λ (l : List ℕ). zip l changes.units.items) taken.numbers ∙ ap (λ (l : List (List ℕ)). zip (marked marks) l) taken.units
+    ∙ zip_map (unit_of image) (marked marks)
+
+-- the changes taken of such media
+pub changes_outside : (v : Opening) (units : List Bool) (m : MediaState) (marks : List Bool) (changes : Changes) → KeepsBut v units m
+    → IsWhole m.sectors → length marks ≡ units_of m → AreTaken marks (concat m.sectors) changes → AreChangesOutside v (puts_of changes)
+changes_outside v units m marks changes kept whole long taken =
+    subst (AreChangesOutside v) (sym (taken_of marks (concat m.sectors) changes taken)) (marked_outside v units m marks kept whole long)

@@ -1,11 +1,11 @@
 -- The marks beside the media of one volume: which units may have changed since the changes were last taken.
-use Rattle.std.specs.Prelude.{◌≡◌, ℕ, ◌+◌, ◌/◌, List, [], ◌∷◌, Bool, false, length, replicate, Option, Some, None}
+use Rattle.std.specs.Prelude.{◌≡◌, ℕ, ◌+◌, ◌/◌, List, [], ◌∷◌, Bool, false, length, map, replicate, Option, Some, None}
 use Rattle.std.specs.List.{concat}
 use Rattle.media.specs.Contents.{MediaState, sector, IsWhole}
 use Rattle.records.specs.Opening.{Opening}
-use Rattle.stable.specs.Disk.{Contents, put}
+use Rattle.stable.specs.Disk.{Contents, Changes as Puts, put}
 use Rattle.changes.specs.declared.taken.Changes.{Changes}
-use Rattle.changes.specs.Units.{units_in, is_marked, with_mark, with_marks, AgreesBut, AreTaken, puts_of, unit_of}
+use Rattle.changes.specs.Units.{units_in, is_marked, marked, with_mark, with_marks, AgreesBut, AreTaken, puts_of, unit_of}
 use Rattle.shared_media.specs.Confined.{IsImageOutside}
 
 -- The media, a mark for each unit of eight sectors, and one for each of the volume's, counted from its first sector on: whether steps may
@@ -39,13 +39,18 @@ pub record MarksChanges (old new : ConfinedState) : Type 0 where
   pub same : (n : ℕ) → is_marked new.marks (n / 8) ≡ false → sector new.media n ≡ sector old.media n
   pub still : (n : ℕ) → is_marked new.marks n ≡ false → is_marked old.marks n ≡ false
 
--- changes taken of an image of as many sectors as were handed in, and outside of the volume as it was handed in
-pub record AreChangesOutside (v : Opening) (changes : Changes) : Type 0 where
+-- units of an image: the number of each, and its bytes
+abbrev pub of_image : List ℕ → List ℕ → Puts
+of_image image numbers = map (λ n. (n, unit_of image n)) numbers
+
+-- Changes are exactly the marked units, with their bytes, of an image of as many sectors as were handed in, and outside of the volume as it
+-- was handed in.
+pub record AreChangesOutside (v : Opening) (changes : List (ℕ × List ℕ)) : Type 0 where
   pub image : List ℕ
   pub outside : IsImageOutside v image
   pub marks : List Bool
   pub as_many : length marks ≡ units_in image
-  pub taken : AreTaken marks image changes
+  pub taken : changes ≡ of_image image (marked marks)
 
 -- each of these states marks what changed since the one before it
 abbrev pub EachMarks : ConfinedState → List ConfinedState → ConfinedState → Type 0

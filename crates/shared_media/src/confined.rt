@@ -1,14 +1,14 @@
 //! The media that drivers share, on which they write in the range of one volume alone.
 
-ghost use Rattle.std.specs.Prelude.{◌≡◌, ◌≤◌, ◌+◌, ◌/◌, ◌↔◌, IfOk, IfSome, IsTrue, OnErr, OnOk, length};
+ghost use Rattle.std.specs.Prelude.{◌≡◌, ◌<◌, ◌≤◌, ◌+◌, ◌/◌, ◌^◌, ◌↔◌, IfOk, IfSome, IsTrue, OnErr, OnOk, length};
 ghost use Rattle.std.specs.List.{concat};
 ghost use Rattle.media.specs.Contents.{adopted};
 ghost use Rattle.true_replies.specs.Events.{opening_media};
 ghost use Rattle.bdev.specs.Promises.{StepKeeps};
 ghost use Rattle.bdev.specs.Stepping.{step_with};
-ghost use Rattle.changes.specs.Units.{AreTaken, with_marks};
+ghost use Rattle.changes.specs.Units.{AreTaken, marked, puts_of, with_marks};
 ghost use Rattle.shared_media.specs.Confined.{KeepsBut, KeepsOutside, IsImageOutside, IsInVolume, StaysInVolume, step_of, written_for};
-ghost use Rattle.shared_media.specs.Marking.{AreChangesOutside, MarksChanges, fresh, marked_for, units_of, unmarked};
+ghost use Rattle.shared_media.specs.Marking.{AreChangesOutside, MarksChanges, fresh, marked_for, of_image, units_of, unmarked};
 
 use bdev::{BlockDriver, Stepped};
 use board::counting::parameters::ServiceParameters;
@@ -55,6 +55,21 @@ fn units_of(media: &Media) -> u32
     ensures { result ≡ units_of media.now }
 {
     (media.sectors() + (SECTORS - 1)) / SECTORS
+}
+
+/// The numbers of the units that are marked, of so many, in ascending order.
+fn marked_in(alloc: Global, marks: &Marks, units: u32) -> Result<Vec<u32>, AllocError>
+    requires { length marks.now ≡ units }
+    ensures is { IfOk result (λ numbers. numbers.items ≡ marked marks.now) }
+    ensures few { IfOk result (λ numbers. length numbers.items < 2 ^ 32) }
+{
+    let mut numbers = Vec::new(alloc);
+    for unit in 0..units {
+        if marks.has(unit) {
+            numbers.push(unit)?;
+        }
+    }
+    Ok(numbers)
 }
 
 /// Marks the unit of a sector, if there is one.
@@ -155,12 +170,38 @@ impl<N: ServiceParameters> Confined<N> {
         ensures taken { IfOk result (AreTaken self.old.marks (concat self.old.media.sectors)) }
         ensures cleared { OnOk result (self.new ≡ unmarked self.old) }
         ensures refused { OnErr result (self.new ≡ self.old) }
-        ensures outside { IfOk result (AreChangesOutside N.opening) }
+        ensures outside { IfOk result (λ changes. AreChangesOutside N.opening (puts_of changes)) }
     {
         let _ = self.media.sectors();
         let changes = self.marks.changes(alloc, self.media.as_sectors())?;
         self.marks.clear();
         Ok(changes)
+    }
+
+    /// The numbers of the marked units, in ascending order. Refused where no memory was found, four bytes for each of these.
+    pub fn marked(&self, alloc: Global) -> Result<Vec<u32>, AllocError>
+        ensures is { IfOk result (λ numbers. numbers.items ≡ marked self.now.marks) }
+        ensures few { IfOk result (λ numbers. length numbers.items < 2 ^ 32) }
+        ensures outside { IfOk result (λ numbers.
+            AreChangesOutside N.opening (of_image (concat self.now.media.sectors) numbers.items)) }
+    {
+        let _ = self.media.sectors();
+        marked_in(alloc, &self.marks, units_of(&self.media))
+    }
+
+    /// The sectors of the media, in order, where they lie.
+    pub fn as_sectors(&self) -> &[[u8; 512]]
+        ensures { result.now ≡ self.now.media.sectors }
+    {
+        self.media.as_sectors()
+    }
+
+    /// Takes all marks of changes away, once the marked units were kept.
+    #[tactic(auto, using(crate::proofs::Marking::long_unmarked))]
+    pub fn unmark(&mut self)
+        ensures { self.new ≡ unmarked self.old }
+    {
+        self.marks.clear();
     }
 
     /// Marks the units of changes that were taken and not kept, so that they are taken again with what then stands in them.

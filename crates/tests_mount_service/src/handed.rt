@@ -3,13 +3,13 @@
 ghost use Rattle.std.specs.Prelude.{⊤, ◌≡◌, if◌then◌else◌, is_ok};
 
 use crate::mounted::mounted;
-use changes::Changes;
+use archive::Archive;
 use errno::Errno;
-use mount_service::archive::Archive;
 use mount_service::handing::{HandedOn, hand_left, let_go};
 use mount_service::mount::{Ended, MountStatus};
 use mount_service::program::LastSync;
 use output::Told;
+use redo::Puts;
 use std::alloc::Global;
 use std::sync::Wait;
 use std::test::Fail;
@@ -65,7 +65,7 @@ impl Archive for Shelf {
 
     ghost ends = { λ s image answer t. t.image.items ≡ (if is_ok answer then image else s.image.items) };
 
-    fn put(&mut self, _changes: &Changes) -> Result<(), Errno> {
+    fn put<P: Puts>(&mut self, _changes: &P) -> Result<(), Errno> {
         Ok(())
     }
 

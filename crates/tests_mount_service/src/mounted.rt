@@ -2,15 +2,15 @@
 
 ghost use Rattle.std.specs.Prelude.{⊤};
 
-use changes::Changes;
+use archive::Archive;
 use errno::Errno;
 use fixtures::gates::Ticking;
 use fixtures::{new_volume, patient, supply_of};
 use fsck::{Verdict, check};
-use mount_service::archive::Archive;
 use mount_service::mount::{Ended, MountStatus, mount};
 use mount_service::program::Streams;
 use ninep_server::connection::Connection;
+use redo::Puts;
 use std::alloc::Global;
 use std::io;
 use std::sync::{Arc, Wait};
@@ -44,7 +44,7 @@ impl Archive for Nowhere {
 
     ghost ends = { λ _ _ _ _. ⊤ };
 
-    fn put(&mut self, _changes: &Changes) -> Result<(), Errno> {
+    fn put<P: Puts>(&mut self, _changes: &P) -> Result<(), Errno> {
         Ok(())
     }
 

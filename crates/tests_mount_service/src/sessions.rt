@@ -4,22 +4,22 @@ use crate::mounted::{Exchange, answers, answers_by, put};
 use std::test::Fail;
 
 /// A version.
-const VERSION: Exchange = (
+pub(crate) const VERSION: Exchange = (
     b"\x64\xff\xff\0\0\x01\0\x08\09P2000.L",
     b"\x65\xff\xff\0\0\x01\0\x08\09P2000.L",
 );
 
 /// User 0 attaches as fid 0.
-const ATTACH: Exchange = (
+pub(crate) const ATTACH: Exchange = (
     b"\x68\x01\0\0\0\0\0\xff\xff\xff\xff\0\0\0\0\0\0\0\0",
     b"\x69\x01\0\x80\0\0\0\0\x01\0\0\0\0\0\0\0",
 );
 
 /// A second fid of the root, 1.
-const CLONE: Exchange = (b"\x6e\x02\0\0\0\0\0\x01\0\0\0\0\0", b"\x6f\x02\0\0\0");
+pub(crate) const CLONE: Exchange = (b"\x6e\x02\0\0\0\0\0\x01\0\0\0\0\0", b"\x6f\x02\0\0\0");
 
 /// By it the file `hi` is made, inode 2, with permissions 640 and group 5, and is open.
-const CREATE: Exchange = (
+pub(crate) const CREATE: Exchange = (
     b"\x0e\x03\0\x01\0\0\0\x02\0hi\x42\0\0\0\xa0\x01\0\0\x05\0\0\0",
     b"\x0f\x03\0\0\0\0\0\0\x02\0\0\0\0\0\0\0\0\0\0\0",
 );

@@ -2,6 +2,8 @@
 use crate::crashes::{
     Files, NAME, Wanted, all_recover, found_after, found_after_failure, is_image,
 };
+use changes::Changes;
+use image_file::Copies;
 use redo::{log, recover};
 use stable::UNIT;
 use stable::memory::Memory;
@@ -59,7 +61,9 @@ fn committed(
     if units.len() != numbers.len() || numbers.len() > 2000 {
         return Err(Fail::from("too many units"));
     }
-    let is_ok = log(&mut memory, NAME, 0, numbers, &units).is_ok()
+    let numbers = numbers.to_vec(alloc)?;
+    let changes = Changes { numbers, units };
+    let is_ok = log(&mut memory, NAME, 0, &Copies { changes: &changes }).is_ok()
         && recover(alloc, &mut memory, NAME).is_ok();
     Ok((memory, is_ok))
 }
@@ -98,10 +102,10 @@ fn small_commits_survive(rt: HostRuntime) -> Result<(), Fail> {
 #[test]
 fn scattered_commits_survive(rt: HostRuntime) -> Result<(), Fail> {
     is_told(cut(rt.alloc(), &[2, 0, 2], 3, 100)?.as_str(), "14 true")?;
-    is_told(cut(rt.alloc(), &[], 1, 100)?.as_str(), "10 true")
+    is_told(cut(rt.alloc(), &[], 1, 100)?.as_str(), "9 true")
 }
 
-// 1025 numbers take two units of the log's directory.
+// 1025 numbers take two units of the log's directory, and their bytes 65 writes.
 #[test]
 fn large_commits_survive(rt: HostRuntime) -> Result<(), Fail> {
     let alloc = rt.alloc();
@@ -113,10 +117,10 @@ fn large_commits_survive(rt: HostRuntime) -> Result<(), Fail> {
     let after = image_after(&before, alloc, &numbers)?;
     let files = Files::new(alloc, 1030, &before)?;
     let (memory, is_ok) = committed(alloc, &files, &numbers, 5000)?;
-    let promised = memory.history().get(..8).unwrap_or(&[]);
+    let promised = memory.history().get(..72).unwrap_or(&[]);
     let mut opened = files.after(promised)?.open(alloc, usize::MAX)?;
     let answer = recover(alloc, &mut opened, NAME)?;
     let is_after = is_image(&mut files.after(opened.history())?.open(alloc, 0)?, &after)?;
     let given = format!(in alloc; "{} {is_ok} {answer:?} {is_after}", memory.history().len())?;
-    is_told(given.as_str(), "1037 true Redone true")
+    is_told(given.as_str(), "1101 true Redone true")
 }

@@ -1,5 +1,7 @@
 //! A log whose gate is open for another image.
 use crate::crashes::{Files, NAME};
+use changes::Changes;
+use image_file::Copies;
 use redo::{log, recover};
 use stable::UNIT;
 use stable::memory::Asked;
@@ -11,7 +13,11 @@ fn recovered_as(rt: &HostRuntime, name: u64) -> Result<String, Fail> {
     let alloc = rt.alloc();
     let files = Files::new(alloc, 8, &[[7; UNIT]; 2])?;
     let mut memory = files.open(alloc, usize::MAX)?;
-    log(&mut memory, NAME, 0, &[1], &[[9; UNIT]])?;
+    let changes = Changes {
+        numbers: Vec::from_elem(alloc, 1, 1)?,
+        units: Vec::from_elem(alloc, [9; UNIT], 1)?,
+    };
+    log(&mut memory, NAME, 0, &Copies { changes: &changes })?;
     let mut opened = files.after(memory.history())?.open(alloc, usize::MAX)?;
     let answer = recover(alloc, &mut opened, name)?;
     let mut writes: u32 = 0;

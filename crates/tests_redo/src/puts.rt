@@ -3,7 +3,7 @@ use crate::crashes::{
     Files, NAME, Wanted, all_recover, found_after, found_after_failure, is_image,
 };
 use changes::Changes;
-use image_file::{Kept, OpenRefusal, read_through};
+use image_file::{Copies, InPlace, Kept, OpenRefusal, read_through};
 use redo::log;
 use stable::UNIT;
 use stable::memory::Memory;
@@ -39,12 +39,20 @@ fn opened(alloc: Global, fails_at: usize) -> Result<(Files, Kept<Memory>), Fail>
     }
 }
 
+/// Puts units of these numbers, filled with these bytes.
+fn put(alloc: Global, kept: &mut Kept<Memory>, numbers: &[u32], bytes: &[u8]) -> Result<(), Fail> {
+    let changes = changes_of(alloc, numbers, bytes)?;
+    kept.put(&Copies { changes: &changes })?;
+    Ok(())
+}
+
 /// Puts the first unit as 7, where the step of this number fails. After a failure, after the put, and after each step of it a crash leaves
 /// the image before or after. Whether it was ok.
 fn cut(alloc: Global, fails_at: usize) -> Result<bool, Fail> {
     let (mut files, mut kept) = opened(alloc, fails_at)?;
     files.age = 1;
-    let is_ok = kept.put(&changes_of(alloc, &[0], &[7])?).is_ok();
+    let changes = changes_of(alloc, &[0], &[7])?;
+    let is_ok = kept.put(&Copies { changes: &changes }).is_ok();
     let mut work = Vec::new(alloc);
     let memory = kept.into_storage();
     if is_ok {
@@ -82,7 +90,7 @@ fn stands(rt: &HostRuntime, kept: Kept<Memory>, bytes: &[u8]) -> Result<String, 
 #[test]
 fn no_changes_ask_nothing(rt: HostRuntime) -> Result<(), Fail> {
     let (_, mut kept) = opened(rt.alloc(), usize::MAX)?;
-    kept.put(&changes_of(rt.alloc(), &[], &[])?)?;
+    put(rt.alloc(), &mut kept, &[], &[])?;
     is_told(stands(&rt, kept, &[1, 2, 3])?.as_str(), "1 true")
 }
 
@@ -91,9 +99,9 @@ fn no_changes_ask_nothing(rt: HostRuntime) -> Result<(), Fail> {
 fn puts_behind_puts_survive(rt: HostRuntime) -> Result<(), Fail> {
     let alloc = rt.alloc();
     let (files, mut kept) = opened(alloc, usize::MAX)?;
-    kept.put(&changes_of(alloc, &[0, 1], &[7, 8])?)?;
-    kept.put(&changes_of(alloc, &[2], &[9])?)?;
-    kept.put(&changes_of(alloc, &[0], &[10])?)?;
+    put(alloc, &mut kept, &[0, 1], &[7, 8])?;
+    put(alloc, &mut kept, &[2], &[9])?;
+    put(alloc, &mut kept, &[0], &[10])?;
     let memory = kept.into_storage();
     let (Some(first), Some(last)) = (memory.history().get(..15), memory.history().get(15..)) else {
         return Err(Fail::from("fewer steps"));
@@ -110,8 +118,8 @@ fn puts_behind_puts_survive(rt: HostRuntime) -> Result<(), Fail> {
 #[test]
 fn puts_are_settled(rt: HostRuntime) -> Result<(), Fail> {
     let (_, mut kept) = opened(rt.alloc(), usize::MAX)?;
-    kept.put(&changes_of(rt.alloc(), &[0, 1], &[7, 8])?)?;
-    kept.put(&changes_of(rt.alloc(), &[2, 0], &[9, 10])?)?;
+    put(rt.alloc(), &mut kept, &[0, 1], &[7, 8])?;
+    put(rt.alloc(), &mut kept, &[2, 0], &[9, 10])?;
     kept.settle()?;
     is_told(stands(&rt, kept, &[10, 8, 9])?.as_str(), "23 true")
 }
@@ -120,9 +128,9 @@ fn puts_are_settled(rt: HostRuntime) -> Result<(), Fail> {
 #[test]
 fn put_goes_on_after_one_that_failed(rt: HostRuntime) -> Result<(), Fail> {
     let (_, mut kept) = opened(rt.alloc(), 9)?;
-    kept.put(&changes_of(rt.alloc(), &[0], &[7])?)?;
+    put(rt.alloc(), &mut kept, &[0], &[7])?;
     let first = kept.settle();
-    kept.put(&changes_of(rt.alloc(), &[0, 2], &[8, 9])?)?;
+    put(rt.alloc(), &mut kept, &[0, 2], &[8, 9])?;
     kept.settle()?;
     is_told(
         format!(in rt.alloc(); "{} {}", first.is_ok(), stands(&rt, kept, &[8, 2, 9])?)?.as_str(),
@@ -148,13 +156,37 @@ fn long_logs_are_settled(rt: HostRuntime) -> Result<(), Fail> {
     if numbers.len() != units.len() || numbers.len() > 5000 {
         return Err(Fail::from("too many units"));
     }
-    kept.put(&Changes { numbers, units })?;
-    kept.put(&changes_of(alloc, &[0], &[6])?)?;
+    let changes = Changes { numbers, units };
+    kept.put(&Copies { changes: &changes })?;
+    put(alloc, &mut kept, &[0], &[6])?;
     let memory = kept.into_storage();
     is_told(
         format!(in alloc; "{}", memory.history().len())?.as_str(),
-        "4112",
+        "4367",
     )
+}
+
+// Eighteen units are put from where they lie, the last one first: their bytes take two writes.
+#[test]
+fn units_are_put_in_place(rt: HostRuntime) -> Result<(), Fail> {
+    let alloc = rt.alloc();
+    let (_, mut kept) = opened(alloc, usize::MAX)?;
+    let mut image = Vec::new(alloc);
+    let mut numbers: Vec<u32> = Vec::new(alloc);
+    for n in 0..18 {
+        image.extend_from_slice(&[n as u8; UNIT])?;
+        numbers.push(17 - n)?;
+    }
+    if numbers.len() > 18 {
+        return Err(Fail::from("too many units"));
+    }
+    kept.put(&InPlace {
+        numbers: &numbers,
+        image: &image,
+    })?;
+    kept.settle()?;
+    let bytes = [0, 1, 2, 3, 4, 5, 6, 7, 8, 9, 10, 11, 12, 13, 14, 15, 16, 17];
+    is_told(stands(&rt, kept, &bytes)?.as_str(), "31 true")
 }
 
 // Nothing was put before. Units 1 and 3 differ; the last one is cut, and zeros follow.
@@ -181,7 +213,8 @@ fn read_as(rt: &HostRuntime, name: u64) -> Result<String, Fail> {
     let alloc = rt.alloc();
     let files = Files::new(alloc, 16, &image_of(alloc, &[1, 2, 3])?)?;
     let mut memory = files.open(alloc, usize::MAX)?;
-    log(&mut memory, NAME, 0, &[1, 2], &[[9; UNIT], [8; UNIT]])?;
+    let changes = changes_of(alloc, &[1, 2], &[9, 8])?;
+    log(&mut memory, NAME, 0, &Copies { changes: &changes })?;
     let steps = memory.history().len();
     let mut image: Vec<u8> = Vec::from_elem(alloc, 1, 8202)?;
     let text = match read_through(alloc, &mut memory, name, &mut image) {
@@ -210,7 +243,8 @@ fn foreign_logs_are_not_opened(rt: HostRuntime) -> Result<(), Fail> {
     let alloc = rt.alloc();
     let files = Files::new(alloc, 16, &image_of(alloc, &[1, 2, 3])?)?;
     let mut memory = files.open(alloc, usize::MAX)?;
-    log(&mut memory, NAME, 0, &[1], &[[9; UNIT]])?;
+    let changes = changes_of(alloc, &[1], &[9])?;
+    log(&mut memory, NAME, 0, &Copies { changes: &changes })?;
     match Kept::open(alloc, memory, NAME + 1) {
         Err(OpenRefusal::Foreign) => Ok(()),
         _ => Err(Fail::from("opened")),

@@ -1,6 +1,6 @@
 use Rattle.std.proofs.Common.{subst}
 use Rattle.std.specs.Prelude.{Option, Some}
-use Rattle.mount_service.specs.Kept.{IsKeptAfter}
+use Rattle.archive.specs.Kept.{IsKeptAfter}
 use Rattle.mount_service.proofs.Leaving.{left_by}
 use Rattle.mount_service.proofs.program.answer_and_keep.Goals as goal
 

@@ -1,6 +1,6 @@
 use Rattle.std.proofs.Common.{◌∙◌, subst, sym}
 use Rattle.std.specs.Prelude.{OnOk, is_some}
-use Rattle.mount_service.specs.Kept.{IsKeptAfter}
+use Rattle.archive.specs.Kept.{IsKeptAfter}
 use Rattle.mount_service.specs.Spoken.{IsSpoken}
 use Rattle.mount_service.proofs.Leaving.{left_by}
 use Rattle.mount_service.proofs.program.answer_on.Goals as goal

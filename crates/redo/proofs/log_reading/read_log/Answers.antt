@@ -1,7 +1,7 @@
 use Rattle.std.proofs.Common.{◌≡◌, ◌∙◌, [], sym, ap}
 use Rattle.stable.specs.Disk.{Changes as Puts}
 use Rattle.redo.specs.declared.recovering.Asked.{Asked}
-use Rattle.redo.specs.Record.{most, said_from, standing, Standing, Nothing, Redo, Foreign}
+use Rattle.redo.specs.Record.{most, said_from, standing, Nothing, Redo, Foreign}
 use Rattle.redo.proofs.Left.{happens-append}
 use Rattle.redo.proofs.Reading.{shows_same}
 use Rattle.redo.proofs.Asking.{log_stands, log_asked}

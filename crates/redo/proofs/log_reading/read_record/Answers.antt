@@ -1,4 +1,4 @@
-use Rattle.std.proofs.Common.{◌≡◌, ◌+◌, ◌-◌, ◌++◌, ◌∙◌, List, ℕ, [], sym, ap, arith, append_assoc}
+use Rattle.std.proofs.Common.{◌≡◌, ◌+◌, ◌-◌, ◌++◌, ◌∙◌, ℕ, [], sym, ap, arith, append_assoc}
 use Rattle.stable.specs.Disk.{Changes as Puts}
 use Rattle.redo.specs.declared.recovering.Asked.TheVariants.{Changes}
 use Rattle.redo.specs.Asked.{asks_of}

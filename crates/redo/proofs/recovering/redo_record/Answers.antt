@@ -4,7 +4,7 @@ use Rattle.stable.specs.Disk.{Changes as Puts, Step, Did}
 use Rattle.stable.specs.Runs.{Happens}
 use Rattle.redo.specs.declared.recovering.Asked.TheVariants.{Changes}
 use Rattle.redo.specs.Asked.{asks_of}
-use Rattle.redo.specs.Record.{changes_in, from, record_standing, record_units, said_from, says_of}
+use Rattle.redo.specs.Record.{changes_in, from, record_standing, said_from, says_of}
 use Rattle.redo.specs.Runs.{singly}
 use Rattle.redo.specs.Plans.{run_write}
 use Rattle.redo.proofs.Left.{all_left, left_as, left_same, last_stops, happens-append}

@@ -1,0 +1,4 @@
+mod Answering
+mod Keeping
+mod Putting
+mod Placing

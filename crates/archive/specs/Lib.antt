@@ -1,0 +1,4 @@
+pub mod Called
+pub mod Behind
+pub mod Kept
+pub mod FilePuts
