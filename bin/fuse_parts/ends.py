@@ -219,6 +219,25 @@ def read_only(trial):
             same("the error", errno.errorcode[error.errno], "EROFS")
         volume.umount()
         same("the image", volume.image.read_bytes() == before[0] and sorted(os.listdir(volume.home)) == before[1], True)
+        volume.mount("-o", "ro,rw")
+        (volume.folder / "more").touch()
+        volume.umount()
+        volume.mount()
+        same("the files", sorted(os.listdir(volume.folder)), ["file", "more"])
+        volume.umount()
+
+
+@end("from-within")
+def from_within(trial):
+    """A volume is mounted at the folder that a shell calls its own, by a program that is a shell's script."""
+    with Volume(trial, "from-within") as volume:
+        script = volume.home / "program"
+        script.write_text(f"#!/bin/sh\nexec '{trial.program}' \"$@\"\n")
+        script.chmod(0o755)
+        words = ("--program", script, volume.image, ".")
+        same("the status", said(run(BIN / "mount", *words, cwd=volume.folder, env=os.environ | {"PWD": str(volume.folder)})), "status 0: ")
+        (volume.folder / "file").write_text("x")
+        volume.umount()
 
 
 @end("in-front")
@@ -367,14 +386,32 @@ def killed(trial):
             volume.umount()
 
 
-def synced_and_killed(volume, name):
-    """Makes a file, and kills the program behind an fsync of it."""
+def synced(volume, name):
+    """Makes a file, with an fsync of it."""
     with open(volume.folder / name, "wb") as file:
         file.write(b"x" * 20_000)
         file.flush()
         os.fsync(file.fileno())
+
+
+def synced_and_killed(volume, name):
+    """The same, and kills the program behind it."""
+    synced(volume, name)
     volume.kill()
     volume.wait_for_end()
+
+
+@end("unlogged")
+def unlogged(trial):
+    """A log that is removed while its image is mounted is made again at the next fsync: a kill behind that loses nothing."""
+    with Volume(trial, "unlogged") as volume:
+        volume.mount("--sync-every", "0")
+        synced(volume, "before")
+        (volume.home / "v.img.redo").unlink()
+        synced_and_killed(volume, "behind")
+        volume.mount()
+        same("the files", sorted(os.listdir(volume.folder)), ["before", "behind"])
+        volume.umount()
 
 
 @end("restored")
@@ -399,13 +436,18 @@ def restored(trial):
 
 @end("copied")
 def copied(trial):
-    """Copies of an image and of the log that a kill left aren't mounted; bin/settle makes an image of them, and nothing of other logs."""
+    """Copies of an image and of the log that a kill left, while a removed file was open, aren't mounted; bin/settle makes an image of them, and
+    nothing of other logs."""
     with Volume(trial, "copied") as volume:
         image, log = volume.image, volume.home / "v.img.redo"
         settle = lambda: run(BIN / "settle", "--program", trial.ours["mfsck"], volume.home / "c.img", image)
         for count in range(3):
             volume.mount("--sync-every", "0")
-            synced_and_killed(volume, f"f{count}")
+            with open(volume.folder / "gone", "wb"):
+                (volume.folder / "gone").unlink()
+                synced(volume, f"f{count}")
+                volume.kill()
+            volume.wait_for_end()
             for it in image, log:
                 (volume.home / it.name.replace("v", "c", 1)).write_bytes(it.read_bytes())
             log.unlink()

@@ -85,6 +85,9 @@ def one_line(text):
 MEANINGS = (
     ("Media NotWholeSectors", "its size is no multiple of 512 bytes"),
     ("Media TooLarge", "it has more than 64 MiB"),
+    ("Partition NoSignature", "it has no partition table"),
+    ("Partition PastMedia", "one of its partitions ends behind it"),
+    ("Partition Overlap", "two of its partitions share a sector, or one has its first"),
     ("Mount Layout BadMagic", "it is no volume of MINIX version 3"),
     ("Mount Eio", "it ends before its volume does"),
     ("Mount Inconsistent", "the volume is damaged"),
@@ -162,6 +165,8 @@ def explained(line):
     """A line of the program, with what it means where it doesn't say so itself."""
     if line.startswith("cannot write ") and not line.endswith(".given-up") and is_full(os.path.dirname(line[13:].partition(": ")[0])):
         return f"{line} (no room is left there; what was synced is in it and its log: make room and mount it again)"
+    if line == "Partition":
+        return f"{line} (its table has no partition of this number, or one that isn't of type 0x81)"
     return next((f"{line} ({meaning})" for start, meaning in MEANINGS if start in line), line)
 
 

@@ -3,7 +3,6 @@ use Rattle.std.proofs.Common.{◌≡◌, ◌∙◌, ℕ, List, refl, subst, sym,
 use Rattle.std.specs.Prelude.{⊤, Result, Ok, Err}
 use Rattle.layout.specs.declared.Geometry.{Geometry}
 use Rattle.errno.specs.declared.Errno.{Errno}
-use Rattle.tree.specs.declared.Call.{Call}
 use Rattle.tree.specs.declared.Call.TheVariants.{Sync}
 use Rattle.tree.specs.declared.Outcome.{Outcome}
 use Rattle.tree.specs.declared.Outcome.TheVariants.{Reply}
@@ -13,7 +12,7 @@ use Rattle.records.specs.Opening.{Opening}
 use Rattle.records.specs.Session.{SessionState}
 use Rattle.reissue.specs.declared.link.Link.{Ghosts as LinkWords}
 use Rattle.archive.specs.Called.{IsAnsweredBy, IsCalled}
-use Rattle.archive.specs.Behind.{Puts, IsAnsweredKept, IsArchived, IsKeptCall, IsPut, IsTold, OkMeansPut, outcome_then}
+use Rattle.archive.specs.Behind.{Puts, IsArchived, IsKeptCall, IsPut, IsTold, OkMeansPut, outcome_then}
 
 abbrev is_done : Outcome → Type 0
 is_done (Reply Done) = ⊤
@@ -53,15 +52,3 @@ kept_done puts link marks g v before now came after put told called done archive
   called = subst (λ (o : Outcome). IsCalled link marks g v before now Sync o after) done called;
   is_told = subst (λ (o : Outcome). IsTold (IsArchived puts v) Sync (Reply Done) o) (sym is) (told_of puts v put archived);
 }
-
--- what is said of a call without its link
-pub answered : {L : Type 0} (link : LinkWords L) (marks : L → List Mark) (g : Geometry) (v : Opening) (before : SessionState) (now : ℕ)
-    (call : Call) (came : Outcome) (after : SessionState) → IsCalled link marks g v before now call came after
-    → IsAnsweredBy g v before now call came after
-answered link marks g v before now call came after it = record { keeps = it.keeps; holds = it.volume }
-
-pub answered_kept : {A L : Type 0} (puts : Puts A) (link : LinkWords L) (marks : L → List Mark) (g : Geometry) (v : Opening)
-    (before : SessionState) (now : ℕ) (call : Call) (told : Outcome) (after : SessionState)
-    → IsKeptCall puts link marks g v before now call told after → IsAnsweredKept puts g v before now call told after
-answered_kept puts link marks g v before now call told after it =
-    record { came = it.came; answered = answered link marks g v before now call it.came after it.called; is_told = it.is_told }

@@ -2,3 +2,4 @@ pub mod Called
 pub mod Behind
 pub mod Kept
 pub mod FilePuts
+pub mod Ending

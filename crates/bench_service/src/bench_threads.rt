@@ -182,6 +182,7 @@ fn time_ticks<
 ) -> io::Result<()>
     requires range { (N.opening.first ≡ 0) × (N.opening.count ≡ 1) }
     requires image { N.opening.media ≡ image.now }
+    requires board { board ≡ N.table }
     requires seat { seat.table ≡ board }
 {
     let alloc = rt.alloc();

@@ -8,7 +8,7 @@ use Rattle.atomic_table.specs.Table.{Splits, Joins}
 use Rattle.atomic_table.proofs.Lists.{set_else, at_longer, at_last}
 use Rattle.records.specs.Marks.{Mark, IsBeginning}
 use Rattle.records.specs.Session.{calls_of, IsNewSession, LearnsMore, IsLonger}
-use Rattle.board.specs.View.{View, session_of, nobody, is_used, without, other_of, new_caller, with_used, hosting, alone, guest_of, spending, telling, called, caller_after}
+use Rattle.board.specs.View.{View, session_of, nobody, is_used, without, other_of, new_caller, with_used, hosting, alone, guest_of, spending, telling, hearing, called, caller_after}
 use Rattle.board.specs.Rule.{BoardState, HasNumber, Fits, Kept}
 use Rattle.message.specs.declared.Incoming.{Incoming}
 use Rattle.message.specs.declared.Incoming.TheVariants as incoming
@@ -17,6 +17,7 @@ use Rattle.board.specs.Steps.{SessionLearns, IsEvent, OwnsCalls, Meets, Sessions
 use Rattle.board.proofs.Records.{begins_self, begins_all, begins_with, begins_length, calls_none}
 use Rattle.board.proofs.Lists.{at_parted, at_joined, at_here, new_at, shift, shift_here, shift_else, is_number, used_here, used_more, used_rest, used_without, used_left}
 use Rattle.board.proofs.Moves.{Ruled, apart}
+use Rattle.board.proofs.Editions.{heard_fits}
 
 -- the same board, with these numbers in use and these seats of theirs
 abbrev pub numbered : BoardState → (ℕ → ℕ) → List ℕ → BoardState
@@ -37,6 +38,7 @@ parted words views id l r owner used k hold others fl fr = record {
   words_are = k.words_are;
   device = record { bit = k.device.bit; only = k.device.only; stays = k.device.stays; after = k.device.after };
   small = k.small;
+  few = k.few;
   held = hold;
   fits = λ j u e.
       let F : ℕ → View → Type 0 = λ i x. Fits (numbered k.board owner used) i x in
@@ -56,6 +58,7 @@ joined words views id other a c owner used k hold others fa fc = record {
   words_are = k.words_are;
   device = record { bit = k.device.bit; only = k.device.only; stays = k.device.stays; after = k.device.after };
   small = k.small;
+  few = k.few;
   held = hold;
   fits = λ j u e.
       let F : ℕ → View → Type 0 = λ i x. Fits (numbered k.board owner used) i x in
@@ -73,6 +76,8 @@ nobody_fits b id = record {
   number = λ n e. absurd cc;
   generation = zero-le;
   pulse = zero-le;
+  edition = tt;
+  heard = tt;
 }
 
 -- a seat that has seen as much, and has no number
@@ -84,6 +89,8 @@ other_fits b owner used id new v f = record {
   number = λ n e. absurd cc;
   generation = f.generation;
   pulse = f.pulse;
+  edition = f.edition;
+  heard = tt;
 }
 
 -- what is so of a seat's number where it keeps its seat
@@ -102,6 +109,8 @@ kept_by b owner used id v other stay f = record {
   number = λ n e. let h = f.number n e in same_number b owner used id n v (stay n e h.used) h;
   generation = f.generation;
   pulse = f.pulse;
+  edition = f.edition;
+  heard = f.heard;
 }
 
 -- a further seat without a number
@@ -172,6 +181,8 @@ gives id n v is fresh s k at =
       };
       generation = f.generation;
       pulse = f.pulse;
+      edition = f.edition;
+      heard = f.heard;
     }
     record {
       seen = f.seen;
@@ -180,6 +191,8 @@ gives id n v is fresh s k at =
       number = λ m e. let same : n ≡ m = cc in fresh_number b owner used new n m v own.all same (shift_here (Some n) m new b.owner e) (used_here n m b.used same);
       generation = f.generation;
       pulse = f.pulse;
+      edition = f.edition;
+      heard = tt;
     }
 
 -- the guest gets a seat of its own
@@ -218,6 +231,8 @@ releases id v is s k at =
       number = λ n e. absurd cc;
       generation = f.generation;
       pulse = f.pulse;
+      edition = f.edition;
+      heard = f.heard;
     }
     record {
       seen = f.seen;
@@ -232,6 +247,8 @@ releases id v is s k at =
       };
       generation = f.generation;
       pulse = f.pulse;
+      edition = tt;
+      heard = tt;
     }
 
 -- where a view that was replaced stands with a number, it is that view's own
@@ -284,6 +301,8 @@ hosts id other v w is none' s k at apart' at' =
       };
       generation = max-le f.generation g.generation;
       pulse = max-le f.pulse g.pulse;
+      edition = f.edition;
+      heard = f.heard;
     }
     (nobody_fits (numbered b owner b.used) other)
 
@@ -320,36 +339,45 @@ spends id other v w is s k at apart' at' =
       };
       generation = max-le f.generation g.generation;
       pulse = max-le f.pulse g.pulse;
+      edition = f.edition;
+      heard = f.heard;
     }
     (nobody_fits (numbered b b.owner used) other)
 
--- a seat is told what another has seen
-pub tells : {S : Type 0} (id other : ℕ) (v w : View) → w.number ≡ None → Joins {S = S} Ruled id v other w (telling v w) nobody
-tells id other v w none' s k at apart' at' =
+-- a seat takes in what another knows, which has no number and is spent
+takes_in : {S : Type 0} (id other : ℕ) (v w both : View) → w.number ≡ None → both.number ≡ v.number
+    → ((b : BoardState) → Fits b id v → Fits b other w → Fits b id both) → Joins {S = S} Ruled id v other w both nobody
+takes_in id other v w both none' same fits s k at apart' at' =
     let b = k.board in
-    let f = k.fits id v at in
-    let both : View = telling v w in
     let there : get_elem? s.views other ≡ some w = sym (set_else s.views id other both apart') ∙ at' in
-    let g = k.fits other w there in
     joined s.words s.views id other both nobody b.owner b.used k
     (λ n h.
     let o = k.held n h in
-    let t = new_at (λ (x : View). x.number) s.views id (b.owner n) v both o.0 at refl o.1 in (
+    let t = new_at (λ (x : View). x.number) s.views id (b.owner n) v both o.0 at same o.1 in (
       t.0,
       set_else (set s.views id both) other (b.owner n) nobody
           (replaced s.views (b.owner n) other n w o.0 there o.1 o.2 (λ e. let e' : None ≡ Some n = sym none' ∙ e in cc)) ∙ t.1,
       t.2 ∙ o.2,
     ))
-    (λ j u e ne ne'. k.fits j u e)
-    record {
-      seen = f.seen;
-      told = g.seen;
-      keeper = λ r. let h = f.keeper r in record { seat = h.seat; all = h.all; used = h.used; given_up = h.given_up };
-      number = λ n e. let h = f.number n e in record { owner = h.owner; used = h.used; place = h.place; session = h.session; all = h.all };
-      generation = max-le f.generation g.generation;
-      pulse = max-le f.pulse g.pulse;
-    }
-    (nobody_fits b other)
+    (λ j u e ne ne'. k.fits j u e) (fits b (k.fits id v at) (k.fits other w there)) (nobody_fits b other)
+
+-- a seat is told what another has seen
+pub tells : {S : Type 0} (id other : ℕ) (v w : View) → w.number ≡ None → Joins {S = S} Ruled id v other w (telling v w) nobody
+tells id other v w none' = takes_in id other v w (telling v w) none' refl (λ b f g. record {
+  seen = f.seen;
+  told = g.seen;
+  keeper = λ r. let h = f.keeper r in record { seat = h.seat; all = h.all; used = h.used; given_up = h.given_up };
+  number = λ n e. let h = f.number n e in record { owner = h.owner; used = h.used; place = h.place; session = h.session; all = h.all };
+  generation = max-le f.generation g.generation;
+  pulse = max-le f.pulse g.pulse;
+  edition = f.edition;
+  heard = f.heard;
+})
+
+-- a seat hears of the edition that another knows
+pub hears : {S : Type 0} (id other : ℕ) (v w : View) → w.number ≡ None → Joins {S = S} Ruled id v other w (hearing v w) nobody
+hears id other v w none' =
+    takes_in id other v w (hearing v w) none' refl (λ b f g. heard_fits b id v w.edition g.edition f)
 
 -- the session of a seat with a new number
 pub new_session : (n : ℕ) (v w : View) → w ≡ new_caller n v → SessionIsNew n w v.seen

@@ -1,6 +1,7 @@
 pub mod Records
 pub mod Lists
 pub mod Moves
+pub mod Editions
 pub mod Joins
 pub mod Steps
 pub mod RuleSays

@@ -26,13 +26,14 @@ apart words views i j n v w k e e' is is' = sym ((k.fits i v e).number n is).own
 -- one seat's view changes, and the words
 pub moved : (words words' : List ℕ) (views : List View) (id : ℕ) (v w : View) (k : Kept words views) (b : BoardState)
     → b.owner ≡ k.board.owner → b.used ≡ k.board.used → get_elem? views id ≡ some v → w.number ≡ v.number
-    → words' ≡ words_of b → DeviceIs b → b.generation < 2 ^ 32
+    → words' ≡ words_of b → DeviceIs b → b.generation < 2 ^ 32 → length b.editions < 2 ^ 64
     → ((j : ℕ) (u : View) → get_elem? views j ≡ some u → j ≢ id → Fits b j u) → Fits b id w → Kept words' (set views id w)
-moved words words' views id v w k b owners uses at same eq device small others own = record {
+moved words words' views id v w k b owners uses at same eq device small few others own = record {
   board = b;
   words_are = eq;
   device = device;
   small = small;
+  few = few;
   fits = λ j u e.
       ⊎_elim
       (λ t. let is : j ≡ id = t.0 in let wu : w ≡ u = t.1 in
@@ -54,6 +55,8 @@ risen b generation pulse id v up up' f = record {
   number = λ n e. let h = f.number n e in record { owner = h.owner; used = h.used; place = h.place; session = h.session; all = h.all };
   generation = let h = f.generation in omega arith;
   pulse = let h = f.pulse in omega arith;
+  edition = f.edition;
+  heard = f.heard;
 }
 
 -- a seat that has seen the whole record
@@ -71,6 +74,8 @@ seen_more b id v f = record {
   };
   generation = f.generation;
   pulse = f.pulse;
+  edition = f.edition;
+  heard = f.heard;
 }
 
 -- the session of a seat that has then seen a record between what it had seen and the whole
@@ -103,7 +108,7 @@ looks slots id me s k sized at small =
       tt,
       moved s.words (slice_set s.words 0 (slice_index s.words 0)) s.views id me.0 (record me.0 { seen = b.marks }) k b refl refl at refl
           (ap (λ (ws : List ℕ). slice_set ws 0 (slice_index ws 0)) k.words_are)
-          k.device k.small (λ j u e ne. k.fits j u e) (seen_more b id me.0 f),
+          k.device k.small k.few (λ j u e ne. k.fits j u e) (seen_more b id me.0 f),
       (refl, sees b id me.0 f, ap (λ (ws : List ℕ). slice_index ws 0) k.words_are),
     )
 
@@ -124,6 +129,8 @@ further b m id v other skip f = record {
   };
   generation = f.generation;
   pulse = f.pulse;
+  edition = f.edition;
+  heard = f.heard;
 }
 
 -- the record's seat, with these calls of its guest
@@ -154,6 +161,8 @@ grown_fits b m mine id v own grows f = record {
   number = λ n e. grown_number b m mine id n v own.all grows e (f.number n e);
   generation = f.generation;
   pulse = f.pulse;
+  edition = f.edition;
+  heard = f.heard;
 }
 
 -- what a step that adds a mark tells
@@ -181,14 +190,14 @@ adds slots id f' me m mine is counts skip grows after s k sized at small =
       tt,
       moved s.words (slice_set s.words 0 (f' (slice_index s.words 0))) s.views id v w k new refl refl at refl
           (ap (λ (ws : List ℕ). slice_set ws 0 (f' (slice_index ws 0))) k.words_are
-          ∙ ap (λ (n : ℕ). n ∷ b.generation ∷ b.device ∷ b.pulse ∷ []) (counts b.marks))
+          ∙ ap (λ (n : ℕ). n ∷ b.generation ∷ b.device ∷ b.pulse ∷ length b.editions ∷ []) (counts b.marks))
           record {
             bit = k.device.bit;
             only = λ h. gave_up_with m b.marks (k.device.only h);
             stays = k.device.stays;
             after = λ h. ⊎_elim (λ g. k.device.after g) (λ g. sym own.given_up ∙ g) (after b.marks h own.all);
           }
-          k.small
+          k.small k.few
           (λ j u e ne. further b m j u (λ r. ne (((k.fits j u e).keeper r).seat ∙ sym own.seat))
           (λ n is. skip n u.place b.marks (λ is'. ne (apart s.words s.views j id n u v k e at is is')))
           (k.fits j u e))
@@ -241,26 +250,29 @@ calls slots id me m is call living =
     (λ marks h all. inr (living (ap gave_up all ∙ call_goes_on m me.0.number call marks h)))
 
 -- the rule at the start
-pub starts : Kept (0 ∷ 0 ∷ 0 ∷ 0 ∷ []) (opener ∷ [])
+pub starts : Kept (0 ∷ 0 ∷ 0 ∷ 0 ∷ 0 ∷ []) (opener ∷ [])
 starts = record {
-  board = record { keeper = 0; owner = λ n. 0; marks = []; used = []; given_up = false; generation = 0; device = 0; pulse = 0 };
+  board = first;
   words_are = refl;
   device = record { bit = omega arith; only = λ h. absurd (omega arith); stays = λ h. cc; after = λ h. cc };
   small = omega arith;
+  few = omega arith;
   held = λ n h. absurd cc;
   fits = starts_fits;
 }
   where
-    starts_fits : (id : ℕ) (v : View) → get_elem? (opener ∷ []) id ≡ some v
-        → Fits (record { keeper = 0; owner = λ n. 0; marks = []; used = []; given_up = false; generation = 0; device = 0; pulse = 0 }) id v
-    starts_fits zero v e =
-        subst (λ (x : View). Fits (record { keeper = 0; owner = λ n. 0; marks = []; used = []; given_up = false; generation = 0; device = 0; pulse = 0 }) 0 x)
-        (some-injective opener v e) record {
-          seen = begins_self [];
-          told = begins_self [];
-          keeper = λ r. record { seat = refl; all = refl; used = refl; given_up = refl };
-          number = λ n is. absurd cc;
-          generation = zero-le;
-          pulse = zero-le;
-        }
+    first : BoardState
+    first = record { keeper = 0; owner = λ n. 0; marks = []; used = []; given_up = false; generation = 0; device = 0; pulse = 0; editions = [] }
+
+    starts_fits : (id : ℕ) (v : View) → get_elem? (opener ∷ []) id ≡ some v → Fits first id v
+    starts_fits zero v e = subst (λ (x : View). Fits first 0 x) (some-injective opener v e) record {
+      seen = begins_self [];
+      told = begins_self [];
+      keeper = λ r. record { seat = refl; all = refl; used = refl; given_up = refl };
+      number = λ n is. absurd cc;
+      generation = zero-le;
+      pulse = zero-le;
+      edition = tt;
+      heard = tt;
+    }
     starts_fits (suc i) v e = absurd (some-ne-none v (sym e))

@@ -1,12 +1,13 @@
 -- The rule, sentence by sentence.
-use Rattle.std.proofs.Common.{◌≡◌, ℕ, ◌≤◌, List, slice_index, ap, sym, ◌∙◌, subst}
+use Rattle.std.proofs.Common.{◌≡◌, ℕ, ◌<◌, ◌≤◌, List, slice_index, ap, sym, ◌∙◌, subst}
 use Rattle.records.specs.Marks.{Mark, gave_up, IsBeginning}
 use Rattle.records.specs.Session.{calls_of, tally_of, IsSession}
 use Rattle.board.specs.View.{View, session_of, is_used}
-use Rattle.board.specs.Rule.{words_of, Kept}
+use Rattle.board.specs.Rule.{words_of, IsKnown, Kept}
 use Rattle.board.specs.Laws.{Knows, IsRecords, RecordSays, RuleSaysSo}
 use Rattle.board.proofs.Records.{went_on_longer}
 use Rattle.board.proofs.Moves.{apart}
+use Rattle.board.proofs.Editions.{number_given, are_one}
 
 word : (i : ℕ) (words : List ℕ) (views : List View) (k : Kept words views) → slice_index words i ≡ slice_index (words_of k.board) i
 word i words views k = ap (λ (ws : List ℕ). slice_index ws i) k.words_are
@@ -37,4 +38,8 @@ rule_says words views k = record {
   generation = λ seat v here. subst (λ (n : ℕ). v.generation ≤ n) (sym (word 1 words views k)) (k.fits seat v here).generation;
   pulse = λ seat v here. subst (λ (n : ℕ). v.pulse ≤ n) (sym (word 3 words views k)) (k.fits seat v here).pulse;
   after = λ seat v here h. word 2 words views k ∙ k.device.stays (k.device.after (went_on_longer v.seen k.board.marks (k.fits seat v here).seen h));
+  given = λ seat n s v here e. subst (λ (m : ℕ). n < m) (sym (word 4 words views k))
+      (number_given k.board.editions n s (subst (IsKnown k.board.editions) e (k.fits seat v here).edition));
+  same = λ seat other n s t v w here there e e'.
+      are_one k.board.editions v.edition w.edition (k.fits seat v here).edition (k.fits other w there).edition n s t e e';
 }

@@ -23,6 +23,8 @@ with_both b generation pulse id v up up' f = record {
   number = λ n e. let h = f.number n e in record { owner = h.owner; used = h.used; place = h.place; session = h.session; all = h.all };
   generation = up;
   pulse = up';
+  edition = f.edition;
+  heard = f.heard;
 }
 
 -- the device word is as it was under another generation and another pulse
@@ -38,7 +40,7 @@ finds slots id me s k sized at small =
       keeps,
       tt,
       moved s.words (slice_set s.words 1 (slice_index s.words 1)) s.views id me.0 (record me.0 { generation = b.generation }) k b refl refl at refl
-          (ap (λ (ws : List ℕ). slice_set ws 1 (slice_index ws 1)) k.words_are) k.device k.small (λ j u e ne. k.fits j u e)
+          (ap (λ (ws : List ℕ). slice_set ws 1 (slice_index ws 1)) k.words_are) k.device k.small k.few (λ j u e ne. k.fits j u e)
           (with_both b b.generation me.0.pulse id me.0 (le_refl b.generation) f.pulse f),
       (
         refl,
@@ -60,7 +62,7 @@ starts_at slots id g me fits s k sized at small =
       keeps,
       tt,
       moved s.words (slice_set s.words 1 (max (slice_index s.words 1) g)) s.views id me.0 (record me.0 { generation = top }) k new refl refl at refl
-          (ap (λ (ws : List ℕ). slice_set ws 1 (max (slice_index ws 1) g)) k.words_are) (device_same b top b.pulse k.device) (let a = k.small in omega arith)
+          (ap (λ (ws : List ℕ). slice_set ws 1 (max (slice_index ws 1) g)) k.words_are) (device_same b top b.pulse k.device) (let a = k.small in omega arith) k.few
           (λ j u e ne. risen b top b.pulse j u up (le_refl b.pulse) (k.fits j u e))
           (with_both new top me.0.pulse id me.0 (le_refl top) f.pulse (risen b top b.pulse id me.0 up (le_refl b.pulse) f)),
       (refl, ap (λ (n : ℕ). record me.0 { generation = max n g }) (sym e), subst (λ (n : ℕ). me.0.generation ≤ n) (sym e) f.generation),
@@ -75,7 +77,7 @@ feels slots id me s k sized at small =
       keeps,
       tt,
       moved s.words (slice_set s.words 3 (slice_index s.words 3)) s.views id me.0 (record me.0 { pulse = b.pulse }) k b refl refl at refl
-          (ap (λ (ws : List ℕ). slice_set ws 3 (slice_index ws 3)) k.words_are) k.device k.small (λ j u e ne. k.fits j u e)
+          (ap (λ (ws : List ℕ). slice_set ws 3 (slice_index ws 3)) k.words_are) k.device k.small k.few (λ j u e ne. k.fits j u e)
           (with_both b me.0.generation b.pulse id me.0 f.generation (le_refl b.pulse) f),
       (refl, ap (λ (n : ℕ). record me.0 { pulse = n }) (sym e), subst (λ (n : ℕ). me.0.pulse ≤ n) (sym e) f.pulse),
     )
@@ -92,7 +94,7 @@ beats slots id p me s k sized at small =
       keeps,
       tt,
       moved s.words (slice_set s.words 3 (max (slice_index s.words 3) p)) s.views id me.0 (record me.0 { pulse = top }) k new refl refl at refl
-          (ap (λ (ws : List ℕ). slice_set ws 3 (max (slice_index ws 3) p)) k.words_are) (device_same b b.generation top k.device) k.small
+          (ap (λ (ws : List ℕ). slice_set ws 3 (max (slice_index ws 3) p)) k.words_are) (device_same b b.generation top k.device) k.small k.few
           (λ j u e ne. risen b b.generation top j u (le_refl b.generation) up (k.fits j u e))
           (with_both new me.0.generation top id me.0 f.generation (le_refl top) (risen b b.generation top id me.0 (le_refl b.generation) up f)),
       (refl, ap (λ (n : ℕ). record me.0 { pulse = max n p }) (sym e), subst (λ (n : ℕ). me.0.pulse ≤ n) (sym e) f.pulse),
@@ -109,7 +111,7 @@ asks slots id me s k sized at small =
       keeps,
       tt,
       moved s.words (slice_set s.words 2 (slice_index s.words 2)) s.views id v (record v { seen = b.marks }) k b refl refl at refl
-          (ap (λ (ws : List ℕ). slice_set ws 2 (slice_index ws 2)) k.words_are) k.device k.small (λ j u e ne. k.fits j u e) (seen_more b id v f),
+          (ap (λ (ws : List ℕ). slice_set ws 2 (slice_index ws 2)) k.words_are) k.device k.small k.few (λ j u e ne. k.fits j u e) (seen_more b id v f),
       (
         refl,
         sees b id v f,
@@ -137,9 +139,9 @@ gives_up slots id me is ended s k sized at small =
       tt,
       moved s.words (slice_set s.words 2 (bit_or (slice_index s.words 2) 1)) s.views id v (record v { given_up = true }) k new refl refl at refl
           (ap (λ (ws : List ℕ). slice_set ws 2 (bit_or (slice_index ws 2) 1)) k.words_are
-          ∙ ap (λ (n : ℕ). tally_of b.marks ∷ b.generation ∷ n ∷ b.pulse ∷ []) (or_one b.device k.device.bit))
+          ∙ ap (λ (n : ℕ). tally_of b.marks ∷ b.generation ∷ n ∷ b.pulse ∷ length b.editions ∷ []) (or_one b.device k.device.bit))
           record { bit = omega arith; only = λ h. ap gave_up (sym own.all) ∙ ended; stays = λ h. refl; after = λ h. refl }
-          k.small
+          k.small k.few
           (λ j u e ne. let g = k.fits j u e in record {
             seen = g.seen;
             told = g.told;
@@ -147,6 +149,8 @@ gives_up slots id me is ended s k sized at small =
             number = λ n e. let h = g.number n e in record { owner = h.owner; used = h.used; place = h.place; session = h.session; all = h.all };
             generation = g.generation;
             pulse = g.pulse;
+            edition = g.edition;
+            heard = g.heard;
           })
           record {
             seen = f.seen;
@@ -155,6 +159,8 @@ gives_up slots id me is ended s k sized at small =
             number = λ n e. let h = f.number n e in record { owner = h.owner; used = h.used; place = h.place; session = h.session; all = h.all };
             generation = f.generation;
             pulse = f.pulse;
+            edition = f.edition;
+            heard = f.heard;
           },
       (refl, refl),
     )
@@ -172,7 +178,7 @@ taken slots id me l s k at all longer more less =
     let learns : SessionLearns v w = session_learns b id v w f refl refl more less in (
       w,
       moved s.words (slice_set s.words 0 (slice_index s.words 0)) s.views id v w k b refl refl at refl
-          (ap (λ (ws : List ℕ). slice_set ws 0 (slice_index ws 0)) k.words_are) k.device k.small (λ j u e ne. k.fits j u e)
+          (ap (λ (ws : List ℕ). slice_set ws 0 (slice_index ws 0)) k.words_are) k.device k.small k.few (λ j u e ne. k.fits j u e)
           record {
             seen = less;
             told = begins_all b.marks;
@@ -186,6 +192,8 @@ taken slots id me l s k at all longer more less =
             };
             generation = f.generation;
             pulse = f.pulse;
+            edition = f.edition;
+            heard = f.heard;
           },
       (refl, record { same = refl; longer = longer; whole = λ r. all r ∙ sym (f.keeper r).all; session = learns }),
     )

@@ -1,5 +1,5 @@
 -- What the rule says of the words and of what the seats know, sentence by sentence.
-use Rattle.std.specs.Prelude.{◌≡◌, ℕ, ◌≤◌, List, true, Some, slice_index}
+use Rattle.std.specs.Prelude.{◌≡◌, ℕ, ◌<◌, ◌≤◌, List, true, Some, slice_index}
 use mathlib.Core.Option.{some}
 use lib.ListN.{get_elem?}
 use Rattle.records.specs.Marks.{gave_up, IsBeginning}
@@ -44,6 +44,11 @@ pub record RuleSays (words : List ℕ) (views : List View) : Type 0 where
   pub pulse : (seat : ℕ) (v : View) → Knows views seat v → v.pulse ≤ slice_index words 3
   -- the device word is set where a seat has seen a call taken after the giving up
   pub after : (seat : ℕ) (v : View) → Knows views seat v → went_on v.seen ≡ true → slice_index words 2 ≡ 1
+  -- the number of an edition that a seat knows was given, and two seats that know that of one number know the same sectors
+  pub given : (seat n : ℕ) (s : List (List ℕ)) (v : View) → Knows views seat v → v.edition ≡ Some (n, s)
+      → n < slice_index words 4
+  pub same : (seat other n : ℕ) (s t : List (List ℕ)) (v w : View) → Knows views seat v → Knows views other w
+      → v.edition ≡ Some (n, s) → w.edition ≡ Some (n, t) → s ≡ t
 
 -- so it is wherever the rule is kept
 abbrev pub RuleSaysSo : Type 0

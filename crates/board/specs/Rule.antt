@@ -1,5 +1,5 @@
 -- The rule of the board: what its words say of the record, and that what each seat knows is so.
-use Rattle.std.specs.Prelude.{◌≡◌, ℕ, ◌^◌, ◌<◌, ◌≤◌, List, [], ◌∷◌, length, Bool, true, Some}
+use Rattle.std.specs.Prelude.{◌≡◌, ℕ, ◌^◌, ◌<◌, ◌≤◌, List, [], ◌∷◌, ◌++◌, length, Bool, true, Option, Some, IfSome}
 use mathlib.Core.Option.{some}
 use lib.ListN.{get_elem?}
 use Rattle.records.specs.Marks.{Mark, gave_up, IsBeginning}
@@ -21,10 +21,12 @@ pub record BoardState : Type 0 where
   pub generation : ℕ
   pub device : ℕ
   pub pulse : ℕ
+  -- the sectors of each edition, the newest first
+  pub editions : List (List (List ℕ))
 
--- the tally is the number of counted marks, modulo 2^64
+-- the tally is the number of counted marks, modulo 2^64, and the last word that of the editions
 abbrev pub words_of : BoardState → List ℕ
-words_of b = tally_of b.marks ∷ b.generation ∷ b.device ∷ b.pulse ∷ []
+words_of b = tally_of b.marks ∷ b.generation ∷ b.device ∷ b.pulse ∷ length b.editions ∷ []
 
 -- the device word is set only where the record has a giving up, stays set, and is set where a call was taken after one
 pub record DeviceIs (b : BoardState) : Type 0 where
@@ -48,6 +50,17 @@ pub record HasNumber (b : BoardState) (id n : ℕ) (v : View) : Type 0 where
   pub session : IsSession (session_of n v) b.marks
   pub all : v.mine ≡ calls_of n v.place b.marks
 
+-- the sectors are those of the edition of this number: so many came before it
+pub record IsEdition (editions : List (List (List ℕ))) (number : ℕ) (sectors : List (List ℕ)) : Type 0 where
+  pub later : List (List (List ℕ))
+  pub older : List (List (List ℕ))
+  pub is : editions ≡ later ++ sectors ∷ older
+  pub before : length older ≡ number
+
+-- what is known of an edition, if there is one, is so
+abbrev pub IsKnown : List (List (List ℕ)) → Option (ℕ × List (List ℕ)) → Type 0
+IsKnown editions known = IfSome known (λ e. IsEdition editions e.0 e.1)
+
 -- what a seat knows is so
 pub record Fits (b : BoardState) (id : ℕ) (v : View) : Type 0 where
   pub seen : IsBeginning v.seen b.marks
@@ -56,6 +69,8 @@ pub record Fits (b : BoardState) (id : ℕ) (v : View) : Type 0 where
   pub number : (n : ℕ) → v.number ≡ Some n → HasNumber b id n v
   pub generation : v.generation ≤ b.generation
   pub pulse : v.pulse ≤ b.pulse
+  pub edition : IsKnown b.editions v.edition
+  pub heard : IsKnown b.editions v.heard
 
 -- The rule, of the words and of what each seat knows. The numbers in use are those of the seats.
 pub record Kept (words : List ℕ) (views : List View) : Type 0 where
@@ -63,5 +78,6 @@ pub record Kept (words : List ℕ) (views : List View) : Type 0 where
   pub words_are : words ≡ words_of board
   pub device : DeviceIs board
   pub small : board.generation < 2 ^ 32
+  pub few : length board.editions < 2 ^ 64
   pub fits : (id : ℕ) (v : View) → get_elem? views id ≡ some v → Fits board id v
   pub held : (n : ℕ) → is_used n board.used ≡ true → (v : View) × (get_elem? views (board.owner n) ≡ some v) × (v.number ≡ Some n)

@@ -1,5 +1,5 @@
 -- What each step on a word tells its seat, and what a meeting tells two.
-use Rattle.std.specs.Prelude.{◌≡◌, ℕ, ◌^◌, ◌<◌, ◌≤◌, max, Bool, true, false, List, [], Option, Some}
+use Rattle.std.specs.Prelude.{◌≡◌, ◌≢◌, ℕ, ◌^◌, ◌<◌, ◌≤◌, max, Bool, true, false, List, [], Option, Some, None}
 use Rattle.records.specs.Marks.{Mark, Took, is_counted, gave_up, IsBeginning}
 use Rattle.records.specs.LegalLaws.{is_call}
 use Rattle.records.specs.Session.{calls_of, tally_of, went_on, LearnsMore, IsNewSession, MeetKeeps, DeviceKeeps, IsLonger}
@@ -102,3 +102,16 @@ SessionAsks v given_up w =
 -- the session of a new seat with this number is new, and has seen the whole record
 abbrev pub SessionIsNew : ℕ → View → List Mark → Type 0
 SessionIsNew n v marks = (v.number ≡ Some n) × (v.seen ≡ marks) × IsNewSession (session_of n v) marks
+
+-- the sectors became the edition of the number that was found, where it was the one looked for; else nothing changed
+abbrev pub Published : {S : Type 0} → List (List ℕ) → Step S → Me S View → ℕ → Me S View → Type 0
+Published sectors s v n w =
+    (w.1 ≡ v.1) × (n ≡ s.first → w.0 ≡ record v.0 { edition = Some (s.first, sectors) }) × (n ≢ s.first → w.0 ≡ v.0)
+
+-- two that are known by one number have the same sectors
+abbrev pub AreOneEdition : Option (ℕ × List (List ℕ)) → Option (ℕ × List (List ℕ)) → Type 0
+AreOneEdition known other = (n : ℕ) (s t : List (List ℕ)) → known ≡ Some (n, s) → other ≡ Some (n, t) → s ≡ t
+
+-- a load by a seat that heard of an edition
+abbrev pub Compared : {S : Type 0} → Step S → Me S View → ℕ → Me S View → Type 0
+Compared s v n w = (w.1 ≡ v.1) × (w.0 ≡ record v.0 { heard = None }) × AreOneEdition v.0.edition v.0.heard

@@ -25,6 +25,10 @@ pub record View : Type 0 where
   -- the greatest generation and the greatest pulse that it knows of
   pub generation : ℕ
   pub pulse : ℕ
+  -- the sectors of an edition that it knows, with the edition's number
+  pub edition : Option (ℕ × List (List ℕ))
+  -- one that another seat told it of
+  pub heard : Option (ℕ × List (List ℕ))
 
 -- What a contract sees of a seat: the board that it is of, by the name of its table, and what it knows.
 pub record SeatState : Type 0 where
@@ -45,8 +49,20 @@ IsKeeper table s = (s.table ≡ table) × (s.view.keeps ≡ true) × (s.view.num
 
 -- a seat that was spent
 abbrev pub nobody : View
-nobody =
-    record { keeps = false; seen = []; told = []; number = None; place = 0; mine = []; used = []; given_up = false; generation = 0; pulse = 0 }
+nobody = record {
+  keeps = false;
+  seen = [];
+  told = [];
+  number = None;
+  place = 0;
+  mine = [];
+  used = [];
+  given_up = false;
+  generation = 0;
+  pulse = 0;
+  edition = None;
+  heard = None;
+}
 
 -- the record's seat of a new board
 abbrev pub opener : View
@@ -61,9 +77,9 @@ abbrev pub without : Option ℕ → List ℕ → List ℕ
 without None used = used
 without (Some n) used = filter (λ k. not (k == n)) used
 
--- a further seat: it has seen as much, and has no number
+-- a further seat: it has seen as much, knows the edition, and has no number
 abbrev pub other_of : View → View
-other_of v = record nobody { seen = v.seen; generation = v.generation; pulse = v.pulse }
+other_of v = record nobody { seen = v.seen; generation = v.generation; pulse = v.pulse; edition = v.edition }
 
 -- a further seat with a number
 abbrev pub new_caller : ℕ → View → View
@@ -82,9 +98,9 @@ hosting v w =
 abbrev pub alone : View → View
 alone v = record v { told = []; number = None; place = 0; mine = [] }
 
--- the guest, in a seat of its own again
+-- the guest, in a seat of its own again; it knows no edition
 abbrev pub guest_of : View → View
-guest_of v = record (other_of v) { number = v.number; place = v.place; mine = v.mine }
+guest_of v = record (other_of v) { number = v.number; place = v.place; mine = v.mine; edition = None }
 
 -- the record's seat after it added a mark that is no call
 abbrev pub noted : Mark → View → View
@@ -112,3 +128,7 @@ spending v w =
 -- a seat that another has told what it has seen
 abbrev pub telling : View → View → View
 telling v w = record v { told = w.seen; generation = max v.generation w.generation; pulse = max v.pulse w.pulse }
+
+-- a seat that heard of the edition that another knows
+abbrev pub hearing : View → View → View
+hearing v w = record v { heard = w.edition }

@@ -1,20 +1,21 @@
 //! The board.
 
-ghost use Rattle.std.specs.Prelude.{◌≡◌, ◌≢◌, ℕ, ◌+◌, ◌*◌, ◌^◌, ◌≤◌, max, true, false, None, Some, IfOk, IsOk, IfSome, MatchOption};
+ghost use Rattle.std.specs.Prelude.{◌≡◌, ◌≢◌, ℕ, ◌+◌, ◌*◌, ◌^◌, ◌<◌, ◌≤◌, max, true, false, List, None, Some};
+ghost use Rattle.std.specs.Prelude.{IfOk, IsOk, IfSome, IfNone, MatchOption};
 ghost use Rattle.tree.specs.declared.Call.{Call};
 ghost use Rattle.tree.specs.Answers.{answer_of};
 ghost use Rattle.records.specs.Marks.{Took, Issued, gave_up, IsBeginning};
 ghost use Rattle.records.specs.Session.{tally_of, went_on, IsLonger};
 ghost use Rattle.board.specs.View.{opener, is_used, other_of, new_caller, with_used, hosting, alone, guest_of, IsKeeper, noted, called};
-ghost use Rattle.board.specs.View.{keeper_after, caller_after, spending, telling};
+ghost use Rattle.board.specs.View.{keeper_after, caller_after, spending, telling, hearing};
 ghost use Rattle.board.specs.Steps.{SessionLearns, SeesMore, IsCallOf, OwnsCalls, LearnsTold, Meets, SessionsMeet, SessionAsks};
-ghost use Rattle.board.specs.Steps.{SessionIsNew};
+ghost use Rattle.board.specs.Steps.{SessionIsNew, AreOneEdition};
 ghost use Rattle.board.specs.Words.{pulse_word, is_given_up, mark_of};
 
-use crate::mark::{NewMark, NewNumber};
+use crate::mark::{NewEdition, NewMark, NewNumber};
 use crate::rule::{
-    Ask, Beat, Copy, Feel, Find, Give, GiveUp, Host, Law, Learn, Look, Note, Part, Spend, Start,
-    Take, Tell,
+    Ask, Beat, Compare, Copy, Feel, Find, Give, GiveUp, Hear, Host, Law, Learn, Look, Note, Part,
+    Publish, Spend, Start, Take, Tell,
 };
 use crate::seat::{Knowledge, Seat};
 use atomic_table::Table;
@@ -33,6 +34,8 @@ const DEVICE: usize = 2;
 
 const PULSE: usize = 3;
 
+const EDITIONS: usize = 4;
+
 /// One generation more in a pulse.
 const ONE_GENERATION: u64 = 4294967296;
 
@@ -45,7 +48,7 @@ pub enum Device {
     GivenUp,
 }
 
-/// Four words that threads share. To a contract it is the name of its table, which its seats bear too.
+/// Five words that threads share. To a contract it is the name of its table, which its seats bear too.
 #[derive(Drop)]
 pub struct Board {
     table: Table<(), Knowledge, (), Law, Global>,
@@ -61,7 +64,7 @@ impl Model for Board {
 
     ghost view = { λ b. b.table.shared.table_id };
 
-    ghost invariant = { λ b. b.table.shared.table_id.words ≡ 4 };
+    ghost invariant = { λ b. b.table.shared.table_id.words ≡ 5 };
 }
 
 impl Board {
@@ -69,7 +72,7 @@ impl Board {
     pub fn new(alloc: Global) -> Result<(Board, Seat), AllocError>
         ensures { IfOk result (λ r. IsKeeper r.0 r.1 × (r.1.view ≡ opener)) }
     {
-        let (table, seat) = Table::of_words(alloc, &[0, 0, 0, 0], &())?;
+        let (table, seat) = Table::of_words(alloc, &[0, 0, 0, 0, 0], &())?;
         Ok((Board { table }, Seat { inner: seat }))
     }
 
@@ -248,6 +251,34 @@ impl Board {
         self.inform(other, seat);
     }
 
+    /// Gives these sectors a number that no others had: they are the edition of that number, and the seat knows them by it.
+    /// None where another thread gave a number meanwhile, or all were given: the seat knows what it knew.
+    pub fn publish(&self, seat: &mut Seat, sectors: &[[u8; 512]]) -> Option<u64>
+        requires { seat.old.table ≡ self.now }
+        ensures table { seat.new.table ≡ self.now }
+        ensures some { IfSome result (λ n. seat.new.view ≡ record seat.old.view { edition = Some (n, sectors.now) }) }
+        ensures none { IfNone result (seat.new.view ≡ seat.old.view) }
+    {
+        let number = self.table.shared.peek(EDITIONS);
+        if number == u64::MAX {
+            return None;
+        }
+        self.publish_as::<Brand>(seat, sectors, number)
+    }
+
+    /// Two seats that know the edition of one number know the same sectors by it.
+    pub fn same_edition(&self, seat: &mut Seat, other: &mut Seat)
+        requires { (seat.old.table ≡ self.now) × (other.old.table ≡ self.now) }
+        ensures tables { (seat.new.table ≡ self.now) × (other.new.table ≡ self.now) }
+        ensures seats { (seat.new.view ≡ record seat.old.view { heard = None }) × (other.new.view ≡ other.old.view) }
+        ensures same { (n : ℕ) (s t : List (List ℕ)) → seat.old.view.edition ≡ Some (n, s)
+            → other.old.view.edition ≡ Some (n, t) → s ≡ t }
+    {
+        let word = self.copy(other);
+        self.hear(seat, word);
+        self.compare(seat);
+    }
+
     fn copy(&self, seat: &mut Seat) -> Seat
         requires { seat.old.table ≡ self.now }
         ensures same { seat.new ≡ seat.old }
@@ -410,5 +441,43 @@ impl Board {
         ensures { (seat.new.table ≡ self.now) × LearnsTold seat.old.view seat.new.view }
     {
         self.table.shared.load::<Learn>(&mut seat.inner, TALLY);
+    }
+
+    // The caller picks the sectors, which are those that it hands over.
+    fn publish_as<C: NewEdition>(
+        &self,
+        seat: &mut Seat,
+        sectors: &[[u8; 512]],
+        number: u64,
+    ) -> Option<u64>
+        requires is { C.sectors ≡ sectors.now }
+        requires table { seat.old.table ≡ self.now }
+        requires more { number + 1 < 2 ^ 64 }
+        ensures table { seat.new.table ≡ self.now }
+        ensures some { IfSome result (λ n. seat.new.view ≡ record seat.old.view { edition = Some (n, sectors.now) }) }
+        ensures none { IfNone result (seat.new.view ≡ seat.old.view) }
+    {
+        let found = self
+            .table
+            .shared
+            .compare_exchange::<Publish<C>>(&mut seat.inner, EDITIONS, number, number + 1);
+        if found == number { Some(number) } else { None }
+    }
+
+    fn hear(&self, seat: &mut Seat, other: Seat)
+        requires seat { seat.old.table ≡ self.now }
+        requires other { (other.table ≡ self.now) × (other.view.number ≡ None) }
+        ensures { (seat.new.table ≡ self.now) × (seat.new.view ≡ hearing seat.old.view other.view) }
+    {
+        let Seat { inner } = other;
+        self.table.shared.join_seat::<Hear>(&mut seat.inner, inner);
+    }
+
+    fn compare(&self, seat: &mut Seat)
+        requires { seat.old.table ≡ self.now }
+        ensures seat { (seat.new.table ≡ self.now) × (seat.new.view ≡ record seat.old.view { heard = None }) }
+        ensures same { AreOneEdition seat.old.view.edition seat.old.view.heard }
+    {
+        self.table.shared.load::<Compare>(&mut seat.inner, EDITIONS);
     }
 }

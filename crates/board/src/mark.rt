@@ -25,3 +25,16 @@ pub trait NewNumber {
 impl NewNumber for Brand {
     ghost number = { 0 };
 }
+
+/// The sectors that a step gives a number. `publish` picks them from what it is given.
+pub trait NewEdition {
+    ghost use Rattle.std.specs.Prelude.{ℕ, List};
+
+    ghost sectors: { List (List ℕ) };
+}
+
+impl NewEdition for Brand {
+    ghost use Rattle.std.specs.Prelude.{[]};
+
+    ghost sectors = { [] };
+}

@@ -1,11 +1,11 @@
-//! The rule of the four words, and what each step tells.
+//! The rule of the five words, and what each step tells.
 //!
-//! A step is of one of five kinds: a fetch_add of the tally by the record's seat, alone or with a caller's joined into it
-//! (`Note`, `Take`); a load (`Look`, `Learn`, `Find`, `Feel`, `Ask`; `Note` of a mark that isn't counted; and each split and
-//! each join of seats); a fetch_max of the generation (`Start`); a fetch_max of the pulse (`Beat`); a fetch_or of the device
-//! word by the record's seat (`GiveUp`).
+//! A step is of one of six kinds: a fetch_add of the tally by the record's seat, alone or with a caller's joined into it
+//! (`Note`, `Take`); a load (`Look`, `Learn`, `Find`, `Feel`, `Ask`, `Compare`; `Note` of a mark that isn't counted; and each
+//! split and each join of seats); a fetch_max of the generation (`Start`); a fetch_max of the pulse (`Beat`); a fetch_or of the
+//! device word by the record's seat (`GiveUp`); a compare_exchange of the editions' number for one more (`Publish`).
 
-use crate::mark::{NewMark, NewNumber};
+use crate::mark::{NewEdition, NewMark, NewNumber};
 use crate::seat::Knowledge;
 use atomic_table::{Join, Play, Split, TableRule};
 use std::marker::PhantomData;
@@ -116,6 +116,26 @@ impl Play<(), Knowledge> for Learn {
     ghost then = { Learned };
 }
 
+/// Sectors get the number of an edition, where the word still is what was loaded.
+pub(crate) struct Publish<C> {
+    of: PhantomData<C>,
+}
+
+impl<C: NewEdition> Play<(), Knowledge> for Publish<C> {
+    ghost use Rattle.board.specs.Steps.{Published};
+
+    ghost then = { Published C.sectors };
+}
+
+/// A load by a seat that heard of the edition that another knows.
+pub(crate) struct Compare;
+
+impl Play<(), Knowledge> for Compare {
+    ghost use Rattle.board.specs.Steps.{Compared};
+
+    ghost then = { Compared };
+}
+
 /// A further seat without a number.
 pub(crate) struct Copy;
 
@@ -180,6 +200,17 @@ impl Join<Knowledge> for Tell {
     ghost use Rattle.board.specs.View.{telling, nobody};
 
     ghost both = { telling };
+
+    ghost spent = { nobody };
+}
+
+/// A seat hears of the edition that another knows.
+pub(crate) struct Hear;
+
+impl Join<Knowledge> for Hear {
+    ghost use Rattle.board.specs.View.{hearing, nobody};
+
+    ghost both = { hearing };
 
     ghost spent = { nobody };
 }

@@ -2,7 +2,10 @@
 #![tactic(auto)]
 
 pub mod alone;
+pub mod comparing;
 mod driver_task;
 pub mod running;
 mod shared;
 mod supervisor;
+pub mod watch;
+mod witness;

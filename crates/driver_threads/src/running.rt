@@ -1,16 +1,19 @@
 //! The threads behind a link, from their start to their end.
 
-ghost use Rattle.std.specs.Prelude.{◌≡◌, ◌+◌, ◌/◌, [], IfOk, length};
+ghost use Rattle.std.specs.Prelude.{◌≡◌, ◌+◌, ◌/◌, [], IfOk, IfSome, length};
 ghost use Rattle.std.specs.Arc.{arc_value};
 ghost use Rattle.records.specs.Opening.{Opening};
 ghost use Rattle.true_replies.specs.Events.{opening_media};
 ghost use Rattle.changes.specs.Units.{puts_of};
 ghost use Rattle.shared_media.specs.Confined.{IsImageOutside, KeepsBut, KeepsOutside};
 ghost use Rattle.shared_media.specs.Marking.{AreChangesOutside};
+ghost use Rattle.driver_threads.specs.Watched.{IsNumbered, IsThere, known_sectors};
 
 use crate::alone::once_alone;
 use crate::shared::Shared;
 use crate::supervisor::{Lines, Supervisor, Worker, start_supervisor};
+use crate::watch::Likeness;
+use crate::witness::Witness;
 use bdev::BlockDriver;
 use board::counting::parameters::ServiceParameters;
 use board::{Board, Seat};
@@ -87,6 +90,8 @@ pub struct Running<N: ServiceParameters> {
     first: Worker,
     media: MediaHandle<N>,
     ending: Arc<Bell>,
+    // What knows the media as they stood at a moment, once they were looked at.
+    pub(crate) witness: Witness<N>,
 }
 
 impl<N: ServiceParameters> Drop for Running<N> {
@@ -96,6 +101,7 @@ impl<N: ServiceParameters> Drop for Running<N> {
             first: _,
             media: _,
             ending,
+            witness: _,
         } = self;
         ending.ring();
     }
@@ -150,11 +156,14 @@ pub fn start_drivers<
 ) -> Result<(ChannelLink<R>, Running<N>), AllocError>
     requires range { (range.0 ≡ N.opening.first) × (range.1 ≡ N.opening.count) }
     requires media { media ≡ opening_media N.opening }
+    requires board { arc_value board.now ≡ N.table }
     requires seat { seat.table ≡ arc_value board.now }
     ensures history { IfOk result (λ r. ⟦<ChannelLink<R> as Link>⟧.history r.0 ≡ []) }
     ensures budget { IfOk result (λ r. ⟦<ChannelLink<R> as Link>⟧.budget_left r.0 ≡ 1099511627776) }
     ensures truth { IfOk result (λ r. (v : Opening) → ⟦<ChannelLink<R> as Link>⟧.truth r.0 v []) }
 {
+    let mut seat = seat;
+    let witness = Witness::new(Arc::try_clone(board)?, board.split(&mut seat, None)?);
     let shared = Shared::new(alloc, media, range, board, gate)?;
     let media = MediaHandle {
         media: Arc::try_clone(&shared.media)?,
@@ -172,6 +181,7 @@ pub fn start_drivers<
             first,
             media,
             ending,
+            witness,
         },
     ))
 }
@@ -205,6 +215,34 @@ impl<N: ServiceParameters> Running<N> {
         Arc::strong_count(&self.media.handles) > 1
     }
 
+    /// Gives the media, as they stand, a number, by which they are known from now on. None where they get none. It waits for the step of a
+    /// driver.
+    pub(crate) fn publish<R: Wait>(&mut self, rt: &R) -> Option<u64>
+        ensures { IfSome result (λ n. IsNumbered self.new.witness.seat.view.edition n) }
+    {
+        let mut media = self.media.media.lock(rt);
+        self.witness.publish(&mut *media)
+    }
+
+    /// How bytes are beside those that the volume's range of what is known by this number has from this byte on: Unsure where the media
+    /// aren't that any more, or the bytes don't lie within the range or the media. It waits for the step of a driver.
+    pub(crate) fn beside<R: Wait>(
+        &mut self,
+        rt: &R,
+        number: u64,
+        start: u64,
+        bytes: &[u8],
+    ) -> Likeness
+        requires { IsNumbered self.old.witness.seat.view.edition number }
+        ensures stays { self.new.witness.seat.view.edition ≡ self.old.witness.seat.view.edition }
+        ensures same { result ≡ Likeness.Same → IsThere N.opening (known_sectors self.old.witness.seat.view.edition) start bytes.now }
+        ensures differs { result ≡ Likeness.Differs
+            → IsThere N.opening (known_sectors self.old.witness.seat.view.edition) start bytes.now → ⊥ }
+    {
+        let mut media = self.media.media.lock(rt);
+        self.witness.beside(&mut *media, number, start, bytes)
+    }
+
     /// Ends all drivers, joins all threads, and gives the media, and which units of eight sectors of the volume's range, from its first
     /// sector on, drivers may have written: each other sector is as it was handed in, and there are as many. The link has to be let go of
     /// before, since else a driver may wait for room in it.
@@ -215,16 +253,25 @@ impl<N: ServiceParameters> Running<N> {
         ensures outside { KeepsOutside N.opening result.0 }
         ensures units { length result.1 ≡ (N.opening.count + 7) / 8 }
     {
+        let (confined, _) = self.end(rt);
+        confined.into_media()
+    }
+
+    /// Ends all drivers, and joins all threads, as `stop`: the media, and what knows them as they stood.
+    pub(crate) fn end<R: Threads + Wait>(self, rt: &R) -> (Confined<N>, Witness<N>)
+        ensures { result.1 ≡ self.witness }
+    {
         let Running {
             supervisor,
             first,
             media,
             ending,
+            witness,
         } = self;
         ending.ring();
         supervisor.join(rt);
         first.end(rt);
         let MediaHandle { media, handles: _ } = media;
-        once_alone(rt, media).into_inner().into_media()
+        (once_alone(rt, media).into_inner(), witness)
     }
 }

@@ -10,8 +10,7 @@ use Rattle.records.specs.Told.{Told, grown, took_end}
 use Rattle.records.specs.ServerCall.{Serving, Outcome, with_outcome}
 use Rattle.reissue.specs.Calls.{Truth}
 use Rattle.reissue.specs.Moves.{WasRead}
-use Rattle.volume_reading.specs.declared.piece.Piece.{Piece}
-use Rattle.volume_reading.specs.Pieces.{HaveBytes}
+use Rattle.volume_reading.specs.Pieces.{HaveBytes, Piece}
 use Rattle.volume_reading.specs.Reading.{LeavesDisk}
 use Rattle.file_server.specs.declared.ReadEnd.{ReadEnd}
 use Rattle.file_server.specs.declared.ReadEnd.TheVariants.{Read, GivenUp, Cut}

@@ -1,12 +1,13 @@
 //! A file server over a link: what every one keeps, so that whoever moves its link needs to know nothing else of it.
 #![tactic(auto)]
 
-ghost use Rattle.std.specs.Prelude.{◌≡◌, ◌≢◌, ◌≤◌, ◌<◌, ◌+◌, ◌^◌, ℕ, min, false};
+ghost use Rattle.std.specs.Prelude.{◌≡◌, ◌≢◌, ◌≤◌, ◌<◌, ◌+◌, ◌^◌, ℕ, List, min, false};
 ghost use Rattle.std.specs.Borrow.{Lends, sem};
 ghost use Rattle.tree.specs.declared.Call.{Call as TreeCall};
 ghost use Rattle.reissue.specs.Room.{room_needed};
 ghost use Rattle.file_server.specs.Over.{CallSpecification, AbsorbsOver, SameServing, outcome_in, outcome_of};
-ghost use Rattle.volume_reading.specs.Pieces.{ArePieces, SamePlaces};
+ghost use Rattle.volume_reading.specs.Pieces.{Piece};
+ghost use Rattle.volume_reading.specs.Places.{AreAt, ArePlaces, AreTaken};
 ghost use Rattle.file_server.specs.Back.{ReadsBack};
 
 pub mod laws;
@@ -15,7 +16,7 @@ use message::Incoming;
 use records::legal::Serve;
 use reissue::Link;
 use tree::{Call, Outcome, Reply, Who};
-use volume_reading::{Piece, ReadRoom};
+use volume_reading::{Place, ReadRoom, Takes};
 
 /// How a call ended.
 #[derive(Clone, Copy, Debug, PartialEq, Eq)]
@@ -107,15 +108,17 @@ pub trait FileServer<L: Link + Drop>: Serve + Drop {
         ensures* lends { sem 𝓛 (Lends Self.row L.row self.entry result (with_line self.entry.now)) }
         ensures value { result.now ≡ line self.old };
 
-    /// Lets the server go and reads pieces of its volume back: waits for all that is pending, and then reads each piece of the volume's
-    /// range through the link, in order. It takes no memory. It ends early where the device is given up or the link ends. Gives the link.
-    fn read_back(self, room: ReadRoom, pieces: &mut [Piece]) -> (L, ReadEnd)
+    /// Lets the server go and reads places of its volume back: waits for all that is pending, and then reads each place of the volume's
+    /// range through the link, in order, and has its piece taken before the next one is read. It takes no memory. It ends early where the
+    /// device is given up or the link ends. Gives the link.
+    fn read_back<T: Takes>(self, room: ReadRoom, places: &[Place], taker: &mut T) -> (L, ReadEnd)
         requires ready { is_ready self }
         requires few { absorbed self ≤ 2 ^ 48 }
         requires live { (Self.serving self).ended ≡ false }
-        requires pieces { ArePieces 0 (2 ^ 48) pieces.old }
-        ensures back { ReadsBack (Self.serving self) result.1 pieces.new (L.history result.0) (L.truth (line self)) (L.truth result.0) }
-        ensures same { SamePlaces pieces.old pieces.new }
+        requires places { ArePlaces 0 (2 ^ 48) places.now }
+        ensures back { (pieces : List Piece) × AreTaken T.takes taker.old pieces taker.new
+            × (result.1 ≡ ReadEnd.Read → AreAt places.now pieces)
+            × ReadsBack (Self.serving self) result.1 pieces (L.history result.0) (L.truth (line self)) (L.truth result.0) }
         ensures goes { L.goes_on (line self) result.0 };
 
     // the link that was put there is the link

@@ -1,6 +1,6 @@
 -- What a service gives, as an application has it.
 use Rattle.std.proofs.Common.{◌≡◌, ◌∙◌, ℕ, List, Result, Ok, Err, IfOk, IfErr, length, subst, sym}
-use Rattle.std.specs.Prelude.{Option}
+use Rattle.std.specs.Prelude.{Bool, true, Option}
 use Rattle.layout.specs.declared.Geometry.{Geometry}
 use Rattle.tree.specs.Tree.{Tree}
 use Rattle.records.specs.Marks.{Mark}
@@ -15,7 +15,12 @@ use Rattle.shared_server.specs.Held.{HoldsIfTrue, IsAdmitted, IsGood, IsGuarante
 use Rattle.shared_server.specs.declared.locked.LastSync.{LastSync}
 use Rattle.shared_server.specs.declared.refusal.SessionRefusal.TheVariants.{TooMany, Stopped, OutOfMemory}
 use Rattle.service_start.specs.Servable.{HasServed}
+use Rattle.volume_commands.specs.Handing.{IsHandedOn, Putting}
+use Rattle.volume_commands.specs.declared.handing.Handing.{Handing}
+use Rattle.volume_commands.specs.declared.handing.Handing.TheVariants.{Put, TakenBeside, NotPut, Beside, Nowhere}
 use Rattle.archive.specs.Behind.{Puts}
+use Rattle.archive.specs.Ending.{Ends, IsEndedIn}
+use Rattle.archive.specs.declared.ending.Ending.{Ending}
 use Rattle.archive.specs.Kept.{IsKeptAfter}
 use Rattle.lecternowl.specs.declared.keeping.Kept.{Kept}
 use Rattle.lecternowl.specs.declared.tasks.Came.{Came}
@@ -93,3 +98,17 @@ module _ (E F : List Mark → Type 0) (over : (seen : List Mark) → E seen → 
   undone_as (Ok (Ok kept)) h = tt
   undone_as (Ok (Err refusal)) h = refusal_as refusal h
   undone_as (Err e) h = tt
+
+-- ---- in a file
+
+-- an image was put where the archive took it
+pub taken_if_put : {A B : Type 0} (ends : Ends A) (leaves : Putting B) (bytes image : List ℕ) (minor : ℕ) (as_read : Bool) (p : Ending A) (b : B)
+    (handing : Handing) (q : Ending A) (c : B) → bytes ≡ image
+    → IsHandedOn (λ s i put t. IsEndedIn ends s.archive i put t.archive) leaves bytes minor as_read p b handing q c → handing ≡ Put
+    → (left : Option A) × IsEndedIn ends p.archive image true left
+taken_if_put ends leaves bytes image minor as_read p b Put q c same it is =
+    (q.archive, subst (λ i. IsEndedIn ends p.archive i true q.archive) same it.2)
+taken_if_put ends leaves bytes image minor as_read p b TakenBeside q c same it is = cc
+taken_if_put ends leaves bytes image minor as_read p b NotPut q c same it is = cc
+taken_if_put ends leaves bytes image minor as_read p b (Beside why) q c same it is = cc
+taken_if_put ends leaves bytes image minor as_read p b (Nowhere why) q c same it is = cc

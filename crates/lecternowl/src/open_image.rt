@@ -1,9 +1,10 @@
 //! An image file that a program serves and keeps.
 
-ghost use Rattle.std.specs.Prelude.{◌≡◌, true, IfErr, IfOk, map};
+ghost use Rattle.std.specs.Prelude.{◌≡◌, true, IfErr, IfOk, Option, map};
 ghost use Rattle.serve.specs.Stopping.{is_as_read as as_read};
 ghost use Rattle.service_start.specs.Servable.{HasServed};
 ghost use Rattle.service_start.specs.Spent.{IsSpent};
+ghost use Rattle.archive.specs.Ending.{IsEndedIn};
 ghost use Rattle.volume_commands.specs.Handing.{HoldsTreeIn};
 ghost use Rattle.lecternowl.specs.Serving.{AreDone, IsNotServed};
 
@@ -11,7 +12,7 @@ use crate::keeping::Kept;
 use crate::refusal::ServeRefusal;
 use crate::start::serve_kept;
 use crate::tasks::{Came, Task};
-use archive::{Archive, FileArchive};
+use archive::{Archive, Ending, FileArchive};
 use bdev::BlockDriver;
 use host::whole_file::read_front;
 use image_file::Kept as KeptFile;
@@ -24,20 +25,18 @@ use reincarnate::policy::Setup;
 use release::release;
 use serve::stopping::is_as_read;
 use std::alloc::Global;
-use std::fs::File;
 use std::rt::Files;
 use std::sync::Wait;
 use std::thread::Threads;
-use std::time::Clock;
-use volume_commands::handing::{Handing, ImagePlace, hand_on};
+use volume_commands::handing::{Handing, hand_on};
 
 /// An image file that is open: no other program writes it, since it is locked, and so is its log, `NAME.redo`.
 #[derive(Drop)]
-pub struct OpenImage<'n, H> {
-    rt: H,
+pub struct OpenImage<'n> {
+    rt: HostRuntime,
     name: &'n str,
     locked: LockedImage,
-    begun: Begun<H>,
+    begun: Begun,
 }
 
 /// What came of tasks on an image file.
@@ -50,35 +49,20 @@ pub struct InFile<O: Drop> {
     pub handing: Handing,
 }
 
-/// The archive of an image file, as the place of the image at the end; none where a thread still has it.
-#[derive(Drop)]
-struct Ending<A> {
-    archive: Option<A>,
-}
-
-impl<A: Archive + Drop> ImagePlace for Ending<A> {
-    fn put(&mut self, image: &[u8]) -> bool {
-        match &mut self.archive {
-            Some(archive) => archive.finish(image).is_ok(),
-            None => false,
-        }
-    }
-}
-
 /// An image file with what its log asked for, and its bytes. Files without a name, which a kill leaves, are given back in both.
 #[derive(Drop)]
-struct Begun<H> {
-    kept: KeptFile<ImageFiles<H>>,
+struct Begun {
+    kept: KeptFile<ImageFiles<HostRuntime>>,
     image: Vec<u8>,
 }
 
 /// What is begun with of a locked image of this name.
-fn begin<'n, H: Files<File = File> + AllocGlobal + Clock + Copy>(
-    rt: &H,
+fn begin<'n>(
+    rt: &HostRuntime,
     locked: &LockedImage,
     name: &'n str,
     minor: u8,
-) -> Result<Begun<H>, FilesRefusal<'n>> {
+) -> Result<Begun, FilesRefusal<'n>> {
     let mut kept = locked.keep(rt, name)?;
     let mut image = read_front(rt, name).map_err(|error| FilesRefusal::CannotRead(
         name,
@@ -99,7 +83,8 @@ fn handed<H: Files + AllocGlobal + Copy + Drop, O: Drop, A: Archive + Drop>(
     came: &Came<O>,
     archive: Option<A>,
 ) -> Handing
-    ensures { result ≡ Handing.Put → (as_read came.now.last_sync ≡ true) × HoldsTreeIn came.now.image.items minor }
+    ensures fit { result ≡ Handing.Put → (as_read came.now.last_sync ≡ true) × HoldsTreeIn came.now.image.items minor }
+    ensures taken { result ≡ Handing.Put → (left : Option A) × IsEndedIn A.ends archive came.now.image.items true left }
 {
     let as_read = is_as_read(came.last_sync);
     let mut ending = Ending { archive };
@@ -116,16 +101,11 @@ fn handed<H: Files + AllocGlobal + Copy + Drop, O: Drop, A: Archive + Drop>(
 
 /// Serves an image, which came from this file, puts changes into it meanwhile, and hands on the image that is left.
 #[tactic(auto, using(crate::proofs::ServedLaws::served_done))]
-fn serve_file<
-    H: Files + AllocGlobal + Clock + Copy + Drop + Send + 'static,
-    R: Threads + Wait + Copy + Send + Sync + 'static,
-    D: BlockDriver + 'static,
-    T: Task,
->(
-    files: H,
+fn serve_file<R: Threads + Wait + Copy + Send + Sync + 'static, D: BlockDriver + 'static, T: Task>(
+    files: HostRuntime,
     rt: R,
     name: &str,
-    begun: Begun<H>,
+    begun: Begun,
     setup: &Setup,
     supply: Vec<D>,
     tasks: Vec<T>,
@@ -150,12 +130,16 @@ fn serve_file<
     }
 }
 
-impl<'n, H: Files<File = File> + AllocGlobal + Clock + Copy> OpenImage<'n, H> {
+impl<'n> OpenImage<'n> {
     /// Opens the image file of this name, and locks it: until it is served, or let go, no other program opens it. What its log asks for, as a
     /// kill leaves it, is done. Files without a name in the volume of this minor, which a kill leaves too, are given back.
     ///
     /// Refused are a file that can't be read or written, one that another program has open, and a log that is another image's.
-    pub fn open(rt: &H, name: &'n str, minor: u8) -> Result<OpenImage<'n, H>, FilesRefusal<'n>> {
+    pub fn open(
+        rt: &HostRuntime,
+        name: &'n str,
+        minor: u8,
+    ) -> Result<OpenImage<'n>, FilesRefusal<'n>> {
         let locked = open(rt, name)?;
         match begin(rt, &locked, name, minor) {
             Ok(begun) => Ok(OpenImage {
@@ -177,12 +161,7 @@ impl<'n, H: Files<File = File> + AllocGlobal + Clock + Copy> OpenImage<'n, H> {
     {
         self.begun.image.as_slice()
     }
-}
 
-impl<'n, H: Files<File = File> + AllocGlobal + Clock + Copy + Drop + Send + 'static> OpenImage<
-    'n,
-    H,
-> {
     /// Serves the image as [`serve_kept`] does, over the threads of `rt`: what tasks change goes into the file behind each sync of theirs,
     /// and every so many seconds beside that; 0: only behind theirs. Then the image that is left goes into the file, if it is as it was read
     /// back through the drivers and its volume is clean; else the file stays as the last sync left it, and the image goes into the file of

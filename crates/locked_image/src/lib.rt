@@ -4,6 +4,7 @@
 pub mod beside;
 mod copied_over;
 pub mod locked;
+mod made_again;
 pub mod reading;
 pub mod reasons;
 pub mod storing;

@@ -177,12 +177,13 @@ impl LockedImage {
         if self.is_new {
             flush_folder(rt, &self.log_name)?;
         }
+        let log_name = String::from_str(rt.alloc(), self.log_name.as_str())?;
         let (image, number) = match &self.image {
             Some(image) => (Some(image.try_clone()?), image.metadata()?.ino()),
             None => (None, 0),
         };
         Ok((
-            ImageFiles::new(rt.alloc(), *rt, self.log.try_clone()?, image)?,
+            ImageFiles::new(rt.alloc(), *rt, log_name, self.log.try_clone()?, image)?,
             number,
         ))
     }

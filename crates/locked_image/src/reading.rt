@@ -101,7 +101,8 @@ fn read_behind<'n, R: Files<File = File> + AllocGlobal + Clock + Copy>(
         return Ok(Err(FilesRefusal::CopiedOver(name)));
     }
     let number = image.metadata()?.ino();
-    let mut files = ImageFiles::new(rt.alloc(), *rt, log, Some(image))?;
+    let no_name = String::new(rt.alloc());
+    let mut files = ImageFiles::new(rt.alloc(), *rt, no_name, log, Some(image))?;
     let mut bytes = bytes;
     match read_through(rt.alloc(), &mut files, number, bytes.as_mut_slice()) {
         Ok(()) => Ok(Ok(bytes)),

@@ -1,17 +1,20 @@
 //! An image and its log as storage of units.
 
 use crate::copied_over::{is_old, touch};
+use crate::is_at;
+use crate::made_again::made_again;
 use host::sparse::is_zero;
 use stable::{Storage, UNIT, Which};
 use std::alloc::Global;
 use std::fs::File;
 use std::io::{self, ErrorKind};
 use std::os::unix::fs::FileExt;
+use std::rt::Files;
 use std::time::{Clock, SystemTime};
 
 /// How many bytes of a file are read at once, how many of an image are written at once at least where so many come one behind the other, and
 /// how many zeros are written behind what lengthens a log (own).
-const AT_ONCE: u64 = 64 * UNIT as u64;
+pub(crate) const AT_ONCE: u64 = 64 * UNIT as u64;
 /// How a log's head begins: the first bytes of the log's second unit.
 const HEAD: [u8; 8] = *b"MFSREDO1";
 
@@ -22,8 +25,15 @@ const HEAD: [u8; 8] = *b"MFSREDO1";
 ///
 /// The image is written while the log asks for changes of it alone. Before that, and each half second meanwhile, the log is touched, so
 /// that a kill leaves no image that seems to have been copied over the one of its log. Where it can't be touched the image isn't written.
+///
+/// A log that isn't at its name any more once it is synced is made again there, with all that it has: so the next start finds it. Where
+/// that fails, as where another file has the name, so does the sync. Where the folder isn't there either, both files have moved with it,
+/// and stay as they are.
 #[derive(Drop)]
-pub struct ImageFiles<C> {
+pub struct ImageFiles<R> {
+    alloc: Global,
+    rt: R,
+    log_name: String,
     log: File,
     log_ahead: Ahead,
     // None where there is no image yet.
@@ -40,7 +50,6 @@ pub struct ImageFiles<C> {
     // gate, in front of it; and the first gate is closed.
     last: u64,
     is_doubtful: bool,
-    clock: C,
     // When the log was touched last.
     touched: Option<SystemTime>,
 }
@@ -150,20 +159,24 @@ pub(crate) fn is_due(log: &File, number: u64) -> io::Result<bool> {
     Ok(is_of_it && unit_at(log, length, 0)? == head)
 }
 
-impl<C: Clock + Drop> ImageFiles<C> {
-    /// The storage of a log and an image, which has as many bytes as it has now, by this clock.
+impl<R: Files<File = File> + Clock + Drop> ImageFiles<R> {
+    /// The storage of a log of this name and an image, which has as many bytes as it has now.
     pub(crate) fn new(
         alloc: Global,
-        clock: C,
+        rt: R,
+        log_name: String,
         log: File,
         image: Option<File>,
-    ) -> io::Result<ImageFiles<C>> {
+    ) -> io::Result<ImageFiles<R>> {
         let length = match &image {
             Some(image) => image.metadata()?.len(),
             None => 0,
         };
         let room = log.metadata()?.len();
         Ok(ImageFiles {
+            alloc,
+            rt,
+            log_name,
             log,
             log_ahead: Ahead::new(alloc),
             image,
@@ -177,7 +190,6 @@ impl<C: Clock + Drop> ImageFiles<C> {
             synced: room,
             last: 0,
             is_doubtful: false,
-            clock,
             touched: None,
         })
     }
@@ -249,6 +261,23 @@ impl<C: Clock + Drop> ImageFiles<C> {
         written
     }
 
+    /// Syncs the log, which is made again at its name where it isn't there any more.
+    fn sync_log(&mut self) -> io::Result<()> {
+        let log = self.file(Which::Log)?;
+        log.sync_data()?;
+        if is_at(&self.rt, Some(log), &self.log_name)? {
+            return Ok(());
+        }
+        match made_again(self.alloc, &self.rt, log, &self.log_name) {
+            Ok(again) => {
+                self.log = again;
+                Ok(())
+            }
+            Err(error) if error.kind() == ErrorKind::NotFound => Ok(()),
+            Err(error) => Err(error),
+        }
+    }
+
     /// Takes bytes that are to be written at a place of the image: those that lie one behind the other go together.
     fn write_image(&mut self, first: u64, bytes: &[u8]) -> io::Result<()> {
         let at = place_of(first)?;
@@ -263,7 +292,7 @@ impl<C: Clock + Drop> ImageFiles<C> {
 
     /// Touches the log, where it may be older than the image once that is written.
     fn touch_log(&mut self) -> io::Result<()> {
-        let now = SystemTime::now(&self.clock)?;
+        let now = SystemTime::now(&self.rt)?;
         if is_old(self.touched, now) {
             touch(self.file(Which::Log)?, now)?;
             self.touched = Some(now);
@@ -292,7 +321,7 @@ impl<C: Clock + Drop> ImageFiles<C> {
     }
 }
 
-impl<C: Clock + Drop> Storage for ImageFiles<C> {
+impl<R: Files<File = File> + Clock + Drop> Storage for ImageFiles<R> {
     fn read(&mut self, file: Which, n: u64) -> io::Result<[u8; UNIT]> {
         let at = place_of(n)?;
         match file {
@@ -309,10 +338,13 @@ impl<C: Clock + Drop> Storage for ImageFiles<C> {
     }
 
     fn sync(&mut self, file: Which) -> io::Result<()> {
-        if matches!(file, Which::Image) {
-            self.write_behind()?;
-        }
-        let synced = self.file(file)?.sync_data();
+        let synced = match file {
+            Which::Log => self.sync_log(),
+            Which::Image => {
+                self.write_behind()?;
+                self.file(file)?.sync_data()
+            }
+        };
         self.is_doubtful = synced.is_err();
         if matches!(file, Which::Log) {
             self.synced = self.room;

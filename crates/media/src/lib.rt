@@ -214,6 +214,13 @@ impl Media {
         self.generation = self.generation.max(generation);
     }
 
+    /// Whether a generation may move sector `n`: it is the current one, and there is such a sector.
+    pub fn accepts(&self, generation: u32, n: u32) -> bool
+        ensures { result ≡ accepts self.now generation n }
+    {
+        generation == self.generation && n < self.sectors()
+    }
+
     /// The bytes of sector `n`, read under a generation.
     #[tactic(auto, using(crate::proofs::SectorLaws::sector_count, crate::proofs::WrittenLaws::accepts_exists))]
     pub fn read_sector(&self, generation: u32, n: u32) -> Result<[u8; SECTOR], SectorRefusal>

@@ -4,8 +4,8 @@ use Rattle.std.specs.Prelude.{Bool, Option, Some, IfSome}
 use Rattle.volume_commands.specs.Handing.{Putting, IsHandedOn}
 use Rattle.volume_commands.specs.declared.handing.Handing.{Handing}
 use Rattle.volume_commands.specs.declared.handing.Handing.TheVariants.{Put, TakenBeside, NotPut, Beside, Nowhere}
-use Rattle.mount_service.specs.declared.handing.Ending.{Ending}
-use Rattle.mount_service.specs.Ending.{Ends, IsEndedIn}
+use Rattle.archive.specs.declared.ending.Ending.{Ending}
+use Rattle.archive.specs.Ending.{Ends, IsEndedIn}
 
 module _ {A B : Type 0} (ends : Ends A) (leaves : Putting B) (minor : ℕ) (p : Ending A) (b : B) (q : Ending A) (c : B) where
   -- what came of the image, by the place that is made of the archive

@@ -4,33 +4,17 @@ ghost use Rattle.std.specs.Prelude.{◌≡◌, false, true, IfNone, IfSome, None
 ghost use Rattle.output.specs.Output.{Tells};
 ghost use Rattle.volume_commands.specs.Handing.{HoldsTreeIn, IsHandedOn, TellsHanding, not_handed_text};
 ghost use Rattle.serve.specs.Stopping.{is_as_read as as_read};
-ghost use Rattle.mount_service.specs.Ending.{IsEndedIn, status_after};
+ghost use Rattle.archive.specs.Ending.{IsEndedIn};
+ghost use Rattle.mount_service.specs.Ending.{status_after};
 
 use crate::mount::{Ended, MountStatus};
 use crate::program::{Came, Streams};
-use archive::Archive;
+use archive::{Archive, Ending};
 use output::{Told, tell};
 use serve::stopping::is_as_read;
 use std::alloc::Global;
 use std::io::Write;
 use volume_commands::handing::{Handing, ImagePlace, NotHanded, hand_on, tell_handing};
-
-/// The archive of a mount, as the place of its image at the end; none where a thread still has it.
-#[derive(Drop)]
-struct Ending<A> {
-    archive: Option<A>,
-}
-
-impl<A: Archive + Drop> ImagePlace for Ending<A> {
-    ghost puts = { λ s image put t. IsEndedIn A.ends s.archive image put t.archive };
-
-    fn put(&mut self, image: &[u8]) -> bool {
-        match &mut self.archive {
-            Some(archive) => archive.finish(image).is_ok(),
-            None => false,
-        }
-    }
-}
 
 /// What is left of a mount once its image was handed on.
 #[derive(Drop)]

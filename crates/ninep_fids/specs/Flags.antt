@@ -1,5 +1,5 @@
 -- Flags and groups that a message names.
-use Rattle.std.specs.Prelude.{◌+◌, ◌%◌, ℕ, Bool, not, nat_lt, Option, Some, None, Result, Ok, Err, if◌then◌else◌, ◌==◌, ◌&&◌}
+use Rattle.std.specs.Prelude.{◌+◌, ◌%◌, ℕ, Bool, not, nat_lt, Option, Some, None, Result, Ok, Err, if◌then◌else◌, ◌==◌, ◌||◌}
 use Rattle.errno.specs.declared.Errno.TheVariants.{EINVAL}
 use Rattle.tree.specs.declared.OpenFlags.{OpenFlags}
 use Rattle.talks.specs.Flags.{is_set}
@@ -22,6 +22,9 @@ open_bits flags =
 abbrev pub flags_by : ℕ → OpenFlags
 flags_by bits = record { 0 = bits }
 
--- the group that a new node is given: the one that is asked for, where user 0 asks and it isn't its own
-abbrev pub group_of : User → ℕ → Option ℕ
-group_of user gid = if (user.uid == 0) && (not (gid == 0) && nat_lt gid 65536) then Some gid else None
+-- the group that a new node is given: the one that is asked for, where user 0 asks and it isn't its own; one past 65535 is EINVAL
+abbrev pub group_of : User → ℕ → Result (Option ℕ) Refused
+group_of user gid =
+    if not (user.uid == 0) || (gid == 0) then Ok None
+    else if nat_lt 65535 gid then Err (By EINVAL)
+    else Ok (Some gid)

@@ -38,13 +38,15 @@ pub fn bits_of(flags: u32) -> Result<u8, Refused>
     Ok(access + (flag_for(flags, TRUNCATE, 32) + flag_for(flags, APPEND, 4)))
 }
 
-/// The group that a new node is given: the one that is asked for, where user 0 asks and it isn't its own.
-pub fn group_of(user: User, gid: u32) -> Option<u16>
+/// The group that a new node is given: the one that is asked for, where user 0 asks and it isn't its own; EINVAL where it is past 65535.
+pub fn group_of(user: User, gid: u32) -> Result<Option<u16>, Refused>
     ensures { result ≡ group_of user gid }
 {
-    if user.uid == 0 && gid != 0 && gid <= 0xffff {
-        Some(gid as u16)
-    } else {
-        None
+    if user.uid != 0 || gid == 0 {
+        return Ok(None);
     }
+    if gid > 0xffff {
+        return Err(Refused::By(Errno::EINVAL));
+    }
+    Ok(Some(gid as u16))
 }

@@ -246,8 +246,9 @@ opens_within k fid flags = it_within 16 (unopened k.fids fid) _ (λ file. it_wit
 
 creates_within : (k : Known) (fid : ℕ) (name : List ℕ) (flags mode gid : ℕ) → Within (creates k fid name flags mode gid) 16
 creates_within k fid name flags mode gid = it_within 16 (unopened k.fids fid) _ (λ directory. it_within 16 (checked name) _
-    (λ _. it_within 16 (open_bits flags) _ (λ bits. making_file_within 12 fid directory.user (below directory.path name)
-    (flags_by (bits + 24)) (mode % 512) (taken_by flags bits) (group_of directory.user gid))))
+    (λ _. it_within 16 (open_bits flags) _ (λ bits. it_within 16 (group_of directory.user gid) _
+    (λ group. making_file_within 12 fid directory.user (below directory.path name)
+    (flags_by (bits + 24)) (mode % 512) (taken_by flags bits) group))))
 
 file_within : (k : Known) (r : Request) → Within (of_file k r) 16
 file_within k (request.Open fid flags) = opens_within k fid flags
@@ -269,8 +270,8 @@ name_within : (k : Known) (r : Request) → Within (of_name k r) 16
 name_within k (request.Symlink directory name target gid) = it_within 16 (named_for k.fids directory name.now) _
     (λ parent. making_within 13 parent.user.session (below parent.path name.now) (made.Symlink (at target.now)) None)
 name_within k (request.Mkdir directory name mode gid) = it_within 16 (named_for k.fids directory name.now) _
-    (λ parent. making_within 13 parent.user.session (below parent.path name.now) (made.Directory (mode % 512))
-    (group_of parent.user gid))
+    (λ parent. it_within 16 (group_of parent.user gid) _
+    (λ group. making_within 13 parent.user.session (below parent.path name.now) (made.Directory (mode % 512)) group))
 name_within k (request.Link directory fid name) = it_within 16 (named k.fids directory) _
     (λ parent. it_within 16 (named k.fids fid) _ (λ file. it_within 16 (checked name.now) _
     (λ _. linking_within 15 parent.user.session file.path (below parent.path name.now))))

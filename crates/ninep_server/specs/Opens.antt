@@ -86,8 +86,9 @@ taken_by flags bits = if is_set flags 0x80 then None else Some (flags_by bits)
 -- Tlcreate: the flags of an open that makes a file (8) at a new name alone (16)
 abbrev pub creates : Known → ℕ → List ℕ → ℕ → ℕ → ℕ → Plan
 creates k fid name flags mode gid = with_it (unopened k.fids fid) (λ directory. with_it (checked name)
-    (λ _. with_it (open_bits flags) (λ bits. OrNoMemory (making_file fid directory.user (below directory.path name)
-    (flags_by (bits + 24)) (mode % 512) (taken_by flags bits) (group_of directory.user gid)))))
+    (λ _. with_it (open_bits flags) (λ bits. with_it (group_of directory.user gid)
+    (λ group. OrNoMemory (making_file fid directory.user (below directory.path name)
+    (flags_by (bits + 24)) (mode % 512) (taken_by flags bits) group)))))
 
 -- the call that makes a directory or a symbolic link
 abbrev pub making_call : List ℕ → Made → Call
@@ -117,7 +118,8 @@ making session path what group =
 -- Tmkdir
 abbrev pub makes_directory : Known → ℕ → List ℕ → ℕ → ℕ → Plan
 makes_directory k directory name mode gid = with_it (named_for k.fids directory name)
-    (λ parent. OrNoMemory (making parent.user.session (below parent.path name) (made.Directory (mode % 512)) (group_of parent.user gid)))
+    (λ parent. with_it (group_of parent.user gid)
+    (λ group. OrNoMemory (making parent.user.session (below parent.path name) (made.Directory (mode % 512)) group)))
 
 -- Tsymlink: it is given no group
 abbrev pub makes_link : Known → ℕ → List ℕ → List ℕ → Plan

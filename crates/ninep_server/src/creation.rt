@@ -94,13 +94,14 @@ impl Creation {
             Some(OpenFlags::from_bits_retain(bits))
         };
         let user = directory.user;
+        let group = group_of(user, gid)?;
         let path = below(knows.alloc, &directory.path, name)?;
         Ok(Next::Go(Work::Open(OpenWork::Create(Creation::Make {
             file: NewFile { fid, user, path },
             flags: OpenFlags::from_bits_retain(bits + (CREATE + ONLY_NEW)),
             mode: mode_of(mode),
             taken,
-            group: group_of(user, gid),
+            group,
         }))))
     }
 

@@ -57,13 +57,14 @@ impl<'m> Making<'m> {
         ensures { BeginsAs (makes_directory (known_of knows.now) directory name.now mode gid) knows.now knows.now result }
     {
         let parent = knows.fids.named_for(directory, name)?;
+        let group = group_of(parent.user, gid)?;
         Ok(Next::Go(Work::Open(OpenWork::Make(Making {
             session: parent.user.session,
             path: below(knows.alloc, &parent.path, name)?,
             made: Made::Directory {
                 mode: mode_of(mode),
             },
-            group: group_of(parent.user, gid),
+            group,
             stage: Stage::Make,
         }))))
     }

@@ -10,13 +10,15 @@ use Rattle.media.specs.Contents.{IsWhole, MediaState, sectors_of}
 use Rattle.media.proofs.SectorLaws.{is_same_image, sector_count}
 use Rattle.records.specs.Opening.{Opening, contents_at}
 use Rattle.changes.specs.Units.{Covers, is_marked}
-use Rattle.volume_reading.specs.declared.piece.Piece.{Piece}
+use Rattle.volume_reading.specs.Pieces.{Piece}
+use Rattle.shared_server.specs.Finishing.{finish_end}
+use Rattle.shared_server.specs.Stopping.{Went}
 use Rattle.shared_server.specs.declared.finishing.Finish.{Finish}
-use Rattle.shared_server.specs.declared.finishing.ReadBack.{ReadBack}
 use Rattle.shared_server.specs.declared.finishing.Finish.TheVariants.{Read}
 use Rattle.shared_media.specs.Confined.{KeepsBut, KeepsOutside}
-use Rattle.volume_reading.specs.Pieces.{ArePieces, HaveBytes}
-use Rattle.serve.specs.Stopping.{AreThere, AreWithin, HasPieces, IsAsRead, IsOther, range_in}
+use Rattle.driver_threads.specs.declared.watch.Likeness.{Likeness}
+use Rattle.driver_threads.specs.declared.watch.Likeness.TheVariants.{Same, Differs}
+use Rattle.serve.specs.Stopping.{AreThere, HasPieces, IsAsRead, IsOther, Tells, range_in}
 
 -- a byte of a sector that was cut from bytes
 byte_of_sector : (m n o : ℕ) (bytes : List ℕ) → n < m → o < 512
@@ -79,13 +81,14 @@ has_pieces v written units media pieces image is whole keeps fits covers there =
     }
 
 -- an image that is as it was read back
-pub as_read : (v : Opening) (finish : Finish) (back : ReadBack) (media : MediaState) (written : List Bool) (image : List ℕ)
-    → finish ≡ Read back → image ≡ concat media.sectors → IsWhole media.sectors → KeepsOutside v media → KeepsBut v written media
-    → 512 * (v.first + v.count) ≤ length image → Covers back.units written → AreThere v back.pieces.items image → IsAsRead v finish image
-as_read v finish back media written image from is whole outside keeps fits covers there =
-    subst (λ (f : Finish). IsAsRead v f image) (sym from) (
+pub as_read : (v : Opening) (finish : Finish) (units : List Bool) (pieces : List Piece) (media : MediaState) (written : List Bool) (image : List ℕ)
+    → finish ≡ Read units → image ≡ concat media.sectors → IsWhole media.sectors → KeepsOutside v media → KeepsBut v written media
+    → 512 * (v.first + v.count) ≤ length image → Covers units written → AreThere v pieces (concat media.sectors) → IsAsRead v finish pieces image
+as_read v finish units pieces media written image from is whole outside keeps fits covers there =
+    subst (λ (f : Finish). IsAsRead v f pieces image) (sym from) (
       record { media = media; bytes = is; whole = whole; outside = outside },
-      has_pieces v written back.units media back.pieces.items image is whole keeps fits covers there,
+      has_pieces v written units media pieces image is whole keeps fits covers
+          (subst (λ (l : List ℕ). AreThere v pieces l) (sym is) there),
     )
 
 -- all sectors of its range are there, by other names of what was asked
@@ -94,43 +97,16 @@ pub has_all : (v : Opening) (first count : ℕ) (now image : List ℕ) → first
 has_all v first count now image from of there fits =
     let long : length now ≡ length image = ap (λ (l : List ℕ). length l) there in omega (arith, from, of, long, fits)
 
--- and this is that range
-pub range_is : (v : Opening) (first count : ℕ) (now image range : List ℕ) → first ≡ v.first → count ≡ v.count → now ≡ image
-    → range ≡ take (512 * count) (drop (512 * first) now) → range ≡ range_in v image
-range_is v first count now image range from of there is =
-    is ∙ ap (λ (l : List ℕ). take (512 * count) (drop (512 * first) l)) there
-    ∙ ap (λ (n : ℕ). take (512 * n) (drop (512 * first) image)) of
-    ∙ ap (λ (n : ℕ). take (512 * v.count) (drop (512 * n) image)) from
-
--- which has so many bytes
-pub range_long : (v : Opening) (first count : ℕ) (now range : List ℕ) → count ≡ v.count → 512 * (first + count) ≤ length now
-    → range ≡ take (512 * count) (drop (512 * first) now) → length range ≡ 512 * v.count
-range_long v first count now range of fits is =
-    let long = length-take-le (512 * count) (drop (512 * first) now) (let d = length-drop (512 * first) now in omega (arith, d, fits)) in
-    ap (λ (l : List ℕ). length l) is ∙ long ∙ ap (λ (n : ℕ). 512 * n) of
-
--- the pieces that were read back lie in it
-pub read_within : (v : Opening) (finish : Finish) (back : ReadBack) (pieces : List Piece) (range : List ℕ) → finish ≡ Read back
-    → pieces ≡ back.pieces.items → length range ≡ 512 * v.count → AreWithin (512 * v.count) finish → ArePieces 0 (length range) pieces
-read_within v finish back pieces range from same long within =
-    subst (λ (n : ℕ). ArePieces 0 n pieces) (sym long)
-    (subst (λ (l : List Piece). ArePieces 0 (512 * v.count) l) (sym same)
-    (subst (λ (f : Finish). AreWithin (512 * v.count) f) from within))
-
--- and it has their bytes or not, by other names
-pub there_is : (v : Opening) (pieces named : List Piece) (range image : List ℕ) → named ≡ pieces → range ≡ range_in v image
-    → HaveBytes (λ k b. slice_index range k ≡ b) named → AreThere v pieces image
-there_is v pieces named range image same is h =
-    subst (λ (l : List ℕ). HaveBytes (λ k b. slice_index l k ≡ b) pieces) is
-    (subst (λ (l : List Piece). HaveBytes (λ k b. slice_index range k ≡ b) l) same h)
-
-pub there_back : (v : Opening) (pieces named : List Piece) (range image : List ℕ) → named ≡ pieces → range ≡ range_in v image
-    → AreThere v pieces image → HaveBytes (λ k b. slice_index range k ≡ b) named
-there_back v pieces named range image same is h =
-    subst (λ (l : List Piece). HaveBytes (λ k b. slice_index range k ≡ b) l) (sym same)
-    (subst (λ (l : List ℕ). HaveBytes (λ k b. slice_index l k ≡ b) pieces) (sym is) h)
+-- what is told of the pieces of a sync that went
+pub told_there : (v : Opening) (finish : Finish) (units : List Bool) (likeness : Likeness) (pieces : List Piece) (sectors : List (List ℕ))
+    → finish ≡ Read units → likeness ≡ Same → (finish_end finish ≡ Went → Tells v likeness pieces sectors) → AreThere v pieces (concat sectors)
+told_there v finish units likeness pieces sectors from is tells =
+    subst (λ (l : Likeness). Tells v l pieces sectors) is (tells (ap finish_end from))
 
 -- so an image isn't as it was read back
-pub other_is : (v : Opening) (finish : Finish) (back : ReadBack) (image : List ℕ) → finish ≡ Read back
-    → (AreThere v back.pieces.items image → ⊥) → IsOther v finish image
-other_is v finish back image from other = subst (λ (f : Finish). IsOther v f image) (sym from) other
+pub other_is : (v : Opening) (finish : Finish) (units : List Bool) (likeness : Likeness) (pieces : List Piece) (sectors : List (List ℕ))
+    (image : List ℕ) → finish ≡ Read units → likeness ≡ Differs → image ≡ concat sectors
+    → (finish_end finish ≡ Went → Tells v likeness pieces sectors) → IsOther v finish pieces image
+other_is v finish units likeness pieces sectors image from is same tells =
+    let told = subst (λ (l : Likeness). Tells v l pieces sectors) is (tells (ap finish_end from)) in
+    subst (λ (f : Finish). IsOther v f pieces image) (sym from) (λ there. told (subst (λ (l : List ℕ). AreThere v pieces l) same there))

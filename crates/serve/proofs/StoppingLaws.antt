@@ -13,10 +13,10 @@ use Rattle.reissue.specs.declared.link.Link.{Ghosts as LinkWords}
 use Rattle.board.specs.View.{is_used, without}
 use Rattle.board.specs.Keeper.{AreAllFree, IsOneUsed}
 use Rattle.changes.specs.Units.{is_marked}
-use Rattle.volume_reading.specs.declared.piece.Piece.{Piece}
+use Rattle.volume_reading.specs.Pieces.{Piece}
 use Rattle.volume_reading.proofs.Pieces.{bytes_of_in, have_both}
 use Rattle.shared_server.specs.Stopping.{AreOnDisk, IsFinished, SyncEnd, Went, WasGivenUp, WasCut, WasNotAsRead, WasNotRead}
-use Rattle.shared_server.specs.Finishing.{finish_end, pieces_back, sync_of, units_back}
+use Rattle.shared_server.specs.Finishing.{finish_end, sync_of, units_back}
 use Rattle.shared_server.specs.declared.finishing.Finish.{Finish}
 use Rattle.shared_server.specs.declared.finishing.Finish.TheVariants.{Read, Unread, GivenUp, Cut}
 use Rattle.shared_server.specs.declared.locked.LastSync.{LastSync}
@@ -24,7 +24,7 @@ use Rattle.shared_server.specs.declared.locked.LastSync.TheVariants as sync
 use Rattle.shared_server.proofs.BackLaws.{unread_line}
 use Rattle.shared_server.proofs.StoppingLaws.{finished_from}
 use Rattle.shared_media.specs.Confined.{IsImageOutside}
-use Rattle.serve.specs.Stopping.{AreWithin, HasPieces, IsAsRead, IsDisk, IsImageOf, IsLastImage, IsLastOfAll, IsLeftAfter, IsOther, IsRange, WhoIsLeft}
+use Rattle.serve.specs.Stopping.{HasPieces, IsAsRead, IsDisk, IsImageOf, IsLastImage, IsLastOfAll, IsLeftAfter, IsOther, IsRange, WhoIsLeft}
 use Rattle.serve.specs.Stopping.{WhyNotSynced, range_in, was_synced}
 use Rattle.serve.specs.declared.stopping.StopRefusal.{StopRefusal}
 use Rattle.serve.specs.declared.stopping.StopRefusal.TheVariants as stop
@@ -68,18 +68,10 @@ finished_with link numbers g v earlier seen used how size is units pieces same b
     subst (λ (n : ℕ). IsFinished link numbers g v earlier used how n units pieces) same
     (finished_from link numbers g v earlier seen used how size units pieces begins l)
 
--- with which a server of a volume was let go, after a last sync that came to this
-abbrev pub Finished : {L : Type 0} → LinkWords L → (L → List ℕ) → Geometry → Opening → List Mark → List ℕ → Finish → Type 0
-Finished link numbers g v seen used finish =
-    IsFinished link numbers g v seen used (finish_end finish) (512 * v.count) (units_back finish) (pieces_back finish)
-
--- the pieces that were read back lie in the volume's range
-pub are_within : {L : Type 0} (link : LinkWords L) (numbers : L → List ℕ) (g : Geometry) (v : Opening) (seen : List Mark) (used : List ℕ)
-    (finish : Finish) → Finished link numbers g v seen used finish → AreWithin (512 * v.count) finish
-are_within link numbers g v seen used (Read back) l = l.back.ordered
-are_within link numbers g v seen used Unread l = tt
-are_within link numbers g v seen used GivenUp l = tt
-are_within link numbers g v seen used Cut l = tt
+-- with which a server of a volume was let go, after a last sync that came to this, and these pieces that were read back
+abbrev pub Finished : {L : Type 0} → LinkWords L → (L → List ℕ) → Geometry → Opening → List Mark → List ℕ → Finish → List Piece → Type 0
+Finished link numbers g v seen used finish pieces =
+    IsFinished link numbers g v seen used (finish_end finish) (512 * v.count) (units_back finish) pieces
 
 -- the range of an image is the disk, where it has what was read back
 is_disk_by : (b : Bool) (v : Opening) (marks : List Mark) (units : List Bool) (pieces : List Piece) (image : List ℕ)
@@ -114,64 +106,67 @@ left_of_all link numbers g v seen used how size units pieces image left l range 
 
 -- where it is as it was read
 as_read_of_all : {L : Type 0} (link : LinkWords L) (numbers : L → List ℕ) (g : Geometry) (v : Opening) (seen : List Mark) (used : List ℕ)
-    (finish : Finish) (image : List ℕ) → IsAsRead v finish image → Finished link numbers g v seen used finish → AreAllFree used
+    (finish : Finish) (pieces : List Piece) (image : List ℕ) → IsAsRead v finish pieces image → Finished link numbers g v seen used finish pieces → AreAllFree used
     → IsLastOfAll link numbers g v seen Went image
-as_read_of_all link numbers g v seen used (Read back) image is l free =
-    left_of_all link numbers g v seen used Went (512 * v.count) back.units back.pieces.items image is.0 l
-    (is_disk v l.last.marks back.units back.pieces.items image l.back is.1) free
-as_read_of_all link numbers g v seen used Unread image is l free = absurd is
-as_read_of_all link numbers g v seen used GivenUp image is l free = absurd is
-as_read_of_all link numbers g v seen used Cut image is l free = absurd is
+as_read_of_all link numbers g v seen used (Read units) pieces image is l free =
+    left_of_all link numbers g v seen used Went (512 * v.count) units pieces image is.0 l
+    (is_disk v l.last.marks units pieces image l.back is.1) free
+as_read_of_all link numbers g v seen used Unread pieces image is l free = absurd is
+as_read_of_all link numbers g v seen used GivenUp pieces image is l free = absurd is
+as_read_of_all link numbers g v seen used Cut pieces image is l free = absurd is
 
 -- where it isn't
 other_of_all : {L : Type 0} (link : LinkWords L) (numbers : L → List ℕ) (g : Geometry) (v : Opening) (seen : List Mark) (used : List ℕ)
-    (finish : Finish) (image : List ℕ) → IsOther v finish image → IsImageOutside v image → Finished link numbers g v seen used finish
+    (finish : Finish) (pieces : List Piece) (image : List ℕ) → IsOther v finish pieces image → IsImageOutside v image
+    → Finished link numbers g v seen used finish pieces
     → AreAllFree used → IsLastOfAll link numbers g v seen WasNotAsRead image
-other_of_all link numbers g v seen used (Read back) image other left l free = record {
+other_of_all link numbers g v seen used (Read units) pieces image other left l free = record {
   image_is = record {
     outside = left;
     line = l.line;
     last = record { ended = l.last.ended; marks = l.last.marks; guaranteed = l.last.guaranteed; goes_on = l.last.goes_on; tells = l.last.tells };
-    range = (back.units, back.pieces.items, l.back, other);
+    range = (units, pieces, l.back, other);
   };
   none_left = subst AreAllFree (sym l.same) free;
 }
-other_of_all link numbers g v seen used Unread image other left l free = absurd other
-other_of_all link numbers g v seen used GivenUp image other left l free = absurd other
-other_of_all link numbers g v seen used Cut image other left l free = absurd other
+other_of_all link numbers g v seen used Unread pieces image other left l free = absurd other
+other_of_all link numbers g v seen used GivenUp pieces image other left l free = absurd other
+other_of_all link numbers g v seen used Cut pieces image other left l free = absurd other
 
 -- where it wasn't read, or not all
 unread_of_all : {L : Type 0} (link : LinkWords L) (numbers : L → List ℕ) (g : Geometry) (v : Opening) (seen : List Mark) (used : List ℕ)
-    (finish : Finish) (image : List ℕ) → was_synced finish ≡ true → IsImageOutside v image → Finished link numbers g v seen used finish
+    (finish : Finish) (pieces : List Piece) (image : List ℕ) → was_synced finish ≡ true → IsImageOutside v image
+    → Finished link numbers g v seen used finish pieces
     → AreAllFree used → IsLastOfAll link numbers g v seen WasNotRead image
-unread_of_all link numbers g v seen used (Read back) image synced left l free = record {
+unread_of_all link numbers g v seen used (Read units) pieces image synced left l free = record {
   image_is = record { outside = left; line = l.line; last = unread_line link g v seen l.line l.last; range = tt };
   none_left = subst AreAllFree (sym l.same) free;
 }
-unread_of_all link numbers g v seen used Unread image synced left l free =
-    left_of_all link numbers g v seen used WasNotRead (512 * v.count) [] [] image left l tt free
-unread_of_all link numbers g v seen used GivenUp image synced left l free = absurd (false≢true synced)
-unread_of_all link numbers g v seen used Cut image synced left l free = absurd (false≢true synced)
+unread_of_all link numbers g v seen used Unread pieces image synced left l free =
+    left_of_all link numbers g v seen used WasNotRead (512 * v.count) [] pieces image left l tt free
+unread_of_all link numbers g v seen used GivenUp pieces image synced left l free = absurd (false≢true synced)
+unread_of_all link numbers g v seen used Cut pieces image synced left l free = absurd (false≢true synced)
 
 -- who is left, by what came of the last sync
 pub who_after : {L T : Type 0} (link : LinkWords L) (numbers : L → List ℕ) (g : Geometry) (v : Opening) (seen : List Mark) (used : List ℕ)
-    (but : Option ℕ) (finish : Finish) (result : Result (Vec ℕ) (StopRefusal T)) → IfOk result (λ image. IsAsRead v finish image.items)
-    → IfErr result (IsLeftAfter v finish) → Finished link numbers g v seen used finish → AreAllFree used
+    (but : Option ℕ) (finish : Finish) (pieces : List Piece) (result : Result (Vec ℕ) (StopRefusal T))
+    → IfOk result (λ image. IsAsRead v finish pieces image.items) → IfErr result (IsLeftAfter v finish pieces)
+    → Finished link numbers g v seen used finish pieces → AreAllFree used
     → WhoIsLeft link numbers g v seen but result
-who_after link numbers g v seen used but finish (Ok image) h k l free =
-    as_read_of_all link numbers g v seen used finish image.items h l free
-who_after link numbers g v seen used but finish (Err (stop.SessionsLeft left)) h k l free = absurd k
-who_after link numbers g v seen used but finish (Err (stop.GivenUp image)) h k l free =
-    left_of_all link numbers g v seen used WasGivenUp (512 * v.count) [] [] image.items k.1
-    (subst (λ (f : Finish). Finished link numbers g v seen used f) k.0 l) tt free
-who_after link numbers g v seen used but finish (Err (stop.OutOfMemory left)) h k l free = absurd k
-who_after link numbers g v seen used but finish (Err (stop.LinkEnded image)) h k l free =
-    left_of_all link numbers g v seen used WasCut (512 * v.count) [] [] image.items k.1
-    (subst (λ (f : Finish). Finished link numbers g v seen used f) k.0 l) tt free
-who_after link numbers g v seen used but finish (Err (stop.NotAsRead image)) h k l free =
-    other_of_all link numbers g v seen used finish image.items k.0 k.1 l free
-who_after link numbers g v seen used but finish (Err (stop.NotRead image)) h k l free =
-    unread_of_all link numbers g v seen used finish image.items k.0 k.1 l free
+who_after link numbers g v seen used but finish pieces (Ok image) h k l free =
+    as_read_of_all link numbers g v seen used finish pieces image.items h l free
+who_after link numbers g v seen used but finish pieces (Err (stop.SessionsLeft left)) h k l free = absurd k
+who_after link numbers g v seen used but finish pieces (Err (stop.GivenUp image)) h k l free =
+    left_of_all link numbers g v seen used WasGivenUp (512 * v.count) [] pieces image.items k.1
+    (subst (λ (f : Finish). Finished link numbers g v seen used f pieces) k.0 l) tt free
+who_after link numbers g v seen used but finish pieces (Err (stop.OutOfMemory left)) h k l free = absurd k
+who_after link numbers g v seen used but finish pieces (Err (stop.LinkEnded image)) h k l free =
+    left_of_all link numbers g v seen used WasCut (512 * v.count) [] pieces image.items k.1
+    (subst (λ (f : Finish). Finished link numbers g v seen used f pieces) k.0 l) tt free
+who_after link numbers g v seen used but finish pieces (Err (stop.NotAsRead image)) h k l free =
+    other_of_all link numbers g v seen used finish pieces image.items k.0 k.1 l free
+who_after link numbers g v seen used but finish pieces (Err (stop.NotRead image)) h k l free =
+    unread_of_all link numbers g v seen used finish pieces image.items k.0 k.1 l free
 
 -- so the image is known that is given
 pub image_after : {L T : Type 0} (link : LinkWords L) (numbers : L → List ℕ) (g : Geometry) (v : Opening) (seen : List Mark) (but : Option ℕ)
@@ -182,15 +177,16 @@ image_after link numbers g v seen but (Err e) who = tt
 
 -- and why there is none
 pub why_after : {L T : Type 0} (link : LinkWords L) (numbers : L → List ℕ) (g : Geometry) (v : Opening) (seen : List Mark) (but : Option ℕ)
-    (finish : Finish) (is_back : T → Type 0) (result : Result (Vec ℕ) (StopRefusal T)) → IfErr result (IsLeftAfter v finish)
+    (finish : Finish) (pieces : List Piece) (is_back : T → Type 0) (result : Result (Vec ℕ) (StopRefusal T))
+    → IfErr result (IsLeftAfter v finish pieces)
     → WhoIsLeft link numbers g v seen but result → IfErr result (WhyNotSynced link g v seen is_back)
-why_after link numbers g v seen but finish is_back (Ok image) k who = tt
-why_after link numbers g v seen but finish is_back (Err (stop.SessionsLeft left)) k who = absurd k
-why_after link numbers g v seen but finish is_back (Err (stop.GivenUp image)) k who = who.image_is
-why_after link numbers g v seen but finish is_back (Err (stop.OutOfMemory left)) k who = absurd k
-why_after link numbers g v seen but finish is_back (Err (stop.LinkEnded image)) k who = who.image_is
-why_after link numbers g v seen but finish is_back (Err (stop.NotAsRead image)) k who = who.image_is
-why_after link numbers g v seen but finish is_back (Err (stop.NotRead image)) k who = who.image_is
+why_after link numbers g v seen but finish pieces is_back (Ok image) k who = tt
+why_after link numbers g v seen but finish pieces is_back (Err (stop.SessionsLeft left)) k who = absurd k
+why_after link numbers g v seen but finish pieces is_back (Err (stop.GivenUp image)) k who = who.image_is
+why_after link numbers g v seen but finish pieces is_back (Err (stop.OutOfMemory left)) k who = absurd k
+why_after link numbers g v seen but finish pieces is_back (Err (stop.LinkEnded image)) k who = who.image_is
+why_after link numbers g v seen but finish pieces is_back (Err (stop.NotAsRead image)) k who = who.image_is
+why_after link numbers g v seen but finish pieces is_back (Err (stop.NotRead image)) k who = who.image_is
 
 -- the image that stopping a service gave is that of the last sync, which went as is told
 pub image_given : {L T : Type 0} (link : LinkWords L) (g : Geometry) (v : Opening) (seen : List Mark) (is_back : T → Type 0)

@@ -7,8 +7,10 @@ use Rattle.records.specs.Disk.{HasTrueReplies, disk_after}
 use Rattle.records.specs.Opening.{Opening, contents_at, opening_range, volume_bytes}
 use Rattle.reissue.specs.declared.link.Link.{Ghosts as LinkWords}
 use Rattle.changes.specs.Units.{is_marked}
-use Rattle.volume_reading.specs.declared.piece.Piece.{Piece}
-use Rattle.volume_reading.specs.Pieces.{ArePieces, HaveBytes}
+use Rattle.std.specs.List.{concat}
+use Rattle.volume_reading.specs.Pieces.{HaveBytes, Piece}
+use Rattle.driver_threads.specs.declared.watch.Likeness.{Likeness}
+use Rattle.driver_threads.specs.declared.watch.Likeness.TheVariants as like
 use Rattle.shared_server.specs.Stopping.{AreOnDisk, IsLastLine, SyncEnd, Went, WasGivenUp, WasCut, WasNotAsRead, WasNotRead}
 use Rattle.shared_server.specs.declared.finishing.Finish.{Finish}
 use Rattle.shared_server.specs.declared.finishing.Finish.TheVariants.{Read, Unread, GivenUp, Cut}
@@ -36,42 +38,41 @@ pub record HasPieces (v : Opening) (units : List Bool) (pieces : List Piece) (im
   pub there : AreThere v pieces image
   pub elsewhere : (k : ℕ) → k < 512 * v.count → is_marked units (k / 4096) ≡ false → slice_index (range_in v image) k ≡ contents_at v k
 
--- an image that is as it was read back
-abbrev pub IsAsRead : Opening → Finish → List ℕ → Type 0
-IsAsRead v (Read back) image = IsImageOutside v image × HasPieces v back.units back.pieces.items image
-IsAsRead v Unread image = ⊥
-IsAsRead v GivenUp image = ⊥
-IsAsRead v Cut image = ⊥
+-- what is told of pieces that were read back: the volume's range of these sectors has their bytes, or it doesn't
+abbrev pub Tells : Opening → Likeness → List Piece → List (List ℕ) → Type 0
+Tells v like.Same pieces sectors = AreThere v pieces (concat sectors)
+Tells v like.Differs pieces sectors = AreThere v pieces (concat sectors) → ⊥
+Tells v like.Unsure pieces sectors = Unit {0}
+
+-- an image that is as these pieces of it were read back, if they were
+abbrev pub IsAsRead : Opening → Finish → List Piece → List ℕ → Type 0
+IsAsRead v (Read units) pieces image = IsImageOutside v image × HasPieces v units pieces image
+IsAsRead v Unread pieces image = ⊥
+IsAsRead v GivenUp pieces image = ⊥
+IsAsRead v Cut pieces image = ⊥
 
 -- whether a last sync was answered ok
 abbrev pub was_synced : Finish → Bool
-was_synced (Read back) = true
+was_synced (Read units) = true
 was_synced Unread = true
 was_synced GivenUp = false
 was_synced Cut = false
 
--- pieces were read back, and the volume's range of an image doesn't have their bytes at all of their places
-abbrev pub IsOther : Opening → Finish → List ℕ → Type 0
-IsOther v (Read back) image = AreThere v back.pieces.items image → ⊥
-IsOther v Unread image = ⊥
-IsOther v GivenUp image = ⊥
-IsOther v Cut image = ⊥
+-- these pieces were read back, and the volume's range of an image doesn't have their bytes at all of their places
+abbrev pub IsOther : Opening → Finish → List Piece → List ℕ → Type 0
+IsOther v (Read units) pieces image = AreThere v pieces image → ⊥
+IsOther v Unread pieces image = ⊥
+IsOther v GivenUp pieces image = ⊥
+IsOther v Cut pieces image = ⊥
 
--- the pieces that were read back, if they were, lie in a range of this size
-abbrev pub AreWithin : ℕ → Finish → Type 0
-AreWithin size (Read back) = ArePieces 0 size back.pieces.items
-AreWithin size Unread = Unit {0}
-AreWithin size GivenUp = Unit {0}
-AreWithin size Cut = Unit {0}
-
--- why no image of a synced volume is left of the media, after a last sync that came to this
-abbrev pub IsLeftAfter : {T : Type 0} → Opening → Finish → StopRefusal T → Type 0
-IsLeftAfter v finish (stop.SessionsLeft left) = ⊥
-IsLeftAfter v finish (stop.GivenUp image) = (finish ≡ GivenUp) × IsImageOutside v image.items
-IsLeftAfter v finish (stop.OutOfMemory left) = ⊥
-IsLeftAfter v finish (stop.LinkEnded image) = (finish ≡ Cut) × IsImageOutside v image.items
-IsLeftAfter v finish (stop.NotAsRead image) = IsOther v finish image.items × IsImageOutside v image.items
-IsLeftAfter v finish (stop.NotRead image) = (was_synced finish ≡ true) × IsImageOutside v image.items
+-- why no image of a synced volume is left of the media, after a last sync that came to this, and these pieces that were read back
+abbrev pub IsLeftAfter : {T : Type 0} → Opening → Finish → List Piece → StopRefusal T → Type 0
+IsLeftAfter v finish pieces (stop.SessionsLeft left) = ⊥
+IsLeftAfter v finish pieces (stop.GivenUp image) = (finish ≡ GivenUp) × IsImageOutside v image.items
+IsLeftAfter v finish pieces (stop.OutOfMemory left) = ⊥
+IsLeftAfter v finish pieces (stop.LinkEnded image) = (finish ≡ Cut) × IsImageOutside v image.items
+IsLeftAfter v finish pieces (stop.NotAsRead image) = IsOther v finish pieces image.items × IsImageOutside v image.items
+IsLeftAfter v finish pieces (stop.NotRead image) = (was_synced finish ≡ true) × IsImageOutside v image.items
 
 -- Pieces were read back, whose bytes the volume's range of an image has at their places, and elsewhere both are as they were handed in: so
 -- over true replies the range is the disk, whole.

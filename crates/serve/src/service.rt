@@ -17,6 +17,7 @@ ghost use Rattle.serve.specs.Closing.{HasClosed};
 ghost use Rattle.serve.specs.Stopping.{IsLastImage, WhoIsLeft, WhyNotSynced};
 ghost use Rattle.shared_server.specs.Held.{HoldsIfTrue, IsAdmitted, IsGood, IsGuaranteed, IsHeld, IsNotAdmitted};
 
+use crate::comparer::Comparer;
 use crate::flusher::Flusher;
 use crate::let_go::LetGo;
 use crate::session::Session;
@@ -36,7 +37,7 @@ use std::alloc::{AllocError, Global};
 use std::marker::PhantomData;
 use std::sync::{Arc, Mutex, MutexGuard, Wait};
 use std::thread::{Threads, yield_now};
-use tree::{MAX_SESSIONS, Who};
+use tree::{Call, MAX_SESSIONS, Who};
 
 /// How often a session looks whether the server is free before it sleeps.
 const LOOKS: u32 = 10;
@@ -274,10 +275,19 @@ impl<N: ServiceParameters, R: Threads + Wait + Copy, L: Recorder<N>, S: FileServ
         self.shared.server.lock(&self.rt).has_sessions(but)
     }
 
+    /// Makes a sync by a session of its own, if it gets one. So the last sync finds nothing to write, and no driver writes while what was
+    /// written is read back and compared with the media.
+    fn sync_first(&self) {
+        if let Ok(mut session) = self.session(0, 0) {
+            session.call(0, &Call::Sync);
+            session.end();
+        }
+    }
+
     /// Stops the service: sessions that were let go without `end` are ended, then the flusher; a last sync is made, and what was written of
-    /// the volume's range read back, in units of 4096 bytes; the drivers are ended, and the media are given back as an image: the bytes of
-    /// all sectors, as they stand. The media become the image; as much memory as is read back is taken until then. At the last sync no
-    /// session has a number.
+    /// the volume's range read back, in units of 4096 bytes, and compared with the media as it comes; the drivers are ended, and the media
+    /// are given back as an image: the bytes of all sectors, as they stand. The media become the image; what is read back takes 1 MiB. At the
+    /// last sync no session has a number.
     ///
     /// It is refused: 1 SessionsLeft, where some session neither ended nor was let go, and 3 OutOfMemory, where a handle of the media is
     /// left, which both hand back the service as it was, its flusher and its drivers going on; 2 GivenUp and 4 LinkEnded, where the last
@@ -295,12 +305,17 @@ impl<N: ServiceParameters, R: Threads + Wait + Copy, L: Recorder<N>, S: FileServ
         if self.running.is_shared() {
             return Err(StopRefusal::OutOfMemory(self));
         }
+        self.sync_first();
         let alloc = self.alloc;
         let (rt, locked, running) = self.alone(None);
-        let range = running.range(&rt);
-        let finish = locked.finish(alloc, range.1 as u64 * 512);
-        let (media, written) = running.stop(&rt);
-        image_of::<N, Service<N, R, L, S>>(finish, media, written, range)
+        let mut comparer = Comparer {
+            watch: running.watch(rt),
+        };
+        let range = comparer.watch.range();
+        let finish = locked.finish(alloc, range.1 as u64 * 512, &mut comparer);
+        let Comparer { watch } = comparer;
+        let (media, written, likeness) = watch.stop();
+        image_of::<N, Service<N, R, L, S>>(finish, media, written, range, likeness)
     }
 
     /// What lies under the lock, and the threads of drivers, once the flusher has ended, nobody shares what lies there, and no session has
@@ -353,12 +368,17 @@ impl<N: ServiceParameters, R: Threads + Wait + Copy, L: Recorder<N>, S: FileServ
             self.release(number, seat);
             return Err(StopRefusal::OutOfMemory(self));
         }
+        self.sync_first();
         let alloc = self.alloc;
         let (rt, locked, running) = self.alone(Some(number));
-        let range = running.range(&rt);
-        let finish = locked.finish_after(number, seat, alloc, range.1 as u64 * 512);
-        let (media, written) = running.stop(&rt);
-        image_of::<N, Service<N, R, L, S>>(finish, media, written, range)
+        let mut comparer = Comparer {
+            watch: running.watch(rt),
+        };
+        let range = comparer.watch.range();
+        let finish = locked.finish_after(number, seat, alloc, range.1 as u64 * 512, &mut comparer);
+        let Comparer { watch } = comparer;
+        let (media, written, likeness) = watch.stop();
+        image_of::<N, Service<N, R, L, S>>(finish, media, written, range, likeness)
     }
 
     /// The session of this seat has ended: its number is free again.

@@ -1,13 +1,17 @@
 //! What is left of a service that was stopped.
 
-ghost use Rattle.std.specs.Prelude.{◌≡◌, ◌+◌, ◌*◌, ◌/◌, IfErr, IfOk, Some};
+ghost use Rattle.std.specs.Prelude.{◌≡◌, List, IfErr, IfOk, Some};
 ghost use Rattle.media.specs.Contents.{IsWhole};
 ghost use Rattle.shared_media.specs.Confined.{KeepsBut, KeepsOutside};
-ghost use Rattle.serve.specs.Stopping.{AreWithin, IsAsRead, IsImageOf, IsLeftAfter, IsNoImageOf, is_as_read as as_read, no_image_name, stop_refusal_number};
+ghost use Rattle.shared_server.specs.Finishing.{finish_end};
+ghost use Rattle.shared_server.specs.Stopping.{Went};
+ghost use Rattle.volume_reading.specs.Pieces.{Piece};
+ghost use Rattle.serve.specs.Stopping.{IsAsRead, IsImageOf, IsLeftAfter, IsNoImageOf, Tells, is_as_read as as_read, no_image_name, stop_refusal_number};
 
-use crate::read_back::{are_at, has_range, range_of};
 use board::counting::parameters::ServiceParameters;
 use changes::Marks;
+use driver_threads::comparing::has_range;
+use driver_threads::watch::Likeness;
 use media::Media;
 use shared_server::finishing::Finish;
 use shared_server::locked::LastSync;
@@ -103,8 +107,8 @@ fn has_whole_sectors(media: &Media)
 }
 
 /// The image of the media that a service leaves whose last sync came to this, or why it is none of a synced volume. The volume's range of
-/// the media has this first sector and so many; drivers may have written in these units of eight of them. Where the media don't have the
-/// whole range, it wasn't read back.
+/// the media has this first sector and so many; drivers may have written in these units of eight of them; what was read back is beside the
+/// media as is told. Where the media don't have the whole range, it wasn't read back.
 ///
 /// It takes no memory: the media become the image.
 pub(crate) fn image_of<N: ServiceParameters, S>(
@@ -112,27 +116,31 @@ pub(crate) fn image_of<N: ServiceParameters, S>(
     media: Media,
     written: Marks,
     range: (u32, u32),
+    likeness: Likeness,
 ) -> Result<Vec<u8>, StopRefusal<S>>
-    requires within { AreWithin (512 * N.opening.count) finish }
     requires kept { KeepsBut N.opening written media }
     requires outside { KeepsOutside N.opening media }
     requires range { (range.0 ≡ N.opening.first) × (range.1 ≡ N.opening.count) }
-    ensures image { IfOk result (λ image. IsAsRead N.opening finish image.items) }
-    ensures refused { IfErr result (IsLeftAfter N.opening finish) }
+    ensures image { (pieces : List Piece) → (finish_end finish ≡ Went → Tells N.opening likeness pieces media.sectors)
+        → IfOk result (λ image. IsAsRead N.opening finish pieces image.items) }
+    ensures refused { (pieces : List Piece) → (finish_end finish ≡ Went → Tells N.opening likeness pieces media.sectors)
+        → IfErr result (IsLeftAfter N.opening finish pieces) }
 {
     has_whole_sectors(&media);
     let image = media.into_image();
     let (first, count) = range;
     match finish {
-        Finish::Read(back) => {
+        Finish::Read(units) => {
             if !has_range(first, count, &image) {
-                Err(StopRefusal::NotRead(image))
-            } else if !back.units.covers(&written) {
-                Err(StopRefusal::NotRead(image))
-            } else if are_at(&back.pieces, range_of(first, count, &image)) {
-                Ok(image)
-            } else {
-                Err(StopRefusal::NotAsRead(image))
+                return Err(StopRefusal::NotRead(image));
+            }
+            if !units.covers(&written) {
+                return Err(StopRefusal::NotRead(image));
+            }
+            match likeness {
+                Likeness::Same => Ok(image),
+                Likeness::Differs => Err(StopRefusal::NotAsRead(image)),
+                Likeness::Unsure => Err(StopRefusal::NotRead(image)),
             }
         }
         Finish::Unread => Err(StopRefusal::NotRead(image)),

@@ -1,3 +1,4 @@
 pub mod Confining
+pub mod Editions
 pub mod Marking
 pub mod Sequences

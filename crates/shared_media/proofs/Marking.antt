@@ -21,16 +21,17 @@ use Rattle.shared_media.specs.Confined.{KeepsBut}
 use Rattle.shared_media.specs.Marking.{ConfinedState, MarksChanges, AreChangesOutside, of_image, units_of, marked_for}
 use Rattle.shared_media.proofs.Confining.{keeps_outside}
 
--- media with marks, and those of the units that were written, of which the lemmas on marks ask nothing
-abbrev with_units : MediaState → List Bool → List Bool → ConfinedState
-with_units m marks units = record { media = m; marks = marks; written = units }
+-- media with marks, those of the units that were written, and an edition, of which two the lemmas on marks ask nothing
+abbrev with_units : MediaState → List Bool → List Bool → Option ℕ → ConfinedState
+with_units m marks units edition = record { media = m; marks = marks; written = units; edition = edition }
 
 abbrev with : MediaState → List Bool → ConfinedState
-with m marks = with_units m marks []
+with m marks = with_units m marks [] None
 
-any_units : (m m' : MediaState) (marks marks' units units' : List Bool) → MarksChanges (with m marks) (with m' marks')
-    → MarksChanges (with_units m marks units) (with_units m' marks' units')
-any_units m m' marks marks' units units' p = record { number = p.number; same = p.same; still = p.still }
+any_units : (m m' : MediaState) (marks marks' units units' : List Bool) (edition edition' : Option ℕ)
+    → MarksChanges (with m marks) (with m' marks')
+    → MarksChanges (with_units m marks units edition) (with_units m' marks' units' edition')
+any_units m m' marks marks' units units' edition edition' p = record { number = p.number; same = p.same; still = p.still }
 
 -- marks of which none was taken away
 abbrev Stills : List Bool → List Bool → Type 0
@@ -50,15 +51,15 @@ same_media m m' old new same still =
     subst (λ (x : MediaState). MarksChanges (with m old) (with x new)) (sym same)
     (record { number = refl; same = λ n off. refl; still = still })
 
-pub adopted_marks : (m : MediaState) (marks units : List Bool) (g : ℕ)
-    → MarksChanges (with_units m marks units) (with_units (adopted m g) marks units)
-adopted_marks m marks units g = record { number = refl; same = λ n off. refl; still = λ n off. off }
+pub adopted_marks : (m : MediaState) (marks units : List Bool) (edition : Option ℕ) (g : ℕ)
+    → MarksChanges (with_units m marks units edition) (with_units (adopted m g) marks units edition)
+adopted_marks m marks units edition g = record { number = refl; same = λ n off. refl; still = λ n off. off }
 
-pub marked_again : (old : ConfinedState) (m : MediaState) (marks marks' units : List Bool) (ns : List ℕ)
-    → with_units m marks units ≡ old → marks' ≡ with_marks marks ns → MarksChanges old (with_units m marks' units)
-marked_again old m marks marks' units ns from is =
-    subst (λ (x : ConfinedState). MarksChanges x (with_units m marks' units)) from
-    (subst (λ (l : List Bool). MarksChanges (with_units m marks units) (with_units m l units)) (sym is)
+pub marked_again : (old : ConfinedState) (m : MediaState) (marks marks' units : List Bool) (edition : Option ℕ) (ns : List ℕ)
+    → with_units m marks units edition ≡ old → marks' ≡ with_marks marks ns → MarksChanges old (with_units m marks' units edition)
+marked_again old m marks marks' units edition ns from is =
+    subst (λ (x : ConfinedState). MarksChanges x (with_units m marks' units edition)) from
+    (subst (λ (l : List Bool). MarksChanges (with_units m marks units edition) (with_units m l units edition)) (sym is)
     (record { number = refl; same = λ n off. refl; still = still_marks ns marks }))
 
 pub long_unmarked : (m : MediaState) → length (replicate (units_of m) false) ≡ units_of m
@@ -105,12 +106,13 @@ stepped b (Some w) m g step a m' marks s long = elim s.1 [
 ]
 
 pub marks_step : (old : ConfinedState) (b : DriverState) (m : MediaState) (g : ℕ) (step : Step) (a : DriverState) (m' : MediaState)
-    (marks marks' units units' : List Bool) → with_units m marks units ≡ old → StepKeeps b m g step a m' → length marks ≡ units_of m
-    → marks' ≡ marked_for b.in_work marks → MarksChanges old (with_units m' marks' units')
-marks_step old b m g step a m' marks marks' units units' from keeps long is =
-    subst (λ (x : ConfinedState). MarksChanges x (with_units m' marks' units')) from
-    (subst (λ (l : List Bool). MarksChanges (with_units m marks units) (with_units m' l units')) (sym is)
-    (any_units m m' marks (marked_for b.in_work marks) units units' (stepped b b.work m g step a m' marks keeps.steps long)))
+    (marks marks' units units' : List Bool) (edition edition' : Option ℕ) → with_units m marks units edition ≡ old
+    → StepKeeps b m g step a m' → length marks ≡ units_of m → marks' ≡ marked_for b.in_work marks
+    → MarksChanges old (with_units m' marks' units' edition')
+marks_step old b m g step a m' marks marks' units units' edition edition' from keeps long is =
+    subst (λ (x : ConfinedState). MarksChanges x (with_units m' marks' units' edition')) from
+    (subst (λ (l : List Bool). MarksChanges (with_units m marks units edition) (with_units m' l units' edition')) (sym is)
+    (any_units m m' marks (marked_for b.in_work marks) units units' edition edition' (stepped b b.work m g step a m' marks keeps.steps long)))
 
 pub long_after : (b : DriverState) (m : MediaState) (g : ℕ) (step : Step) (a : DriverState) (m' : MediaState) (marks marks' : List Bool)
     → StepKeeps b m g step a m' → length marks ≡ units_of m → marks' ≡ marked_for b.in_work marks → length marks' ≡ units_of m'
@@ -132,14 +134,14 @@ marked_outside v units m marks kept whole long =
     }
 
 -- the numbers of those, where memory was found for them
-pub in_place_outside : {E : Type 0} (v : Opening) (units : List Bool) (m : MediaState) (marks : List Bool) (confined : ConfinedState)
-    (result : Result (Vec ℕ) E) → with_units m marks units ≡ confined → KeepsBut v units m → IsWhole m.sectors
+pub in_place_outside : {E : Type 0} (v : Opening) (units : List Bool) (m : MediaState) (marks : List Bool) (edition : Option ℕ)
+    (confined : ConfinedState) (result : Result (Vec ℕ) E) → with_units m marks units edition ≡ confined → KeepsBut v units m → IsWhole m.sectors
     → length marks ≡ units_of m → IfOk result (λ numbers. numbers.items ≡ marked marks)
     → IfOk result (λ numbers. AreChangesOutside v (of_image (concat confined.media.sectors) numbers.items))
-in_place_outside v units m marks confined (Ok numbers) from kept whole long is =
+in_place_outside v units m marks edition confined (Ok numbers) from kept whole long is =
     subst (λ (c : ConfinedState). AreChangesOutside v (of_image (concat c.media.sectors) numbers.items)) from
     (subst (λ (l : List ℕ). AreChangesOutside v (of_image (concat m.sectors) l)) (sym is) (marked_outside v units m marks kept whole long))
-in_place_outside v units m marks confined (Err e) from kept whole long is = tt
+in_place_outside v units m marks edition confined (Err e) from kept whole long is = tt
 
 -- numbers beside what is made of each are the pairs of both
 zip_map : (f : ℕ → List ℕ) (ns : List ℕ) → zip ns (map f ns) ≡ map (λ n. (n, f n)) ns

@@ -1,2 +1,3 @@
 pub mod Confined
+pub mod Editions
 pub mod Marking

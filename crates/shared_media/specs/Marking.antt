@@ -9,11 +9,12 @@ use Rattle.changes.specs.Units.{units_in, is_marked, marked, with_mark, with_mar
 use Rattle.shared_media.specs.Confined.{IsImageOutside}
 
 -- The media, a mark for each unit of eight sectors, and one for each of the volume's, counted from its first sector on: whether steps may
--- have written it.
+-- have written it; and the number that the sectors were published by, if no step may have written since.
 pub record ConfinedState : Type 0 where
   pub media : MediaState
   pub marks : List Bool
   pub written : List Bool
+  pub edition : Option ℕ
 
 -- how many units media have; the last one may have fewer than eight sectors
 abbrev pub units_of : MediaState → ℕ
@@ -22,7 +23,7 @@ units_of media = (length media.sectors + 7) / 8
 -- media on which no step was taken, of a volume of so many sectors
 abbrev pub fresh : ℕ → MediaState → ConfinedState
 fresh count media =
-    record { media = media; marks = replicate (units_of media) false; written = replicate ((count + 7) / 8) false }
+    record { media = media; marks = replicate (units_of media) false; written = replicate ((count + 7) / 8) false; edition = None }
 
 -- the same media, of which no unit is marked
 abbrev pub unmarked : ConfinedState → ConfinedState

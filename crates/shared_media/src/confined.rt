@@ -1,6 +1,6 @@
 //! The media that drivers share, on which they write in the range of one volume alone.
 
-ghost use Rattle.std.specs.Prelude.{◌≡◌, ◌<◌, ◌≤◌, ◌+◌, ◌/◌, ◌^◌, ◌↔◌, IfOk, IfSome, IsTrue, OnErr, OnOk, length};
+ghost use Rattle.std.specs.Prelude.{◌≡◌, ◌<◌, ◌≤◌, ◌+◌, ◌/◌, ◌^◌, ◌↔◌, ℕ, List, IfNone, IfOk, IfSome, IsTrue, OnErr, OnOk, length};
 ghost use Rattle.std.specs.List.{concat};
 ghost use Rattle.media.specs.Contents.{adopted};
 ghost use Rattle.true_replies.specs.Events.{opening_media};
@@ -8,10 +8,13 @@ ghost use Rattle.bdev.specs.Promises.{StepKeeps};
 ghost use Rattle.bdev.specs.Stepping.{step_with};
 ghost use Rattle.changes.specs.Units.{AreTaken, marked, puts_of, with_marks};
 ghost use Rattle.shared_media.specs.Confined.{KeepsBut, KeepsOutside, IsImageOutside, IsInVolume, StaysInVolume, step_of, written_for};
+ghost use Rattle.shared_media.specs.Editions.{kept_unless, may_write};
 ghost use Rattle.shared_media.specs.Marking.{AreChangesOutside, MarksChanges, fresh, marked_for, of_image, units_of, unmarked};
 
+use crate::edition::{Edition, end_edition, is_known, may_write, published};
 use bdev::{BlockDriver, Stepped};
 use board::counting::parameters::ServiceParameters;
+use board::{Board, Seat};
 use changes::{Changes, Marks};
 use media::Media;
 use message::BlockReply;
@@ -24,7 +27,8 @@ const SECTORS: u32 = 8;
 /// Media on which drivers write in a volume's range alone: they have as many sectors as were handed in, and outside of the range each
 /// sector is as it was handed in. Beside them stands a mark for each unit of 4096 bytes: whether a sector of it may have changed since the
 /// changes were last taken; and one for each unit of eight sectors of the range, counted from its first one on: whether steps may have
-/// written it at all. Contracts see the media and both lists of marks.
+/// written it at all. And the number that the sectors were published by at last, while no step may have written since. Contracts see the
+/// media, both lists of marks, and that number.
 #[derive(Drop)]
 pub struct Confined<N: ServiceParameters> {
     media: Media,
@@ -34,20 +38,24 @@ pub struct Confined<N: ServiceParameters> {
     count: u32,
     // Which units of eight sectors of the range, from the first one on, steps may have written.
     written: Marks,
+    // The edition that the sectors are, if it is known.
+    edition: Option<Edition>,
     of: PhantomData<N>,
 }
 
 impl<N: ServiceParameters> Model for Confined<N> {
     ghost use Rattle.std.specs.Prelude.{◌≡◌, ◌+◌, ◌/◌, length};
     ghost use Rattle.shared_media.specs.Confined.{KeepsBut};
+    ghost use Rattle.shared_media.specs.Editions.{AreKnown, number_of};
     ghost use Rattle.shared_media.specs.Marking.{ConfinedState, units_of};
 
     ghost Value = { ConfinedState };
 
-    ghost view = { λ c. record { media = c.media; marks = c.marks; written = c.written } };
+    ghost view = { λ c. record { media = c.media; marks = c.marks; written = c.written; edition = number_of c.edition } };
 
     ghost invariant = { λ c. (c.first ≡ N.opening.first) × (c.count ≡ N.opening.count) × KeepsBut N.opening c.written c.media
-        × (length c.marks ≡ units_of c.media) × (length c.written ≡ (N.opening.count + 7) / 8) };
+        × (length c.marks ≡ units_of c.media) × (length c.written ≡ (N.opening.count + 7) / 8)
+        × AreKnown N.table c.edition c.media.sectors };
 }
 
 /// How many units media have; the last one may have fewer than eight sectors.
@@ -103,8 +111,8 @@ fn put_completion(reply: &mut BlockReply, stepped: Stepped)
 }
 
 impl<N: ServiceParameters> Confined<N> {
-    /// The media as they were handed in, of which nothing is marked, and the volume's first sector and how many it has. Where no memory was
-    /// found for all marks, the media are let go.
+    /// The media as they were handed in, of which nothing is marked or published, and the volume's first sector and how many it has. Where
+    /// no memory was found for all marks, the media are let go.
     #[tactic(auto, using(crate::proofs::Confining::keeps_given))]
     pub fn new(alloc: Global, media: Media, range: (u32, u32)) -> Result<Confined<N>, AllocError>
         requires range { (range.0 ≡ N.opening.first) × (range.1 ≡ N.opening.count) }
@@ -120,11 +128,12 @@ impl<N: ServiceParameters> Confined<N> {
             first,
             count,
             written,
+            edition: None,
             of: PhantomData,
         })
     }
 
-    /// Makes a greater generation the one that may move sectors. The marks stay.
+    /// Makes a greater generation the one that may move sectors. The marks and the edition stay.
     #[tactic(auto, using(crate::proofs::Confining::keeps_adopted, crate::proofs::Marking::adopted_marks))]
     pub fn adopt(&mut self, generation: u32)
         ensures is { self.new ≡ record self.old { media = adopted self.old.media generation } }
@@ -135,7 +144,8 @@ impl<N: ServiceParameters> Confined<N> {
 
     /// Takes a driver's step, under its generation, and puts the answer of one that is done into the reply, without its endpoint. A driver
     /// that names a sector outside of the range as the one that its step may write isn't stepped: it counts as failed. The units of the
-    /// sector that the step may write are marked, that of the media and that of the range, whether the step writes it or not.
+    /// sector that the step may write are marked, that of the media and that of the range, whether the step writes it or not; and the
+    /// sectors have no edition then, where the media accept this sector under the generation. Another step leaves them as they are.
     pub fn step<D: BlockDriver>(
         &mut self,
         driver: &mut D,
@@ -150,6 +160,8 @@ impl<N: ServiceParameters> Confined<N> {
             → self.new.marks ≡ marked_for (D.state driver.old).in_work self.old.marks }
         ensures written { StaysInVolume N.opening (D.state driver.old)
             → self.new.written ≡ written_for N.opening.first (D.state driver.old).in_work self.old.written }
+        ensures edition { StaysInVolume N.opening (D.state driver.old)
+            → self.new.edition ≡ kept_unless (may_write self.old.media generation (D.state driver.old).in_work) self.old.edition }
         ensures changed { MarksChanges self.old self.new }
         ensures from { reply.new.from ≡ reply.old.from }
     {
@@ -159,9 +171,39 @@ impl<N: ServiceParameters> Confined<N> {
         let sector = driver.in_work();
         mark_sector(&mut self.marks, sector);
         mark_written(self.first, &mut self.written, sector);
+        let writes = may_write(&self.media, generation, sector);
+        end_edition(&mut self.edition, writes);
         let stepped = driver.step_into(&mut self.media, generation, &mut reply.bytes);
         put_completion(reply, stepped);
         stepped
+    }
+
+    /// Gives the sectors, as they stand, a number that no others of the board had, and the seat knows them by it. Until a step comes that
+    /// may write they are the edition of that number. None where another thread gave a number meanwhile, or all were given: they
+    /// have no edition then.
+    pub fn publish(&mut self, board: &Board, seat: &mut Seat) -> Option<u64>
+        requires { (board.now ≡ N.table) × (seat.old.table ≡ N.table) }
+        ensures table { seat.new.table ≡ N.table }
+        ensures some { IfSome result (λ n. (self.new ≡ record self.old { edition = Some n })
+            × (seat.new.view.edition ≡ Some (n, self.old.media.sectors))) }
+        ensures none { IfNone result (self.new ≡ record self.old { edition = None }) }
+    {
+        self.edition = published(board, seat, self.media.as_sectors());
+        match &self.edition {
+            Some(edition) => Some(edition.number),
+            None => None,
+        }
+    }
+
+    /// Whether the sectors are the edition of this number still, which the seat knows. False where they have another one, or none.
+    pub fn is_edition(&mut self, board: &Board, seat: &mut Seat, number: u64) -> bool
+        requires table { (board.now ≡ N.table) × (seat.old.table ≡ N.table) }
+        ensures table { seat.new.table ≡ N.table }
+        ensures same { self.new ≡ self.old }
+        ensures knows { seat.new.view.edition ≡ seat.old.view.edition }
+        ensures is { (s : List (List ℕ)) → IsTrue result → seat.old.view.edition ≡ Some (number, s) → self.old.media.sectors ≡ s }
+    {
+        is_known(&mut self.edition, board, seat, number)
     }
 
     /// The marked units, in ascending order, with their bytes as they stand; then none is marked. Refused where no memory was found for these

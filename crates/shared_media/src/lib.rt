@@ -2,4 +2,5 @@
 #![tactic(auto)]
 
 pub mod confined;
+mod edition;
 pub mod laws;

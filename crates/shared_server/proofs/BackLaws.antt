@@ -27,9 +27,8 @@ use Rattle.reissue.specs.Calls.{Truth}
 use Rattle.reissue.specs.Moves.{WasRead}
 use Rattle.changes.specs.Units.{Covers, is_marked}
 use Rattle.volume_reading.specs.Reading.{LeavesDisk}
-use Rattle.volume_reading.specs.declared.piece.Piece.{Piece}
-use Rattle.volume_reading.proofs.Pieces.{have_map, same_places_back, same_places_in, same_places_pieces}
-use Rattle.volume_reading.specs.Pieces.{SamePlaces}
+use Rattle.volume_reading.specs.Pieces.{Piece}
+use Rattle.volume_reading.proofs.Pieces.{have_map}
 use Rattle.file_server.specs.Over.{CallSpecification}
 use Rattle.file_server.specs.Back.{AgreesUpToCall, IsReadBack, ReadsBack, is_cut, is_given_up}
 use Rattle.file_server.specs.declared.ReadEnd.{ReadEnd}
@@ -316,12 +315,3 @@ same_elsewhere v size marks units written same stays most long are covers is =
       record { number = long; each = each },
       λ k low off. stays (contents_at v) marks k (sym (each (k / 4096) (omega (arith, low, most))) ∙ off),
     )
-
--- the pieces that were to be read, once they were
-pub pieces_still : (units : List Bool) (size : ℕ) (old new : List Piece) → SamePlaces old new → ArePiecesOf units size old
-    → ArePiecesOf units size new
-pieces_still units size old new same of = record {
-  ordered = same_places_pieces 0 size old new same of.ordered;
-  all = λ k low marked. same_places_in old new k same (of.all k low marked);
-  only = λ k i. of.only k (same_places_back old new k same i);
-}

@@ -1,67 +1,69 @@
--- The pieces of a range that lie in marked units.
-use Rattle.std.proofs.Common.{◌≡◌, ℕ, ◌+◌, ◌*◌, ◌/◌, ◌<◌, ◌≤◌, ◌∙◌, ◌⊎◌, List, [], ◌∷◌, ◌++◌, length, Bool, true, false, refl, sym, ap, subst, arith, inl, inr}
+-- The places of a range that lie in marked units, and the pieces that were read there.
+use Rattle.std.proofs.Common.{◌≡◌, ℕ, ◌+◌, ◌*◌, ◌/◌, ◌<◌, ◌≤◌, ◌∙◌, ◌⊎◌, List, [], ◌∷◌, ◌++◌, Bool, true, false, sym, ap, subst}
+use Rattle.std.proofs.Common.{arith, inl, inr}
 use Rattle.std.specs.Prelude.{◌%◌, min}
 use Rattle.std.proofs.lemmas.Bool.{cases_lt, false≢true}
 use Rattle.changes.specs.Units.{is_marked}
-use Rattle.volume_reading.specs.declared.piece.Piece.{Piece}
-use Rattle.volume_reading.specs.Pieces.{ArePieces, IsIn, SamePlaces}
-use Rattle.shared_server.specs.Finishing.{ArePiecesOf, IsPieceOf}
+use Rattle.volume_reading.specs.declared.place.Place.{Place}
+use Rattle.volume_reading.specs.Pieces.{Piece, ArePieces, IsIn}
+use Rattle.volume_reading.specs.Places.{ArePlaces, AreAt}
+use Rattle.shared_server.specs.Finishing.{ArePiecesOf, ArePlacesOf, IsAmong, IsPlaceOf}
 
--- pieces that reach no further than one place reach no further than a later one
-pub pieces_to : (from to more : ℕ) (ps : List Piece) → to ≤ more → ArePieces from to ps → ArePieces from more ps
-pieces_to from to more [] le a = tt
-pieces_to from to more (p ∷ ps) le a =
-    (a.0, a.1, a.2, omega (arith, le, a.3), pieces_to (p.start + length p.bytes.items) to more ps le a.4)
+-- places that reach no further than one byte reach no further than a later one
+pub places_to : (from to more : ℕ) (ps : List Place) → to ≤ more → ArePlaces from to ps → ArePlaces from more ps
+places_to from to more [] le a = tt
+places_to from to more (p ∷ ps) le a = (a.0, a.1, a.2, a.3, omega (arith, le, a.4), places_to (p.start + p.size) to more ps le a.5)
 
--- one piece more, behind them
-pieces_push : (from mid to : ℕ) (ps : List Piece) (p : Piece) → from ≤ mid → ArePieces from mid ps → mid ≤ p.start → p.start % 512 ≡ 0
-    → length p.bytes.items % 512 ≡ 0 → p.start + length p.bytes.items ≤ to → ArePieces from to (ps ++ p ∷ [])
-pieces_push from mid to [] p le a behind whole long within = (omega (arith, le, behind), whole, long, within, tt)
-pieces_push from mid to (q ∷ ps) p le a behind whole long within = (
+-- one place more, behind them
+places_push : (from mid to : ℕ) (ps : List Place) (p : Place) → from ≤ mid → ArePlaces from mid ps → mid ≤ p.start → p.start % 512 ≡ 0
+    → p.size % 512 ≡ 0 → p.size ≤ 1048576 → p.start + p.size ≤ to → ArePlaces from to (ps ++ p ∷ [])
+places_push from mid to [] p le a behind whole long few within = (omega (arith, le, behind), whole, long, few, within, tt)
+places_push from mid to (q ∷ ps) p le a behind whole long few within = (
   a.0,
   a.1,
   a.2,
-  omega (arith, a.3, behind, within),
-  pieces_push (q.start + length q.bytes.items) mid to ps p a.3 a.4 behind whole long within,
+  a.3,
+  omega (arith, a.4, behind, within),
+  places_push (q.start + q.size) mid to ps p a.4 a.5 behind whole long few within,
 )
 
--- a place of the first ones
-in_first : (ps more : List Piece) (k : ℕ) → IsIn ps k → IsIn (ps ++ more) k
-in_first [] more k i = absurd i
-in_first (p ∷ ps) more k i = elim i [
+-- a byte of the first ones
+among_first : (ps more : List Place) (k : ℕ) → IsAmong ps k → IsAmong (ps ++ more) k
+among_first [] more k i = absurd i
+among_first (p ∷ ps) more k i = elim i [
   | inl h ↦ inl h
-  | inr h ↦ inr (in_first ps more k h)
+  | inr h ↦ inr (among_first ps more k h)
 ]
 
--- a place of the last one
-in_last : (ps : List Piece) (p : Piece) (k : ℕ) → p.start ≤ k → k < p.start + length p.bytes.items → IsIn (ps ++ p ∷ []) k
-in_last [] p k from to = inl (from, to)
-in_last (q ∷ ps) p k from to = inr (in_last ps p k from to)
+-- a byte of the last one
+among_last : (ps : List Place) (p : Place) (k : ℕ) → p.start ≤ k → k < p.start + p.size → IsAmong (ps ++ p ∷ []) k
+among_last [] p k from to = inl (from, to)
+among_last (q ∷ ps) p k from to = inr (among_last ps p k from to)
 
--- a place of them all is one of the first or of the last
-in_either : (ps : List Piece) (p : Piece) (k : ℕ) → IsIn (ps ++ p ∷ []) k → IsIn ps k ⊎ ((p.start ≤ k) × (k < p.start + length p.bytes.items))
-in_either [] p k i = elim i [
+-- a byte of them all is one of the first or of the last
+among_either : (ps : List Place) (p : Place) (k : ℕ) → IsAmong (ps ++ p ∷ []) k → IsAmong ps k ⊎ ((p.start ≤ k) × (k < p.start + p.size))
+among_either [] p k i = elim i [
   | inl h ↦ inr h
   | inr h ↦ absurd h
 ]
-in_either (q ∷ ps) p k i = elim i [
+among_either (q ∷ ps) p k i = elim i [
   | inl h ↦ inl (inl h)
-  | inr h ↦ elim (in_either ps p k h) [
+  | inr h ↦ elim (among_either ps p k h) [
     | inl first ↦ inl (inr first)
     | inr last ↦ inr last
   ]
 ]
 
--- the pieces in the units before this one
-pub record AreUpTo (units : List Bool) (size next : ℕ) (pieces : List Piece) : Type 0 where
-  pub ordered : ArePieces 0 (min (4096 * next) size) pieces
-  pub all : (k : ℕ) → k < size → k < 4096 * next → is_marked units (k / 4096) ≡ true → IsIn pieces k
-  pub only : (k : ℕ) → IsIn pieces k → is_marked units (k / 4096) ≡ true
+-- the places in the units before this one
+pub record AreUpTo (units : List Bool) (size next : ℕ) (places : List Place) : Type 0 where
+  pub ordered : ArePlaces 0 (min (4096 * next) size) places
+  pub all : (k : ℕ) → k < size → k < 4096 * next → is_marked units (k / 4096) ≡ true → IsAmong places k
+  pub only : (k : ℕ) → IsAmong places k → is_marked units (k / 4096) ≡ true
   pub few : next ≤ (size + 4095) / 4096
 
 -- none yet
-pub up_to_none : (units : List Bool) (size : ℕ) (pieces : List Piece) → pieces ≡ [] → AreUpTo units size 0 pieces
-up_to_none units size pieces none = subst (λ (l : List Piece). AreUpTo units size 0 l) (sym none) (record {
+pub up_to_none : (units : List Bool) (size : ℕ) (places : List Place) → places ≡ [] → AreUpTo units size 0 places
+up_to_none units size places none = subst (λ (l : List Place). AreUpTo units size 0 l) (sym none) (record {
   ordered = tt;
   all = λ k low under is. absurd (omega (arith, under));
   only = λ k i. absurd i;
@@ -69,10 +71,10 @@ up_to_none units size pieces none = subst (λ (l : List Piece). AreUpTo units si
 })
 
 -- one unit more, that isn't marked
-pub up_to_next : (units : List Bool) (size next : ℕ) (pieces : List Piece) → next < (size + 4095) / 4096 → is_marked units next ≡ false
-    → AreUpTo units size next pieces → AreUpTo units size (next + 1) pieces
-up_to_next units size next pieces less none a = record {
-  ordered = pieces_to 0 (min (4096 * next) size) (min (4096 * (next + 1)) size) pieces (omega arith) a.ordered;
+pub up_to_next : (units : List Bool) (size next : ℕ) (places : List Place) → next < (size + 4095) / 4096 → is_marked units next ≡ false
+    → AreUpTo units size next places → AreUpTo units size (next + 1) places
+up_to_next units size next places less none a = record {
+  ordered = places_to 0 (min (4096 * next) size) (min (4096 * (next + 1)) size) places (omega arith) a.ordered;
   all = λ k low under is. elim (cases_lt k (4096 * next)) [
     | inl before ↦ a.all k low before is
     | inr there ↦
@@ -83,19 +85,21 @@ up_to_next units size next pieces less none a = record {
   few = omega (arith, less);
 }
 
--- units more, that are marked
-pub up_to_end : (units : List Bool) (size next end : ℕ) (pieces : List Piece) (p : Piece) → size % 512 ≡ 0 → next < end → end ≤ (size + 4095) / 4096
-    → IsPieceOf next end size p → ((n : ℕ) → next ≤ n → n < end → is_marked units n ≡ true) → AreUpTo units size next pieces
-    → AreUpTo units size end (pieces ++ p ∷ [])
-up_to_end units size next end pieces p whole less few is each a = record {
-  ordered = pieces_push 0 (min (4096 * next) size) (min (4096 * end) size) pieces p (omega arith) a.ordered
+-- units more, that are marked, 256 at most
+pub up_to_end : (units : List Bool) (size next end : ℕ) (places : List Place) (p : Place) → size % 512 ≡ 0 → next < end → end ≤ next + 256
+    → end ≤ (size + 4095) / 4096 → IsPlaceOf next end size p → ((n : ℕ) → next ≤ n → n < end → is_marked units n ≡ true)
+    → AreUpTo units size next places → AreUpTo units size end (places ++ p ∷ [])
+up_to_end units size next end places p whole less most few is each a = record {
+  ordered = places_push 0 (min (4096 * next) size) (min (4096 * end) size) places p (omega arith) a.ordered
       (let s = is.start in omega (arith, s)) (let s = is.start in omega (arith, s))
-      (let s = is.start in let b = is.behind in omega (arith, s, b, whole, less, few)) (let b = is.behind in omega (arith, b));
+      (let s = is.start in let b = is.behind in omega (arith, s, b, whole, less, few))
+      (let s = is.start in let b = is.behind in omega (arith, s, b, most)) (let b = is.behind in omega (arith, b));
   all = λ k low under marked. elim (cases_lt k (4096 * next)) [
-    | inl before ↦ in_first pieces (p ∷ []) k (a.all k low before marked)
-    | inr there ↦ in_last pieces p k (let s = is.start in omega (arith, s, there)) (let b = is.behind in omega (arith, b, low, under))
+    | inl before ↦ among_first places (p ∷ []) k (a.all k low before marked)
+    | inr there ↦ among_last places p k (let s = is.start in omega (arith, s, there))
+        (let b = is.behind in omega (arith, b, low, under))
   ];
-  only = λ k i. elim (in_either pieces p k i) [
+  only = λ k i. elim (among_either places p k i) [
     | inl first ↦ a.only k first
     | inr last ↦
         let s = is.start in
@@ -106,17 +110,52 @@ up_to_end units size next end pieces p whole less few is each a = record {
 }
 
 -- all of them
-pub up_to_all : (units : List Bool) (size next : ℕ) (pieces : List Piece) → (size + 4095) / 4096 ≤ next → AreUpTo units size next pieces
-    → ArePiecesOf units size pieces
-up_to_all units size next pieces past a = record {
-  ordered = pieces_to 0 (min (4096 * next) size) size pieces (omega arith) a.ordered;
+pub up_to_all : (units : List Bool) (size next : ℕ) (places : List Place) → (size + 4095) / 4096 ≤ next → AreUpTo units size next places
+    → ArePlacesOf units size places
+up_to_all units size next places past a = record {
+  ordered = places_to 0 (min (4096 * next) size) size places (omega arith) a.ordered;
   all = λ k low marked. a.all k low (omega (arith, past, low)) marked;
   only = a.only;
 }
 
--- pieces with the same places are as many
-pub same_places_length : (old new : List Piece) → SamePlaces old new → length new ≡ length old
-same_places_length [] [] s = refl
-same_places_length [] (q ∷ qs) s = absurd s
-same_places_length (p ∷ ps) [] s = absurd s
-same_places_length (p ∷ ps) (q ∷ qs) s = omega (arith, same_places_length ps qs s.2)
+-- pieces at places lie as these do
+at_pieces : (from to : ℕ) (places : List Place) (pieces : List Piece) → AreAt places pieces → ArePlaces from to places
+    → ArePieces from to pieces
+at_pieces from to [] [] at a = tt
+at_pieces from to [] (q ∷ qs) at a = absurd at
+at_pieces from to (p ∷ ps) [] at a = absurd at
+at_pieces from to (p ∷ ps) (q ∷ qs) at a = (
+  omega (arith, at.0, a.0),
+  omega (arith, at.0, a.1),
+  omega (arith, at.1, a.2),
+  omega (arith, at.0, at.1, a.4),
+  subst (λ (n : ℕ). ArePieces n to qs) (omega (arith, at.0, at.1)) (at_pieces (p.start + p.size) to ps qs at.2 a.5),
+)
+
+-- a byte of the places is one of the pieces
+at_in : (places : List Place) (pieces : List Piece) (k : ℕ) → AreAt places pieces → IsAmong places k → IsIn pieces k
+at_in [] pieces k at i = absurd i
+at_in (p ∷ ps) [] k at i = absurd at
+at_in (p ∷ ps) (q ∷ qs) k at i = elim i [
+  | inl h ↦ inl (omega (arith, at.0, h.0), omega (arith, at.0, at.1, h.1))
+  | inr h ↦ inr (at_in ps qs k at.2 h)
+]
+
+-- and back
+at_back : (places : List Place) (pieces : List Piece) (k : ℕ) → AreAt places pieces → IsIn pieces k → IsAmong places k
+at_back [] [] k at i = i
+at_back [] (q ∷ qs) k at i = absurd at
+at_back (p ∷ ps) [] k at i = absurd i
+at_back (p ∷ ps) (q ∷ qs) k at i = elim i [
+  | inl h ↦ inl (omega (arith, at.0, h.0), omega (arith, at.0, at.1, h.1))
+  | inr h ↦ inr (at_back ps qs k at.2 h)
+]
+
+-- so the pieces at the places of marked units are those of these units
+pub at_places : (units : List Bool) (size : ℕ) (places : List Place) (pieces : List Piece) → AreAt places pieces
+    → ArePlacesOf units size places → ArePiecesOf units size pieces
+at_places units size places pieces at of = record {
+  ordered = at_pieces 0 size places pieces at of.ordered;
+  all = λ k low marked. at_in places pieces k at (of.all k low marked);
+  only = λ k i. of.only k (at_back places pieces k at i);
+}

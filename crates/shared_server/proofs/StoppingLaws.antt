@@ -28,7 +28,7 @@ use Rattle.board.specs.declared.counting.parameters.ServiceParameters.{Ghosts as
 use Rattle.board.specs.Keeper.{begins_itself, begins_before, begins_further}
 use Rattle.shared_server.specs.Descriptors.{is_done, was_cut, succeeded}
 use Rattle.shared_server.specs.Held.{IsHeld}
-use Rattle.volume_reading.specs.declared.piece.Piece.{Piece}
+use Rattle.volume_reading.specs.Pieces.{Piece}
 use Rattle.shared_server.specs.Stopping.{syncer, SyncEnd, Went, WasGivenUp, WasCut, sync_end, has_ended, SyncTells, IsFinished, IsLastLine}
 use Rattle.shared_server.proofs.HeldLaws.{Kept, ends_called, kept_if_cut, legal_from, not_given_up, done_is, true_before, true_outcome}
 

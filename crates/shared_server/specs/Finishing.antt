@@ -1,20 +1,32 @@
--- How a last sync went, and the pieces of a range that are read back.
-use Rattle.std.specs.Prelude.{◌≡◌, ℕ, ◌+◌, ◌*◌, ◌/◌, ◌<◌, List, [], Bool, true, length, min}
+-- How a last sync went, and the places of a range that are read back.
+use Rattle.std.specs.Prelude.{◌≡◌, ◌⊎◌, ℕ, ◌+◌, ◌*◌, ◌/◌, ◌<◌, ◌≤◌, List, [], ◌∷◌, Bool, true, min}
 use Rattle.changes.specs.Units.{is_marked}
 use Rattle.file_server.specs.declared.ReadEnd.{ReadEnd}
 use Rattle.file_server.specs.declared.ReadEnd.TheVariants as read
-use Rattle.volume_reading.specs.declared.piece.Piece.{Piece}
-use Rattle.volume_reading.specs.Pieces.{ArePieces, IsIn}
+use Rattle.volume_reading.specs.declared.place.Place.{Place}
+use Rattle.volume_reading.specs.Pieces.{Piece, ArePieces, IsIn}
+use Rattle.volume_reading.specs.Places.{ArePlaces}
 use Rattle.shared_server.specs.Stopping.{SyncEnd, Went, WasGivenUp, WasCut, WasNotAsRead, WasNotRead}
 use Rattle.shared_server.specs.declared.locked.LastSync.{LastSync}
 use Rattle.shared_server.specs.declared.locked.LastSync.TheVariants as sync
 use Rattle.shared_server.specs.declared.finishing.Finish.{Finish}
 use Rattle.shared_server.specs.declared.finishing.Finish.TheVariants.{Read, Unread, GivenUp, Cut}
 
--- the piece of a range of this size that lies in units from the first to before the end
-pub record IsPieceOf (first end size : ℕ) (p : Piece) : Type 0 where
+-- the place of a range of this size that lies in units from the first to before the end
+pub record IsPlaceOf (first end size : ℕ) (p : Place) : Type 0 where
   pub start : p.start ≡ 4096 * first
-  pub behind : p.start + length p.bytes.items ≡ min (4096 * end) size
+  pub behind : p.start + p.size ≡ min (4096 * end) size
+
+-- one of the places has this byte of the range
+abbrev pub IsAmong : List Place → ℕ → Type 0
+IsAmong [] k = ⊥
+IsAmong (p ∷ ps) k = ((p.start ≤ k) × (k < p.start + p.size)) ⊎ IsAmong ps k
+
+-- the places of a range of this size, in order, that have each byte of it in a marked unit, and no other
+pub record ArePlacesOf (units : List Bool) (size : ℕ) (places : List Place) : Type 0 where
+  pub ordered : ArePlaces 0 size places
+  pub all : (k : ℕ) → k < size → is_marked units (k / 4096) ≡ true → IsAmong places k
+  pub only : (k : ℕ) → IsAmong places k → is_marked units (k / 4096) ≡ true
 
 -- the pieces of a range of this size, in order, that have each place of it in a marked unit, and no other
 pub record ArePiecesOf (units : List Bool) (size : ℕ) (pieces : List Piece) : Type 0 where
@@ -38,17 +50,12 @@ end_of read.Cut = WasCut
 
 -- how one went, by what came of it and of reading the volume back
 abbrev pub finish_end : Finish → SyncEnd
-finish_end (Read back) = Went
+finish_end (Read units) = Went
 finish_end Unread = WasNotRead
 finish_end GivenUp = WasGivenUp
 finish_end Cut = WasCut
 
--- the units that writes had bytes in, where they were read back
+-- the units that writes had bytes in, where what lies in them was read back
 abbrev pub units_back : Finish → List Bool
-units_back (Read back) = back.units
+units_back (Read units) = units
 units_back _ = []
-
--- the pieces that were read back
-abbrev pub pieces_back : Finish → List Piece
-pieces_back (Read back) = back.pieces.items
-pieces_back _ = []

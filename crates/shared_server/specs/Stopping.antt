@@ -14,8 +14,7 @@ use Rattle.reissue.specs.declared.link.Link.{Ghosts as LinkWords}
 use Rattle.reissue.specs.Moves.{WasRead}
 use Rattle.changes.specs.Units.{is_marked}
 use Rattle.board.specs.Written.{AreWritten}
-use Rattle.volume_reading.specs.declared.piece.Piece.{Piece}
-use Rattle.volume_reading.specs.Pieces.{ArePieces, HaveBytes, IsIn}
+use Rattle.volume_reading.specs.Pieces.{Piece, ArePieces, HaveBytes, IsIn}
 
 -- who syncs a service that is stopped
 abbrev pub syncer : Who

@@ -1,12 +1,12 @@
-//! What comes of the last sync of a service, and the pieces of its volume that are read back.
+//! What comes of the last sync of a service, and the places of its volume that are read back.
 
-ghost use Rattle.std.specs.Prelude.{◌≡◌, ◌≤◌, ◌<◌, ◌+◌, ◌*◌, ◌-◌, ◌%◌, ◌↔◌, IfOk, ℕ, false, true};
+ghost use Rattle.std.specs.Prelude.{◌≡◌, ◌≤◌, ◌<◌, ◌+◌, ◌*◌, ◌%◌, ◌↔◌, IfOk, ℕ, false, true};
 ghost use Rattle.changes.specs.Units.{Covers, is_marked};
-ghost use Rattle.shared_server.specs.Finishing.{ArePiecesOf, IsPieceOf};
+ghost use Rattle.shared_server.specs.Finishing.{ArePlacesOf, IsPlaceOf};
 
 use changes::Marks;
 use std::alloc::{AllocError, Global};
-use volume_reading::{Piece, ReadRoom};
+use volume_reading::{Place, ReadRoom};
 
 /// The bytes of the largest volume (own): 64 MiB.
 pub(crate) const MOST: u64 = 67108864;
@@ -14,20 +14,26 @@ pub(crate) const MOST: u64 = 67108864;
 /// The bytes of a unit.
 const UNIT: u64 = 4096;
 
-/// What was read back of a volume's range.
+/// How many units are read back in one piece at most: 1 MiB.
+const UNITS_AT_ONCE: u32 = 256;
+
+/// What it takes to read back what was written of a volume's range.
 #[derive(Drop)]
-pub struct ReadBack {
-    /// Which units of 4096 bytes writes had bytes in.
-    pub units: Marks,
-    /// The pieces of the range that lie in these units, with their bytes, in order.
-    pub pieces: Vec<Piece>,
+pub(crate) struct Reading {
+    /// Room for the reads.
+    pub(crate) room: ReadRoom,
+    /// The places of the range that are to be read back, in order.
+    pub(crate) places: Vec<Place>,
+    /// Which units of 4096 bytes they lie in.
+    pub(crate) units: Marks,
 }
 
 /// What came of a last sync, and of reading back what was written of the volume's range.
 #[derive(Drop)]
 pub enum Finish {
-    /// The sync was answered ok, and these pieces of the range were read back: no write that was issued has a byte elsewhere.
-    Read(ReadBack),
+    /// The sync was answered ok, and what lies in these units of 4096 bytes of the range was read back, and taken: no write that was issued
+    /// has a byte elsewhere.
+    Read(Marks),
     /// The sync was answered ok, and what was written wasn't read back, or not all: no memory was found for it, no volume is so large as
     /// the range, or more was written meanwhile.
     Unread,
@@ -52,56 +58,58 @@ fn end_of_run(units: &Marks, from: u32, count: u32) -> u32
     count
 }
 
-/// The piece of a range of this size that lies in units from `first` to before `end`, whose bytes aren't read yet. Refused where no memory
-/// was found.
-fn piece_of(alloc: Global, first: u32, end: u32, size: u64) -> Result<Piece, AllocError>
+/// The place of a range of this size that lies in units from `first` to before `end`, of which there are 256 at most.
+fn place_of(first: u32, end: u32, size: u64) -> Place
     requires some { first < end }
+    requires few { end ≤ first + 256 }
     requires starts { 4096 * first < size }
     requires most { size ≤ 67108864 }
-    ensures { IfOk result (IsPieceOf first end size) }
+    ensures { IsPlaceOf first end size result }
 {
     let start = u64::from(first) * UNIT;
     let behind = (u64::from(end) * UNIT).min(size);
-    let bytes = vec![in alloc; 0; (behind - start) as usize]?;
-    Ok(Piece { start, bytes })
+    Place {
+        start,
+        size: (behind - start) as u32,
+    }
 }
 
-/// The pieces of a range of this size, a multiple of 512, that lie in marked units, in order, whose bytes aren't read yet. Refused where no
+/// The places of a range of this size, a multiple of 512, that lie in marked units, in order, each of 1 MiB at most. Refused where no
 /// memory was found for them.
-fn pieces_of(alloc: Global, units: &Marks, size: u64) -> Result<Vec<Piece>, AllocError>
+fn places_of(alloc: Global, units: &Marks, size: u64) -> Result<Vec<Place>, AllocError>
     requires whole { size % 512 ≡ 0 }
     requires most { size ≤ 67108864 }
-    ensures { IfOk result (λ pieces. ArePiecesOf units.now size pieces.items) }
+    ensures { IfOk result (λ places. ArePlacesOf units.now size places.items) }
 {
     let count = ((size + (UNIT - 1)) / UNIT) as u32;
-    let mut pieces = Vec::new(alloc);
+    let mut places = Vec::new(alloc);
     let mut next: u32 = 0;
     while next < count {
-        let end = end_of_run(units, next, count);
+        let end = end_of_run(units, next, count.min(next + UNITS_AT_ONCE));
         if next < end {
-            pieces.push(piece_of(alloc, next, end, size)?)?;
+            places.push(place_of(next, end, size))?;
         }
         next = end.max(next + 1);
     }
-    Ok(pieces)
+    Ok(places)
 }
 
-/// The pieces of a range of this size, a multiple of 512, that are to be read back where these units were written, and room to read them.
+/// The places of a range of this size, a multiple of 512, that are to be read back where these units were written, and room to read them.
 /// Refused where no memory was found.
-pub(crate) fn room_for(
-    alloc: Global,
-    units: &Marks,
-    size: u64,
-) -> Result<(ReadRoom, ReadBack), AllocError>
+pub(crate) fn room_for(alloc: Global, units: &Marks, size: u64) -> Result<Reading, AllocError>
     requires whole { size % 512 ≡ 0 }
     requires most { size ≤ 67108864 }
-    ensures units { IfOk result (λ r. r.1.units ≡ units.now) }
-    ensures pieces { IfOk result (λ r. ArePiecesOf units.now size r.1.pieces.items) }
+    ensures units { IfOk result (λ reading. reading.units ≡ units.now) }
+    ensures places { IfOk result (λ reading. ArePlacesOf units.now size reading.places.items) }
 {
     let room = ReadRoom::new(alloc)?;
-    let pieces = pieces_of(alloc, units, size)?;
+    let places = places_of(alloc, units, size)?;
     let units = units.copied(alloc)?;
-    Ok((room, ReadBack { units, pieces }))
+    Ok(Reading {
+        room,
+        places,
+        units,
+    })
 }
 
 /// Whether the same units are marked.

@@ -1,6 +1,6 @@
 //! What lies under the lock of a service.
 
-ghost use Rattle.std.specs.Prelude.{◌≡◌, ◌↔◌, ◌∷◌, ◌<◌, ◌≤◌, ◌^◌, ◌%◌, length, true, Some, IsErrOf, IfErr, IfOk, OnErr};
+ghost use Rattle.std.specs.Prelude.{◌≡◌, ◌↔◌, ◌∷◌, ◌<◌, ◌≤◌, ◌^◌, ◌%◌, List, length, true, Some, IsErrOf, IfErr, IfOk, OnErr};
 ghost use Rattle.records.specs.Opening.{contents_at};
 ghost use Rattle.records.specs.Told.{took_end};
 ghost use Rattle.tree.specs.Tree.{Tree};
@@ -10,12 +10,14 @@ ghost use Rattle.board.specs.View.{without};
 ghost use Rattle.board.specs.Steps.{SessionIsNew, SessionLearns};
 ghost use Rattle.file_server.specs.Over.{outcome_in, outcome_of};
 ghost use Rattle.shared_server.specs.Held.{AddsCall, HoldsIfTrue, IsEioOnceGivenUp, IsGood, IsGuaranteed, IsHeld, IsNotAdmitted, IsServedCall, IsSound};
-ghost use Rattle.shared_server.specs.Stopping.{IsFinished};
-ghost use Rattle.shared_server.specs.Finishing.{finish_end, pieces_back, units_back};
+ghost use Rattle.shared_server.specs.Stopping.{IsFinished, Went};
+ghost use Rattle.shared_server.specs.Finishing.{finish_end, units_back};
 ghost use Rattle.board.specs.Keeper.{AreAllUsed, IsLowestFree, IsOneFree, IsOneUsed};
+ghost use Rattle.volume_reading.specs.Pieces.{Piece};
+ghost use Rattle.volume_reading.specs.Places.{AreTaken};
 
 use crate::calling::make_call;
-use crate::finishing::{Finish, MOST, are_same, room_for};
+use crate::finishing::{Finish, MOST, Reading, are_same, room_for};
 use crate::flushing::{take_aside, take_flush};
 use crate::left_open::{is_cut, was_done};
 use crate::refusal::SessionRefusal;
@@ -28,6 +30,7 @@ use file_server::{Ending, FileServer, ReadEnd};
 use std::alloc::Global;
 use std::marker::{Model, PhantomData};
 use tree::{Call, Outcome, Reply, Who};
+use volume_reading::Takes;
 
 /// How many messages the server is handed between two calls at most (own).
 const MOST_ABSORBED: u64 = 281474976710656;
@@ -150,14 +153,14 @@ impl<N: ServiceParameters, L: Recorder<N>, S: FileServer<L>> Locked<N, L, S> {
         self.server.link().has_sessions(but)
     }
 
-    /// A last sync, after which the server is let go with its link. Where it was answered ok, the pieces of the volume's range, whose size
-    /// in bytes is given, in which writes have bytes are read back through the link, in units of 4096 bytes: `Read` where all that went,
-    /// `Unread` where no memory was found for them, no volume is so large, or more was written meanwhile. `GivenUp` or `Cut` where the
-    /// device was given up or the link ended in either. The numbers of sessions stay.
-    pub fn finish(self, alloc: Global, size: u64) -> Finish
+    /// A last sync, after which the server is let go with its link. Where it was answered ok, the volume's range, whose size in bytes is
+    /// given, is read back through the link where writes have bytes, in units of 4096 bytes, and each piece, of 1 MiB at most, is taken as
+    /// it comes: `Read` where all that went, `Unread` where no memory was found for it, no volume is so large, or more was written
+    /// meanwhile. `GivenUp` or `Cut` where the device was given up or the link ended in either. The numbers of sessions stay.
+    pub fn finish<T: Takes>(self, alloc: Global, size: u64, taker: &mut T) -> Finish
         requires whole { size % 512 ≡ 0 }
-        ensures finished { IsFinished L.Link L.numbers N.geometry N.opening (L.marks self) (L.numbers self) (finish_end result) size
-            (units_back result) (pieces_back result) }
+        ensures finished { (pieces : List Piece) × IsFinished L.Link L.numbers N.geometry N.opening (L.marks self) (L.numbers self)
+            (finish_end result) size (units_back result) pieces × (finish_end result ≡ Went → AreTaken T.takes taker.old pieces taker.new) }
     {
         let Locked {
             mut server,
@@ -178,29 +181,42 @@ impl<N: ServiceParameters, L: Recorder<N>, S: FileServer<L>> Locked<N, L, S> {
             return Finish::Unread;
         }
         disk_stays_unwritten();
-        let Ok((room, mut back)) = room_for(alloc, server.link().written(), size) else {
+        let Ok(reading) = room_for(alloc, server.link().written(), size) else {
             return Finish::Unread;
         };
-        let (link, end) = server.read_back(room, &mut back.pieces);
-        let is_same = are_same(&back.units, link.written());
+        let Reading {
+            room,
+            places,
+            units,
+        } = reading;
+        let (link, end) = server.read_back(room, &places, taker);
+        let is_same = are_same(&units, link.written());
         match end {
             ReadEnd::GivenUp => Finish::GivenUp,
             ReadEnd::Cut => Finish::Cut,
             ReadEnd::Read if !is_same => Finish::Unread,
-            ReadEnd::Read => Finish::Read(back),
+            ReadEnd::Read => Finish::Read(units),
         }
     }
 
     /// The same once this session has ended, whose number is free then: the record goes on from what it had seen.
-    pub fn finish_after(mut self, number: u8, mut seat: Seat, alloc: Global, size: u64) -> Finish
+    pub fn finish_after<T: Takes>(
+        mut self,
+        number: u8,
+        mut seat: Seat,
+        alloc: Global,
+        size: u64,
+        taker: &mut T,
+    ) -> Finish
         requires seat { (seat.table ≡ N.table) × (seat.view.number ≡ Some number) × (number < 64) }
         requires whole { size % 512 ≡ 0 }
-        ensures finished { IsFinished L.Link L.numbers N.geometry N.opening seat.view.seen (without (Some number) (L.numbers self))
-            (finish_end result) size (units_back result) (pieces_back result) }
+        ensures finished { (pieces : List Piece) × IsFinished L.Link L.numbers N.geometry N.opening seat.view.seen
+            (without (Some number) (L.numbers self)) (finish_end result) size (units_back result) pieces
+            × (finish_end result ≡ Went → AreTaken T.takes taker.old pieces taker.new) }
     {
         self.show(&mut seat);
         self.release(number, seat);
-        self.finish(alloc, size)
+        self.finish(alloc, size, taker)
     }
 
     /// A seat for a new session, with the lowest number that is free: 1 TooMany where 64 are in use, 2 Stopped where a take gave End.

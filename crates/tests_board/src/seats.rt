@@ -1,5 +1,6 @@
-//! Seats of a service's board: beats, in two threads too, what is seen when seats meet, and tallies from a session's start to its end.
-ghost use Rattle.std.specs.Prelude.{◌≡◌, ◌∷◌, [], IfOk};
+//! Seats of a service's board: beats, in two threads too, what is seen when seats meet, the numbers of editions, and tallies from a
+//! session's start to its end.
+ghost use Rattle.std.specs.Prelude.{◌≡◌, ◌∷◌, [], None, Some, IfOk, MatchOption};
 ghost use Rattle.records.specs.Marks.{Flush, GaveUp};
 
 use board::{Board, Seat};
@@ -93,6 +94,35 @@ fn met(alloc: Global) -> Result<(Seat, Seat), AllocError>
     let mut late = board.split(&mut keeper, Some(6))?;
     board.meet(&mut early, &mut late);
     Ok((early, late))
+}
+
+/// Two seats publish sectors each, and their editions are compared. Each then knows its own by the number that it was given, and none
+/// where it was given none.
+fn published(
+    alloc: Global,
+    sectors: &[[u8; 512]],
+    others: &[[u8; 512]],
+) -> Result<(Seat, Option<u64>, Seat, Option<u64>), AllocError>
+    ensures first { IfOk result (λ r. MatchOption r.1 (r.0.view.edition ≡ None) (λ n. r.0.view.edition ≡ Some (n, sectors.now))) }
+    ensures second { IfOk result (λ r. MatchOption r.3 (r.2.view.edition ≡ None) (λ n. r.2.view.edition ≡ Some (n, others.now))) }
+{
+    let (board, mut keeper) = Board::new(alloc)?;
+    let mut other = board.split(&mut keeper, None)?;
+    let first = board.publish(&mut keeper, sectors);
+    let second = board.publish(&mut other, others);
+    board.same_edition(&mut keeper, &mut other);
+    Ok((keeper, first, other, second))
+}
+
+#[test]
+fn editions_have_numbers(rt: HostRuntime) -> Result<(), Fail> {
+    let sectors = [[0; 512]];
+    let others = [[1; 512], [0; 512]];
+    let (_keeper, first, _other, second) = published(rt.alloc(), &sectors, &others)?;
+    is_told(
+        format!(in rt.alloc(); "{first:?} {second:?}")?.as_str(),
+        "Some(0) Some(1)",
+    )
 }
 
 /// A request of the first sector.

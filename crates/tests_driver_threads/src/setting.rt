@@ -29,7 +29,7 @@ pub(crate) const DRIVERS: usize = 33;
 
 /// A driver that isn't scheduled for a while on a loaded machine is no fault under it, and no number of faults gives the device up while
 /// there are drivers.
-const POLICY: Policy = Policy {
+pub(crate) const POLICY: Policy = Policy {
     max_faults: 32,
     cap: 1,
     calm: 1,
@@ -96,7 +96,45 @@ fn ended<N: ServiceParameters, R: Threads + Wait + Copy>(
     }
 }
 
-// The caller picks the volume: the first sectors of the media.
+/// The link and the threads behind it, over media of these bytes, of which the volume has the first sectors. None where they are no media.
+pub(crate) fn started<
+    N: ServiceParameters + Send + Sync + 'static,
+    R: Threads + Wait + Clock + Copy + Send + Sync + 'static,
+    D: BlockDriver + 'static,
+>(
+    alloc: Global,
+    rt: R,
+    image: &[u8],
+    sectors: u32,
+    reincarnation: Reincarnation<D>,
+    board: Board,
+    seat: Seat,
+    gate: &Arc<Watch<R>>,
+) -> Result<Option<(ChannelLink<R>, Running<N>)>, AllocError>
+    requires board { board ≡ N.table }
+    requires range { (N.opening.first ≡ 0) × (N.opening.count ≡ sectors) }
+    requires image { N.opening.media ≡ image.now }
+    requires seat { seat.table ≡ board }
+{
+    let Ok(media) = Media::from_bytes(alloc, image) else {
+        return Ok(None);
+    };
+    let board = Arc::new(alloc, board)?;
+    let gate = Arc::try_clone(gate)?;
+    let made = start_drivers::<N, D, Watch<R>, R>(
+        alloc,
+        rt,
+        media,
+        (0, sectors),
+        reincarnation,
+        &board,
+        seat,
+        gate,
+    )?;
+    Ok(Some(made))
+}
+
+// The caller picks the volume.
 fn play_on<
     N: ServiceParameters + Send + Sync + 'static,
     R: Threads + Wait + Clock + Copy + Send + Sync + 'static,
@@ -114,25 +152,15 @@ fn play_on<
     plan: P,
     ending: Ending,
 ) -> Result<Option<(P::Came, Vec<u8>)>, AllocError>
+    requires board { board ≡ N.table }
     requires range { (N.opening.first ≡ 0) × (N.opening.count ≡ sectors) }
     requires image { N.opening.media ≡ image.now }
     requires seat { seat.table ≡ board }
 {
-    let Ok(media) = Media::from_bytes(alloc, image) else {
+    let made = started::<N, R, D>(alloc, rt, image, sectors, reincarnation, board, seat, gate)?;
+    let Some((mut link, running)) = made else {
         return Ok(None);
     };
-    let board = Arc::new(alloc, board)?;
-    let gate = Arc::try_clone(gate)?;
-    let (mut link, running) = start_drivers::<N, D, Watch<R>, R>(
-        alloc,
-        rt,
-        media,
-        (0, sectors),
-        reincarnation,
-        &board,
-        seat,
-        gate,
-    )?;
     let mut plan = plan;
     let came = plan.play(&mut link);
     drop(link);

@@ -1,15 +1,15 @@
-//! Many changes behind a sync, which are put from where they lie: 4290000 bytes in a volume of 8 MiB.
+//! Changes behind a sync whose put is refused: many of them, 4290000 bytes in a volume of 8 MiB, which are put from where they lie, and few.
 
 ghost use Rattle.std.specs.Prelude.{⊤};
 
-use crate::mounted::{Fixed, put};
+use crate::mounted::{Came, Fixed, put};
 use crate::sessions::{ATTACH, CLONE, CREATE, VERSION};
 use archive::Archive;
 use errno::Errno;
 use fixtures::gates::Ticking;
 use fixtures::{patient, supply_of};
 use mount_service::mount::{Ended, MountStatus, mount};
-use mount_service::program::{Came, Streams};
+use mount_service::program::Streams;
 use new_volume::mkfs;
 use ninep_server::connection::Connection;
 use redo::Puts;
@@ -19,14 +19,12 @@ use std::test::Fail;
 use std::thread::Threads;
 use std::time::Clock;
 
-/// How many messages write the file, with 65000 bytes each.
-const WRITES: u32 = 66;
-
+/// How many bytes a message writes.
 const SIZE: u32 = 65000;
 
 /// An image in memory into which changes are put; the first put is refused. How many units each had.
 #[derive(Drop)]
-struct Copy {
+struct Kept {
     image: Vec<u8>,
     puts: Vec<usize>,
 }
@@ -42,7 +40,7 @@ fn put_all<P: Puts>(image: &mut [u8], changes: &P) {
     }
 }
 
-impl Archive for Copy {
+impl Archive for Kept {
     ghost puts = { λ _ _ _ _. ⊤ };
 
     ghost ends = { λ _ _ _ _. ⊤ };
@@ -73,15 +71,16 @@ fn write(alloc: Global, out: &mut Vec<u8>, at: u32, bytes: &[u8]) -> Result<(), 
     put(out, &message)
 }
 
-/// The messages: a file is made and written, and synced twice.
-fn messages(alloc: Global) -> Result<Vec<u8>, Fail> {
+/// The messages: a file is made and written so many times, and synced twice.
+fn messages(alloc: Global, writes: u32) -> Result<Vec<u8>, Fail> {
     let mut asked = Vec::new(alloc);
     for (message, _) in [VERSION, ATTACH, CLONE, CREATE] {
         put(&mut asked, message)?;
     }
     let bytes = vec![in alloc; b'x'; SIZE as usize]?;
-    for i in 0..WRITES {
-        write(alloc, &mut asked, i * SIZE, &bytes)?;
+    for i in 0..writes {
+        let at = i.checked_mul(SIZE).ok_or("too many writes")?;
+        write(alloc, &mut asked, at, &bytes)?;
     }
     for _ in 0..2 {
         put(&mut asked, b"\x32\x05\0\x01\0\0\0\0\0\0\0")?;
@@ -89,18 +88,19 @@ fn messages(alloc: Global) -> Result<Vec<u8>, Fail> {
     Ok(asked)
 }
 
-/// A put of many units that is refused has the next one put them again: then the copy is the image.
-#[test]
-fn many_changes_are_put(rt: HostRuntime) -> Result<(), Fail> {
-    let alloc = rt.alloc();
+/// What comes of a new volume of 8 MiB that is mounted over a copy of it, and is sent these messages.
+fn mounted_over<R: Threads + Wait + Clock + Copy + Send + Sync + 'static>(
+    alloc: Global,
+    rt: R,
+    asked: &[u8],
+) -> Result<Came<'_, Kept>, Fail> {
     let image = mkfs(alloc, 2048, 4096, 32, 50).map_err(|_| "no volume")?;
-    let archive = Copy {
+    let archive = Kept {
         image: Vec::from_slice(alloc, &image)?,
         puts: Vec::new(alloc),
     };
-    let asked = messages(alloc)?;
     let streams = Streams {
-        input: asked.as_slice(),
+        input: asked,
         output: Vec::new(alloc),
         answerer: Connection::new(alloc),
         clock: Fixed,
@@ -110,7 +110,7 @@ fn many_changes_are_put(rt: HostRuntime) -> Result<(), Fail> {
     let supply = supply_of(alloc, 16384, &[None; 8])?;
     let gate = Arc::new(alloc, Ticking::new(rt, 100))?;
     let mut err: Vec<u8> = Vec::new(alloc);
-    let Ended { status, came } = mount(
+    Ok(mount(
         alloc,
         rt,
         "v.img",
@@ -120,17 +120,45 @@ fn many_changes_are_put(rt: HostRuntime) -> Result<(), Fail> {
         gate,
         streams,
         &mut err,
-    );
-    let Came { streams, image, .. } = came.ok_or("not mounted")?;
+    ))
+}
+
+/// How many units the two puts of a file had that was written so many times and synced twice, where the copy is the image then.
+fn units_put<R: Threads + Wait + Clock + Copy + Send + Sync + 'static>(
+    alloc: Global,
+    rt: R,
+    writes: u32,
+) -> Result<(usize, usize), Fail> {
+    let asked = messages(alloc, writes)?;
+    let Ended { status, came } = mounted_over(alloc, rt, &asked)?;
+    let mount_service::program::Came { streams, image, .. } = came.ok_or("not mounted")?;
     let Streams { archive, .. } = streams;
-    let copy = archive.ok_or("no archive")?;
-    let [refused, again] = copy.puts.as_slice() else {
+    let kept = archive.ok_or("no archive")?;
+    let [refused, again] = kept.puts.as_slice() else {
         return Err(Fail::from("not two puts"));
     };
-    let is_many = *refused > 1024 && again >= refused;
-    let is_done = status == MountStatus::Done && is_many;
-    if is_done && copy.image.as_slice() == image.as_slice() {
-        return Ok(());
+    if status == MountStatus::Done && kept.image.as_slice() == image.as_slice() {
+        return Ok((*refused, *again));
     }
     Err(Fail::from("the copy isn't the image"))
+}
+
+/// A put of many units that is refused has the next one put them again: no unit is copied for it.
+#[test]
+fn many_refused_units_are_put_again(rt: HostRuntime) -> Result<(), Fail> {
+    let (refused, again) = units_put(rt.alloc(), rt, 66)?;
+    if refused > 1024 && again >= refused {
+        return Ok(());
+    }
+    Err(Fail::from("not many units, or fewer again"))
+}
+
+/// And so has one of few, which are copied for it.
+#[test]
+fn few_refused_units_are_put_again(rt: HostRuntime) -> Result<(), Fail> {
+    let (refused, again) = units_put(rt.alloc(), rt, 1)?;
+    if (16..=1024).contains(&refused) && again >= refused {
+        return Ok(());
+    }
+    Err(Fail::from("not few units, or fewer again"))
 }

@@ -1,5 +1,6 @@
 -- A server's volume, read back through its link.
 use Rattle.std.proofs.Common.{◌≡◌, ℕ, List, [], ◌∷◌, ◌++◌, refl, sym, subst, ◌∙◌, Result, Ok, Err}
+use Rattle.std.specs.Prelude.{OnOk}
 use Rattle.tree.specs.declared.Who.{Who}
 use Rattle.tree.specs.declared.Call.{Call}
 use Rattle.tree.specs.Answers.{Answer}
@@ -21,13 +22,14 @@ use Rattle.reissue.specs.Transfers.{link_of, table_of}
 use Rattle.cached_blocks.specs.declared.Stored.{Stored}
 use Rattle.volume_reading.specs.declared.reading.Stop.{Stop}
 use Rattle.volume_reading.specs.declared.reading.Stop.TheVariants as stop
-use Rattle.volume_reading.specs.declared.piece.Piece.{Piece}
-use Rattle.volume_reading.specs.Pieces.{HaveBytes}
+use Rattle.volume_reading.specs.declared.place.Place.{Place}
+use Rattle.volume_reading.specs.Pieces.{HaveBytes, Piece}
+use Rattle.volume_reading.specs.Places.{AreAt}
 use Rattle.volume_reading.specs.ReadBack.{AreFor, IsOver, IsBack, AreBack, ReadsBack as RangeReadsBack}
 use Rattle.volume_reading.proofs.Pieces.{have_map}
 use Rattle.file_server.specs.Back.{AgreesUpToCall, IsReadBack, ReadsBack, is_cut, is_given_up}
 use Rattle.file_server.specs.declared.ReadEnd.{ReadEnd}
-use Rattle.file_server.specs.declared.ReadEnd.TheVariants.{Read}
+use Rattle.file_server.specs.declared.ReadEnd.TheVariants.{Read, GivenUp, Cut}
 use Rattle.vfs.specs.declared.server.Server.{Server}
 use Rattle.vfs.specs.OverLink.{IsReadyOver, caching_of, line_of, serving_over, transfers_of}
 use Rattle.vfs.specs.Back.{end_of}
@@ -114,6 +116,20 @@ back_over {L} words s t result pieces x = record {
     by (Err stop.GaveUp) back is marks h = cc
     by (Err stop.Ended) back is marks h = cc
     by (Err stop.OutOfMemory) back is marks h = cc
+
+-- pieces that are at their places if all were read
+pub at_places : (result : Result (Unit {0}) Stop) (end : ReadEnd) (places : List Place) (pieces : List Piece) → OnOk result (AreAt places pieces)
+    → end ≡ end_of result → end ≡ Read → AreAt places pieces
+at_places (Ok u) end places pieces h is read = h
+at_places (Err stop.GaveUp) end places pieces h is read = absurd (other (sym is ∙ read)) where
+  other : GivenUp ≡ Read → ⊥
+  other e = cc
+at_places (Err stop.Ended) end places pieces h is read = absurd (other (sym is ∙ read)) where
+  other : Cut ≡ Read → ⊥
+  other e = cc
+at_places (Err stop.OutOfMemory) end places pieces h is read = absurd (other (sym is ∙ read)) where
+  other : GivenUp ≡ Read → ⊥
+  other e = cc
 
 -- its requests are for its minor
 pub are_for : {L : Type 0} (words : LinkWords L) (s : Server (Stored L)) → IsReadyOver words s

@@ -8,7 +8,7 @@ use file_server::{Ending, FileServer, ReadEnd};
 use message::Incoming;
 use reissue::Link;
 use tree::{Call, Reply, Who};
-use volume_reading::{Piece, ReadRoom};
+use volume_reading::{Place, ReadRoom, Takes};
 
 impl<L: Link + Drop> FileServer<L> for Server<Stored<L>> {
     ghost use Rattle.std.specs.Prelude.{refl};
@@ -34,8 +34,8 @@ impl<L: Link + Drop> FileServer<L> for Server<Stored<L>> {
         self.absorb(message);
     }
 
-    fn read_back(self, room: ReadRoom, pieces: &mut [Piece]) -> (L, ReadEnd) {
-        self.read_back(room, pieces)
+    fn read_back<T: Takes>(self, room: ReadRoom, places: &[Place], taker: &mut T) -> (L, ReadEnd) {
+        self.read_back(room, places, taker)
     }
 
     fn link(&self) -> &L {

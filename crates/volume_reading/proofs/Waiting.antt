@@ -21,8 +21,7 @@ use Rattle.reissue.proofs.Joining.{grown_append}
 use Rattle.reissue.proofs.Maps.{put_cases}
 use Rattle.volume_reading.specs.declared.reading.Stop.{Stop}
 use Rattle.volume_reading.specs.declared.reading.Stop.TheVariants.{OutOfMemory, GaveUp, Ended}
-use Rattle.volume_reading.specs.declared.piece.Piece.{Piece}
-use Rattle.volume_reading.specs.Pieces.{HaveBytes, IsIn}
+use Rattle.volume_reading.specs.Pieces.{HaveBytes, IsIn, Piece}
 use Rattle.volume_reading.specs.Reading.{LeavesDisk, Went, ReadsRange}
 use Rattle.volume_reading.specs.ReadBack.{AreFor, AreReads, GoesOn, IsOver, Waits, IsBack, AreBack, ReadsBack}
 use Rattle.volume_reading.proofs.Pieces.{have_in, have_map, have_more}
@@ -192,7 +191,7 @@ back_none minor t told was unended live idle = record {
 -- and one more piece, behind the others
 pub back_more : (minor : ℕ) (done : List Piece) (q : Piece) (s t u : Table) (before between after : List Told) (was mid is : Truth)
     → ReadsBack (Ok tt) minor done s t before between was mid
-    → ReadsRange (Ok tt) minor q.start (length q.bytes.items) q.bytes.items t u between after mid is
+    → ReadsRange (Ok tt) minor q.start (length q.bytes) q.bytes t u between after mid is
     → ((place : ℕ) → IsIn done place → place < q.start)
     → ReadsBack (Ok tt) minor (done ++ q ∷ []) s u before after was is
 back_more minor done q s t u before between after was mid is r x apart = record {
@@ -234,12 +233,12 @@ back_more minor done q s t u before between after was mid is r x apart = record 
           is_disk = λ reads image replies sure. old.is_disk reads image (first marks image replies) sure ∙ stays marks h image replies k;
         }
 
-    read : (marks : List Mark) → Agrees s marks → (k : ℕ) → k < length q.bytes.items
-        → IsBack s marks (last marks) (q.start + k) (slice_index q.bytes.items k)
+    read : (marks : List Mark) → Agrees s marks → (k : ℕ) → k < length q.bytes
+        → IsBack s marks (last marks) (q.start + k) (slice_index q.bytes k)
     read marks h k lt =
         let f = x.end.3 (grown r.told marks) (r.goes.agrees marks h) k lt in
         record {
-          read = subst (λ (ms : List Mark). WasRead ms (q.start + k) (slice_index q.bytes.items k)) (grows marks) f.read;
+          read = subst (λ (ms : List Mark). WasRead ms (q.start + k) (slice_index q.bytes k)) (grows marks) f.read;
           is_disk = λ reads image replies sure.
               f.is_disk image (so marks image replies) ((r.goes.leaves reads image marks h (first marks image replies)).sure (q.start + k) sure)
               ∙ stays marks h image replies (q.start + k);

@@ -2,4 +2,5 @@
 pub mod Sought
 pub mod Reading
 pub mod Pieces
+pub mod Places
 pub mod ReadBack

@@ -1,5 +1,5 @@
 -- What reading a volume back through a link does, once all that was pending has come.
-use Rattle.std.specs.Prelude.{◌≡◌, ℕ, List, [], ◌++◌, Some, false, true, Result, Ok, Err}
+use Rattle.std.specs.Prelude.{◌≡◌, ℕ, List, [], ◌++◌, length, Some, false, true, Result, Ok, Err, OnOk, OnErr}
 use Rattle.records.specs.Marks.{Mark}
 use Rattle.records.specs.Disk.{Contents, HasTrueReplies, disk_after, unsure}
 use Rattle.records.specs.Area.{Area}
@@ -13,9 +13,9 @@ use Rattle.reissue.specs.Moves.{Begun, WasRead}
 use Rattle.reissue.specs.Calls.{Truth}
 use Rattle.volume_reading.specs.declared.reading.Stop.{Stop}
 use Rattle.volume_reading.specs.declared.reading.Stop.TheVariants.{OutOfMemory, GaveUp, Ended}
-use Rattle.volume_reading.specs.declared.piece.Piece.{Piece}
-use Rattle.volume_reading.specs.Reading.{LeavesDisk}
-use Rattle.volume_reading.specs.Pieces.{HaveBytes}
+use Rattle.volume_reading.specs.declared.place.Place.{Place}
+use Rattle.volume_reading.specs.Reading.{LeavesDisk, ReadsRange}
+use Rattle.volume_reading.specs.Pieces.{HaveBytes, Piece}
 
 -- these requests are for an area of this minor
 pub record AreFor (minor : ℕ) (ps : List Pending) : Type 0 where
@@ -67,3 +67,12 @@ pub record ReadsBack (result : Result (Unit {0}) Stop) (minor : ℕ) (pieces : L
   pub goes : GoesOn minor told old new before after was is
   pub over : IsOver result new after
   pub back : AreBack result pieces old told
+
+-- The bytes of a place were read, and its piece was taken; or not all of them were, and none was taken.
+pub record ReadsPlace {T : Type 0} (takes : T → Piece → T → Type 0) (result : Result (Unit {0}) Stop) (minor : ℕ) (place : Place)
+    (taker more : T) (old new : Table) (before after : List Told) (was is : Truth) : Type 0 where
+  pub bytes : List ℕ
+  pub long : length bytes ≡ place.size
+  pub reads : ReadsRange result minor place.start place.size bytes old new before after was is
+  pub took : OnOk result (takes taker (record { start = place.start; bytes = bytes }) more)
+  pub stopped : OnErr result (more ≡ taker)

@@ -1,14 +1,14 @@
 //! Reading pieces of a volume back through a link.
 
-ghost use Rattle.std.specs.Prelude.{◌≡◌, ◌≢◌, ◌+◌, ◌-◌, ◌<◌, ◌≤◌, ◌^◌, ◌%◌, ℕ, [], false, length, vec_capacity, OnOk, Err};
+ghost use Rattle.std.specs.Prelude.{◌≡◌, ◌≢◌, ◌+◌, ◌-◌, ◌<◌, ◌≤◌, ◌^◌, ◌%◌, ℕ, List, [], false, length, vec_capacity, OnOk, Err};
 ghost use Rattle.records.specs.Told.{took_end};
 ghost use Rattle.reissue.specs.Posts.{HasRoom};
 ghost use Rattle.reissue.specs.Transfers.{link_of, table_of};
-ghost use Rattle.volume_reading.specs.Pieces.{ArePieces, SamePlaces};
-ghost use Rattle.volume_reading.specs.ReadBack.{AreFor, ReadsBack, Waits};
-ghost use Rattle.volume_reading.specs.Reading.{ReadsRange};
+ghost use Rattle.volume_reading.specs.Pieces.{Piece};
+ghost use Rattle.volume_reading.specs.Places.{AreAt, ArePlaces, AreTaken};
+ghost use Rattle.volume_reading.specs.ReadBack.{AreFor, ReadsBack, ReadsPlace, Waits};
 
-use crate::piece::Piece;
+use crate::place::{Place, Takes};
 use crate::reading::{Stop, read_in};
 use crate::room::ReadRoom;
 use crate::sought::Sought;
@@ -49,62 +49,75 @@ fn wait_for_all<L: Link>(transfers: &mut Transfers<L>) -> Result<(), Stop>
     }
 }
 
-/// Reads a piece's bytes.
-fn read_piece<L: Link>(
+/// Reads the bytes of a place into the first ones of a buffer, and has them taken.
+fn read_place<L: Link, T: Takes>(
     transfers: &mut Transfers<L>,
     asked: &mut Vec<Sought>,
+    buffer: &mut [u8],
     minor: u8,
-    piece: &mut Piece,
+    place: &Place,
+    taker: &mut T,
 ) -> Result<(), Stop>
     requires none { asked.old.items ≡ [] }
     requires wide { 16 ≤ vec_capacity asked.old }
-    requires start { piece.old.start % 512 ≡ 0 }
-    requires whole { length piece.old.bytes.items % 512 ≡ 0 }
-    requires bound { piece.old.start + length piece.old.bytes.items ≤ 2 ^ 48 }
+    requires long { length buffer.old ≡ 1048576 }
+    requires start { place.now.start % 512 ≡ 0 }
+    requires whole { place.now.size % 512 ≡ 0 }
+    requires most { place.now.size ≤ 1048576 }
+    requires bound { place.now.start + place.now.size ≤ 2 ^ 48 }
     requires idle { (table_of transfers.old).pending ≡ [] }
     requires live { (table_of transfers.old).given_up ≡ false }
     requires unended { took_end (L.history (link_of transfers.old)) ≡ false }
     requires room { HasRoom (table_of transfers.old) (L.room (link_of transfers.old)) }
-    requires ids { (table_of transfers.old).ids + L.budget_left (link_of transfers.old) + length piece.old.bytes.items ≤ 2 ^ 60 - 4096 }
-    ensures reads { ReadsRange result minor piece.old.start (length piece.old.bytes.items) piece.new.bytes.items (table_of transfers.old)
-        (table_of transfers.new) (L.history (link_of transfers.old)) (L.history (link_of transfers.new)) (L.truth (link_of transfers.old))
+    requires ids { (table_of transfers.old).ids + L.budget_left (link_of transfers.old) + place.now.size ≤ 2 ^ 60 - 4096 }
+    ensures reads { ReadsPlace T.takes result minor place.now taker.old taker.new (table_of transfers.old) (table_of transfers.new)
+        (L.history (link_of transfers.old)) (L.history (link_of transfers.new)) (L.truth (link_of transfers.old))
         (L.truth (link_of transfers.new)) }
-    ensures start { piece.new.start ≡ piece.old.start }
-    ensures length { length piece.new.bytes.items ≡ length piece.old.bytes.items }
     ensures goes { L.goes_on (link_of transfers.old) (link_of transfers.new) }
     ensures room { OnOk result (HasRoom (table_of transfers.new) (L.room (link_of transfers.new))) }
     ensures ids { OnOk result ((table_of transfers.new).ids + L.budget_left (link_of transfers.new)
-        ≤ (table_of transfers.old).ids + L.budget_left (link_of transfers.old) + length piece.old.bytes.items) }
+        ≤ (table_of transfers.old).ids + L.budget_left (link_of transfers.old) + place.now.size) }
     ensures none { OnOk result (asked.new.items ≡ []) }
     ensures wide { vec_capacity asked.new ≡ vec_capacity asked.old }
+    ensures long { length buffer.new ≡ length buffer.old }
     ensures memory { result ≢ Err Stop.OutOfMemory }
 {
-    read_in(transfers, asked, minor, piece.start, &mut piece.bytes)
+    let into = &mut buffer[..place.size as usize];
+    match read_in(transfers, asked, minor, place.start, into) {
+        Ok(()) => {
+            taker.take(place.start, into);
+            Ok(())
+        }
+        Err(stop) => Err(stop),
+    }
 }
 
-/// Reads the pieces, one after the other, where nothing is pending.
-fn read_pieces<L: Link>(
+/// Reads the places, one after the other, where nothing is pending, and has each piece taken.
+fn read_places<L: Link, T: Takes>(
     transfers: &mut Transfers<L>,
     room: ReadRoom,
     minor: u8,
-    pieces: &mut [Piece],
+    places: &[Place],
+    taker: &mut T,
 ) -> Result<(), Stop>
-    requires pieces { ArePieces 0 (2 ^ 48) pieces.old }
+    requires places { ArePlaces 0 (2 ^ 48) places.now }
     requires idle { (table_of transfers.old).pending ≡ [] }
     requires live { (table_of transfers.old).given_up ≡ false }
     requires unended { took_end (L.history (link_of transfers.old)) ≡ false }
     requires room { HasRoom (table_of transfers.old) (L.room (link_of transfers.old)) }
     requires ids { (table_of transfers.old).ids + L.budget_left (link_of transfers.old) + 2 ^ 48 < 2 ^ 60 - 4096 }
-    ensures back { ReadsBack result minor pieces.new (table_of transfers.old) (table_of transfers.new)
-        (L.history (link_of transfers.old)) (L.history (link_of transfers.new)) (L.truth (link_of transfers.old))
-        (L.truth (link_of transfers.new)) }
-    ensures same { SamePlaces pieces.old pieces.new }
+    ensures back { (pieces : List Piece) × AreTaken T.takes taker.old pieces taker.new × OnOk result (AreAt places.now pieces)
+        × ReadsBack result minor pieces (table_of transfers.old) (table_of transfers.new) (L.history (link_of transfers.old))
+        (L.history (link_of transfers.new)) (L.truth (link_of transfers.old)) (L.truth (link_of transfers.new)) }
     ensures goes { L.goes_on (link_of transfers.old) (link_of transfers.new) }
     ensures memory { result ≢ Err Stop.OutOfMemory }
 {
-    let ReadRoom { mut asked } = room;
-    for i in 0..pieces.len() {
-        match read_piece(transfers, &mut asked, minor, &mut pieces[i]) {
+    let ReadRoom {
+        mut asked,
+        mut buffer,
+    } = room;
+    for place in places {
+        match read_place(transfers, &mut asked, &mut buffer, minor, place, taker) {
             Ok(()) => {}
             Err(stop) => return Err(stop),
         }
@@ -112,24 +125,24 @@ fn read_pieces<L: Link>(
     Ok(())
 }
 
-/// Waits for all that is pending, and then reads the bytes of these pieces of the range of the media that this minor names, in order. It
-/// takes messages until all have come, the device is given up or the link ends, and none where the device was given up before. It takes no
-/// memory.
-pub fn read_back<L: Link>(
+/// Waits for all that is pending, and then reads these places of the range of the media that this minor names, in order. Each piece is
+/// taken once its last byte was read, before the next one is asked for. It takes messages until all have come, the device is given up or
+/// the link ends, and none where the device was given up before. It takes no memory.
+pub fn read_back<L: Link, T: Takes>(
     transfers: &mut Transfers<L>,
     room: ReadRoom,
     minor: u8,
-    pieces: &mut [Piece],
+    places: &[Place],
+    taker: &mut T,
 ) -> Result<(), Stop>
     requires minor { AreFor minor (table_of transfers.old).pending }
-    requires pieces { ArePieces 0 (2 ^ 48) pieces.old }
+    requires places { ArePlaces 0 (2 ^ 48) places.now }
     requires unended { took_end (L.history (link_of transfers.old)) ≡ false }
     requires room { HasRoom (table_of transfers.old) (L.room (link_of transfers.old)) }
     requires ids { (table_of transfers.old).ids + L.budget_left (link_of transfers.old) + 2 ^ 48 < 2 ^ 60 - 4096 }
-    ensures back { ReadsBack result minor pieces.new (table_of transfers.old) (table_of transfers.new)
-        (L.history (link_of transfers.old)) (L.history (link_of transfers.new)) (L.truth (link_of transfers.old))
-        (L.truth (link_of transfers.new)) }
-    ensures same { SamePlaces pieces.old pieces.new }
+    ensures back { (pieces : List Piece) × AreTaken T.takes taker.old pieces taker.new × OnOk result (AreAt places.now pieces)
+        × ReadsBack result minor pieces (table_of transfers.old) (table_of transfers.new) (L.history (link_of transfers.old))
+        (L.history (link_of transfers.new)) (L.truth (link_of transfers.old)) (L.truth (link_of transfers.new)) }
     ensures goes { L.goes_on (link_of transfers.old) (link_of transfers.new) }
     ensures memory { result ≢ Err Stop.OutOfMemory }
 {
@@ -137,7 +150,7 @@ pub fn read_back<L: Link>(
         return Err(Stop::GaveUp);
     }
     match wait_for_all(transfers) {
-        Ok(()) => read_pieces(transfers, room, minor, pieces),
+        Ok(()) => read_places(transfers, room, minor, places, taker),
         Err(stop) => Err(stop),
     }
 }

@@ -2,12 +2,12 @@
 #![tactic(auto)]
 
 pub mod back;
-pub mod piece;
+pub mod place;
 pub mod reading;
 pub mod room;
 pub mod sought;
 
 pub use back::read_back;
-pub use piece::Piece;
+pub use place::{Place, Takes};
 pub use reading::{Stop, read_range};
 pub use room::ReadRoom;

@@ -7,7 +7,7 @@ ghost use Rattle.reissue.specs.Transfers.{link_of, table_of};
 ghost use Rattle.volume_reading.specs.Sought.{piece_size};
 ghost use Rattle.volume_reading.specs.Reading.{BeginsNext, BeginsNothing, ReadsRange};
 
-use crate::room::{AT_ONCE, ReadRoom};
+use crate::room::{AT_ONCE, room_for_reads};
 use crate::sought::{Sought, piece_size, put_bytes};
 use message::{Incoming, Kind};
 use reissue::{Ask, Link, Settled, Transfers};
@@ -160,11 +160,8 @@ pub fn read_range<L: Link>(
         ≤ (table_of transfers.old).ids + 2 * L.budget_left (link_of transfers.old) + length into.old) }
     ensures refused { result ≡ Err Stop.OutOfMemory → (transfers.new ≡ transfers.old) × (into.new ≡ into.old) }
 {
-    match ReadRoom::new(alloc) {
-        Ok(room) => {
-            let ReadRoom { mut asked } = room;
-            read_in(transfers, &mut asked, minor, start, into)
-        }
+    match room_for_reads(alloc) {
+        Ok(mut asked) => read_in(transfers, &mut asked, minor, start, into),
         Err(_) => Err(Stop::OutOfMemory),
     }
 }

@@ -85,6 +85,7 @@ fn measure_on<
 ) -> io::Result<()>
     requires range { (N.opening.first ≡ 0) × (N.opening.count ≡ 32768) }
     requires image { N.opening.media ≡ image.now }
+    requires board { board ≡ N.table }
     requires seat { seat.table ≡ board }
     requires sizes { IsGeometry volume.now }
 {

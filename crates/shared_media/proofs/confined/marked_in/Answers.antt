@@ -1,4 +1,4 @@
-use Rattle.std.proofs.Common.{◌≡◌, List, [], ◌∷◌, ◌++◌, length, arith, ap, sym, ◌∙◌, Vec, Global, ℕ}
+use Rattle.std.proofs.Common.{[], ◌∷◌, ◌++◌, length, arith, ap, sym, ◌∙◌, Vec, Global, ℕ}
 use Rattle.changes.proofs.Marking.{next_marked, next_unmarked, marked_few}
 use Rattle.shared_media.proofs.confined.marked_in.Goals as goal
 use Rattle.shared_media.proofs.confined.marked_in.Goals.{then-has+in_ok-push, else-has}

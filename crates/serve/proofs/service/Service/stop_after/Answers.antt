@@ -1,11 +1,14 @@
-use Rattle.std.proofs.Common.{◌∙◌, ap, arith, sym, subst, ℕ, List, Some}
+use Rattle.std.proofs.Common.{◌≡◌, ◌∙◌, ap, arith, sym, subst, ℕ, List, Some}
 use Rattle.tree.specs.declared.Who.{Who}
 use Rattle.records.specs.Marks.{Mark, IsBeginning}
 use Rattle.board.specs.Keeper.{begins_itself}
 use Rattle.board.specs.View.{without}
-use Rattle.serve.specs.Stopping.{WhoIsLeft}
+use Rattle.shared_server.specs.Finishing.{finish_end}
+use Rattle.shared_server.specs.Stopping.{Went}
+use Rattle.serve.specs.Stopping.{Tells, WhoIsLeft}
 use Rattle.serve.proofs.ClosingLaws.{closed_all}
-use Rattle.serve.proofs.StoppingLaws.{Finished, are_within, finished_with, image_after, left_told, none_told, who_after, why_after}
+use Rattle.serve.proofs.ComparingLaws.{all_compared, tells_so}
+use Rattle.serve.proofs.StoppingLaws.{Finished, finished_with, image_after, left_told, none_told, who_after, why_after}
 use Rattle.serve.proofs.service.Service.stop_after.Given.{Over}
 use Rattle.serve.proofs.service.Service.stop_after.Goals as goal
 
@@ -13,18 +16,30 @@ use Rattle.serve.proofs.service.Service.stop_after.Goals as goal
 left_so : (g : Over) (c : goal.After-image_of g) (earlier : List Mark) → IsBeginning earlier c.into_seat-number.result.1.view.seen
     → Finished g.L.Link g.L.Recorder.numbers g.N.ServiceParameters.geometry g.N.ServiceParameters.opening earlier
     (without (Some c.into_seat-number.result.0) (g.L.Recorder.numbers c.alone-rt.result.1)) c.finish_after-finish.result
+    c.finish_after-finish.ensures.finished.0
 left_so g c earlier begins =
     let count = c.range-range.ensures.1 in
     finished_with g.L.Link g.L.Recorder.numbers g.N.ServiceParameters.geometry g.N.ServiceParameters.opening earlier
-    c.into_seat-number.result.1.view.seen _ _ _ _ _ _ (omega (arith, count)) begins c.finish_after-finish.ensures.finished
+    c.into_seat-number.result.1.view.seen _ _ _ _ _ _ (omega (arith, count)) begins c.finish_after-finish.ensures.finished.1
+
+-- what is told of the pieces that were read back
+tells : (g : Over) (c : goal.After-image_of g) → finish_end c.finish_after-finish.result ≡ Went
+    → Tells g.N.ServiceParameters.opening c.stop-media.result.2 c.finish_after-finish.ensures.finished.0 c.stop-media.result.0.sectors
+tells g c went =
+    tells_so g.N.ServiceParameters.opening c.watch.result c.finish_after-finish.new.taker.watch c.finish_after-finish.ensures.finished.0
+    c.stop-media.result.2 c.stop-media.result.0.sectors
+    (all_compared (λ x. x.watch) g.N.ServiceParameters.opening _ c.finish_after-finish.new.taker
+    c.finish_after-finish.ensures.finished.0 (c.finish_after-finish.ensures.finished.2 went))
+    c.watch.ensures c.stop-media.ensures.same c.stop-media.ensures.differs
 
 who : (g : Over) (c : goal.After-image_of g) (earlier : List Mark) → IsBeginning earlier c.into_seat-number.result.1.view.seen
     → WhoIsLeft g.L.Link g.L.Recorder.numbers g.N.ServiceParameters.geometry g.N.ServiceParameters.opening earlier
     (Some c.args.last.knows.number) c.image_of.result
 who g c earlier begins =
     who_after g.L.Link g.L.Recorder.numbers g.N.ServiceParameters.geometry g.N.ServiceParameters.opening earlier _
-    (Some c.args.last.knows.number) c.finish_after-finish.result c.image_of.result c.image_of.ensures.image c.image_of.ensures.refused
-    (left_so g c earlier begins) c.alone-rt.ensures
+    (Some c.args.last.knows.number) c.finish_after-finish.result c.finish_after-finish.ensures.finished.0 c.image_of.result
+    (c.image_of.ensures.image c.finish_after-finish.ensures.finished.0 (tells g c))
+    (c.image_of.ensures.refused c.finish_after-finish.ensures.finished.0 (tells g c)) (left_so g c earlier begins) c.alone-rt.ensures
 
 -- what the session had seen first, and once it had closed all
 seen_first : (g : Over) (c : goal.After-image_of g) → IsBeginning c.args.last.knows.seen c.into_seat-number.result.1.view.seen
@@ -44,7 +59,8 @@ returns-clause-image g c =
 pub returns-clause-refused : goal.returns-clause-refused
 returns-clause-refused g c =
     why_after g.L.Link g.L.Recorder.numbers g.N.ServiceParameters.geometry g.N.ServiceParameters.opening c.args.last.knows.seen
-    (Some c.args.last.knows.number) c.finish_after-finish.result _ c.image_of.result c.image_of.ensures.refused
+    (Some c.args.last.knows.number) c.finish_after-finish.result c.finish_after-finish.ensures.finished.0 _ c.image_of.result
+    (c.image_of.ensures.refused c.finish_after-finish.ensures.finished.0 (tells g c))
     (who g c c.args.last.knows.seen (seen_first g c))
 
 pub returns-clause-sessions : goal.returns-clause-sessions
@@ -88,10 +104,3 @@ returns-clause-closed g c = (
   image_after g.L.Link g.L.Recorder.numbers g.N.ServiceParameters.geometry g.N.ServiceParameters.opening c.close_all.new.self.knows.seen
       (Some c.args.last.knows.number) c.image_of.result (who g c c.close_all.new.self.knows.seen (seen_closed g c)),
 )
-
-pub image_of-requires-clause-within : goal.image_of-requires-clause-within
-image_of-requires-clause-within g c =
-    let count = c.range-range.ensures.1 in
-    are_within g.L.Link g.L.Recorder.numbers g.N.ServiceParameters.geometry g.N.ServiceParameters.opening _ _ c.finish_after-finish.result
-    (finished_with g.L.Link g.L.Recorder.numbers g.N.ServiceParameters.geometry g.N.ServiceParameters.opening _ _ _ _ _ _ _ _
-    (omega (arith, count)) (begins_itself _) c.finish_after-finish.ensures.finished)
